@@ -1,0 +1,2 @@
+//! The commands of `faucet`, from their words to what they write.
+#![tactic(auto)]

@@ -1,0 +1,3 @@
+pub mod FieldId
+pub mod Numbers
+pub mod formers

@@ -1,0 +1,19 @@
+//! Values that every other crate speaks of: lists and texts, VLAN and port numbers, addresses,
+//! and the fields of a flow match.
+#![tactic(auto)]
+
+mod address;
+mod field;
+mod items;
+mod numbers;
+mod stack;
+mod text;
+mod try_copy;
+
+pub use address::{Ip4, Mac};
+pub use field::{Field, FieldId, Fields};
+pub use items::{Bytes, Items};
+pub use numbers::{DpId, Moment, PortNo, Vid};
+pub use stack::{Node, Nodes, StackLink, StackLinks};
+pub use text::{Names, Text};
+pub use try_copy::{NoMemory, TryCopy};

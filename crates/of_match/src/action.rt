@@ -1,0 +1,49 @@
+ghost use Rattle.std.specs.Prelude.{◌≡◌, IfOk};
+
+use net_base::{Field, Items, NoMemory, TryCopy};
+use std::alloc::Global;
+
+/// What a switch does to a packet (OpenFlow 1.3, 7.2.5).
+#[derive(Clone, Copy, Debug, PartialEq, Eq)]
+pub enum Action {
+    /// Sends the packet as it then is; `max_len` bytes of it where the port is the controller.
+    Output { port: u32, max_len: u16 },
+    /// Adds an outermost tag of this EtherType.
+    PushVlan(u16),
+    /// Takes the outermost tag off.
+    PopVlan,
+    /// Lowers the TTL by one.
+    DecTtl,
+    /// Sets a header field to the value of this one.
+    Set(Field),
+}
+
+/// Actions, in the order in which they are done.
+pub type Actions = Items<Action>;
+
+impl TryCopy for Action {
+    fn copy(&self, _alloc: Global) -> Result<Action, NoMemory> {
+        Ok(*self)
+    }
+}
+
+/// What a flow entry does with the packets that it takes (OpenFlow 1.3, 7.2.4).
+#[derive(Debug, Drop)]
+pub enum Instr {
+    /// Goes on to a table of a higher number.
+    Goto(u8),
+    /// Does these actions at once.
+    Apply(Actions),
+}
+
+/// The instructions of an entry.
+pub type Instrs = Items<Instr>;
+
+impl TryCopy for Instr {
+    fn copy(&self, alloc: Global) -> Result<Instr, NoMemory> {
+        match self {
+            Instr::Goto(table) => Ok(Instr::Goto(*table)),
+            Instr::Apply(actions) => Ok(Instr::Apply(actions.copy(alloc)?)),
+        }
+    }
+}
