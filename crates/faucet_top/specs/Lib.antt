@@ -1,0 +1,3 @@
+pub mod Cold
+pub mod Messages
+pub mod Parts

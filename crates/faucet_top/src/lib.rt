@@ -1,2 +1,7 @@
 //! The commands of `faucet`, from their words to what they write.
 #![tactic(auto)]
+
+mod cold;
+mod conf;
+mod messages;
+mod parts;
