@@ -15,13 +15,9 @@ abbrev pub told : Option Contents → List ℕ → Option (Option (List ℕ))
 told None name = None
 told (Some held) name = Some (held 0 name)
 
--- the files tell that this file has the name
-abbrev pub HoldsFile : Option Contents → List ℕ → List ℕ → Type 0
-HoldsFile contents name file = told contents name ≡ Some (Some file)
-
--- the files tell that no file has the name
-abbrev pub HoldsNone : Option Contents → List ℕ → Type 0
-HoldsNone contents name = told contents name ≡ Some None
+-- the files tell what this name has now: this file, or none
+abbrev pub Tells : Option Contents → List ℕ → Option (List ℕ) → Type 0
+Tells contents name file = told contents name ≡ Some file
 
 -- a read of a file from a place put its next n bytes at the front of a buffer
 pub record ReadsAt (file : List ℕ) (from : ℕ) (buf : List ℕ) (n : ℕ) : Type 0 where

@@ -1,7 +1,7 @@
 ghost use Rattle.std.specs.Prelude.{◌≡◌, ℕ, ◌+◌, ◌-◌, ◌^◌, ◌<◌, ◌≤◌, ◌⊎◌, List, length, take, Option, Some, None, true, false, OnOk, IfOk, IfSome, IfNone, OnErr, IsErrOf};
 ghost use Rattle.fg_outside.specs.Counts.{Rose};
 ghost use Rattle.fg_outside.specs.declared.files.ReadRefused.TheVariants.{Failed, Memory};
-ghost use Rattle.fg_outside.specs.Contents.{refreshed, HoldsFile, HoldsNone, ReadsAt};
+ghost use Rattle.fg_outside.specs.Contents.{refreshed, Tells, ReadsAt};
 
 use crate::fault::Failed;
 use net_base::{Bytes, NoMemory};
@@ -26,9 +26,9 @@ pub trait Files {
         ensures faults { faults self.old ≤ faults self.new }
         ensures absences { absences self.old ≤ absences self.new }
 
-        ensures present { (file : List ℕ) → HoldsFile (contents self.old) name.now file
+        ensures present { (file : List ℕ) → Tells (contents self.old) name.now (Some file)
             → IfOk result (λ got. (n : ℕ) × (got ≡ Some n) × ReadsAt file from buf.new n) }
-        ensures missing { HoldsNone (contents self.old) name.now → IfOk result (λ got. got ≡ None) }
+        ensures missing { Tells (contents self.old) name.now None → IfOk result (λ got. got ≡ None) }
         ensures count { IfOk result (λ got. IfSome got (λ n. n ≤ length buf.old)) }
         ensures end { IfOk result (λ got. IfSome got (λ n. from + n ≤ 2 ^ 64 - 1)) }
 
@@ -80,14 +80,14 @@ pub fn read_whole<F: Files>(
     name: &str,
     most: usize,
 ) -> Result<Bytes, ReadRefused>
-    ensures present { (file : List ℕ) → HoldsFile (F.contents files.old) name.now file
+    ensures present { (file : List ℕ) → Tells (F.contents files.old) name.now (Some file)
         → IfOk result (λ bytes. bytes ≡ take most file) }
     ensures most { IfOk result (λ bytes. length bytes ≤ most) }
 
-    ensures missing { HoldsNone (F.contents files.old) name.now
+    ensures missing { Tells (F.contents files.old) name.now None
         → IsErrOf result ReadRefused.Absent ⊎ IsErrOf result ReadRefused.Failed }
-    ensures not_absent { (file : List ℕ) → HoldsFile (F.contents files.old) name.now file
-        → ¬ IsErrOf result ReadRefused.Absent }
+    ensures absent_only { (told : Option (List ℕ)) → Tells (F.contents files.old) name.now told
+        → IsErrOf result ReadRefused.Absent → told ≡ None }
     ensures absent { IsErrOf result ReadRefused.Absent → Rose (F.absences files.old) (F.absences files.new) }
     ensures failed { IsErrOf result ReadRefused.Failed → Rose (F.faults files.old) (F.faults files.new) }
 
@@ -112,19 +112,19 @@ fn read_piece<F: Files>(
 ) -> Result<bool, ReadRefused>
     requires { length bytes.old ≤ most }
 
-    ensures front { (file : List ℕ) → HoldsFile (F.contents files.old) name.now file
+    ensures front { (file : List ℕ) → Tells (F.contents files.old) name.now (Some file)
         → bytes.old ≡ take (length bytes.old) file
         → OnOk result (bytes.new ≡ take (length bytes.new) file) }
-    ensures last { (file : List ℕ) → HoldsFile (F.contents files.old) name.now file
+    ensures last { (file : List ℕ) → Tells (F.contents files.old) name.now (Some file)
         → bytes.old ≡ take (length bytes.old) file
         → IfOk result (λ whole. whole ≡ true → bytes.new ≡ take most file) }
     ensures most { OnOk result (length bytes.new ≤ most) }
     ensures more { IfOk result (λ whole. whole ≡ false → length bytes.old < length bytes.new) }
 
-    ensures missing { HoldsNone (F.contents files.old) name.now
+    ensures missing { Tells (F.contents files.old) name.now None
         → IsErrOf result ReadRefused.Absent ⊎ IsErrOf result ReadRefused.Failed }
-    ensures not_absent { (file : List ℕ) → HoldsFile (F.contents files.old) name.now file
-        → ¬ IsErrOf result ReadRefused.Absent }
+    ensures absent_only { (told : Option (List ℕ)) → Tells (F.contents files.old) name.now told
+        → IsErrOf result ReadRefused.Absent → told ≡ None }
     ensures absent { IsErrOf result ReadRefused.Absent → Rose (F.absences files.old) (F.absences files.new) }
     ensures failed { IsErrOf result ReadRefused.Failed → Rose (F.faults files.old) (F.faults files.new) }
 

@@ -10,3 +10,6 @@ pub use fault::Failed;
 pub use files::{Files, ReadRefused, read_whole};
 pub use hub::{EndCause, Happening, Happenings, Hub, Said, Turn};
 pub use sink::{Sink, write_all};
+
+#[cfg(test)]
+mod tests;

@@ -1,7 +1,7 @@
 use Rattle.std.proofs.Common.{◌≡◌, ℕ, Option, List, ◌++◌, arith, take, length, sym, ◌∙◌, ap, subst, unwrap_or}
 use Rattle.std.proofs.lemmas.Grind.{common_steps}
 use Rattle.fg_outside.specs.Contents.{ReadsAt}
-use Rattle.fg_outside.proofs.Pieces.{front-append}
+use Rattle.fg_outside.proofs.FileLemmas.{front-append}
 use Rattle.fg_outside.proofs.files.read_piece.Goals as goal
 
 pub returns-in_ok-append-in-Some-clause-front : goal.returns-in_ok-append-in-Some-clause-front
