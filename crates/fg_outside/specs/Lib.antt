@@ -1,0 +1,4 @@
+pub mod Counts
+pub mod Contents
+pub mod Wrote
+pub mod HubStep

@@ -1,0 +1,6 @@
+-- Counts that never fall, kept in 64 bits.
+use Rattle.std.specs.Prelude.{ℕ, ◌+◌, ◌-◌, ◌^◌, ◌≤◌, min}
+
+-- A count rose. A counter stays at its last value, so one that stands there counts as risen.
+abbrev pub Rose : ℕ → ℕ → Type 0
+Rose before now = min (before + 1) (2 ^ 64 - 1) ≤ now
