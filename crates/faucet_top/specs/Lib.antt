@@ -1,3 +1,5 @@
 pub mod Cold
+pub mod Form
 pub mod Messages
 pub mod Parts
+pub mod Shaped

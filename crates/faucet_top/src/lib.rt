@@ -3,5 +3,7 @@
 
 mod cold;
 mod conf;
+mod form;
 mod messages;
 mod parts;
+mod shape;
