@@ -1,4 +1,7 @@
-pub mod Counts
 pub mod Contents
-pub mod Wrote
+pub mod Counts
+pub mod FaultPlan
+pub mod FilesInMemory
+pub mod Folders
 pub mod HubStep
+pub mod Wrote

@@ -2,13 +2,19 @@
 #![tactic(auto)]
 
 mod fault;
+mod fault_plan;
 mod files;
+mod held;
 mod hub;
+mod mem_files;
 mod sink;
 
 pub use fault::Failed;
+pub use fault_plan::{CallNos, FailListed, FailNever, FaultPlan};
 pub use files::{Files, ReadRefused, read_whole};
+pub use held::{Folder, Folders, HeldFile, HeldFiles};
 pub use hub::{EndCause, Happening, Happenings, Hub, Said, Turn};
+pub use mem_files::{FilesInMemory, MemFiles, SureFiles};
 pub use sink::{Sink, write_all};
 
 #[cfg(test)]
