@@ -4,4 +4,6 @@ pub mod FaultPlan
 pub mod FilesInMemory
 pub mod Folders
 pub mod HubStep
+pub mod NoHub
+pub mod SinkInMemory
 pub mod Wrote

@@ -7,6 +7,8 @@ mod files;
 mod held;
 mod hub;
 mod mem_files;
+mod mem_sink;
+mod no_hub;
 mod sink;
 
 pub use fault::Failed;
@@ -15,6 +17,8 @@ pub use files::{Files, ReadRefused, read_whole};
 pub use held::{Folder, Folders, HeldFile, HeldFiles};
 pub use hub::{EndCause, Happening, Happenings, Hub, Said, Turn};
 pub use mem_files::{FilesInMemory, MemFiles, SureFiles};
+pub use mem_sink::{MemSink, SinkInMemory, SureSink};
+pub use no_hub::NoHub;
 pub use sink::{Sink, write_all};
 
 #[cfg(test)]
