@@ -1,5 +1,5 @@
 -- What callers see of a sink in memory.
-use Rattle.std.specs.Prelude.{ℕ, ◌+◌, ◌-◌, ◌^◌, List, length, min, Option, Some}
+use Rattle.std.specs.Prelude.{ℕ, ◌+◌, ◌-◌, ◌^◌, List, min}
 use Rattle.fg_outside.specs.declared.mem_sink.SinkInMemory.{SinkInMemory}
 
 -- all bytes that it has taken
