@@ -1,5 +1,5 @@
 -- Counts that rise.
-use Rattle.std.proofs.Common.{ℕ, ◌-◌, ◌^◌, ◌≤◌, arith}
+use Rattle.std.proofs.Common.{ℕ, ◌≤◌, arith}
 use Rattle.fg_outside.specs.Counts.{Rose}
 
 -- what rose before has risen later

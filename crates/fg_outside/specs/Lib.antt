@@ -1,4 +1,9 @@
-pub mod Counts
 pub mod Contents
-pub mod Wrote
+pub mod Counts
+pub mod FaultPlan
+pub mod FilesInMemory
+pub mod Folders
 pub mod HubStep
+pub mod NoHub
+pub mod SinkInMemory
+pub mod Wrote

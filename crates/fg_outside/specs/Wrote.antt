@@ -1,5 +1,5 @@
 -- What a sink has taken, where it tells it.
-use Rattle.std.specs.Prelude.{◌≡◌, ℕ, ◌<◌, ◌≤◌, List, ◌++◌, length, take, Option, Some, None}
+use Rattle.std.specs.Prelude.{◌≡◌, ℕ, ◌≤◌, List, ◌++◌, length, take, Option, Some, None}
 
 -- what was taken, with this piece behind it
 abbrev pub appended : Option (List ℕ) → List ℕ → Option (List ℕ)

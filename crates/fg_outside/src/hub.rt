@@ -1,4 +1,4 @@
-ghost use Rattle.std.specs.Prelude.{◌≡◌, ◌↔◌, ◌≤◌, ℕ, Bool, false, IfOk};
+ghost use Rattle.std.specs.Prelude.{◌≡◌, ◌≤◌, ℕ, Bool, true, false};
 ghost use Rattle.fg_outside.specs.Counts.{Rose};
 ghost use Rattle.fg_outside.specs.HubStep.{HubStep, turned, said, closed};
 
@@ -94,11 +94,12 @@ pub trait Hub {
         ensures failed { result ≡ Turn.Failed → Rose (faults self.old) (faults self.new) }
         ensures faults { faults self.old ≤ faults self.new };
 
-    /// Sends a piece on a connection. `Gone` exactly where the connection isn't open when the
-    /// call ends.
+    /// Sends a piece on a connection. Unless memory ran out, `Gone` exactly where the connection
+    /// isn't open when the call ends.
     fn say(&mut self, conn: u32, piece: &[u8]) -> Said
         ensures step { may self.old (said conn piece.now result) self.new }
-        ensures gone { (result ≡ Said.Gone) ↔ (is_open self.new conn ≡ false) }
+        ensures gone { result ≡ Said.Gone → is_open self.new conn ≡ false }
+        ensures taken { result ≡ Said.Taken → is_open self.new conn ≡ true }
         ensures faults { faults self.old ≤ faults self.new };
 
     /// Closes a connection; nothing where it isn't open.

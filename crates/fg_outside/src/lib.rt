@@ -2,13 +2,23 @@
 #![tactic(auto)]
 
 mod fault;
+mod fault_plan;
 mod files;
+mod held;
 mod hub;
+mod mem_files;
+mod mem_sink;
+mod no_hub;
 mod sink;
 
 pub use fault::Failed;
+pub use fault_plan::{CallNos, FailListed, FailNever, FaultPlan};
 pub use files::{Files, ReadRefused, read_whole};
+pub use held::{Folder, Folders, HeldFile, HeldFiles};
 pub use hub::{EndCause, Happening, Happenings, Hub, Said, Turn};
+pub use mem_files::{FilesInMemory, MemFiles, SureFiles};
+pub use mem_sink::{MemSink, SinkInMemory, SureSink};
+pub use no_hub::NoHub;
 pub use sink::{Sink, write_all};
 
 #[cfg(test)]
