@@ -3,6 +3,9 @@
 
 mod action;
 mod entry;
+pub mod laws;
+mod order;
 
 pub use action::{Action, Actions, Instr, Instrs};
 pub use entry::{Command, Commands, Entries, Entry, Key};
+pub use order::{compare_matches, full_mask, is_masked};
