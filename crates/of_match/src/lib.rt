@@ -3,9 +3,13 @@
 
 mod action;
 mod entry;
+mod hit;
 pub mod laws;
 mod order;
+mod packet;
 
 pub use action::{Action, Actions, Instr, Instrs};
 pub use entry::{Command, Commands, Entries, Entry, Key};
+pub use hit::{hits, value_of};
 pub use order::{compare_matches, full_mask, is_masked};
+pub use packet::{L4, Packet, Sent, Sents, Tag, Tags, Upper};
