@@ -1,3 +1,4 @@
 pub mod KeyOrder
 pub mod KeyLaws
 pub mod Hit
+pub mod Act

@@ -101,3 +101,11 @@ impl TryCopy for Sent {
         })
     }
 }
+
+/// What became of a packet under a list of actions.
+#[derive(Debug, Drop)]
+pub struct Acted {
+    pub sents: Sents,
+    /// The packet that is left; `None` where an action ended it.
+    pub left: Option<Packet>,
+}
