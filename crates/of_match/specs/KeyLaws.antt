@@ -24,6 +24,7 @@ match_total : IsTotalOrder match_cmp
 match_total = then_total (on_total match_len nat_cmp_total) (lists_total field_total)
 
 pub key_total : IsTotalOrder key_cmp
+unfolding key_cmp
 key_total = then_total (on_total (λ (k : Key). k.table) nat_cmp_total) (then_total (on_total (λ (k : Key). k.priority) nat_cmp_total) (on_total (λ (k : Key). k.fields) match_total))
 
 pub key_equivalence : IsEquivalence (eq_by_cmp key_cmp)
@@ -89,6 +90,7 @@ pub exact_matches : CmpEqualImpliesEq match_cmp
 exact_matches a b e = exact_lists field_cmp exact_fields a b (both_equal (nat_cmp (match_len a) (match_len b)) (slice_cmp field_cmp a b) e).1
 
 pub exact_keys : CmpEqualImpliesEq key_cmp
+unfolding key_cmp
 exact_keys a b e =
     let k = both_equal (nat_cmp a.table b.table) _ e in
     let p = both_equal (nat_cmp a.priority b.priority) (match_cmp a.fields b.fields) k.1 in

@@ -32,5 +32,5 @@ abbrev pub match_cmp : List Field → List Field → Ordering
 match_cmp = then_cmp (on match_len nat_cmp) (slice_cmp field_cmp)
 
 -- keys by table, then by priority, both ascending, and then by match
-abbrev pub key_cmp : Key → Key → Ordering
+unfoldable pub key_cmp : Key → Key → Ordering
 key_cmp = then_cmp (on (λ k. k.table) nat_cmp) (then_cmp (on (λ k. k.priority) nat_cmp) (on (λ k. k.fields) match_cmp))

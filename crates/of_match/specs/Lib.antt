@@ -2,3 +2,4 @@ pub mod KeyOrder
 pub mod KeyLaws
 pub mod Hit
 pub mod Act
+pub mod FlowTables

@@ -74,6 +74,7 @@ impl Ord for Key {
 
     ghost matches_eq = { λ _ _. refl };
 
+    #[tactic(auto, unfolding(crate::specs::KeyOrder::key_cmp))]
     fn cmp(&self, other: &Key) -> Ordering {
         self.table
             .cmp(&other.table)

@@ -44,7 +44,11 @@ pub enum Upper {
     /// Nothing.
     None,
     /// ARP for IPv4 over Ethernet (RFC 826).
-    Arp { op: u16, spa: Ip4, tpa: Ip4 },
+    Arp {
+        op: u16,
+        spa: Ip4,
+        tpa: Ip4,
+    },
     /// IPv4 (RFC 791, 3.1).
     V4 {
         src: Ip4,

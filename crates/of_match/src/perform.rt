@@ -48,18 +48,36 @@ fn set_l4(id: FieldId, value: u128, l4: L4) -> L4
     match l4 {
         L4::None => L4::None,
         L4::Tcp { src, dst } => match id {
-            FieldId::TcpSrc => L4::Tcp { src: low_16(value), dst },
-            FieldId::TcpDst => L4::Tcp { src, dst: low_16(value) },
+            FieldId::TcpSrc => L4::Tcp {
+                src: low_16(value),
+                dst,
+            },
+            FieldId::TcpDst => L4::Tcp {
+                src,
+                dst: low_16(value),
+            },
             _ => l4,
         },
         L4::Udp { src, dst } => match id {
-            FieldId::UdpSrc => L4::Udp { src: low_16(value), dst },
-            FieldId::UdpDst => L4::Udp { src, dst: low_16(value) },
+            FieldId::UdpSrc => L4::Udp {
+                src: low_16(value),
+                dst,
+            },
+            FieldId::UdpDst => L4::Udp {
+                src,
+                dst: low_16(value),
+            },
             _ => l4,
         },
         L4::Icmp { kind, code } => match id {
-            FieldId::Icmpv4Type => L4::Icmp { kind: low_8(value), code },
-            FieldId::Icmpv4Code => L4::Icmp { kind, code: low_8(value) },
+            FieldId::Icmpv4Type => L4::Icmp {
+                kind: low_8(value),
+                code,
+            },
+            FieldId::Icmpv4Code => L4::Icmp {
+                kind,
+                code: low_8(value),
+            },
             _ => l4,
         },
     }
@@ -72,16 +90,58 @@ fn set_upper(id: FieldId, value: u128, upper: Upper) -> Upper
     match upper {
         Upper::None => Upper::None,
         Upper::Arp { op, spa, tpa } => match id {
-            FieldId::ArpOp => Upper::Arp { op: low_16(value), spa, tpa },
-            FieldId::ArpSpa => Upper::Arp { op, spa: Ip4(low_32(value)), tpa },
-            FieldId::ArpTpa => Upper::Arp { op, spa, tpa: Ip4(low_32(value)) },
+            FieldId::ArpOp => Upper::Arp {
+                op: low_16(value),
+                spa,
+                tpa,
+            },
+            FieldId::ArpSpa => Upper::Arp {
+                op,
+                spa: Ip4(low_32(value)),
+                tpa,
+            },
+            FieldId::ArpTpa => Upper::Arp {
+                op,
+                spa,
+                tpa: Ip4(low_32(value)),
+            },
             _ => Upper::Arp { op, spa, tpa },
         },
-        Upper::V4 { src, dst, proto, ttl, l4 } => match id {
-            FieldId::IpProto => Upper::V4 { src, dst, proto: low_8(value), ttl, l4 },
-            FieldId::Ipv4Src => Upper::V4 { src: Ip4(low_32(value)), dst, proto, ttl, l4 },
-            FieldId::Ipv4Dst => Upper::V4 { src, dst: Ip4(low_32(value)), proto, ttl, l4 },
-            _ => Upper::V4 { src, dst, proto, ttl, l4: set_l4(id, value, l4) },
+        Upper::V4 {
+            src,
+            dst,
+            proto,
+            ttl,
+            l4,
+        } => match id {
+            FieldId::IpProto => Upper::V4 {
+                src,
+                dst,
+                proto: low_8(value),
+                ttl,
+                l4,
+            },
+            FieldId::Ipv4Src => Upper::V4 {
+                src: Ip4(low_32(value)),
+                dst,
+                proto,
+                ttl,
+                l4,
+            },
+            FieldId::Ipv4Dst => Upper::V4 {
+                src,
+                dst: Ip4(low_32(value)),
+                proto,
+                ttl,
+                l4,
+            },
+            _ => Upper::V4 {
+                src,
+                dst,
+                proto,
+                ttl,
+                l4: set_l4(id, value, l4),
+            },
         },
     }
 }
@@ -91,8 +151,14 @@ fn set_tag(id: FieldId, value: u128, tag: Tag) -> Tag
     ensures { result ≡ set_tag id value tag }
 {
     match id {
-        FieldId::VlanVid => Tag { vid: (value % 0x1000) as u16, ..tag },
-        FieldId::VlanPcp => Tag { pcp: (value % 8) as u8, ..tag },
+        FieldId::VlanVid => Tag {
+            vid: (value % 0x1000) as u16,
+            ..tag
+        },
+        FieldId::VlanPcp => Tag {
+            pcp: (value % 8) as u8,
+            ..tag
+        },
         _ => tag,
     }
 }
@@ -149,7 +215,13 @@ fn lowered(upper: Upper) -> Option<Upper>
     ensures { result ≡ lowered upper }
 {
     match upper {
-        Upper::V4 { src, dst, proto, ttl, l4 } if ttl >= 2 => Some(Upper::V4 {
+        Upper::V4 {
+            src,
+            dst,
+            proto,
+            ttl,
+            l4,
+        } if ttl >= 2 => Some(Upper::V4 {
             src,
             dst,
             proto,
