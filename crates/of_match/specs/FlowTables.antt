@@ -33,6 +33,12 @@ after tables (Add entry) = below entry.key tables ++ entry ∷ above entry.key t
 after tables (DeleteStrict key) = below key tables ++ above key tables
 after tables DeleteAll = []
 
+-- the commands that only take out
+abbrev pub NeedsNoMemory : Command → Type 0
+NeedsNoMemory (Add entry) = ⊥
+NeedsNoMemory (DeleteStrict key) = Unit {0}
+NeedsNoMemory DeleteAll = Unit {0}
+
 -- ---- places, which a search answers
 
 -- the entry at place i has the key

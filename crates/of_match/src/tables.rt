@@ -1,7 +1,7 @@
-ghost use Rattle.std.specs.Prelude.{◌≡◌, [], length, IsOk, IfOk, IfErr, OnOk, OnErr};
+ghost use Rattle.std.specs.Prelude.{◌≡◌, ◌↔◌, [], length, IsTrue, IsOk, IfOk, IfErr, OnOk, OnErr};
 ghost use Rattle.std.specs.Option.{option_copied};
 ghost use Rattle.of_match.specs.declared.entry.Command.TheVariants.{Add, DeleteStrict, DeleteAll};
-ghost use Rattle.of_match.specs.FlowTables.{IsInKeyOrder, entry_at, after, IsAt, IsGapFor};
+ghost use Rattle.of_match.specs.FlowTables.{IsInKeyOrder, entry_at, after, NeedsNoMemory, IsAt, IsGapFor};
 
 use crate::entry::{Command, Entry, Key};
 use net_base::{NoMemory, TryCopy};
@@ -81,6 +81,23 @@ impl Tables {
         }
     }
 
+    /// The entries, in key order.
+    pub fn iter(&self) -> TablesIter<'_>
+        ensures items { result ≡ self.now }
+        ensures ordered { IsInKeyOrder self.now }
+    {
+        TablesIter {
+            rest: self.entries.as_slice(),
+        }
+    }
+
+    /// Whether there is no entry.
+    pub fn is_empty(&self) -> bool
+        ensures { IsTrue result ↔ (self.now ≡ []) }
+    {
+        self.entries.is_empty()
+    }
+
     /// How many entries there are.
     pub fn len(&self) -> usize
         ensures { result ≡ length self.now }
@@ -109,5 +126,74 @@ impl Tables {
         ensures { self.new ≡ after self.old DeleteAll }
     {
         self.entries.clear();
+    }
+}
+
+// Equal entries, in the same order.
+fn copy_in(alloc: Global, entries: &[Entry]) -> Result<Vec<Entry>, NoMemory>
+    ensures { IfOk result (λ made. made.items ≡ entries.now) }
+{
+    let mut made = Vec::new(alloc);
+    for entry in entries {
+        made.push(entry.copy(alloc)?)?;
+    }
+    Ok(made)
+}
+
+impl TryCopy for Tables {
+    fn copy(&self, alloc: Global) -> Result<Tables, NoMemory> {
+        let entries = copy_in(alloc, self.entries.as_slice())?;
+        Ok(Tables { entries })
+    }
+}
+
+/// The entries that are left to be seen, in key order, which is what contracts see.
+#[derive(Debug, Drop)]
+pub struct TablesIter<'a> {
+    rest: &'a [Entry],
+}
+
+impl<'a> Model for TablesIter<'a> {
+    ghost use Rattle.std.specs.Prelude.{List};
+    ghost use Rattle.of_match.specs.declared.entry.Entry.{Entry};
+
+    ghost Value = { List Entry };
+
+    ghost view = { λ it. it.rest.now };
+}
+
+impl<'a> Iterator for TablesIter<'a> {
+    ghost use Rattle.std.specs.Iterator.{YieldsFirstRef, item_count};
+
+    type Item = &'a Entry;
+
+    ghost next_gives = { YieldsFirstRef (λ rest. rest) };
+
+    ghost remaining = { item_count (λ rest. rest) };
+
+    fn next(&mut self) -> Option<&'a Entry> {
+        let (first, others) = self.rest.split_first()?;
+        self.rest = others;
+        Some(first)
+    }
+}
+
+/// Does a command to the tables (OpenFlow 1.3, 6.4). After `NoMemory`, which only an add
+/// answers, they are as they were.
+pub fn apply(alloc: Global, tables: &mut Tables, command: &Command) -> Result<(), NoMemory>
+    ensures ok { OnOk result (tables.new ≡ after tables.old command.now) }
+    ensures err { OnErr result (tables.new ≡ tables.old) }
+    ensures deletes { NeedsNoMemory command.now → IsOk result }
+{
+    match command {
+        Command::Add(entry) => tables.add(entry.copy(alloc)?),
+        Command::DeleteStrict(key) => {
+            tables.remove(key);
+            Ok(())
+        }
+        Command::DeleteAll => {
+            tables.clear();
+            Ok(())
+        }
     }
 }
