@@ -3,7 +3,13 @@
 
 mod cold;
 mod conf;
+mod deliver;
 mod form;
 mod messages;
 mod parts;
+mod plan;
 mod shape;
+mod top;
+mod words;
+
+pub use top::faucet;
