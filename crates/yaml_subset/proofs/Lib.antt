@@ -1,4 +1,6 @@
-pub mod Blocks
-pub mod Leading
-pub mod Lines
-pub mod Utf8
+pub mod Text
+pub mod FlowLaws
+pub mod BlockLaws
+pub mod LineLaws
+pub mod EntryLaws
+pub mod ReadingLaws

@@ -1,1 +1,14 @@
+pub mod Fault
+pub mod Gives
+pub mod Characters
+pub mod Quoted
+pub mod Added
+pub mod Plain
+pub mod Numbers
+pub mod Scalars
+pub mod Entries
+pub mod Flow
+pub mod Blocks
 pub mod Reading
+pub mod Seen
+pub mod Accepted

@@ -1,8 +1,25 @@
 //! Trees of texts, numbers, lists and maps, as a YAML text has them.
 #![tactic(auto)]
 
-mod first_form;
+mod blocks;
+mod characters;
+mod entries;
+mod fault;
+mod fault_names;
+mod flow;
+pub mod laws;
+mod lines;
+mod numbers;
+mod plain;
+mod quoted;
+mod reading;
+mod scalars;
+mod stack;
 mod tree;
 
-pub use first_form::read_first_form;
+pub use fault::{YamlCause, YamlFault, YamlForm, YamlRefused};
+pub use reading::read_yaml;
 pub use tree::{Key, Pair, Pairs, Tree, Trees};
+
+#[cfg(test)]
+mod tests;
