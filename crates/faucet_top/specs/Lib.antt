@@ -1,0 +1,12 @@
+pub mod Answer
+pub mod Asked
+pub mod Cold
+pub mod Ends
+pub mod Form
+pub mod Messages
+pub mod Parts
+pub mod Refusals
+pub mod Shaped
+pub mod Status
+pub mod Top
+pub mod Words

@@ -1,2 +1,15 @@
 //! The commands of `faucet`, from their words to what they write.
 #![tactic(auto)]
+
+mod cold;
+mod conf;
+mod deliver;
+mod form;
+mod messages;
+mod parts;
+mod plan;
+mod shape;
+mod top;
+mod words;
+
+pub use top::faucet;

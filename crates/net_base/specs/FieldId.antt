@@ -1,4 +1,4 @@
-use Rattle.std.specs.Prelude.{ℕ}
+use Rattle.std.specs.Prelude.{ℕ, ◌-◌, ◌*◌, ◌^◌}
 use Rattle.net_base.specs.declared.field.FieldId.{FieldId}
 use Rattle.net_base.specs.declared.field.FieldId.TheVariants.{InPort, EthDst, EthSrc, EthType, VlanVid, VlanPcp, IpProto, Ipv4Src, Ipv4Dst, TcpSrc, TcpDst, UdpSrc, UdpDst, Icmpv4Type, Icmpv4Code, ArpOp, ArpSpa, ArpTpa}
 
@@ -43,3 +43,7 @@ byte_len_of Icmpv4Code = 1
 byte_len_of ArpOp = 2
 byte_len_of ArpSpa = 4
 byte_len_of ArpTpa = 4
+
+-- the mask that leaves no bit of the field out
+abbrev pub all_ones : FieldId → ℕ
+all_ones id = 2 ^ (8 * byte_len_of id) - 1

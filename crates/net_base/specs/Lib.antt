@@ -1,3 +1,4 @@
+pub mod Field
 pub mod FieldId
 pub mod Numbers
 pub mod formers

@@ -1,5 +1,6 @@
 ghost use Rattle.std.specs.Prelude.{◌≡◌};
-ghost use Rattle.net_base.specs.FieldId.{number_of, byte_len_of};
+ghost use Rattle.net_base.specs.FieldId.{number_of, byte_len_of, all_ones};
+ghost use Rattle.net_base.specs.Field.{exact, bits};
 
 use crate::items::Items;
 use crate::try_copy::{NoMemory, TryCopy};
@@ -78,12 +79,50 @@ impl FieldId {
     }
 }
 
+impl FieldId {
+    /// The mask that leaves no bit of the field out.
+    pub fn all_ones(self) -> u128
+        ensures { result ≡ all_ones self }
+    {
+        match self.byte_len() {
+            1 => 0xff,
+            2 => 0xffff,
+            4 => 0xffff_ffff,
+            _ => 0xffff_ffff_ffff,
+        }
+    }
+}
+
 /// One field of a match: the packet's value has to agree with `value` in the bits of `mask`.
 #[derive(Clone, Copy, Debug, PartialEq, Eq)]
 pub struct Field {
     pub id: FieldId,
     pub value: u128,
     pub mask: u128,
+}
+
+impl Field {
+    /// A field that a packet agrees with exactly where it has this value.
+    pub fn exact(id: FieldId, value: u128) -> Field
+        ensures { result ≡ exact id value }
+    {
+        Field {
+            id,
+            value,
+            mask: id.all_ones(),
+        }
+    }
+
+    /// A field that a packet agrees with exactly where it has all bits of `value`.
+    pub fn bits(id: FieldId, value: u128) -> Field
+        ensures { result ≡ bits id value }
+    {
+        Field {
+            id,
+            value,
+            mask: value,
+        }
+    }
 }
 
 /// The fields of a match.

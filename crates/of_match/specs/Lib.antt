@@ -1,0 +1,5 @@
+pub mod KeyOrder
+pub mod KeyLaws
+pub mod Hit
+pub mod Act
+pub mod FlowTables

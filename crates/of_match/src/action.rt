@@ -3,6 +3,15 @@ ghost use Rattle.std.specs.Prelude.{◌≡◌, IfOk};
 use net_base::{Field, Items, NoMemory, TryCopy};
 use std::alloc::Global;
 
+/// The port that a packet came in by, as one to send to (OpenFlow 1.3, 7.2.1).
+pub const IN_PORT: u32 = 0xffff_fff8;
+
+/// The controller, as a port to send to.
+pub const CONTROLLER: u32 = 0xffff_fffd;
+
+/// No port in particular, in a command.
+pub const ANY_PORT: u32 = 0xffff_ffff;
+
 /// What a switch does to a packet (OpenFlow 1.3, 7.2.5).
 #[derive(Clone, Copy, Debug, PartialEq, Eq)]
 pub enum Action {

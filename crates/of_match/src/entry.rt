@@ -1,8 +1,10 @@
 ghost use Rattle.std.specs.Prelude.{◌≡◌, IfOk};
 
 use crate::action::Instrs;
+use crate::order::compare_matches;
 use net_base::{Fields, Items, NoMemory, TryCopy};
 use std::alloc::Global;
+use std::cmp::Ordering;
 
 /// What tells one flow entry from another: its table, its priority and its match
 /// (OpenFlow 1.3, 5.2).
@@ -20,6 +22,64 @@ impl TryCopy for Key {
             priority: self.priority,
             fields: self.fields.copy(alloc)?,
         })
+    }
+}
+
+/// Equal exactly where table, priority and match are.
+impl PartialEq for Key {
+    ghost use Rattle.std.specs.Ordering.{eq_by_cmp};
+    ghost use Rattle.of_match.specs.KeyOrder.{key_cmp};
+    ghost use Rattle.of_match.specs.KeyLaws.{key_partial_equivalence};
+
+    ghost eq = { eq_by_cmp key_cmp };
+
+    ghost laws = { key_partial_equivalence };
+
+    fn eq(&self, other: &Key) -> bool {
+        self.cmp(other).is_eq()
+    }
+}
+
+impl Eq for Key {
+    ghost use Rattle.of_match.specs.KeyLaws.{key_equivalence};
+
+    ghost laws = { key_equivalence };
+}
+
+impl PartialOrd for Key {
+    ghost use Rattle.std.specs.Ordering.{as_partial_cmp};
+    ghost use Rattle.of_match.specs.KeyOrder.{key_cmp};
+    ghost use Rattle.of_match.specs.KeyLaws.{key_partial_order};
+
+    ghost partial_cmp = { as_partial_cmp key_cmp };
+
+    ghost laws = { key_partial_order };
+
+    fn partial_cmp(&self, other: &Key) -> Option<Ordering> {
+        Some(self.cmp(other))
+    }
+}
+
+/// The order of flow entries: by table, then by priority, both ascending, then by match.
+impl Ord for Key {
+    ghost use Rattle.std.specs.Prelude.{refl};
+    ghost use Rattle.of_match.specs.KeyOrder.{key_cmp};
+    ghost use Rattle.of_match.specs.KeyLaws.{key_total};
+
+    ghost cmp = { key_cmp };
+
+    ghost total = { key_total };
+
+    ghost matches_partial_cmp = { λ _ _. refl };
+
+    ghost matches_eq = { λ _ _. refl };
+
+    #[tactic(auto, unfolding(crate::specs::KeyOrder::key_cmp))]
+    fn cmp(&self, other: &Key) -> Ordering {
+        self.table
+            .cmp(&other.table)
+            .then(self.priority.cmp(&other.priority))
+            .then(compare_matches(self.fields.as_slice(), other.fields.as_slice()))
     }
 }
 

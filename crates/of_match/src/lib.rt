@@ -3,6 +3,17 @@
 
 mod action;
 mod entry;
+mod hit;
+pub mod laws;
+mod order;
+mod packet;
+mod perform;
+mod tables;
 
-pub use action::{Action, Actions, Instr, Instrs};
+pub use action::{ANY_PORT, Action, Actions, CONTROLLER, IN_PORT, Instr, Instrs};
 pub use entry::{Command, Commands, Entries, Entry, Key};
+pub use hit::{hits, value_of};
+pub use order::{compare_matches, full_mask, is_masked};
+pub use packet::{Acted, L4, Packet, Sent, Sents, Tag, Tags, Upper};
+pub use perform::act;
+pub use tables::{Tables, TablesIter, apply};

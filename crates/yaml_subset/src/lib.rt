@@ -1,6 +1,8 @@
 //! Trees of texts, numbers, lists and maps, as a YAML text has them.
 #![tactic(auto)]
 
+mod first_form;
 mod tree;
 
+pub use first_form::read_first_form;
 pub use tree::{Key, Pair, Pairs, Tree, Trees};

@@ -1,0 +1,202 @@
+-- From what was made of the file to what is promised of the whole call.
+use Rattle.std.proofs.Common.{◌≡◌, ◌≢◌, ℕ, zero, suc, ◌≤◌, Bool, true, false, cond, ◌⊎◌, inl, inr, List, [], ◌++◌, length, take, Option, Some, None, Result, Ok, Err, refl, sym, ap, subst, ◌∙◌, arith}
+use Rattle.std.specs.Prelude.{if◌then◌else◌, IsErrOf}
+use Rattle.std.specs.Str.{bytes_eq}
+use Rattle.std.proofs.Math.Seq.{take-length}
+use Rattle.fg_outside.specs.Contents.{Contents, Tells, told}
+use Rattle.fg_outside.specs.Wrote.{appended, AppendsFront}
+use Rattle.faucet_top.specs.declared.conf.Conf.{Conf}
+use Rattle.faucet_top.specs.declared.plan.PlanRefused.{PlanRefused}
+use Rattle.faucet_top.specs.declared.plan.PlanRefused.TheVariants.{Unread, NotOfForm, Unresolved, Memory}
+use Rattle.faucet_top.specs.Answer.{Answer, Delivers, Makes, planned, planned_file, batch_of, form_of, plan_answer, usage, answer, job_answer}
+use Rattle.faucet_top.specs.Top.{PlanAnswered, IsGiven, IsRefusal, now_held}
+use Rattle.faucet_top.specs.Words.{Job, Plan, meaning}
+
+abbrev Made : Type 0
+Made = Result (List ℕ) PlanRefused
+
+abbrev failed : PlanRefused → Made
+failed why = Err why
+
+-- ---- one stream
+
+-- the whole is a front of itself
+whole_front : (o0 o1 : Option (List ℕ)) (bytes : List ℕ) → o1 ≡ appended o0 bytes → AppendsFront o0 o1 bytes
+whole_front o0 o1 bytes e = record { count = length bytes; within = omega arith; front = e ∙ ap (appended o0) (sym (take-length bytes)) }
+
+-- nothing is a front of anything
+nothing_front : (o0 o1 : Option (List ℕ)) (bytes : List ℕ) → o1 ≡ appended o0 [] → AppendsFront o0 o1 bytes
+nothing_front o0 o1 bytes e = record { count = 0; within = omega arith; front = e }
+
+abbrev nothing : List ℕ
+nothing = []
+
+take-nil : (n : ℕ) → take n nothing ≡ nothing
+take-nil zero = refl
+take-nil (suc n) = refl
+
+empty_front : (o0 o1 : Option (List ℕ)) (bytes : List ℕ) → AppendsFront o0 o1 [] → AppendsFront o0 o1 bytes
+empty_front o0 o1 bytes f = nothing_front o0 o1 bytes (f.front ∙ ap (appended o0) (take-nil f.count))
+
+module _ (status : ℕ) (o0 o1 e0 e1 : Option (List ℕ)) (wf : Type 0) where
+  delivered_front : (a : Answer) → Delivers a status o0 o1 e0 e1 wf → AppendsFront o0 o1 a.out
+  delivered_front a (inl h) = whole_front o0 o1 a.out h.1
+  delivered_front a (inr h) = h.1
+
+  delivered : (a : Answer) → Delivers a status o0 o1 e0 e1 wf → IsGiven a status o0 o1 e0 e1 ⊎ wf
+  delivered a (inl h) = inl h
+  delivered a (inr h) = inr h.3
+
+  -- ---- the status for what was made
+
+  not_one : (config dp : List ℕ) (made : Made) → Delivers (plan_answer config dp made) status o0 o1 e0 e1 wf → status ≡ 1 → ⊥
+  not_one config dp (Ok batch) (inl h) s = omega (arith, h.0)
+  not_one config dp (Err Unread) (inl h) s = omega (arith, h.0)
+  not_one config dp (Err NotOfForm) (inl h) s = omega (arith, h.0)
+  not_one config dp (Err Unresolved) (inl h) s = omega (arith, h.0)
+  not_one config dp (Err Memory) (inl h) s = omega (arith, h.0)
+  not_one config dp made (inr h) s = omega (arith, h.0)
+
+  at_two : (config dp : List ℕ) (made : Made) → Delivers (plan_answer config dp made) status o0 o1 e0 e1 wf → status ≡ 2 → (made ≡ failed NotOfForm) ⊎ (made ≡ failed Unresolved)
+  at_two config dp (Ok batch) (inl h) s = absurd (omega (arith, h.0))
+  at_two config dp (Err Unread) (inl h) s = absurd (omega (arith, h.0))
+  at_two config dp (Err NotOfForm) (inl h) s = inl refl
+  at_two config dp (Err Unresolved) (inl h) s = inr refl
+  at_two config dp (Err Memory) (inl h) s = absurd (omega (arith, h.0))
+  at_two config dp made (inr h) s = absurd (omega (arith, h.0))
+
+  at_three : (config dp : List ℕ) (made : Made) → Delivers (plan_answer config dp made) status o0 o1 e0 e1 wf → status ≡ 3 → made ≡ failed Unread
+  at_three config dp (Ok batch) (inl h) s = absurd (omega (arith, h.0))
+  at_three config dp (Err Unread) (inl h) s = refl
+  at_three config dp (Err NotOfForm) (inl h) s = absurd (omega (arith, h.0))
+  at_three config dp (Err Unresolved) (inl h) s = absurd (omega (arith, h.0))
+  at_three config dp (Err Memory) (inl h) s = absurd (omega (arith, h.0))
+  at_three config dp made (inr h) s = absurd (omega (arith, h.0))
+
+  at_four : (config dp : List ℕ) (made : Made) → Delivers (plan_answer config dp made) status o0 o1 e0 e1 wf → status ≡ 4 → wf
+  at_four config dp (Ok batch) (inl h) s = absurd (omega (arith, h.0))
+  at_four config dp (Err Unread) (inl h) s = absurd (omega (arith, h.0))
+  at_four config dp (Err NotOfForm) (inl h) s = absurd (omega (arith, h.0))
+  at_four config dp (Err Unresolved) (inl h) s = absurd (omega (arith, h.0))
+  at_four config dp (Err Memory) (inl h) s = absurd (omega (arith, h.0))
+  at_four config dp made (inr h) s = h.3
+
+  usage_four : Delivers usage status o0 o1 e0 e1 wf → status ≡ 4 → wf
+  usage_four (inl h) s = absurd (omega (arith, h.0))
+  usage_four (inr h) s = h.3
+
+  usage_three : Delivers usage status o0 o1 e0 e1 wf → status ≡ 3 → ⊥
+  usage_three (inl h) s = omega (arith, h.0)
+  usage_three (inr h) s = omega (arith, h.0)
+
+-- ---- what a told file wants
+
+never_unread : (b : Bool) (batch : List ℕ) → (if b then Ok batch else failed Unresolved) ≡ failed Unread → ⊥
+never_unread true batch e = cc
+never_unread false batch e = cc
+
+batch_not_unread : (conf : Option Conf) (dp : List ℕ) → batch_of conf dp ≡ Err Unread → ⊥
+batch_not_unread None dp e = cc
+batch_not_unread (Some conf) dp e = never_unread (bytes_eq conf.dp.name dp) _ e
+
+-- nothing is refused of a file that isn't there
+form_of_none : failed Unread ≡ failed NotOfForm → ⊥
+form_of_none e = cc
+
+dp_of_none : failed Unread ≡ failed Unresolved → ⊥
+dp_of_none e = cc
+
+module _ (words : List (List ℕ)) (status : ℕ) (contents : Option Contents) (fault absence : Type 0) (o0 o1 e0 e1 : Option (List ℕ)) (wf : Type 0)
+    (no_meaning : meaning words ≡ None → Delivers usage status o0 o1 e0 e1 wf)
+    (plan : (config dp : List ℕ) → meaning words ≡ Some (Plan config dp) → PlanAnswered config dp status contents fault absence o0 o1 e0 e1 wf) where
+
+  usage_only_by : (m : Option Job) → meaning words ≡ m → status ≡ 1 → meaning words ≡ None
+  usage_only_by None e s = e
+  usage_only_by (Some (Plan config dp)) e s = let p = plan config dp e in absurd (not_one status o0 o1 e0 e1 wf config dp p.made p.given s)
+
+  pub usage_only : status ≡ 1 → meaning words ≡ None
+  usage_only s = usage_only_by (meaning words) refl s
+
+  unread_by : (m : Option Job) → meaning words ≡ m → status ≡ 3 → absence ⊎ fault
+  unread_by None e s = absurd (usage_three status o0 o1 e0 e1 wf (no_meaning e) s)
+  unread_by (Some (Plan config dp)) e s = let p = plan config dp e in p.unread (at_three status o0 o1 e0 e1 wf config dp p.made p.given s)
+
+  pub unread : status ≡ 3 → absence ⊎ fault
+  unread s = unread_by (meaning words) refl s
+
+  write_fault_by : (m : Option Job) → meaning words ≡ m → status ≡ 4 → wf
+  write_fault_by None e s = usage_four status o0 o1 e0 e1 wf (no_meaning e) s
+  write_fault_by (Some (Plan config dp)) e s = let p = plan config dp e in at_four status o0 o1 e0 e1 wf config dp p.made p.given s
+
+  pub write_fault : status ≡ 4 → wf
+  write_fault s = write_fault_by (meaning words) refl s
+
+  pub refused : (config dp text : List ℕ) → meaning words ≡ Some (Plan config dp) → Tells contents config (Some text) → status ≡ 2 → IsRefusal (planned text dp)
+  refused config dp text e t s =
+      let p = plan config dp e in
+      let made_so = p.told (Some text) t in
+      elim (at_two status o0 o1 e0 e1 wf config dp p.made p.given s) [
+        | inl is ↦ inl (subst (λ (m : Made). Makes fault m (planned text dp)) is made_so)
+        | inr is ↦ inr (subst (λ (m : Made). Makes fault m (planned text dp)) is made_so)
+      ]
+
+  pub refused_there : (config dp : List ℕ) → meaning words ≡ Some (Plan config dp) → Tells contents config None → status ≡ 2 → ⊥
+  refused_there config dp e t s =
+      let p = plan config dp e in
+      let made_so = p.told None t in
+      elim (at_two status o0 o1 e0 e1 wf config dp p.made p.given s) [
+        | inl is ↦ form_of_none (subst (λ (m : Made). Makes fault m (failed Unread)) is made_so)
+        | inr is ↦ dp_of_none (subst (λ (m : Made). Makes fault m (failed Unread)) is made_so)
+      ]
+
+  pub unread_there : (config dp text : List ℕ) → meaning words ≡ Some (Plan config dp) → Tells contents config (Some text) → status ≡ 3 → fault
+  unread_there config dp text e t s =
+      let p = plan config dp e in
+      let made_so : Makes fault (failed Unread) (planned text dp) = subst (λ (m : Made). Makes fault m (planned text dp)) (at_three status o0 o1 e0 e1 wf config dp p.made p.given s) (p.told (Some text) t) in
+      elim made_so [ inl never ↦ absurd (batch_not_unread (form_of text) dp never) | inr f ↦ f ]
+
+  -- the answer for what was made is that for what was wanted
+  as_wanted : (config dp : List ℕ) (made wanted : Made) → wanted ≡ made → IsGiven (plan_answer config dp made) status o0 o1 e0 e1 ⊎ wf → IsGiven (plan_answer config dp wanted) status o0 o1 e0 e1 ⊎ (fault ⊎ wf)
+  as_wanted config dp made wanted e (inl h) = inl (subst (λ (m : Made). IsGiven (plan_answer config dp m) status o0 o1 e0 e1) (sym e) h)
+  as_wanted config dp made wanted e (inr w) = inr (inr w)
+
+  answered : (config dp : List ℕ) (made wanted : Made) → Makes fault made wanted → Delivers (plan_answer config dp made) status o0 o1 e0 e1 wf → status ≢ 8
+      → IsGiven (plan_answer config dp wanted) status o0 o1 e0 e1 ⊎ (fault ⊎ wf)
+  answered config dp (Ok batch) wanted so given ne = as_wanted config dp (Ok batch) wanted so (delivered status o0 o1 e0 e1 wf (plan_answer config dp (Ok batch)) given)
+  answered config dp (Err NotOfForm) wanted so given ne = as_wanted config dp (Err NotOfForm) wanted so (delivered status o0 o1 e0 e1 wf (plan_answer config dp (Err NotOfForm)) given)
+  answered config dp (Err Unresolved) wanted so given ne = as_wanted config dp (Err Unresolved) wanted so (delivered status o0 o1 e0 e1 wf (plan_answer config dp (Err Unresolved)) given)
+  answered config dp (Err Unread) wanted (inl so) given ne = as_wanted config dp (Err Unread) wanted so (delivered status o0 o1 e0 e1 wf (plan_answer config dp (Err Unread)) given)
+  answered config dp (Err Unread) wanted (inr f) given ne = inr (inl f)
+  answered config dp (Err Memory) wanted so (inl h) ne = absurd (ne h.0)
+  answered config dp (Err Memory) wanted so (inr h) ne = inr (inr h.3)
+
+  -- what is held under a name is told
+  tells : (held : Contents) → contents ≡ Some held → (name : List ℕ) → Tells contents name (held 0 name)
+  tells held e name = ap (λ (c : Option Contents). told c name) e
+
+  answer_by : (held : Contents) → contents ≡ Some held → status ≢ 8 → (m : Option Job) → meaning words ≡ m → IsGiven (job_answer m (now_held held)) status o0 o1 e0 e1 ⊎ (fault ⊎ wf)
+  answer_by held t ne None e =
+      elim (delivered status o0 o1 e0 e1 wf usage (no_meaning e)) [ inl h ↦ inl h | inr w ↦ inr (inr w) ]
+  answer_by held t ne (Some (Plan config dp)) e =
+      let p = plan config dp e in
+      answered config dp p.made (planned_file (held 0 config) dp) (p.told (held 0 config) (tells held t config)) p.given ne
+
+  pub answer_given : (held : Contents) → contents ≡ Some held → status ≢ 8 → IsGiven (answer words (now_held held)) status o0 o1 e0 e1 ⊎ (fault ⊎ wf)
+  answer_given held t ne = answer_by held t ne (meaning words) refl
+
+  -- what was written for what was made is a front of what is written for what was wanted
+  made_front : (config dp : List ℕ) (made wanted : Made) → Makes fault made wanted → AppendsFront o0 o1 (plan_answer config dp made).out → AppendsFront o0 o1 (plan_answer config dp wanted).out
+  made_front config dp (Ok batch) wanted so f = subst (λ (m : Made). AppendsFront o0 o1 (plan_answer config dp m).out) (sym so) f
+  made_front config dp (Err Unread) wanted so f = empty_front o0 o1 (plan_answer config dp wanted).out f
+  made_front config dp (Err NotOfForm) wanted so f = empty_front o0 o1 (plan_answer config dp wanted).out f
+  made_front config dp (Err Unresolved) wanted so f = empty_front o0 o1 (plan_answer config dp wanted).out f
+  made_front config dp (Err Memory) wanted so f = empty_front o0 o1 (plan_answer config dp wanted).out f
+
+  front_by : (held : Contents) → contents ≡ Some held → (m : Option Job) → meaning words ≡ m → AppendsFront o0 o1 (job_answer m (now_held held)).out
+  front_by held t None e = delivered_front status o0 o1 e0 e1 wf usage (no_meaning e)
+  front_by held t (Some (Plan config dp)) e =
+      let p = plan config dp e in
+      made_front config dp p.made (planned_file (held 0 config) dp) (p.told (held 0 config) (tells held t config)) (delivered_front status o0 o1 e0 e1 wf (plan_answer config dp p.made) p.given)
+
+  pub front : (held : Contents) → contents ≡ Some held → AppendsFront o0 o1 (answer words (now_held held)).out
+  front held t = front_by held t (meaning words) refl

@@ -1,0 +1,106 @@
+ghost use Rattle.std.specs.Prelude.{◌≡◌, ◌≤◌, ◌⊎◌, Result};
+ghost use Rattle.fg_outside.specs.Counts.{Rose};
+ghost use Rattle.fg_outside.specs.Wrote.{appended, AppendsFront, line_of};
+ghost use Rattle.faucet_top.specs.Answer.{Delivers, plan_answer, usage};
+ghost use Rattle.faucet_top.specs.Status.{number_of_status};
+ghost use Rattle.faucet_top.specs.Ends.{Ends, refused_status, refusal_line};
+
+use crate::plan::PlanRefused;
+use fg_outside::{Sink, write_all, write_line};
+use net_base::Bytes;
+
+const USAGE: &str = "usage: faucet check, plan, replay, serve, gauge, gauge-serve or bench";
+
+/// The exit statuses of the program.
+#[derive(Clone, Copy, Debug, PartialEq, Eq)]
+pub enum Status {
+    /// All was done.
+    Done = 0,
+    /// The words have no meaning.
+    Usage = 1,
+    /// A configuration was read and refused, or has no such datapath.
+    Refused = 2,
+    /// A file isn't there, or a read failed.
+    Unread = 3,
+    /// A write failed.
+    WriteFault = 4,
+    /// Memory ran out.
+    Memory = 8,
+}
+
+impl Status {
+    /// The number that the process ends with.
+    pub fn number(self) -> u8
+        ensures { result ≡ number_of_status self }
+    {
+        self as u8
+    }
+}
+
+/// Writes bytes, and ends with this status.
+fn end_with_bytes<O: Sink>(out: &mut O, bytes: &[u8], status: Status) -> Status
+    ensures ends { Ends status bytes.now (O.wrote out.old) (O.wrote out.new) (Rose (O.faults out.old) (O.faults out.new)) result }
+    ensures faults { O.faults out.old ≤ O.faults out.new }
+{
+    match write_all(out, bytes) {
+        Ok(()) => status,
+        Err(_) => Status::WriteFault,
+    }
+}
+
+/// Writes a line of these pieces, and ends with this status.
+fn end_with_line<E: Sink>(err: &mut E, pieces: &[&str], status: Status) -> Status
+    ensures ends { Ends status (line_of pieces.now) (E.wrote err.old) (E.wrote err.new) (Rose (E.faults err.old) (E.faults err.new)) result }
+    ensures faults { E.faults err.old ≤ E.faults err.new }
+{
+    match write_line(err, pieces) {
+        Ok(()) => status,
+        Err(_) => Status::WriteFault,
+    }
+}
+
+/// Says that the words have no meaning.
+pub fn deliver_usage<E: Sink>(err: &mut E) -> Status
+    ensures ends { Ends Status.Usage usage.err (E.wrote err.old) (E.wrote err.new) (Rose (E.faults err.old) (E.faults err.new)) result }
+    ensures faults { E.faults err.old ≤ E.faults err.new }
+{
+    end_with_line(err, &[USAGE], Status::Usage)
+}
+
+/// Says why there is no batch.
+fn deliver_refusal<E: Sink>(err: &mut E, config: &str, dp: &str, why: PlanRefused) -> Status
+    ensures ends { Ends (refused_status why) (refusal_line config.now dp.now why) (E.wrote err.old) (E.wrote err.new) (Rose (E.faults err.old) (E.faults err.new)) result }
+    ensures faults { E.faults err.old ≤ E.faults err.new }
+{
+    match why {
+        PlanRefused::Unread => end_with_line(err, &[config, ": read fault"], Status::Unread),
+        PlanRefused::NotOfForm => {
+            end_with_line(err, &[config, ": not in the first form"], Status::Refused)
+        }
+        PlanRefused::Unresolved => {
+            let pieces = [config, ": dps.", dp, ": Unresolved"];
+            end_with_line(err, &pieces, Status::Refused)
+        }
+        PlanRefused::Memory => end_with_line(err, &["out of memory"], Status::Memory),
+    }
+}
+
+/// Writes the batch, or says why there is none.
+pub fn deliver_plan<O: Sink, E: Sink>(
+    out: &mut O,
+    err: &mut E,
+    config: &str,
+    dp: &str,
+    made: Result<Bytes, PlanRefused>,
+) -> Status
+    ensures answer { Delivers (plan_answer config.now dp.now made) (number_of_status result)
+        (O.wrote out.old) (O.wrote out.new) (E.wrote err.old) (E.wrote err.new)
+        (Rose (O.faults out.old) (O.faults out.new) ⊎ Rose (E.faults err.old) (E.faults err.new)) }
+    ensures out_faults { O.faults out.old ≤ O.faults out.new }
+    ensures err_faults { E.faults err.old ≤ E.faults err.new }
+{
+    match made {
+        Ok(batch) => end_with_bytes(out, batch.as_slice(), Status::Done),
+        Err(why) => deliver_refusal(err, config, dp, why),
+    }
+}

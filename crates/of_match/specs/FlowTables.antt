@@ -1,0 +1,56 @@
+-- The flow entries of a switch, and what commands make of them.
+use Rattle.std.specs.Prelude.{◌≡◌, ℕ, ◌+◌, ◌<◌, ◌≤◌, Bool, List, [], ◌∷◌, ◌++◌, length, Option, Some, None, take, drop, slice_index_or}
+use Rattle.std.specs.List.{AllByRecursion, filter, find}
+use Rattle.std.specs.declared.cmp.Ordering.{Ordering}
+use Rattle.std.specs.declared.cmp.Ordering.TheVariants.{Less, Equal, Greater}
+use Rattle.std.specs.Ordering.{is_lt, is_eq, is_gt}
+use Rattle.of_match.specs.declared.entry.Key.{Key}
+use Rattle.of_match.specs.declared.entry.Entry.{Entry}
+use Rattle.of_match.specs.declared.entry.Command.{Command}
+use Rattle.of_match.specs.declared.entry.Command.TheVariants.{Add, DeleteStrict, DeleteAll}
+use Rattle.of_match.specs.KeyOrder.{key_cmp}
+
+-- each key is before those after it, so no two entries have one key (OpenFlow 1.3, 5.2)
+abbrev pub IsInKeyOrder : List Entry → Type 0
+IsInKeyOrder [] = Unit {0}
+IsInKeyOrder (e ∷ es) = AllByRecursion (λ f. key_cmp e.key f.key ≡ Less) es × IsInKeyOrder es
+
+-- the entry with a key
+abbrev pub entry_at : List Entry → Key → Option Entry
+entry_at tables key = find (λ e. is_eq (key_cmp e.key key)) tables
+
+-- the entries before a key, and those after it
+abbrev pub below : Key → List Entry → List Entry
+below key tables = filter (λ e. is_lt (key_cmp e.key key)) tables
+
+abbrev pub above : Key → List Entry → List Entry
+above key tables = filter (λ e. is_gt (key_cmp e.key key)) tables
+
+-- the tables after a command: an add puts the entry at its key's place, in place of one that has
+-- the key; a strict delete takes out the entry with the key, if there is one (OpenFlow 1.3, 6.4)
+abbrev pub after : List Entry → Command → List Entry
+after tables (Add entry) = below entry.key tables ++ entry ∷ above entry.key tables
+after tables (DeleteStrict key) = below key tables ++ above key tables
+after tables DeleteAll = []
+
+-- the commands that only take out
+abbrev pub NeedsNoMemory : Command → Type 0
+NeedsNoMemory (Add entry) = ⊥
+NeedsNoMemory (DeleteStrict key) = Unit {0}
+NeedsNoMemory DeleteAll = Unit {0}
+
+-- ---- places, which a search answers
+
+-- the entry at place i has the key
+pub record IsAt (tables : List Entry) (key : Key) (i : ℕ) : Type 0 where
+  pub in_range : i < length tables
+  pub before : take i tables ≡ below key tables
+  pub behind : drop (i + 1) tables ≡ above key tables
+  pub here : (d : Entry) → entry_at tables key ≡ Some (slice_index_or tables i d)
+
+-- no entry has the key, which would go at place i
+pub record IsGapFor (tables : List Entry) (key : Key) (i : ℕ) : Type 0 where
+  pub in_range : i ≤ length tables
+  pub before : take i tables ≡ below key tables
+  pub behind : drop i tables ≡ above key tables
+  pub none : entry_at tables key ≡ None

@@ -1,0 +1,68 @@
+-- Which packets a match takes.
+use Rattle.std.specs.Prelude.{ℕ, ◌+◌, ◌*◌, ◌^◌, Bool, true, false, ◌==◌, ◌&&◌, List, [], ◌∷◌, Option, Some, None, slice_index, bit_and}
+use Rattle.std.specs.List.{list_all}
+use Rattle.net_base.specs.declared.address.Mac.{Mac}
+use Rattle.net_base.specs.declared.field.Field.{Field}
+use Rattle.net_base.specs.declared.field.FieldId.{FieldId}
+use Rattle.net_base.specs.declared.field.FieldId.TheVariants.{InPort, EthDst, EthSrc, EthType, VlanVid, VlanPcp, IpProto, Ipv4Src, Ipv4Dst, TcpSrc, TcpDst, UdpSrc, UdpDst, Icmpv4Type, Icmpv4Code, ArpOp, ArpSpa, ArpTpa}
+use Rattle.of_match.specs.declared.packet.Tag.{Tag}
+use Rattle.of_match.specs.declared.packet.L4.{L4}
+use Rattle.of_match.specs.declared.packet.L4.TheVariants.{None as NoL4, Tcp, Udp, Icmp}
+use Rattle.of_match.specs.declared.packet.Upper.{Upper}
+use Rattle.of_match.specs.declared.packet.Upper.TheVariants.{None as NoUpper, Arp, V4}
+use Rattle.of_match.specs.declared.packet.Packet.{Packet}
+
+-- an Ethernet address as one number, its first byte the most significant one
+abbrev pub mac_value : Mac → ℕ
+mac_value m =
+    slice_index m.0 0 * 2 ^ 40 + slice_index m.0 1 * 2 ^ 32 + slice_index m.0 2 * 2 ^ 24 + slice_index m.0 3 * 2 ^ 16 + slice_index m.0 4 * 2 ^ 8 + slice_index m.0 5
+
+-- 0 without a tag, else 0x1000 and the outermost tag's identifier (OpenFlow 1.3, 7.2.3.7, VLAN_VID)
+abbrev pub vid_value : List Tag → ℕ
+vid_value [] = 0
+vid_value (tag ∷ tags) = 0x1000 + tag.vid
+
+-- the outermost tag's priority
+abbrev pub pcp_value : List Tag → Option ℕ
+pcp_value [] = None
+pcp_value (tag ∷ tags) = Some tag.pcp
+
+-- what the transport header has of a field
+abbrev pub l4_value : FieldId → L4 → Option ℕ
+l4_value TcpSrc (Tcp src dst) = Some src
+l4_value TcpDst (Tcp src dst) = Some dst
+l4_value UdpSrc (Udp src dst) = Some src
+l4_value UdpDst (Udp src dst) = Some dst
+l4_value Icmpv4Type (Icmp kind code) = Some kind
+l4_value Icmpv4Code (Icmp kind code) = Some code
+l4_value id l4 = None
+
+-- what the headers behind the EtherType have of a field
+abbrev pub upper_value : FieldId → Upper → Option ℕ
+upper_value ArpOp (Arp op spa tpa) = Some op
+upper_value ArpSpa (Arp op spa tpa) = Some spa.0
+upper_value ArpTpa (Arp op spa tpa) = Some tpa.0
+upper_value IpProto (V4 src dst proto ttl l4) = Some proto
+upper_value Ipv4Src (V4 src dst proto ttl l4) = Some src.0
+upper_value Ipv4Dst (V4 src dst proto ttl l4) = Some dst.0
+upper_value id (V4 src dst proto ttl l4) = l4_value id l4
+upper_value id upper = None
+
+-- what a packet that came in by a port has of a field (7.2.3.7)
+abbrev pub value_of : FieldId → ℕ → Packet → Option ℕ
+value_of InPort port p = Some port
+value_of EthDst port p = Some (mac_value p.dst)
+value_of EthSrc port p = Some (mac_value p.src)
+value_of EthType port p = Some p.eth_type
+value_of VlanVid port p = Some (vid_value p.tags)
+value_of VlanPcp port p = pcp_value p.tags
+value_of id port p = upper_value id p.upper
+
+-- the packet has the field, and agrees in each bit of the mask (7.2.3.5)
+abbrev pub agrees : Field → Option ℕ → Bool
+agrees f None = false
+agrees f (Some v) = bit_and v f.mask == bit_and f.value f.mask
+
+-- each field of the match agrees; one that the packet lacks doesn't (5.3)
+abbrev pub hits : List Field → ℕ → Packet → Bool
+hits fields port p = list_all (λ f. agrees f (value_of f.id port p)) fields

@@ -1,0 +1,93 @@
+ghost use Rattle.std.specs.Prelude.{◌≡◌, ◌≤◌};
+ghost use Rattle.std.specs.Cmp.Lexicographic.{slice_cmp};
+ghost use Rattle.net_base.specs.FieldId.{byte_len_of};
+ghost use Rattle.of_match.specs.KeyOrder.{all_ones, is_masked, field_len, match_len, field_cmp, match_cmp};
+
+use net_base::{Field, FieldId};
+use std::cmp::Ordering;
+
+/// The mask that leaves no bit of the field's value out.
+pub fn full_mask(id: FieldId) -> u128
+    ensures { result ≡ all_ones (byte_len_of id) }
+{
+    match id {
+        FieldId::VlanPcp | FieldId::IpProto | FieldId::Icmpv4Type | FieldId::Icmpv4Code => 0xff,
+        FieldId::EthType
+        | FieldId::VlanVid
+        | FieldId::TcpSrc
+        | FieldId::TcpDst
+        | FieldId::UdpSrc
+        | FieldId::UdpDst
+        | FieldId::ArpOp => 0xffff,
+        FieldId::InPort | FieldId::Ipv4Src | FieldId::Ipv4Dst | FieldId::ArpSpa | FieldId::ArpTpa =>
+            0xffff_ffff,
+        FieldId::EthDst | FieldId::EthSrc => 0xffff_ffff_ffff,
+    }
+}
+
+/// Whether the field goes with a mask, since it leaves some bit of the value out.
+pub fn is_masked(field: &Field) -> bool
+    ensures { result ≡ is_masked field.now }
+{
+    field.mask != full_mask(field.id)
+}
+
+// How many bytes a field takes in a match.
+fn field_len(field: &Field) -> usize
+    ensures exact { result ≡ field_len field.now }
+    ensures small { result ≤ 16 }
+{
+    if is_masked(field) {
+        4 + 2 * field.id.byte_len()
+    } else {
+        4 + field.id.byte_len()
+    }
+}
+
+/// How many bytes a match takes on the wire, its type and length among them, without its padding
+/// (OpenFlow 1.3, 7.2.3.1).
+pub fn match_len(fields: &[Field]) -> u128
+    ensures { result ≡ match_len fields.now }
+{
+    let mut total: u128 = 4;
+    for field in fields {
+        total += field_len(field) as u128;
+    }
+    total
+}
+
+// Two fields by number, mask flag, value and mask.
+fn compare_field(a: &Field, b: &Field) -> Ordering
+    ensures { result ≡ field_cmp a.now b.now }
+{
+    a.id.number()
+        .cmp(&b.id.number())
+        .then(is_masked(a).cmp(&is_masked(b)))
+        .then(a.value.cmp(&b.value))
+        .then(a.mask.cmp(&b.mask))
+}
+
+// Field by field; where one ends before the other, it is first.
+fn compare_each(a: &[Field], b: &[Field]) -> Ordering
+    ensures { result ≡ slice_cmp field_cmp a.now b.now }
+{
+    match a {
+        [] if b.is_empty() => Ordering::Equal,
+        [] => Ordering::Less,
+        [x, xs @ ..] => match b {
+            [] => Ordering::Greater,
+            [y, ys @ ..] => match compare_field(x, y) {
+                Ordering::Equal => compare_each(xs, ys),
+                unequal => unequal,
+            },
+        },
+    }
+}
+
+/// Two matches in the order of flow entries of one table and priority: by their length on the
+/// wire, and then field by field.
+pub fn compare_matches(a: &[Field], b: &[Field]) -> Ordering
+    ensures { result ≡ match_cmp a.now b.now }
+{
+    match_len(a).cmp(&match_len(b)).then(compare_each(a, b))
+}
