@@ -1,6 +1,7 @@
 -- Ways of a hub, one behind the other.
-use Rattle.std.proofs.Common.{◌≡◌, List, [], ◌∷◌, ◌++◌, refl, sym, ◌∙◌, ap, subst, append_assoc}
+use Rattle.std.proofs.Common.{◌≡◌, All, arith, List, [], ◌∷◌, ◌++◌, refl, sym, ◌∙◌, ap, subst, append_assoc}
 use Rattle.std.proofs.lemmas.List.{append-nil}
+use Rattle.std.proofs.lemmas.List.Elements.{All-push}
 use Rattle.fg_outside.specs.HubStep.{HubStep, Event, told_by, story, Leads, start, next, Story}
 
 pub story-append : (xs ys : List HubStep) → story (xs ++ ys) ≡ story xs ++ story ys
@@ -27,3 +28,8 @@ module _ {H : Type 0} (may : H → HubStep → H → Type 0) where
   Leads-append from mid xs first ys _ start = subst (λ (l : List HubStep). Leads may from l mid) (sym (append-nil xs)) first
   Leads-append from mid xs first ys _ (next steps last step to second step_may) =
       subst (λ (l : List HubStep). Leads may from l to) (append_assoc xs steps (step ∷ [])) (next (xs ++ steps) last step to (Leads-append from mid xs first steps last second) step_may)
+
+  -- what each step that the hub may take has, each step of a way has
+  pub All-Leads : (P : HubStep → Type 0) → ((before : H) (step : HubStep) (after : H) → may before step after → P step) → (from : H) (steps : List HubStep) (to : H) → Leads may from steps to → All P steps
+  All-Leads P each from _ _ start = λ k d below. absurd (omega (arith, below))
+  All-Leads P each from _ _ (next steps mid step to way step_may) = All-push P steps step (All-Leads P each from steps mid way) (each mid step to step_may)

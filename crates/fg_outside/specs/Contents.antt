@@ -23,6 +23,6 @@ Tells contents name file = told contents name ≡ Some file
 pub record ReadsAt (file : List ℕ) (from : ℕ) (buf : List ℕ) (n : ℕ) : Type 0 where
   pub bytes : take n buf ≡ take n (drop from file)
   pub within : n ≤ length file - from
-  -- no byte comes into a buffer that has room only at the file's end
+  -- a buffer with room gets no byte only where the file ends
   pub end : n ≡ 0 → 0 < length buf → length file ≤ from
   pub size : length file ≤ 2 ^ 64 - 1

@@ -6,6 +6,7 @@ mod fault_plan;
 mod files;
 mod held;
 mod hub;
+pub mod laws;
 mod line;
 mod mem_files;
 mod mem_sink;
