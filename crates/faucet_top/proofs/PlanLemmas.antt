@@ -6,33 +6,35 @@ use Rattle.std.proofs.lemmas.List.{take_all, length-take}
 use Rattle.fg_outside.specs.Contents.{Contents, Tells}
 use Rattle.fg_outside.specs.declared.files.ReadRefused.{ReadRefused}
 use Rattle.fg_outside.specs.declared.files.ReadRefused.TheVariants as reads
-use Rattle.yaml_subset.specs.Reading.{first_form}
+use Rattle.yaml_subset.specs.Reading.{read_of, fault_at}
+use Rattle.yaml_subset.specs.declared.fault.YamlFault.{YamlFault}
+use Rattle.yaml_subset.specs.declared.fault.YamlCause.TheVariants.{TooLong}
 use Rattle.yaml_subset.specs.declared.tree.Tree.{Tree}
 use Rattle.faucet_top.specs.declared.plan.PlanRefused.{PlanRefused}
-use Rattle.faucet_top.specs.declared.plan.PlanRefused.TheVariants.{Unread, NotOfForm, Unresolved, Memory}
-use Rattle.faucet_top.specs.Answer.{planned, planned_file, batch_of, Makes}
-use Rattle.faucet_top.specs.Form.{◌>>=◌, conf_of}
+use Rattle.faucet_top.specs.declared.plan.PlanRefused.TheVariants.{Unread, Refused, NotOfForm, Unresolved, Memory}
+use Rattle.faucet_top.specs.Answer.{planned, planned_file, batch_of_text, Makes}
 
 -- a text that is too long is not of the form
-too_long : (text : List ℕ) → 1048576 < length text → first_form text ≡ None
-unfolding first_form
+too_long : (text : List ℕ) → 1048576 < length text → read_of text ≡ Err (fault_at 0 TooLong)
+unfolding read_of
 too_long text h = rw (lt-ltb 1048576 (length text) h) refl
 
-front_form : (text : List ℕ) → first_form (take 1048577 text) ≡ first_form text
+front_form : (text : List ℕ) → read_of (take 1048577 text) ≡ read_of text
 front_form text =
     elim (cases_lt 1048577 (length text)) [
       | inl longer ↦ too_long (take 1048577 text) (omega (arith, length-take 1048577 text)) ∙ sym (too_long text (omega arith))
-      | inr short ↦ ap first_form (take_all 1048577 text short)
+      | inr short ↦ ap read_of (take_all 1048577 text short)
     ]
 
 planned_front : (text dp : List ℕ) → planned (take 1048577 text) dp ≡ planned text dp
-planned_front text dp = ap (λ (t : Option Tree). batch_of (t >>= conf_of) dp) (front_form text)
+planned_front text dp = ap (λ (t : Result Tree YamlFault). batch_of_text t dp) (front_form text)
 
 -- without a fault, or with one
 weaker : (fault : Type 0) (made wanted : Result (List ℕ) PlanRefused) → Makes ⊥ made wanted → Makes fault made wanted
 weaker fault (Ok batch) wanted h = h
 weaker fault (Err Unread) wanted (inl e) = inl e
 weaker fault (Err Unread) wanted (inr never) = absurd never
+weaker fault (Err (Refused why)) wanted h = h
 weaker fault (Err NotOfForm) wanted h = h
 weaker fault (Err Unresolved) wanted h = h
 weaker fault (Err Memory) wanted h = tt

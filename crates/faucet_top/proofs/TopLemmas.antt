@@ -5,10 +5,14 @@ use Rattle.std.specs.Str.{bytes_eq}
 use Rattle.std.proofs.Math.Seq.{take-length}
 use Rattle.fg_outside.specs.Contents.{Contents, Tells, told}
 use Rattle.fg_outside.specs.Wrote.{appended, AppendsFront}
+use Rattle.yaml_subset.specs.Reading.{read_of}
+use Rattle.yaml_subset.specs.declared.fault.YamlFault.{YamlFault}
+use Rattle.yaml_subset.specs.declared.tree.Tree.{Tree}
+use Rattle.faucet_top.specs.Form.{conf_of}
 use Rattle.faucet_top.specs.declared.conf.Conf.{Conf}
 use Rattle.faucet_top.specs.declared.plan.PlanRefused.{PlanRefused}
-use Rattle.faucet_top.specs.declared.plan.PlanRefused.TheVariants.{Unread, NotOfForm, Unresolved, Memory}
-use Rattle.faucet_top.specs.Answer.{Answer, Delivers, Makes, planned, planned_file, batch_of, form_of, plan_answer, usage, answer, job_answer}
+use Rattle.faucet_top.specs.declared.plan.PlanRefused.TheVariants.{Unread, Refused, NotOfForm, Unresolved, Memory}
+use Rattle.faucet_top.specs.Answer.{Answer, Delivers, Makes, planned, planned_file, batch_of, batch_of_text, plan_answer, usage, answer, job_answer}
 use Rattle.faucet_top.specs.Top.{PlanAnswered, IsGiven, IsRefusal, now_held}
 use Rattle.faucet_top.specs.Words.{Job, Plan, meaning}
 
@@ -17,6 +21,10 @@ Made = Result (List ℕ) PlanRefused
 
 abbrev failed : PlanRefused → Made
 failed why = Err why
+
+-- what may have been made where a configuration was refused
+abbrev TwoCause : Made → Type 0
+TwoCause made = ((why : YamlFault) × (made ≡ failed (Refused why))) ⊎ ((made ≡ failed NotOfForm) ⊎ (made ≡ failed Unresolved))
 
 -- ---- one stream
 
@@ -53,15 +61,17 @@ module _ (status : ℕ) (o0 o1 e0 e1 : Option (List ℕ)) (wf : Type 0) where
   not_one config dp (Ok batch) (inl h) s = omega (arith, h.0)
   not_one config dp (Err Unread) (inl h) s = omega (arith, h.0)
   not_one config dp (Err NotOfForm) (inl h) s = omega (arith, h.0)
+  not_one config dp (Err (Refused why)) (inl h) s = omega (arith, h.0)
   not_one config dp (Err Unresolved) (inl h) s = omega (arith, h.0)
   not_one config dp (Err Memory) (inl h) s = omega (arith, h.0)
   not_one config dp made (inr h) s = omega (arith, h.0)
 
-  at_two : (config dp : List ℕ) (made : Made) → Delivers (plan_answer config dp made) status o0 o1 e0 e1 wf → status ≡ 2 → (made ≡ failed NotOfForm) ⊎ (made ≡ failed Unresolved)
+  at_two : (config dp : List ℕ) (made : Made) → Delivers (plan_answer config dp made) status o0 o1 e0 e1 wf → status ≡ 2 → TwoCause made
   at_two config dp (Ok batch) (inl h) s = absurd (omega (arith, h.0))
   at_two config dp (Err Unread) (inl h) s = absurd (omega (arith, h.0))
-  at_two config dp (Err NotOfForm) (inl h) s = inl refl
-  at_two config dp (Err Unresolved) (inl h) s = inr refl
+  at_two config dp (Err (Refused why)) (inl h) s = inl (why, refl)
+  at_two config dp (Err NotOfForm) (inl h) s = inr (inl refl)
+  at_two config dp (Err Unresolved) (inl h) s = inr (inr refl)
   at_two config dp (Err Memory) (inl h) s = absurd (omega (arith, h.0))
   at_two config dp made (inr h) s = absurd (omega (arith, h.0))
 
@@ -69,6 +79,7 @@ module _ (status : ℕ) (o0 o1 e0 e1 : Option (List ℕ)) (wf : Type 0) where
   at_three config dp (Ok batch) (inl h) s = absurd (omega (arith, h.0))
   at_three config dp (Err Unread) (inl h) s = refl
   at_three config dp (Err NotOfForm) (inl h) s = absurd (omega (arith, h.0))
+  at_three config dp (Err (Refused why)) (inl h) s = absurd (omega (arith, h.0))
   at_three config dp (Err Unresolved) (inl h) s = absurd (omega (arith, h.0))
   at_three config dp (Err Memory) (inl h) s = absurd (omega (arith, h.0))
   at_three config dp made (inr h) s = absurd (omega (arith, h.0))
@@ -77,6 +88,7 @@ module _ (status : ℕ) (o0 o1 e0 e1 : Option (List ℕ)) (wf : Type 0) where
   at_four config dp (Ok batch) (inl h) s = absurd (omega (arith, h.0))
   at_four config dp (Err Unread) (inl h) s = absurd (omega (arith, h.0))
   at_four config dp (Err NotOfForm) (inl h) s = absurd (omega (arith, h.0))
+  at_four config dp (Err (Refused why)) (inl h) s = absurd (omega (arith, h.0))
   at_four config dp (Err Unresolved) (inl h) s = absurd (omega (arith, h.0))
   at_four config dp (Err Memory) (inl h) s = absurd (omega (arith, h.0))
   at_four config dp made (inr h) s = h.3
@@ -99,7 +111,14 @@ batch_not_unread : (conf : Option Conf) (dp : List ℕ) → batch_of conf dp ≡
 batch_not_unread None dp e = cc
 batch_not_unread (Some conf) dp e = never_unread (bytes_eq conf.dp.name dp) _ e
 
+text_not_unread : (read : Result Tree YamlFault) (dp : List ℕ) → batch_of_text read dp ≡ Err Unread → ⊥
+text_not_unread (Ok tree) dp e = batch_not_unread (conf_of tree) dp e
+text_not_unread (Err why) dp e = cc
+
 -- nothing is refused of a file that isn't there
+fault_of_none : (why : YamlFault) → failed Unread ≡ failed (Refused why) → ⊥
+fault_of_none why e = cc
+
 form_of_none : failed Unread ≡ failed NotOfForm → ⊥
 form_of_none e = cc
 
@@ -136,8 +155,11 @@ module _ (words : List (List ℕ)) (status : ℕ) (contents : Option Contents) (
       let p = plan config dp e in
       let made_so = p.told (Some text) t in
       elim (at_two status o0 o1 e0 e1 wf config dp p.made p.given s) [
-        | inl is ↦ inl (subst (λ (m : Made). Makes fault m (planned text dp)) is made_so)
-        | inr is ↦ inr (subst (λ (m : Made). Makes fault m (planned text dp)) is made_so)
+        | inl is ↦ inl (is.0, subst (λ (m : Made). Makes fault m (planned text dp)) is.1 made_so)
+        | inr is ↦ inr (elim is [
+          | inl form ↦ inl (subst (λ (m : Made). Makes fault m (planned text dp)) form made_so)
+          | inr name ↦ inr (subst (λ (m : Made). Makes fault m (planned text dp)) name made_so)
+        ])
       ]
 
   pub refused_there : (config dp : List ℕ) → meaning words ≡ Some (Plan config dp) → Tells contents config None → status ≡ 2 → ⊥
@@ -145,15 +167,18 @@ module _ (words : List (List ℕ)) (status : ℕ) (contents : Option Contents) (
       let p = plan config dp e in
       let made_so = p.told None t in
       elim (at_two status o0 o1 e0 e1 wf config dp p.made p.given s) [
-        | inl is ↦ form_of_none (subst (λ (m : Made). Makes fault m (failed Unread)) is made_so)
-        | inr is ↦ dp_of_none (subst (λ (m : Made). Makes fault m (failed Unread)) is made_so)
+        | inl is ↦ fault_of_none is.0 (subst (λ (m : Made). Makes fault m (failed Unread)) is.1 made_so)
+        | inr is ↦ elim is [
+          | inl form ↦ form_of_none (subst (λ (m : Made). Makes fault m (failed Unread)) form made_so)
+          | inr name ↦ dp_of_none (subst (λ (m : Made). Makes fault m (failed Unread)) name made_so)
+        ]
       ]
 
   pub unread_there : (config dp text : List ℕ) → meaning words ≡ Some (Plan config dp) → Tells contents config (Some text) → status ≡ 3 → fault
   unread_there config dp text e t s =
       let p = plan config dp e in
       let made_so : Makes fault (failed Unread) (planned text dp) = subst (λ (m : Made). Makes fault m (planned text dp)) (at_three status o0 o1 e0 e1 wf config dp p.made p.given s) (p.told (Some text) t) in
-      elim made_so [ inl never ↦ absurd (batch_not_unread (form_of text) dp never) | inr f ↦ f ]
+      elim made_so [ inl never ↦ absurd (text_not_unread (read_of text) dp never) | inr f ↦ f ]
 
   -- the answer for what was made is that for what was wanted
   as_wanted : (config dp : List ℕ) (made wanted : Made) → wanted ≡ made → IsGiven (plan_answer config dp made) status o0 o1 e0 e1 ⊎ wf → IsGiven (plan_answer config dp wanted) status o0 o1 e0 e1 ⊎ (fault ⊎ wf)
@@ -164,6 +189,7 @@ module _ (words : List (List ℕ)) (status : ℕ) (contents : Option Contents) (
       → IsGiven (plan_answer config dp wanted) status o0 o1 e0 e1 ⊎ (fault ⊎ wf)
   answered config dp (Ok batch) wanted so given ne = as_wanted config dp (Ok batch) wanted so (delivered status o0 o1 e0 e1 wf (plan_answer config dp (Ok batch)) given)
   answered config dp (Err NotOfForm) wanted so given ne = as_wanted config dp (Err NotOfForm) wanted so (delivered status o0 o1 e0 e1 wf (plan_answer config dp (Err NotOfForm)) given)
+  answered config dp (Err (Refused why)) wanted so given ne = as_wanted config dp (Err (Refused why)) wanted so (delivered status o0 o1 e0 e1 wf (plan_answer config dp (Err (Refused why))) given)
   answered config dp (Err Unresolved) wanted so given ne = as_wanted config dp (Err Unresolved) wanted so (delivered status o0 o1 e0 e1 wf (plan_answer config dp (Err Unresolved)) given)
   answered config dp (Err Unread) wanted (inl so) given ne = as_wanted config dp (Err Unread) wanted so (delivered status o0 o1 e0 e1 wf (plan_answer config dp (Err Unread)) given)
   answered config dp (Err Unread) wanted (inr f) given ne = inr (inl f)
@@ -189,6 +215,7 @@ module _ (words : List (List ℕ)) (status : ℕ) (contents : Option Contents) (
   made_front config dp (Ok batch) wanted so f = subst (λ (m : Made). AppendsFront o0 o1 (plan_answer config dp m).out) (sym so) f
   made_front config dp (Err Unread) wanted so f = empty_front o0 o1 (plan_answer config dp wanted).out f
   made_front config dp (Err NotOfForm) wanted so f = empty_front o0 o1 (plan_answer config dp wanted).out f
+  made_front config dp (Err (Refused why)) wanted so f = empty_front o0 o1 (plan_answer config dp wanted).out f
   made_front config dp (Err Unresolved) wanted so f = empty_front o0 o1 (plan_answer config dp wanted).out f
   made_front config dp (Err Memory) wanted so f = empty_front o0 o1 (plan_answer config dp wanted).out f
 

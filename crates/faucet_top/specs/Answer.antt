@@ -1,31 +1,37 @@
 -- What the program answers: what it writes on its two streams, and its status.
 use Rattle.std.specs.Prelude.{◌≡◌, ℕ, ◌+◌, Bool, if◌then◌else◌, ◌⊎◌, List, [], ◌∷◌, ◌++◌, Option, Some, None, Result, Ok, Err, codes}
+use Rattle.std.specs.Fmt.{decimal}
 use Rattle.std.specs.List.{concat}
 use Rattle.std.specs.Str.{bytes_eq}
 use Rattle.fg_outside.specs.Contents.{Contents, Tells}
 use Rattle.fg_outside.specs.Wrote.{appended, AppendsFront}
-use Rattle.yaml_subset.specs.Reading.{first_form}
+use Rattle.yaml_subset.specs.Reading.{read_of}
+use Rattle.yaml_subset.specs.Fault.{cause_text}
+use Rattle.yaml_subset.specs.declared.fault.YamlFault.{YamlFault}
+use Rattle.yaml_subset.specs.declared.tree.Tree.{Tree}
 use Rattle.faucet_top.specs.declared.conf.Conf.{Conf}
 use Rattle.faucet_top.specs.declared.plan.PlanRefused.{PlanRefused}
-use Rattle.faucet_top.specs.declared.plan.PlanRefused.TheVariants.{Unread, NotOfForm, Unresolved, Memory}
+use Rattle.faucet_top.specs.declared.plan.PlanRefused.TheVariants.{Unread, Refused, NotOfForm, Unresolved, Memory}
 use Rattle.faucet_top.specs.Cold.{cold}
-use Rattle.faucet_top.specs.Form.{◌>>=◌, conf_of}
+use Rattle.faucet_top.specs.Form.{conf_of}
 use Rattle.faucet_top.specs.Messages.{opening}
 use Rattle.faucet_top.specs.Words.{Job, Plan, meaning}
 
 -- ---- the opening batch of a file's bytes
 
--- the configuration that the bytes of a file spell, if they are of the first form
-abbrev pub form_of : List ℕ → Option Conf
-form_of text = first_form text >>= conf_of
-
+-- the batch for a datapath of a configuration, or why there is none
 abbrev pub batch_of : Option Conf → List ℕ → Result (List ℕ) PlanRefused
 batch_of None dp = Err NotOfForm
 batch_of (Some conf) dp = if bytes_eq conf.dp.name dp then Ok (opening (cold conf)) else Err Unresolved
 
--- the batch for a datapath, or why there is none
+-- the same of a text that was read, or of its fault
+abbrev pub batch_of_text : Result Tree YamlFault → List ℕ → Result (List ℕ) PlanRefused
+batch_of_text (Err fault) dp = Err (Refused fault)
+batch_of_text (Ok tree) dp = batch_of (conf_of tree) dp
+
+-- the same of the bytes of a file
 abbrev pub planned : List ℕ → List ℕ → Result (List ℕ) PlanRefused
-planned text dp = batch_of (form_of text) dp
+planned text dp = batch_of_text (read_of text) dp
 
 -- the same, of a file that may not be there
 abbrev pub planned_file : Option (List ℕ) → List ℕ → Result (List ℕ) PlanRefused
@@ -50,6 +56,7 @@ usage = record { out = []; err = line (codes "usage: faucet check, plan, replay,
 abbrev pub plan_answer : List ℕ → List ℕ → Result (List ℕ) PlanRefused → Answer
 plan_answer config dp (Ok batch) = record { out = batch; err = []; status = 0 }
 plan_answer config dp (Err Unread) = record { out = []; err = line (config ∷ codes ": read fault" ∷ []); status = 3 }
+plan_answer config dp (Err (Refused fault)) = record { out = []; err = line (config ∷ codes ": line " ∷ decimal fault.line ∷ codes ": " ∷ cause_text fault.cause ∷ []); status = 2 }
 plan_answer config dp (Err NotOfForm) = record { out = []; err = line (config ∷ codes ": not in the first form" ∷ []); status = 2 }
 plan_answer config dp (Err Unresolved) = record { out = []; err = line (config ∷ codes ": dps." ∷ dp ∷ codes ": Unresolved" ∷ []); status = 2 }
 plan_answer config dp (Err Memory) = record { out = []; err = line (codes "out of memory" ∷ []); status = 8 }
@@ -74,6 +81,7 @@ Delivers a status out_old out_new err_old err_new fault =
 abbrev pub Makes : (fault : Type 0) → (made wanted : Result (List ℕ) PlanRefused) → Type 0
 Makes fault (Ok batch) wanted = wanted ≡ Ok batch
 Makes fault (Err Unread) wanted = (wanted ≡ Err Unread) ⊎ fault
+Makes fault (Err (Refused why)) wanted = wanted ≡ Err (Refused why)
 Makes fault (Err NotOfForm) wanted = wanted ≡ Err NotOfForm
 Makes fault (Err Unresolved) wanted = wanted ≡ Err Unresolved
 Makes fault (Err Memory) wanted = Unit {0}

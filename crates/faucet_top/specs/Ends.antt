@@ -1,10 +1,11 @@
 -- How a call ends that writes once.
-use Rattle.std.specs.Prelude.{◌≡◌, ℕ, ◌⊎◌, List, Option, Result, Err}
+use Rattle.std.specs.Prelude.{◌≡◌, ℕ, ◌⊎◌, List, [], Option, Result, Err}
 use Rattle.fg_outside.specs.Wrote.{appended, AppendsFront}
 use Rattle.faucet_top.specs.declared.deliver.Status.{Status}
 use Rattle.faucet_top.specs.declared.deliver.Status.TheVariants as statuses
 use Rattle.faucet_top.specs.declared.plan.PlanRefused.{PlanRefused}
-use Rattle.faucet_top.specs.declared.plan.PlanRefused.TheVariants.{Unread, NotOfForm, Unresolved, Memory}
+use Rattle.faucet_top.specs.declared.plan.PlanRefused.TheVariants.{Unread, Refused, NotOfForm, Unresolved, Memory}
+use Rattle.yaml_subset.specs.declared.fault.YamlFault.{YamlFault}
 use Rattle.faucet_top.specs.Answer.{plan_answer}
 
 -- the bytes were written, with the status, or the write failed behind a front of them
@@ -15,6 +16,7 @@ Ends status bytes old new fault ended =
 -- the status where there is no batch
 abbrev pub refused_status : PlanRefused → Status
 refused_status Unread = statuses.Unread
+refused_status (Refused fault) = statuses.Refused
 refused_status NotOfForm = statuses.Refused
 refused_status Unresolved = statuses.Refused
 refused_status Memory = statuses.Memory
@@ -22,3 +24,7 @@ refused_status Memory = statuses.Memory
 -- the line where there is no batch
 abbrev pub refusal_line : List ℕ → List ℕ → PlanRefused → List ℕ
 refusal_line config dp why = (plan_answer config dp (Err why)).err
+
+-- the line for a text's fault
+abbrev pub fault_line : List ℕ → YamlFault → List ℕ
+fault_line config fault = (plan_answer config [] (Err (Refused fault))).err

@@ -1,9 +1,11 @@
 use Rattle.fg_outside.specs.declared.files.ReadRefused.{ReadRefused}
 use Rattle.fg_outside.specs.declared.files.ReadRefused.TheVariants as reads
+use Rattle.yaml_subset.specs.declared.fault.YamlRefused.{YamlRefused}
+use Rattle.yaml_subset.specs.declared.fault.YamlRefused.TheVariants as yaml
 use Rattle.faucet_top.specs.declared.shape.FormRefused.{FormRefused}
 use Rattle.faucet_top.specs.declared.shape.FormRefused.TheVariants as forms
 use Rattle.faucet_top.specs.declared.plan.PlanRefused.{PlanRefused}
-use Rattle.faucet_top.specs.declared.plan.PlanRefused.TheVariants.{Unread, NotOfForm, Memory}
+use Rattle.faucet_top.specs.declared.plan.PlanRefused.TheVariants.{Unread, Refused, NotOfForm, Memory}
 
 -- why there is no batch, where a file wasn't read
 abbrev pub unread_or_memory : ReadRefused → PlanRefused
@@ -15,3 +17,8 @@ unread_or_memory reads.Memory = Memory
 abbrev pub form_or_memory : FormRefused → PlanRefused
 form_or_memory forms.NotOfForm = NotOfForm
 form_or_memory forms.Memory = Memory
+
+-- why there is no batch, where a text was refused
+abbrev pub fault_or_memory : YamlRefused → PlanRefused
+fault_or_memory (yaml.At fault) = Refused fault
+fault_or_memory yaml.Memory = Memory

@@ -2,7 +2,8 @@
 use Rattle.std.specs.Prelude.{◌≡◌, ℕ, ◌⊎◌, List, Option, Some, None, Result, Ok, Err, IsErrOf}
 use Rattle.fg_outside.specs.Contents.{Contents, Tells}
 use Rattle.faucet_top.specs.declared.plan.PlanRefused.{PlanRefused}
-use Rattle.faucet_top.specs.declared.plan.PlanRefused.TheVariants.{Unread, NotOfForm, Unresolved}
+use Rattle.faucet_top.specs.declared.plan.PlanRefused.TheVariants.{Unread, Refused, NotOfForm, Unresolved}
+use Rattle.yaml_subset.specs.declared.fault.YamlFault.{YamlFault}
 use Rattle.faucet_top.specs.Answer.{Answer, planned_file, plan_answer, Makes, Delivers}
 use Rattle.faucet_top.specs.Status.{number_of_status}
 use Rattle.faucet_top.specs.declared.deliver.Status.{Status}
@@ -23,9 +24,9 @@ now_held held = held 0
 abbrev pub IsGiven : Answer → (status : ℕ) → (out_old out_new err_old err_new : Option (List ℕ)) → Type 0
 IsGiven a status out_old out_new err_old err_new = (status ≡ a.status) × (out_new ≡ appended out_old a.out) × (err_new ≡ appended err_old a.err)
 
--- the text isn't of the first form, or it hasn't the datapath
+-- the text is refused, or its tree isn't of the first form, or it hasn't the datapath
 abbrev pub IsRefusal : Result (List ℕ) PlanRefused → Type 0
-IsRefusal wanted = (wanted ≡ Err NotOfForm) ⊎ (wanted ≡ Err Unresolved)
+IsRefusal wanted = ((why : YamlFault) × (wanted ≡ Err (Refused why))) ⊎ ((wanted ≡ Err NotOfForm) ⊎ (wanted ≡ Err Unresolved))
 
 -- the statuses that there are
 abbrev pub IsStatus : ℕ → Type 0

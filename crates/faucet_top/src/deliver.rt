@@ -3,11 +3,13 @@ ghost use Rattle.fg_outside.specs.Counts.{Rose};
 ghost use Rattle.fg_outside.specs.Wrote.{appended, AppendsFront, line_of};
 ghost use Rattle.faucet_top.specs.Answer.{Delivers, plan_answer, usage};
 ghost use Rattle.faucet_top.specs.Status.{number_of_status};
-ghost use Rattle.faucet_top.specs.Ends.{Ends, refused_status, refusal_line};
+ghost use Rattle.faucet_top.specs.Ends.{Ends, refused_status, refusal_line, fault_line};
 
 use crate::plan::PlanRefused;
 use fg_outside::{Sink, write_all, write_line};
+use itoa::Buffer;
 use net_base::Bytes;
+use yaml_subset::YamlFault;
 
 const USAGE: &str = "usage: faucet check, plan, replay, serve, gauge, gauge-serve or bench";
 
@@ -67,6 +69,18 @@ pub fn deliver_usage<E: Sink>(err: &mut E) -> Status
     end_with_line(err, &[USAGE], Status::Usage)
 }
 
+/// Says where and why a text was refused.
+fn deliver_fault<E: Sink>(err: &mut E, config: &str, fault: YamlFault) -> Status
+    ensures ends { Ends Status.Refused (fault_line config.now fault) (E.wrote err.old) (E.wrote err.new) (Rose (E.faults err.old) (E.faults err.new)) result }
+    ensures faults { E.faults err.old ≤ E.faults err.new }
+{
+    let mut buffer = Buffer::new();
+    let number = buffer.format(fault.line);
+    let (cause, form) = fault.cause.names();
+    let pieces = [config, ": line ", number, ": ", cause, form];
+    end_with_line(err, &pieces, Status::Refused)
+}
+
 /// Says why there is no batch.
 fn deliver_refusal<E: Sink>(err: &mut E, config: &str, dp: &str, why: PlanRefused) -> Status
     ensures ends { Ends (refused_status why) (refusal_line config.now dp.now why) (E.wrote err.old) (E.wrote err.new) (Rose (E.faults err.old) (E.faults err.new)) result }
@@ -74,6 +88,7 @@ fn deliver_refusal<E: Sink>(err: &mut E, config: &str, dp: &str, why: PlanRefuse
 {
     match why {
         PlanRefused::Unread => end_with_line(err, &[config, ": read fault"], Status::Unread),
+        PlanRefused::Refused(fault) => deliver_fault(err, config, fault),
         PlanRefused::NotOfForm => {
             end_with_line(err, &[config, ": not in the first form"], Status::Refused)
         }

@@ -13,3 +13,9 @@ mod top;
 mod words;
 
 pub use top::faucet;
+
+#[cfg(test)]
+mod plain;
+
+#[cfg(test)]
+mod tests;

@@ -3,7 +3,7 @@ ghost use Rattle.fg_outside.specs.Counts.{Rose};
 ghost use Rattle.fg_outside.specs.Contents.{Tells};
 ghost use Rattle.faucet_top.specs.declared.plan.PlanRefused.TheVariants.{Memory, NotOfForm, Unread};
 ghost use Rattle.faucet_top.specs.Answer.{planned, planned_file, Makes};
-ghost use Rattle.faucet_top.specs.Refusals.{unread_or_memory, form_or_memory};
+ghost use Rattle.faucet_top.specs.Refusals.{unread_or_memory, form_or_memory, fault_or_memory};
 
 use crate::cold::make_cold;
 use crate::messages::make_opening;
@@ -11,7 +11,7 @@ use crate::shape::{FormRefused, make_conf};
 use fg_outside::{Files, ReadRefused, read_whole};
 use net_base::{Bytes, NoMemory};
 use std::alloc::Global;
-use yaml_subset::read_first_form;
+use yaml_subset::{YamlFault, YamlRefused, read_yaml};
 
 /// The most bytes of a configuration file.
 const MAX_TEXT: usize = 1_048_576;
@@ -21,7 +21,9 @@ const MAX_TEXT: usize = 1_048_576;
 pub enum PlanRefused {
     /// The file isn't there, or a read failed.
     Unread,
-    /// The file isn't of the first form.
+    /// The file isn't a text of the YAML subset: its first fault.
+    Refused(YamlFault),
+    /// The file's tree isn't of the first form.
     NotOfForm,
     /// The configuration has no datapath of the name.
     Unresolved,
@@ -48,6 +50,17 @@ impl From<ReadRefused> for PlanRefused {
     }
 }
 
+impl From<YamlRefused> for PlanRefused {
+    ghost from_gives = { λ why refused. refused ≡ fault_or_memory why };
+
+    fn from(why: YamlRefused) -> PlanRefused {
+        match why {
+            YamlRefused::At(fault) => PlanRefused::Refused(fault),
+            YamlRefused::Memory => PlanRefused::Memory,
+        }
+    }
+}
+
 impl From<FormRefused> for PlanRefused {
     ghost from_gives = { λ why refused. refused ≡ form_or_memory why };
 
@@ -63,9 +76,7 @@ impl From<FormRefused> for PlanRefused {
 fn make_batch_of(alloc: Global, text: &[u8], dp: &str) -> Result<Bytes, PlanRefused>
     ensures { Makes ⊥ result (planned text.now dp.now) }
 {
-    let Some(tree) = read_first_form(alloc, text)? else {
-        return Err(PlanRefused::NotOfForm);
-    };
+    let tree = read_yaml(alloc, text)?;
     let conf = make_conf(alloc, &tree)?;
     if conf.dp.name.as_str() != dp {
         return Err(PlanRefused::Unresolved);

@@ -49,8 +49,8 @@ fn answer_words<F: Files, O: Sink, E: Sink>(
 ///
 /// `plan CONFIG DP` writes on `out` the batch that opens the datapath DP of the configuration file
 /// CONFIG: OpenFlow 1.3 messages, big-endian. Any other words have no meaning. A refusal is one line
-/// on `err`. Statuses: 0 done; 1 the words have no meaning; 2 the file isn't of the first form, or DP
-/// isn't its datapath; 3 the file isn't there, or a read failed; 4 a write failed; 8 out of memory.
+/// on `err`. Statuses: 0 done; 1 the words have no meaning; 2 the file's text is refused, its tree
+/// isn't of the first form, or DP isn't its datapath; 3 the file isn't there, or a read failed; 4 a write failed; 8 out of memory.
 pub fn faucet<F: Files, H: Hub, O: Sink, E: Sink>(
     alloc: Global,
     words: &Names,
@@ -72,7 +72,8 @@ pub fn faucet<F: Files, H: Hub, O: Sink, E: Sink>(
     ensures usage_only { result.0 ≡ 1 → meaning words.now ≡ None }
     ensures usage { meaning words.now ≡ None → (result.0 ≡ 1) ⊎ (result.0 ≡ 4) }
 
-    // Status 2 only where the file was read, and isn't of the first form or hasn't the datapath.
+    // Status 2 only where the file was read, and its text is refused, or its tree isn't of the first form,
+    // or it hasn't the datapath.
     ensures refused { (config dp text : List ℕ) → meaning words.now ≡ Some (Plan config dp) → Tells (F.contents files) config (Some text)
         → result.0 ≡ 2 → IsRefusal (planned text dp) }
     ensures refused_there { (config dp : List ℕ) → meaning words.now ≡ Some (Plan config dp) → Tells (F.contents files) config None
