@@ -3,3 +3,4 @@ pub mod KeyLaws
 pub mod Hit
 pub mod Act
 pub mod FlowTables
+pub mod Pipeline

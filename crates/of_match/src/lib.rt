@@ -8,6 +8,7 @@ pub mod laws;
 mod order;
 mod packet;
 mod perform;
+mod pipeline;
 mod tables;
 
 pub use action::{ANY_PORT, Action, Actions, CONTROLLER, IN_PORT, Instr, Instrs};
