@@ -17,4 +17,5 @@ pub use hit::{hits, value_of};
 pub use order::{compare_matches, full_mask, is_masked};
 pub use packet::{Acted, L4, Packet, Sent, Sents, Tag, Tags, Upper};
 pub use perform::act;
+pub use pipeline::run;
 pub use tables::{Tables, TablesIter, apply};

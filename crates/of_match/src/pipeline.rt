@@ -1,7 +1,7 @@
-ghost use Rattle.std.specs.Prelude.{◌≡◌, ◌++◌, [], IfOk, OnOk, OnErr};
+ghost use Rattle.std.specs.Prelude.{◌≡◌, ◌-◌, ◌++◌, [], IfOk, OnOk, OnErr};
 ghost use Rattle.std.specs.Option.{option_copied};
 ghost use Rattle.of_match.specs.Act.{act_sends, act_left};
-ghost use Rattle.of_match.specs.Pipeline.{takes, actions_in, actions_of, goto_of, next_table, keep_first, chosen, first_run, Pipes};
+ghost use Rattle.of_match.specs.Pipeline.{takes, actions_in, actions_of, goto_of, next_table, keep_first, chosen, run_from, first_run, Pipes};
 
 use crate::action::Instr;
 use crate::entry::Entry;
@@ -98,4 +98,46 @@ fn act_instrs(
             None => Ok(None),
         },
     }
+}
+
+// Adds what a packet sends from a table on to what was sent.
+fn run_into(
+    alloc: Global,
+    entries: &[Entry],
+    table: u8,
+    port: PortNo,
+    packet: Packet,
+    outs: &mut Sents,
+) -> Result<(), NoMemory>
+    ensures { OnOk result (outs.new ≡ outs.old ++ run_from (256 - table) entries.now table port packet) }
+{
+    let Some(entry) = chosen(entries, table, port, &packet) else {
+        return Ok(());
+    };
+    let Some(left) = act_instrs(alloc, entry.instrs.as_slice(), port, packet, outs)? else {
+        return Ok(());
+    };
+    match next_table(entry.instrs.as_slice(), table) {
+        Some(next) => run_into(alloc, entries, next, port, left, outs),
+        None => Ok(()),
+    }
+}
+
+/// Runs a packet that came in by a port through the tables, from table 0 on, and gives what
+/// leaves, in order (OpenFlow 1.3, 5.1). Of several best entries of one table the first in key
+/// order is taken.
+pub fn run(alloc: Global, tables: &Tables, port: PortNo, packet: &Packet) -> Result<Sents, NoMemory>
+    ensures allowed { IfOk result (λ outs. Pipes tables.now port packet.now outs) }
+    ensures first { IfOk result (λ outs. outs ≡ first_run tables.now port packet.now) }
+{
+    let mut outs = Sents::new(alloc);
+    run_into(
+        alloc,
+        tables.entries(),
+        0,
+        port,
+        packet.copy(alloc)?,
+        &mut outs,
+    )?;
+    Ok(outs)
 }

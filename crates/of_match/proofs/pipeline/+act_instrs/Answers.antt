@@ -1,4 +1,4 @@
-use Rattle.std.proofs.Common.{arith, sym, ◌∙◌, ap, ◌++◌, append_assoc}
+use Rattle.std.proofs.Common.{arith, sym, ◌∙◌, append_assoc}
 use Rattle.std.proofs.lemmas.List.{take_rest}
 use Rattle.of_match.proofs.Runs.{left_first, left_ended, sends_first, sends_ended}
 use Rattle.of_match.proofs.pipeline.+act_instrs.Goals as goal
