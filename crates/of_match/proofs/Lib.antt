@@ -3,3 +3,5 @@ pub mod AfterOrder
 pub mod Runs
 pub mod Best
 pub mod Allowed
+pub mod Commute
+pub mod Settling

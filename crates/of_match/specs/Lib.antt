@@ -4,3 +4,5 @@ pub mod Hit
 pub mod Act
 pub mod FlowTables
 pub mod Pipeline
+pub mod Settled
+pub mod WellFormed
