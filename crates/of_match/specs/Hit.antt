@@ -1,5 +1,5 @@
 -- Which packets a match takes.
-use Rattle.std.specs.Prelude.{ℕ, ◌+◌, ◌*◌, ◌^◌, Bool, true, false, ◌==◌, ◌&&◌, List, [], ◌∷◌, Option, Some, None, slice_index, bit_and}
+use Rattle.std.specs.Prelude.{ℕ, ◌+◌, ◌*◌, ◌^◌, Bool, false, ◌==◌, List, [], ◌∷◌, Option, Some, None, slice_index, bit_and}
 use Rattle.std.specs.List.{list_all}
 use Rattle.net_base.specs.declared.address.Mac.{Mac}
 use Rattle.net_base.specs.declared.field.Field.{Field}
@@ -7,9 +7,9 @@ use Rattle.net_base.specs.declared.field.FieldId.{FieldId}
 use Rattle.net_base.specs.declared.field.FieldId.TheVariants.{InPort, EthDst, EthSrc, EthType, VlanVid, VlanPcp, IpProto, Ipv4Src, Ipv4Dst, TcpSrc, TcpDst, UdpSrc, UdpDst, Icmpv4Type, Icmpv4Code, ArpOp, ArpSpa, ArpTpa}
 use Rattle.of_match.specs.declared.packet.Tag.{Tag}
 use Rattle.of_match.specs.declared.packet.L4.{L4}
-use Rattle.of_match.specs.declared.packet.L4.TheVariants.{None as NoL4, Tcp, Udp, Icmp}
+use Rattle.of_match.specs.declared.packet.L4.TheVariants.{Tcp, Udp, Icmp}
 use Rattle.of_match.specs.declared.packet.Upper.{Upper}
-use Rattle.of_match.specs.declared.packet.Upper.TheVariants.{None as NoUpper, Arp, V4}
+use Rattle.of_match.specs.declared.packet.Upper.TheVariants.{Arp, V4}
 use Rattle.of_match.specs.declared.packet.Packet.{Packet}
 
 -- an Ethernet address as one number, its first byte the most significant one

@@ -3,3 +3,6 @@ pub mod KeyLaws
 pub mod Hit
 pub mod Act
 pub mod FlowTables
+pub mod Pipeline
+pub mod Settled
+pub mod WellFormed

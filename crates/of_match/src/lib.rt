@@ -8,7 +8,9 @@ pub mod laws;
 mod order;
 mod packet;
 mod perform;
+mod pipeline;
 mod tables;
+mod well_formed;
 
 pub use action::{ANY_PORT, Action, Actions, CONTROLLER, IN_PORT, Instr, Instrs};
 pub use entry::{Command, Commands, Entries, Entry, Key};
@@ -16,4 +18,9 @@ pub use hit::{hits, value_of};
 pub use order::{compare_matches, full_mask, is_masked};
 pub use packet::{Acted, L4, Packet, Sent, Sents, Tag, Tags, Upper};
 pub use perform::act;
+pub use pipeline::run;
 pub use tables::{Tables, TablesIter, apply};
+pub use well_formed::{Prerequisite, has_prerequisite, is_well_formed, prerequisite_of};
+
+#[cfg(test)]
+mod tests;

@@ -1,0 +1,58 @@
+-- Matches that a switch accepts (OpenFlow 1.3, 7.2.3).
+use Rattle.std.specs.Prelude.{ℕ, ◌<◌, ◌≤◌, ◌^◌, Bool, true, ◌==◌, ◌&&◌, not, List, [], ◌∷◌, Option, Some, None, IsTrue}
+use Rattle.std.specs.List.{AllByRecursion, list_any}
+use Rattle.std.specs.Option.{option_map_or}
+use Rattle.net_base.specs.declared.field.Field.{Field}
+use Rattle.net_base.specs.declared.field.FieldId.{FieldId}
+use Rattle.net_base.specs.declared.field.FieldId.TheVariants.{InPort, EthDst, EthSrc, EthType, VlanVid, VlanPcp, IpProto, Ipv4Src, Ipv4Dst, TcpSrc, TcpDst, UdpSrc, UdpDst, Icmpv4Type, Icmpv4Code, ArpOp, ArpSpa, ArpTpa}
+use Rattle.net_base.specs.FieldId.{number_of, byte_len_of}
+use Rattle.of_match.specs.declared.well_formed.Prerequisite.{Prerequisite}
+use Rattle.of_match.specs.declared.well_formed.Prerequisite.TheVariants.{Tagged, Exactly}
+use Rattle.of_match.specs.KeyOrder.{all_ones}
+
+-- what each field asks of the match that it stands in (7.2.3.8, the table of fields)
+abbrev pub prerequisite_of : FieldId → Option Prerequisite
+prerequisite_of InPort = None
+prerequisite_of EthDst = None
+prerequisite_of EthSrc = None
+prerequisite_of EthType = None
+prerequisite_of VlanVid = None
+prerequisite_of VlanPcp = Some Tagged
+prerequisite_of IpProto = Some (Exactly EthType 0x0800)
+prerequisite_of Ipv4Src = Some (Exactly EthType 0x0800)
+prerequisite_of Ipv4Dst = Some (Exactly EthType 0x0800)
+prerequisite_of TcpSrc = Some (Exactly IpProto 6)
+prerequisite_of TcpDst = Some (Exactly IpProto 6)
+prerequisite_of UdpSrc = Some (Exactly IpProto 17)
+prerequisite_of UdpDst = Some (Exactly IpProto 17)
+prerequisite_of Icmpv4Type = Some (Exactly IpProto 1)
+prerequisite_of Icmpv4Code = Some (Exactly IpProto 1)
+prerequisite_of ArpOp = Some (Exactly EthType 0x0806)
+prerequisite_of ArpSpa = Some (Exactly EthType 0x0806)
+prerequisite_of ArpTpa = Some (Exactly EthType 0x0806)
+
+-- the field is the one that is asked for: a VLAN identifier that isn't 0, whatever its mask, or a
+-- field with just this value and no bit masked out
+abbrev pub meets : Prerequisite → Field → Bool
+meets Tagged f = number_of f.id == number_of VlanVid && not (f.value == 0)
+meets (Exactly id value) f = number_of f.id == number_of id && (f.value == value && f.mask == all_ones (byte_len_of id))
+
+-- the match has what the field asks for
+abbrev pub has_prerequisite : FieldId → List Field → Bool
+has_prerequisite id fields = option_map_or (λ p. list_any (meets p) fields) (prerequisite_of id) true
+
+-- the value and the mask have as many bytes as the field
+pub record Fits (f : Field) : Type 0 where
+  pub value : f.value ≤ all_ones (byte_len_of f.id)
+  pub mask : f.mask ≤ all_ones (byte_len_of f.id)
+
+-- each number is below those of the fields behind it, so that no field comes twice, and what a
+-- field asks for stands before it
+abbrev pub AreAscending : List Field → Type 0
+AreAscending [] = Unit {0}
+AreAscending (f ∷ more) = AllByRecursion (λ g. number_of f.id < number_of g.id) more × AreAscending more
+
+pub record IsWellFormed (fields : List Field) : Type 0 where
+  pub ascending : AreAscending fields
+  pub fitting : AllByRecursion Fits fields
+  pub prerequisites : AllByRecursion (λ f. IsTrue (has_prerequisite f.id fields)) fields
