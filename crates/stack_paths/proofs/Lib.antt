@@ -1,0 +1,5 @@
+pub mod Prefix
+pub mod Places
+pub mod Levels
+pub mod Choices
+pub mod WaysLemmas

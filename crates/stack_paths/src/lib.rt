@@ -1,2 +1,8 @@
 //! Roots, trees, distances and next hops of a stack of datapaths.
 #![tactic(auto)]
+
+mod choice;
+mod hops;
+mod roots;
+mod search;
+mod ways;
