@@ -3,3 +3,4 @@ pub mod Places
 pub mod Levels
 pub mod Choices
 pub mod WaysLemmas
+pub mod HopsLemmas

@@ -1,4 +1,5 @@
-use Rattle.std.specs.Prelude.{◌≡◌, ◌⊎◌, ◌<◌, ◌≤◌, ℕ, suc, List, length, Option, Some, None, Contains, slice_index_or, slice_get}
+use Rattle.std.specs.Prelude.{◌≡◌, ◌⊎◌, ◌↔◌, ◌<◌, ◌≤◌, ℕ, suc, List, length, Option, Some, None, Contains, slice_index_or, slice_get}
+use Rattle.std.specs.List.Sorted.{IsStrictlyIncreasing}
 use Rattle.net_base.specs.declared.stack.Node.{Node}
 use Rattle.stack_paths.specs.declared.hops.Hop.{Hop}
 use Rattle.stack_paths.specs.declared.ways.Ways.{Ways}
@@ -19,5 +20,38 @@ pub record IsRootPlace (nodes : List Node) (distances : List (Option ℕ)) (r : 
   pub first : (j n : ℕ) → answer_at distances j ≡ Some n → PlaceRanksFirst nodes r j
 
 -- each place's root is the first of those from which there is a way to it
+abbrev pub IsRootOf : List Node → List Ways → ℕ → ℕ → Type 0
+IsRootOf nodes ways i r = (r < length nodes) × ((d : Ways) → IsRootPlace nodes (slice_index_or ways i d).distances.items r)
+
 abbrev pub AreRoots : List Node → List Ways → List ℕ → Type 0
-AreRoots nodes ways roots = (i : ℕ) (d : Ways) → i < length roots → IsRootPlace nodes (slice_index_or ways i d).distances.items (slice_index_or roots i 0)
+AreRoots nodes ways roots = (i : ℕ) (x : ℕ) → i < length roots → IsRootOf nodes ways i (slice_index_or roots i x)
+
+-- each place has distances of the right number, with one to itself
+abbrev pub ReachThemselves : ℕ → List Ways → Type 0
+ReachThemselves count ways = (i : ℕ) (d : Ways) → i < length ways → (length (slice_index_or ways i d).distances.items ≡ count) × ((n : ℕ) × (answer_at (slice_index_or ways i d).distances.items i ≡ Some n))
+
+-- h is the first hop from place i to its root
+pub record UplinkAt (ways : List Ways) (roots : List ℕ) (i : ℕ) (h : Hop) : Type 0 where
+  pub root : ℕ
+  pub to_root : Ways
+  pub is_root : slice_get roots i ≡ Some root
+  pub is_to_root : slice_get ways root ≡ Some to_root
+  pub first : answer_at to_root.hops.items i ≡ Some h
+
+-- the uplinks of all places
+pub record AreUplinks (ways : List Ways) (roots : List ℕ) (uplinks : List Hop) : Type 0 where
+  pub sound : (h : Hop) → Contains uplinks h → (i : ℕ) × UplinkAt ways roots i h
+  pub complete : (i : ℕ) (h : Hop) → UplinkAt ways roots i h → Contains uplinks h
+
+-- port p of place i is an end of the hop
+abbrev pub IsEndOf : Hop → ℕ → ℕ → Type 0
+IsEndOf h i p = ((h.from ≡ i) × (h.port ≡ p)) ⊎ ((h.to ≡ i) × (h.far_port ≡ p))
+
+-- port p of place i is an end of some uplink
+abbrev pub IsEndOfSome : List Hop → ℕ → ℕ → Type 0
+IsEndOfSome uplinks i p = (h : Hop) × Contains uplinks h × IsEndOf h i p
+
+-- the ports of a place that are ends of uplinks, in ascending order
+pub record IsTreeOf (uplinks : List Hop) (i : ℕ) (ports : List ℕ) : Type 0 where
+  pub ends : (p : ℕ) → Contains ports p ↔ IsEndOfSome uplinks i p
+  pub ascending : IsStrictlyIncreasing ports

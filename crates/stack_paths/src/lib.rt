@@ -5,4 +5,5 @@ mod choice;
 mod hops;
 mod roots;
 mod search;
+mod tree;
 mod ways;

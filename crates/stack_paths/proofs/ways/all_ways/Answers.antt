@@ -13,4 +13,4 @@ loop-target-preserved c =
     let size : c.loop-target.target ≡ length ways.items = omega (arith, c.loop-target.invariant.0, ways.ok.0) in
     let here = subst (λ (t : ℕ). AreWays hops count t one) size c.in_ok-ways_to.ensures in
     (omega (arith, c.in_ok-push.ensures.len, c.loop-target.invariant.0),
-     subst (λ (xs : List Ways). AllWays hops count xs) (sym c.in_ok-push.ensures.items) (each_push (λ t w. AreWays hops count t w) ways.items one c.loop-target.invariant.1 here))
+     subst (λ (xs : List Ways). AllWays hops count xs) (sym {A = List Ways} c.in_ok-push.ensures.items) (each_push (λ t w. AreWays hops count t w) ways.items one c.loop-target.invariant.1 here))
