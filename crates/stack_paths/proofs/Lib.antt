@@ -4,3 +4,6 @@ pub mod Levels
 pub mod Choices
 pub mod WaysLemmas
 pub mod HopsLemmas
+pub mod Walks
+pub mod Lookups
+pub mod Firsts

@@ -3,7 +3,10 @@
 
 mod choice;
 mod hops;
+mod paths;
 mod roots;
 mod search;
 mod tree;
 mod ways;
+
+pub use paths::Paths;
