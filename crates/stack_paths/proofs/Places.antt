@@ -1,4 +1,4 @@
-use Rattle.std.proofs.Common.{◌≡◌, ℕ, ◌<◌, ◌≤◌, List, length, get_or, map, Some, None, Option, sym, refl, ap, ◌∙◌, arith, ⊎_elim}
+use Rattle.std.proofs.Common.{◌≡◌, ℕ, zero, suc, [], ◌∷◌, ◌<◌, ◌≤◌, List, length, get_or, map, Some, None, Option, sym, refl, ap, ◌∙◌, arith, ⊎_elim}
 use Rattle.std.specs.Prelude.{slice_get, MatchOption}
 use Rattle.std.specs.Option.{option_map}
 use Rattle.std.proofs.lemmas.List.{length-map}
@@ -51,3 +51,9 @@ place_same s is i j d at_i at_j =
     ⊎_elim (λ (lt : i < j). absurd (is.distinct i j x lt (ids-within s.nodes j d at_j) (id_i ∙ sym id_j)))
       (λ (ge : j ≤ i). ⊎_elim (λ (gt : j < i). absurd (is.distinct j i x gt (ids-within s.nodes i d at_i) (id_j ∙ sym id_i)))
         (λ (le : i ≤ j). omega (arith, ge, le)) (cases_lt j i)) (cases_lt i j)
+
+-- each place below the number of nodes has a datapath
+pub id_there : (nodes : List Node) (i : ℕ) → i < length nodes → (d : DpId) × (slice_get (ids nodes) i ≡ Some d)
+id_there [] i within = absurd (omega (arith, within))
+id_there (m ∷ nodes) zero within = (m.id, refl)
+id_there (m ∷ nodes) (suc i) within = id_there nodes i (omega (arith, within))

@@ -1,6 +1,6 @@
-ghost use Rattle.std.specs.Prelude.{◌≡◌, ◌⊎◌, ◌↔◌, ◌<◌, ◌≤◌, [], ℕ, Contains, IsSome, IfOk, IfSome, IfNone, length, slice_index_or};
+ghost use Rattle.std.specs.Prelude.{◌≡◌, ◌⊎◌, ◌↔◌, ◌<◌, ◌≤◌, [], ℕ, Some, None, All, Contains, IsSome, IfOk, IfSome, IfNone, MatchOption, length, slice_get, slice_index_or};
 ghost use Rattle.std.specs.List.Sorted.{IsStrictlyIncreasing};
-ghost use Rattle.stack_paths.specs.Stack.{Stack, IsStack, IsNode, Walk, IsRoot, IsNextHop, IsTreePort};
+ghost use Rattle.stack_paths.specs.Stack.{ids, IsStack, IsNode, Walk, IsRoot, IsNextHop, IsTreePort};
 ghost use Rattle.stack_paths.specs.Hops.{answer_at};
 
 use crate::hops::{hops_of, place_of};
@@ -43,6 +43,32 @@ fn distance_at(ways: &[Ways], from: usize, to: usize) -> Option<u32>
     ways.distances[from]
 }
 
+/// The port of the first hop between two places, by the ways to each.
+fn hop_at(ways: &[Ways], from: usize, to: usize) -> Option<PortNo>
+    requires to { to < length ways.now }
+    requires from { (d : _) → from < length (slice_index_or ways.now to d).hops.items }
+    ensures { (d : _) → MatchOption result
+        (answer_at (slice_index_or ways.now to d).hops.items from ≡ None)
+        (λ port. (h : _)
+            × (answer_at (slice_index_or ways.now to d).hops.items from ≡ Some h)
+            × (h.port ≡ port)) }
+{
+    let ways = &ways[to];
+    match &ways.hops[from] {
+        Some(hop) => Some(hop.port),
+        None => None,
+    }
+}
+
+/// The datapath that the table of roots has at a place.
+fn root_at(nodes: &[Node], roots: &[usize], place: usize) -> DpId
+    requires place { place < length roots.now }
+    requires roots { All (λ r. r < length nodes.now) roots.now }
+    ensures { (x : ℕ) → slice_get (ids nodes.now) (slice_index_or roots.now place x) ≡ Some result }
+{
+    nodes[roots[place]].id
+}
+
 impl Paths {
     /// The paths of these datapaths, in the order of their names, and of these links, of which both
     /// ends are up. There are at most 64 datapaths, all different; each link is between two different
@@ -76,6 +102,47 @@ impl Paths {
         match (place_of(nodes, from), place_of(nodes, to)) {
             (Some(from), Some(to)) => distance_at(self.ways.as_slice(), from, to),
             _ => None,
+        }
+    }
+
+    /// The port by which one datapath sends towards the other: the first link on a shortest walk, by
+    /// the order of the datapaths that the links lead to, then by port. `None` exactly where no walk
+    /// joins them or they are the same.
+    pub fn next_hop(&self, from: DpId, to: DpId) -> Option<PortNo>
+        ensures hop { IfSome result (λ port. IsNextHop self.now from to port) }
+        ensures none { IfNone result ((from ≡ to) ⊎ ((m : ℕ) → Walk self.now from to m → ⊥)) }
+    {
+        let nodes = self.nodes.as_slice();
+        match (place_of(nodes, from), place_of(nodes, to)) {
+            (Some(from), Some(to)) => hop_at(self.ways.as_slice(), from, to),
+            _ => None,
+        }
+    }
+
+    /// The root of the part of a datapath: of the datapaths joined to it the one with the least
+    /// priority, one without a priority after all with one, and of equal ones the first in order.
+    /// `None` exactly where it is no datapath of the stack.
+    pub fn root_of(&self, dp: DpId) -> Option<DpId>
+        ensures root { IfSome result (λ root. IsRoot self.now dp root) }
+        ensures node { IsSome result ↔ IsNode self.now dp }
+    {
+        let nodes = self.nodes.as_slice();
+        match place_of(nodes, dp) {
+            Some(place) => Some(root_at(nodes, self.roots.as_slice(), place)),
+            None => None,
+        }
+    }
+
+    /// The ports of a datapath that are in the tree of its part, in ascending order; none for what is
+    /// no datapath of the stack.
+    pub fn tree_ports(&self, dp: DpId) -> &[PortNo]
+        ensures ports { (p : ℕ) → Contains result.now p ↔ IsTreePort self.now dp p }
+        ensures ascending { IsStrictlyIncreasing result.now }
+        ensures no_node { (IsNode self.now dp → ⊥) → result.now ≡ [] }
+    {
+        match place_of(self.nodes.as_slice(), dp) {
+            Some(place) => self.trees[place].as_slice(),
+            None => &[],
         }
     }
 }
