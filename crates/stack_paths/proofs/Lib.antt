@@ -7,3 +7,4 @@ pub mod HopsLemmas
 pub mod Walks
 pub mod Lookups
 pub mod Firsts
+pub mod Tests

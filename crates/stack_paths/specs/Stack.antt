@@ -33,6 +33,10 @@ Joins l d p e q =
 abbrev pub HasLink : Stack → DpId → ℕ → DpId → ℕ → Type 0
 HasLink s d p e q = (l : StackLink) × Contains s.links l × Joins l d p e q
 
+-- no port is an end of both links
+abbrev pub ArePortsApart : StackLink → StackLink → Type 0
+ArePortsApart l m = (d : DpId) (p : ℕ) → IsEnd l d p → IsEnd m d p → ⊥
+
 -- what a list of datapaths and a list of links are to keep
 pub record IsStack (s : Stack) : Type 0 where
   pub at_most_64 : length s.nodes ≤ 64
@@ -40,7 +44,7 @@ pub record IsStack (s : Stack) : Type 0 where
   -- each link is between two different ones of the datapaths
   pub between_two : All (λ l. IsNode s l.a × IsNode s l.b × (l.a ≢ l.b)) s.links
   -- no port is an end of two links
-  pub ports_apart : AllPairs (λ l m. (d : DpId) (p : ℕ) → IsEnd l d p → IsEnd m d p → ⊥) s.links
+  pub ports_apart : AllPairs ArePortsApart s.links
 
 -- a walk of n links from datapath a to datapath b
 abbrev pub Walk : Stack → DpId → DpId → ℕ → Type 0

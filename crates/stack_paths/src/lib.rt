@@ -6,7 +6,9 @@ mod hops;
 mod paths;
 mod roots;
 mod search;
+mod stack;
 mod tree;
 mod ways;
 
 pub use paths::Paths;
+pub use stack::is_stack;
