@@ -7,4 +7,6 @@ pub mod HopsLemmas
 pub mod Walks
 pub mod Lookups
 pub mod Firsts
-pub mod Tests
+pub mod Pairs
+pub mod Finite
+pub mod LawLemmas

@@ -107,7 +107,8 @@ module _ (s : Stack) (ways : List Ways) (roots : List ℕ) (trees : List (Vec �
           let k_is : k.0 ≡ n = omega (arith, k.1, l.1, l_is) in
           let down : LeadsDown w.distances.items h = (n, subst (λ j. answer_at w.distances.items j ≡ Some (suc n)) (sym step.2) e, subst (λ j. answer_at w.distances.items h.to ≡ Some j) k_is k.2) in
           let g = are.first.first h step.1 down in
-          absurd (none-some g.0 (sym none ∙ subst (λ j. answer_at w.hops.items j ≡ Some g.0) step.2 g.1))
+          let chosen : answer_at w.hops.items i ≡ Some g.0 = subst (λ j. answer_at w.hops.items j ≡ Some g.0) step.2 g.1 in
+          absurd (none-some g.0 (sym none ∙ chosen))
 
   -- what the table of first hops has at two places
   pub hop_answer : (i t : ℕ) (a b : DpId) → IsAt s i a → IsAt s t b → (o : Option ℕ) → ((d : Ways) → MatchOption o (answer_at (slice_index_or ways t d).hops.items i ≡ None) (λ port. (h : Hop) × (answer_at (slice_index_or ways t d).hops.items i ≡ Some h) × (h.port ≡ port))) → IfSome o (λ port. IsNextHop s a b port)

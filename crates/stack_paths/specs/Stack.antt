@@ -117,3 +117,8 @@ pub record IsUplink (s : Stack) (d : DpId) (p : ℕ) (e : DpId) (q : ℕ) : Type
 -- port p of d is an end of an uplink, its own or another's
 abbrev pub IsTreePort : Stack → DpId → ℕ → Type 0
 IsTreePort s d p = (e : DpId) × (q : ℕ) × (IsUplink s d p e q ⊎ IsUplink s e q d p)
+
+-- following the uplinks from d for n links leads to r
+abbrev pub Follows : Stack → DpId → DpId → ℕ → Type 0
+Follows s d r zero = d ≡ r
+Follows s d r (suc n) = (e : DpId) × (p : ℕ) × (q : ℕ) × IsUplink s d p e q × Follows s e r n

@@ -3,6 +3,7 @@
 
 mod choice;
 mod hops;
+pub mod laws;
 mod paths;
 mod roots;
 mod search;

@@ -3,7 +3,7 @@ use Rattle.std.specs.Prelude.{All}
 use Rattle.std.proofs.lemmas.Bool.{false≢true}
 use Rattle.net_base.specs.declared.stack.StackLink.{StackLink}
 use Rattle.stack_paths.specs.Stack.{ArePortsApart}
-use Rattle.stack_paths.proofs.Tests.{pairs_step, not_pairs}
+use Rattle.stack_paths.proofs.Pairs.{pairs_step, not_pairs}
 use Rattle.stack_paths.proofs.stack.are_apart.Goals as goal
 
 pub returns-then-not-is_apart : goal.returns-then-not-is_apart

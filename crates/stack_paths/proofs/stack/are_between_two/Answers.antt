@@ -2,7 +2,7 @@ use Rattle.std.proofs.Common.{◌≡◌, ◌<◌, ℕ, List, Some, length, slice
 use Rattle.net_base.specs.declared.stack.Node.{Node}
 use Rattle.net_base.specs.declared.stack.StackLink.{StackLink}
 use Rattle.stack_paths.specs.Stack.{ids}
-use Rattle.stack_paths.proofs.Tests.{all_step}
+use Rattle.stack_paths.proofs.Pairs.{all_step}
 use Rattle.stack_paths.proofs.stack.are_between_two.Goals as goal
 
 abbrev Between : List Node → StackLink → Type 0

@@ -1,7 +1,7 @@
 use Rattle.std.proofs.Common.{◌≡◌, ◌<◌, ℕ, None, length, refl, arith}
 use Rattle.std.proofs.lemmas.Bool.{false≢true}
 use Rattle.net_base.specs.declared.stack.Node.{Node}
-use Rattle.stack_paths.proofs.Tests.{pairs_step, not_pairs}
+use Rattle.stack_paths.proofs.Pairs.{pairs_step, not_pairs}
 use Rattle.stack_paths.proofs.stack.are_distinct.Goals as goal
 
 -- what a read past the end would give

@@ -2,7 +2,7 @@ use Rattle.std.proofs.Common.{◌≡◌, ◌<◌, ℕ, length, refl, arith}
 use Rattle.std.proofs.lemmas.Bool.{false≢true}
 use Rattle.net_base.specs.declared.stack.StackLink.{StackLink}
 use Rattle.stack_paths.specs.Stack.{ArePortsApart}
-use Rattle.stack_paths.proofs.Tests.{all_step, not_all}
+use Rattle.stack_paths.proofs.Pairs.{all_step, not_all}
 use Rattle.stack_paths.proofs.stack.is_apart.Goals as goal
 
 pub returns-then-not-are_ports_apart : goal.returns-then-not-are_ports_apart
