@@ -20,11 +20,11 @@ LessPriority-same p q e a = let b = subst (λ x. LessPriority p x) (sym e) a in 
 RanksFirst-antisym : (p : Option ℕ) (i : ℕ) (q : Option ℕ) (j : ℕ) → RanksFirst p i q j → RanksFirst q j p i → i ≡ j
 RanksFirst-antisym p i q j a b = ⊎_elim
     (λ (x : LessPriority p q). ⊎_elim
-      (λ (y : LessPriority q p). absurd (LessPriority-irrefl p q x y))
-      (λ (y : (q ≡ p) × (j ≤ i)). absurd (LessPriority-same p q (sym y.0) x)) b)
+    (λ (y : LessPriority q p). absurd (LessPriority-irrefl p q x y))
+    (λ (y : (q ≡ p) × (j ≤ i)). absurd (LessPriority-same p q (sym y.0) x)) b)
     (λ (x : (p ≡ q) × (i ≤ j)). ⊎_elim
-      (λ (y : LessPriority q p). absurd (LessPriority-same q p (sym x.0) y))
-      (λ (y : (q ≡ p) × (j ≤ i)). omega (arith, x.1, y.1)) b)
+    (λ (y : LessPriority q p). absurd (LessPriority-same q p (sym x.0) y))
+    (λ (y : (q ≡ p) × (j ≤ i)). omega (arith, x.1, y.1)) b)
     a
 
 module _ (s : Stack) (is : IsStack s) where
@@ -39,10 +39,10 @@ module _ (s : Stack) (is : IsStack s) where
       let m_is : x.m ≡ y.n = same_Some x.m y.n (sym x.at_i ∙ subst (λ k. slice_get s.nodes k ≡ Some y.n) (sym d_at) y.at_j) in
       let n_is : x.n ≡ y.m = same_Some x.n y.m (sym x.at_j ∙ subst (λ k. slice_get s.nodes k ≡ Some y.m) (sym e_at) y.at_i) in
       let back : RanksFirst x.n.priority x.j x.m.priority x.i =
-        subst (λ (m : Node). RanksFirst x.n.priority x.j m.priority x.i) (sym m_is)
-          (subst (λ (n : Node). RanksFirst n.priority x.j y.n.priority x.i) (sym n_is)
-            (subst (λ k. RanksFirst y.m.priority k y.n.priority x.i) (sym e_at)
-              (subst (λ k. RanksFirst y.m.priority y.i y.n.priority k) (sym d_at) y.ranks))) in
+      subst (λ (m : Node). RanksFirst x.n.priority x.j m.priority x.i) (sym m_is)
+      (subst (λ (n : Node). RanksFirst n.priority x.j y.n.priority x.i) (sym n_is)
+      (subst (λ k. RanksFirst y.m.priority k y.n.priority x.i) (sym e_at)
+      (subst (λ k. RanksFirst y.m.priority y.i y.n.priority k) (sym d_at) y.ranks))) in
       let same : x.i ≡ x.j = RanksFirst-antisym x.m.priority x.i x.n.priority x.j x.ranks back in
       at_same s x.i d e at_xi (subst (λ k. IsAt s k e) (sym same) at_xj)
 
@@ -55,11 +55,11 @@ module _ (s : Stack) (is : IsStack s) where
       let e_at : i ≡ i' = place_same s is i i' e at_i at_i' in
       let f_at : j ≡ j' = place_same s is j j' f at_j at_j' in
       ⊎_elim
-        (λ (a : i < j). ⊎_elim (λ (b : j' < i'). absurd (omega (arith, a, b, e_at, f_at))) (λ (b : (j' ≡ i') × (q ≤ p)). absurd (omega (arith, a, b.0, e_at, f_at))) y)
-        (λ (a : (i ≡ j) × (p ≤ q)). ⊎_elim
-          (λ (b : j' < i'). absurd (omega (arith, a.0, b, e_at, f_at)))
-          (λ (b : (j' ≡ i') × (q ≤ p)). (at_same s i e f at_i (subst (λ k. IsAt s k f) (sym a.0) at_j), omega (arith, a.1, b.1))) y)
-        x
+      (λ (a : i < j). ⊎_elim (λ (b : j' < i'). absurd (omega (arith, a, b, e_at, f_at))) (λ (b : (j' ≡ i') × (q ≤ p)). absurd (omega (arith, a, b.0, e_at, f_at))) y)
+      (λ (a : (i ≡ j) × (p ≤ q)). ⊎_elim
+      (λ (b : j' < i'). absurd (omega (arith, a.0, b, e_at, f_at)))
+      (λ (b : (j' ≡ i') × (q ≤ p)). (at_same s i e f at_i (subst (λ k. IsAt s k f) (sym a.0) at_j), omega (arith, a.1, b.1))) y)
+      x
 
   -- there is one next hop
   pub hop_same : (a b : DpId) (p p' : ℕ) (e e' : DpId) (q q' : ℕ) → IsHop s a b p e q → IsHop s a b p' e' q' → (p ≡ p') × (e ≡ e') × (q ≡ q')

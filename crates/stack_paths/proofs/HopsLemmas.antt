@@ -39,27 +39,32 @@ module _ (nodes : List Node) (links : List StackLink) (i : ℕ) (link : StackLin
   IsHops-push = record { sound = sounds; complete = completes } where
     in_last : Contains (take (i + 1) links) link
     in_last = contains_last links i link within is
+
     in_there : Contains (hops ++ there ∷ [] ++ back ∷ []) there
     in_there = Contains-append_left (hops ++ there ∷ []) (back ∷ []) there (Contains-push hops there)
+
     in_back : Contains (hops ++ there ∷ [] ++ back ∷ []) back
     in_back = Contains-push (hops ++ there ∷ []) back
+
     sounds : (h : Hop) → Contains (hops ++ there ∷ [] ++ back ∷ []) h → (d : DpId) × (e : DpId) × IsAt now h.from d × IsAt now h.to e × HasLink now d h.port e h.far_port
     sounds h c = ⊎_elim
-      (λ (c' : Contains (hops ++ there ∷ []) h). ⊎_elim
+        (λ (c' : Contains (hops ++ there ∷ []) h). ⊎_elim
         (λ (old : Contains hops h). let s = so_far.sound h old in (s.0, s.1, s.2, s.3, (s.4.0, contains_later links i link s.4.0 within is s.4.1, s.4.2)))
         (λ (same : there ≡ h). subst (λ (x : Hop). (d : DpId) × (e : DpId) × IsAt now x.from d × IsAt now x.to e × HasLink now d x.port e x.far_port) same (link.a, link.b, at_a, at_b, (link, in_last, inl (refl, refl, refl, refl))))
         (Contains-push_cases hops there h c'))
-      (λ (same : back ≡ h). subst (λ (x : Hop). (d : DpId) × (e : DpId) × IsAt now x.from d × IsAt now x.to e × HasLink now d x.port e x.far_port) same (link.b, link.a, at_b, at_a, (link, in_last, inr (refl, refl, refl, refl))))
-      (Contains-push_cases (hops ++ there ∷ []) back h c)
+        (λ (same : back ≡ h). subst (λ (x : Hop). (d : DpId) × (e : DpId) × IsAt now x.from d × IsAt now x.to e × HasLink now d x.port e x.far_port) same (link.b, link.a, at_b, at_a, (link, in_last, inr (refl, refl, refl, refl))))
+        (Contains-push_cases (hops ++ there ∷ []) back h c)
+
     of_link : (d : DpId) (p : ℕ) (e : DpId) (q : ℕ) → Joins link d p e q → (h : Hop) × Contains (hops ++ there ∷ [] ++ back ∷ []) h × IsAt now h.from d × IsAt now h.to e × (h.port ≡ p) × (h.far_port ≡ q)
     of_link d p e q j = ⊎_elim
-      (λ (x : (link.a ≡ d) × (link.a_port ≡ p) × (link.b ≡ e) × (link.b_port ≡ q)). (there, in_there, at_a ∙ ap Some x.0, at_b ∙ ap Some x.2, x.1, x.3))
-      (λ (x : (link.b ≡ d) × (link.b_port ≡ p) × (link.a ≡ e) × (link.a_port ≡ q)). (back, in_back, at_b ∙ ap Some x.0, at_a ∙ ap Some x.2, x.1, x.3))
-      j
+        (λ (x : (link.a ≡ d) × (link.a_port ≡ p) × (link.b ≡ e) × (link.b_port ≡ q)). (there, in_there, at_a ∙ ap Some x.0, at_b ∙ ap Some x.2, x.1, x.3))
+        (λ (x : (link.b ≡ d) × (link.b_port ≡ p) × (link.a ≡ e) × (link.a_port ≡ q)). (back, in_back, at_b ∙ ap Some x.0, at_a ∙ ap Some x.2, x.1, x.3))
+        j
+
     completes : (d : DpId) (p : ℕ) (e : DpId) (q : ℕ) → HasLink now d p e q → (h : Hop) × Contains (hops ++ there ∷ [] ++ back ∷ []) h × IsAt now h.from d × IsAt now h.to e × (h.port ≡ p) × (h.far_port ≡ q)
     completes d p e q (l, c, j) = ⊎_elim
-      (λ (old : Contains (take i links) l).
+        (λ (old : Contains (take i links) l).
         let h = so_far.complete d p e q (l, old, j) in
         (h.0, Contains-append_left (hops ++ there ∷ []) (back ∷ []) h.0 (Contains-append_left hops (there ∷ []) h.0 h.1), h.2, h.3, h.4, h.5))
-      (λ (same : link ≡ l). of_link d p e q (subst (λ (x : StackLink). Joins x d p e q) (sym same) j))
-      (contains_cases links i link l within is c)
+        (λ (same : link ≡ l). of_link d p e q (subst (λ (x : StackLink). Joins x d p e q) (sym same) j))
+        (contains_cases links i link l within is c)

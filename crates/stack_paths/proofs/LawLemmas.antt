@@ -13,10 +13,14 @@ use Rattle.stack_paths.proofs.Firsts.{root_same, hop_same}
 
 -- a link leads both ways
 pub link_back : (s : Stack) (d : DpId) (p : ℕ) (e : DpId) (q : ℕ) → HasLink s d p e q → HasLink s e q d p
-link_back s d p e q (l, c, j) = (l, c, ⊎_elim
-    (λ (x : (l.a ≡ d) × (l.a_port ≡ p) × (l.b ≡ e) × (l.b_port ≡ q)). inr (x.2, x.3, x.0, x.1))
-    (λ (x : (l.b ≡ d) × (l.b_port ≡ p) × (l.a ≡ e) × (l.a_port ≡ q)). inl (x.2, x.3, x.0, x.1))
-    j)
+link_back s d p e q (l, c, j) = (
+  l,
+  c,
+  ⊎_elim
+      (λ (x : (l.a ≡ d) × (l.a_port ≡ p) × (l.b ≡ e) × (l.b_port ≡ q)). inr (x.2, x.3, x.0, x.1))
+      (λ (x : (l.b ≡ d) × (l.b_port ≡ p) × (l.a ≡ e) × (l.a_port ≡ q)). inl (x.2, x.3, x.0, x.1))
+      j,
+)
 
 -- two distances are the same
 pub distance_same : (s : Stack) (a b : DpId) (m n : ℕ) → IsDistance s a b m → IsDistance s a b n → m ≡ n
@@ -38,13 +42,13 @@ known_at [] d = inr (λ (i, e). none-some d e)
 known_at (m ∷ nodes) d = ⊎_elim
     (λ same. inl (zero, ap Some same))
     (λ apart. ⊎_elim
-      (λ rest. inl (suc rest.0, rest.1))
-      (λ none. inr (λ (i, e). absent apart none i e))
-      (known_at nodes d))
+    (λ rest. inl (suc rest.0, rest.1))
+    (λ none. inr (λ (i, e). absent apart none i e))
+    (known_at nodes d))
     (known_same m.id d) where
-  absent : (m.id ≡ d → ⊥) → ((i : ℕ) × (slice_get (ids nodes) i ≡ Some d) → ⊥) → (i : ℕ) → slice_get (ids (m ∷ nodes)) i ≡ Some d → ⊥
-  absent apart none zero e = apart (same_Some m.id d e)
-  absent apart none (suc i) e = none (i, e)
+      absent : (m.id ≡ d → ⊥) → ((i : ℕ) × (slice_get (ids nodes) i ≡ Some d) → ⊥) → (i : ℕ) → slice_get (ids (m ∷ nodes)) i ≡ Some d → ⊥
+      absent apart none zero e = apart (same_Some m.id d e)
+      absent apart none (suc i) e = none (i, e)
 
 -- the link is a step from a towards b, with n links left
 IsStep : Stack → DpId → DpId → ℕ → StackLink → Type 0
@@ -62,13 +66,17 @@ unfolding IsStep
 known_walk s zero a b = known_both (known_at s.nodes a) (known_same a b)
 known_walk s (suc n) a b = ⊎_elim
     (λ found. inl (⊎_elim
-      (λ (x : (found.0.a ≡ a) × Walk s found.0.b b n). (found.0.b, found.0.a_port, found.0.b_port, (found.0, found.1, inl (x.0, refl, refl, refl)), x.1))
-      (λ (x : (found.0.b ≡ a) × Walk s found.0.a b n). (found.0.a, found.0.b_port, found.0.a_port, (found.0, found.1, inr (x.0, refl, refl, refl)), x.1))
-      found.2))
-    (λ none. inr (λ (d, p, q, (l, c, j), w). none (l, c, ⊎_elim
-      (λ (x : (l.a ≡ a) × (l.a_port ≡ p) × (l.b ≡ d) × (l.b_port ≡ q)). inl (x.0, subst (λ y. Walk s y b n) (sym x.2) w))
-      (λ (x : (l.b ≡ a) × (l.b_port ≡ p) × (l.a ≡ d) × (l.a_port ≡ q)). inr (x.0, subst (λ y. Walk s y b n) (sym x.2) w))
-      j)))
+    (λ (x : (found.0.a ≡ a) × Walk s found.0.b b n). (found.0.b, found.0.a_port, found.0.b_port, (found.0, found.1, inl (x.0, refl, refl, refl)), x.1))
+    (λ (x : (found.0.b ≡ a) × Walk s found.0.a b n). (found.0.a, found.0.b_port, found.0.a_port, (found.0, found.1, inr (x.0, refl, refl, refl)), x.1))
+    found.2))
+    (λ none. inr (λ (d, p, q, (l, c, j), w). none (
+      l,
+      c,
+      ⊎_elim
+          (λ (x : (l.a ≡ a) × (l.a_port ≡ p) × (l.b ≡ d) × (l.b_port ≡ q)). inl (x.0, subst (λ y. Walk s y b n) (sym x.2) w))
+          (λ (x : (l.b ≡ a) × (l.b_port ≡ p) × (l.a ≡ d) × (l.a_port ≡ q)). inr (x.0, subst (λ y. Walk s y b n) (sym x.2) w))
+          j,
+    )))
     (known_any (IsStep s a b n) (λ l. known_either (known_both (known_same l.a a) (known_walk s n l.b b)) (known_both (known_same l.b a) (known_walk s n l.a b))) s.links)
 
 -- where there is a walk there is a distance
@@ -100,9 +108,9 @@ both_sound [] w c = absurd (omega (arith, c.1))
 both_sound (l ∷ ls) w c = ⊎_elim
     (λ same. (l, contains_here l ls, subst (λ (x : Way). Joins l x.near x.port x.far x.far_port) same (inl (refl, refl, refl, refl))))
     (λ c'. ⊎_elim
-      (λ same. (l, contains_here l ls, subst (λ (x : Way). Joins l x.near x.port x.far x.far_port) same (inr (refl, refl, refl, refl))))
-      (λ c''. let rest = both_sound ls w c'' in (rest.0, contains_there l rest.0 ls rest.1, rest.2))
-      (contains_cons (back l) w (both ls) c'))
+    (λ same. (l, contains_here l ls, subst (λ (x : Way). Joins l x.near x.port x.far x.far_port) same (inr (refl, refl, refl, refl))))
+    (λ c''. let rest = both_sound ls w c'' in (rest.0, contains_there l rest.0 ls rest.1, rest.2))
+    (contains_cons (back l) w (both ls) c'))
     (contains_cons (there l) w (back l ∷ both ls) c)
 
 both_complete : (ls : List StackLink) (l : StackLink) → Contains ls l → (d : DpId) (p : ℕ) (e : DpId) (q : ℕ) → Joins l d p e q → (w : Way) × Contains (both ls) w × (w.near ≡ d) × (w.port ≡ p) × (w.far ≡ e) × (w.far_port ≡ q)
@@ -110,9 +118,9 @@ unfolding both there back
 both_complete [] l c d p e q j = absurd (omega (arith, c.1))
 both_complete (x ∷ ls) l c d p e q j = ⊎_elim
     (λ (same : x ≡ l). ⊎_elim
-      (λ (y : (x.a ≡ d) × (x.a_port ≡ p) × (x.b ≡ e) × (x.b_port ≡ q)). (there x, contains_here (there x) (back x ∷ both ls), y.0, y.1, y.2, y.3))
-      (λ (y : (x.b ≡ d) × (x.b_port ≡ p) × (x.a ≡ e) × (x.a_port ≡ q)). (back x, contains_there (there x) (back x) (back x ∷ both ls) (contains_here (back x) (both ls)), y.0, y.1, y.2, y.3))
-      (subst (λ (m : StackLink). Joins m d p e q) (sym same) j))
+    (λ (y : (x.a ≡ d) × (x.a_port ≡ p) × (x.b ≡ e) × (x.b_port ≡ q)). (there x, contains_here (there x) (back x ∷ both ls), y.0, y.1, y.2, y.3))
+    (λ (y : (x.b ≡ d) × (x.b_port ≡ p) × (x.a ≡ e) × (x.a_port ≡ q)). (back x, contains_there (there x) (back x) (back x ∷ both ls) (contains_here (back x) (both ls)), y.0, y.1, y.2, y.3))
+    (subst (λ (m : StackLink). Joins m d p e q) (sym same) j))
     (λ c'. let rest = both_complete ls l c' d p e q j in (rest.0, contains_there (there x) rest.0 (back x ∷ both ls) (contains_there (back x) rest.0 (both ls) rest.1), rest.2, rest.3, rest.4, rest.5))
     (contains_cons x l ls c)
 
@@ -139,57 +147,67 @@ module _ (s : Stack) (is : IsStack s) where
 
   before_trans : (e f g : DpId) (p q o : ℕ) → ChosenBefore s e p f q → ChosenBefore s f q g o → ChosenBefore s e p g o
   before_trans e f g p q o (i, j, at_i, at_j, x) (j', k, at_j', at_k, y) =
-      let same : j ≡ j' = place_same s is j j' f at_j at_j' in
-      (i, k, at_i, at_k, ⊎_elim
-        (λ (a : i < j). ⊎_elim (λ (b : j' < k). inl (omega (arith, a, b, same))) (λ (b : (j' ≡ k) × (q ≤ o)). inl (omega (arith, a, b.0, same))) y)
-        (λ (a : (i ≡ j) × (p ≤ q)). ⊎_elim (λ (b : j' < k). inl (omega (arith, a.0, b, same))) (λ (b : (j' ≡ k) × (q ≤ o)). inr (omega (arith, a.0, b.0, same), omega (arith, a.1, b.1))) y)
-        x)
+      let same : j ≡ j' = place_same s is j j' f at_j at_j' in (
+        i,
+        k,
+        at_i,
+        at_k,
+        ⊎_elim
+            (λ (a : i < j). ⊎_elim (λ (b : j' < k). inl (omega (arith, a, b, same))) (λ (b : (j' ≡ k) × (q ≤ o)). inl (omega (arith, a, b.0, same))) y)
+            (λ (a : (i ≡ j) × (p ≤ q)). ⊎_elim (λ (b : j' < k). inl (omega (arith, a.0, b, same))) (λ (b : (j' ≡ k) × (q ≤ o)). inr (omega (arith, a.0, b.0, same), omega (arith, a.1, b.1))) y)
+            x,
+      )
 
   before_total : (e f : DpId) (p q : ℕ) → IsNode s e → IsNode s f → ChosenBefore s e p f q ⊎ ChosenBefore s f q e p
   before_total e f p q (i, at_i) (j, at_j) = ⊎_elim
       (λ (lt : i < j). inl (i, j, at_i, at_j, inl lt))
       (λ (ge : j ≤ i). ⊎_elim
-        (λ (gt : j < i). inr (j, i, at_j, at_i, inl gt))
-        (λ (le : i ≤ j). ⊎_elim
-          (λ (lt : p < q). inl (i, j, at_i, at_j, inr (omega (arith, ge, le), omega (arith, lt))))
-          (λ (ge' : q ≤ p). inr (j, i, at_j, at_i, inr (omega (arith, ge, le), ge')))
-          (cases_lt p q))
-        (cases_lt j i))
+      (λ (gt : j < i). inr (j, i, at_j, at_i, inl gt))
+      (λ (le : i ≤ j). ⊎_elim
+      (λ (lt : p < q). inl (i, j, at_i, at_j, inr (omega (arith, ge, le), omega (arith, lt))))
+      (λ (ge' : q ≤ p). inr (j, i, at_j, at_i, inr (omega (arith, ge, le), ge')))
+      (cases_lt p q))
+      (cases_lt j i))
       (cases_lt i j)
 
   -- where the distance is above 0 there is a next hop
   pub hop_exists : (a b : DpId) (n : ℕ) → IsDistance s a b (suc n) → (p : ℕ) × (e : DpId) × (q : ℕ) × IsHop s a b p e q
   hop_exists a b n far = ⊎_elim
-      (λ best. (best.0.port, best.0.far, best.0.far_port, record {
-        nearer = near_of best.0 best.1 best.2;
-        first = λ p e q near.
-          let w = both_complete s.links near.link.0 near.link.1 a p e q near.link.2 in
-          let rest_is : suc near.rest ≡ suc n = distance_same s a b (suc near.rest) (suc n) near.from_here far in
-          let rest_is' : near.rest ≡ n = omega (arith, rest_is) in
-          let left : Walk s w.0.far b n = subst (λ x. Walk s x b n) (sym w.4) (subst (λ k. Walk s e b k) rest_is' near.from_there.walk) in
-          let before = best.3 w.0 w.1 (w.2, left) in
-          subst (λ x. ChosenBefore s best.0.far best.0.port x p) w.4 (subst (λ k. ChosenBefore s best.0.far best.0.port w.0.far k) w.3 before);
-      }))
-      (λ none.
-        let step = far.walk in
-        let w = both_complete s.links step.3.0 step.3.1 a step.1 step.0 step.2 step.3.2 in
-        absurd (none w.0 w.1 (w.2, subst (λ x. Walk s x b n) (sym w.4) step.4)))
-      (first_of_list (λ (w : Way). (w.near ≡ a) × Walk s w.far b n)
-        (λ w. known_both (known_same w.near a) (known_walk s n w.far b))
-        (λ (x y : Way). ChosenBefore s x.far x.port y.far y.port)
-        (λ x y p q. before_total x.far y.far x.port y.port (walk_start s is n x.far b p.1) (walk_start s is n y.far b q.1))
-        (λ x y z. before_trans x.far y.far z.far x.port y.port z.port)
-        (both s.links)) where
-    near_of : (w : Way) → Contains (both s.links) w → (w.near ≡ a) × Walk s w.far b n → LeadsNearer s a b w.port w.far w.far_port
-    near_of w c p =
-        let l = both_sound s.links w c in
-        let link : HasLink s a w.port w.far w.far_port = subst (λ x. HasLink s x w.port w.far w.far_port) p.0 (l.0, l.1, l.2) in
+      (λ best. (
+        best.0.port,
+        best.0.far,
+        best.0.far_port,
         record {
-          rest = n;
-          link = link;
-          from_here = far;
-          from_there = record { walk = p.1; least = λ m v. let least = far.least (suc m) (w.far, w.port, w.far_port, link, v) in omega (arith, least) };
-        }
+          nearer = near_of best.0 best.1 best.2;
+          first = λ p e q near.
+              let w = both_complete s.links near.link.0 near.link.1 a p e q near.link.2 in
+              let rest_is : suc near.rest ≡ suc n = distance_same s a b (suc near.rest) (suc n) near.from_here far in
+              let rest_is' : near.rest ≡ n = omega (arith, rest_is) in
+              let left : Walk s w.0.far b n = subst (λ x. Walk s x b n) (sym w.4) (subst (λ k. Walk s e b k) rest_is' near.from_there.walk) in
+              let before = best.3 w.0 w.1 (w.2, left) in
+              subst (λ x. ChosenBefore s best.0.far best.0.port x p) w.4 (subst (λ k. ChosenBefore s best.0.far best.0.port w.0.far k) w.3 before);
+        },
+      ))
+      (λ none.
+      let step = far.walk in
+      let w = both_complete s.links step.3.0 step.3.1 a step.1 step.0 step.2 step.3.2 in
+      absurd (none w.0 w.1 (w.2, subst (λ x. Walk s x b n) (sym w.4) step.4)))
+      (first_of_list (λ (w : Way). (w.near ≡ a) × Walk s w.far b n)
+      (λ w. known_both (known_same w.near a) (known_walk s n w.far b))
+      (λ (x y : Way). ChosenBefore s x.far x.port y.far y.port)
+      (λ x y p q. before_total x.far y.far x.port y.port (walk_start s is n x.far b p.1) (walk_start s is n y.far b q.1))
+      (λ x y z. before_trans x.far y.far z.far x.port y.port z.port)
+      (both s.links)) where
+        near_of : (w : Way) → Contains (both s.links) w → (w.near ≡ a) × Walk s w.far b n → LeadsNearer s a b w.port w.far w.far_port
+        near_of w c p =
+            let l = both_sound s.links w c in
+            let link : HasLink s a w.port w.far w.far_port = subst (λ x. HasLink s x w.port w.far w.far_port) p.0 (l.0, l.1, l.2) in
+            record {
+              rest = n;
+              link = link;
+              from_here = far;
+              from_there = record { walk = p.1; least = λ m v. let least = far.least (suc m) (w.far, w.port, w.far_port, link, v) in omega (arith, least) };
+            }
 
   -- the root has no uplink
   pub root_no_uplink : (d r : DpId) (p : ℕ) (e : DpId) (q : ℕ) → IsRoot s d r → IsUplink s r p e q → ⊥
@@ -204,9 +222,9 @@ module _ (s : Stack) (is : IsStack s) where
   uplink_exists d r root apart =
       let far = distance_exists s d r (joined_back r d root.joined) in
       go far.0 far.1 where
-    go : (n : ℕ) → IsDistance s d r n → (p : ℕ) × (e : DpId) × (q : ℕ) × IsUplink s d p e q
-    go zero far = absurd (apart far.walk.1)
-    go (suc n) far = let hop = hop_exists d r n far in (hop.0, hop.1, hop.2, record { root = r; is_root = root; hop = hop.3 })
+        go : (n : ℕ) → IsDistance s d r n → (p : ℕ) × (e : DpId) × (q : ℕ) × IsUplink s d p e q
+        go zero far = absurd (apart far.walk.1)
+        go (suc n) far = let hop = hop_exists d r n far in (hop.0, hop.1, hop.2, record { root = r; is_root = root; hop = hop.3 })
 
   pub uplink_same : (d : DpId) (p p' : ℕ) (e e' : DpId) (q q' : ℕ) → IsUplink s d p e q → IsUplink s d p' e' q' → (p ≡ p') × (e ≡ e') × (q ≡ q')
   uplink_same d p p' e e' q q' x y =
@@ -232,7 +250,11 @@ module _ (s : Stack) (is : IsStack s) where
 
 -- the port at the other end of a tree port's link is a tree port
 pub tree_port_pair : (s : Stack) (d : DpId) (p : ℕ) → IsTreePort s d p → (e : DpId) × (q : ℕ) × HasLink s d p e q × IsTreePort s e q
-tree_port_pair s d p (e, q, up) = (e, q, ⊎_elim
-    (λ (x : IsUplink s d p e q). x.hop.nearer.link)
-    (λ (x : IsUplink s e q d p). link_back s e q d p x.hop.nearer.link) up,
-    (d, p, ⊎_elim (λ (x : IsUplink s d p e q). inr x) (λ (x : IsUplink s e q d p). inl x) up))
+tree_port_pair s d p (e, q, up) = (
+  e,
+  q,
+  ⊎_elim
+      (λ (x : IsUplink s d p e q). x.hop.nearer.link)
+      (λ (x : IsUplink s e q d p). link_back s e q d p x.hop.nearer.link) up,
+  (d, p, ⊎_elim (λ (x : IsUplink s d p e q). inr x) (λ (x : IsUplink s e q d p). inl x) up),
+)

@@ -27,9 +27,9 @@ module _ (hops : List Hop) (level : ℕ) (old new : List (Option ℕ)) (i : ℕ)
     keeps = so_far.keeps;
     adds = λ j n e. ⊎_elim inl (λ h. inr (h.0, (h.1.0, contains_later hops i hop h.1.0 within is h.1.1, h.1.2, h.1.3))) (so_far.adds j n e);
     marks = λ h c e. ⊎_elim
-      (λ (before : Contains (take i hops) h). so_far.marks h before e)
-      (λ (same : hop ≡ h). subst (λ (x : Hop). (n : ℕ) × (answer_at new x.from ≡ Some n)) same (skips (subst (λ (x : Hop). answer_at old x.to ≡ Some level) (sym same) e)))
-      (contains_cases hops i hop h within is c);
+        (λ (before : Contains (take i hops) h). so_far.marks h before e)
+        (λ (same : hop ≡ h). subst (λ (x : Hop). (n : ℕ) × (answer_at new x.from ≡ Some n)) same (skips (subst (λ (x : Hop). answer_at old x.to ≡ Some level) (sym same) e)))
+        (contains_cases hops i hop h within is c);
   }
 
   -- one more hop, from a place that gets its mark
@@ -37,19 +37,20 @@ module _ (hops : List Hop) (level : ℕ) (old new : List (Option ℕ)) (i : ℕ)
   Spreads-mark v v_is room empty leads = record {
     keeps = λ j n e. kept j n (so_far.keeps j n e);
     adds = λ j n e. ⊎_elim
-      (λ (same : j ≡ hop.from). inr (added j n same e, (hop, contains_last hops i hop within is, sym same, leads)))
-      (λ (apart : j ≡ hop.from → ⊥). ⊎_elim inl (λ h. inr (h.0, (h.1.0, contains_later hops i hop h.1.0 within is h.1.1, h.1.2, h.1.3))) (so_far.adds j n (sym (get_or-set_other new hop.from j (Some v) None apart) ∙ e)))
-      (cases_eq j hop.from);
+        (λ (same : j ≡ hop.from). inr (added j n same e, (hop, contains_last hops i hop within is, sym same, leads)))
+        (λ (apart : j ≡ hop.from → ⊥). ⊎_elim inl (λ h. inr (h.0, (h.1.0, contains_later hops i hop h.1.0 within is h.1.1, h.1.2, h.1.3))) (so_far.adds j n (sym (get_or-set_other new hop.from j (Some v) None apart) ∙ e)))
+        (cases_eq j hop.from);
     marks = λ h c e. ⊎_elim
-      (λ (before : Contains (take i hops) h). let m = so_far.marks h before e in (m.0, kept h.from m.0 m.1))
-      (λ (same : hop ≡ h). (v, subst (λ (x : Hop). answer_at (set new hop.from (Some v)) x.from ≡ Some v) same (get_or-set_same new hop.from (Some v) None room)))
-      (contains_cases hops i hop h within is c);
+        (λ (before : Contains (take i hops) h). let m = so_far.marks h before e in (m.0, kept h.from m.0 m.1))
+        (λ (same : hop ≡ h). (v, subst (λ (x : Hop). answer_at (set new hop.from (Some v)) x.from ≡ Some v) same (get_or-set_same new hop.from (Some v) None room)))
+        (contains_cases hops i hop h within is c);
   } where
     kept : (j n : ℕ) → answer_at new j ≡ Some n → answer_at (set new hop.from (Some v)) j ≡ Some n
     kept j n e = ⊎_elim
-      (λ (same : j ≡ hop.from). absurd (none-some n (sym empty ∙ subst (λ k. answer_at new k ≡ Some n) same e)))
-      (λ (apart : j ≡ hop.from → ⊥). get_or-set_other new hop.from j (Some v) None apart ∙ e)
-      (cases_eq j hop.from)
+        (λ (same : j ≡ hop.from). absurd (none-some n (sym empty ∙ subst (λ k. answer_at new k ≡ Some n) same e)))
+        (λ (apart : j ≡ hop.from → ⊥). get_or-set_other new hop.from j (Some v) None apart ∙ e)
+        (cases_eq j hop.from)
+
     added : (j n : ℕ) → j ≡ hop.from → answer_at (set new hop.from (Some v)) j ≡ Some n → n ≡ suc level
     added j n same e =
         let here = get_or-set_same new hop.from (Some v) None room in
@@ -81,24 +82,26 @@ module _ (hops : List Hop) (target level : ℕ) (marks : List (Option ℕ)) (fou
   } where
     walks : (i n : ℕ) → answer_at new i ≡ Some n → (n ≤ suc level) × WalkAt hops target i n
     walks i n e = ⊎_elim
-      (λ (before : answer_at marks i ≡ Some n). let w = found.walk i n before in (omega (arith, w.0), w.1))
-      (λ (now : (n ≡ suc level) × ((h : Hop) × Contains hops h × (h.from ≡ i) × (answer_at marks h.to ≡ Some level))).
+        (λ (before : answer_at marks i ≡ Some n). let w = found.walk i n before in (omega (arith, w.0), w.1))
+        (λ (now : (n ≡ suc level) × ((h : Hop) × Contains hops h × (h.from ≡ i) × (answer_at marks h.to ≡ Some level))).
         (omega (arith, now.0), subst (WalkAt hops target i) (sym now.0) (now.1.0, now.1.1, now.1.2, (found.walk now.1.0.to level now.1.3).1)))
-      (spread.adds i n e)
+        (spread.adds i n e)
+
     old_ones : (i m : ℕ) → (n : ℕ) × (n ≤ m) × (answer_at marks i ≡ Some n) → (n : ℕ) × (n ≤ m) × (answer_at new i ≡ Some n)
     old_ones i m f = (f.0, f.1, spread.keeps i f.0 f.2)
+
     leasts : (i m : ℕ) → m ≤ suc level → WalkAt hops target i m → (n : ℕ) × (n ≤ m) × (answer_at new i ≡ Some n)
     leasts i zero low w = old_ones i zero (found.least i zero (omega arith) w)
     leasts i (suc m) low (h, c, from, w) =
         let next = found.least h.to m (omega arith) w in
         subst (λ k. (n : ℕ) × (n ≤ suc m) × (answer_at new k ≡ Some n)) from
-          (⊎_elim
-            (λ (low' : next.0 < level). let b = nearer_found h c next.0 next.2 low' in (b.0, omega (arith, b.1, next.1), spread.keeps h.from b.0 b.2))
-            (λ (high : level ≤ next.0).
-              let level_is : next.0 ≡ level = omega (arith, high, next.1, low) in
-              let marked = spread.marks h c (subst (λ k. answer_at marks h.to ≡ Some k) level_is next.2) in
-              (marked.0, omega (arith, (walks h.from marked.0 marked.1).0, high, next.1), marked.1))
-            (cases_lt next.0 level))
+        (⊎_elim
+        (λ (low' : next.0 < level). let b = nearer_found h c next.0 next.2 low' in (b.0, omega (arith, b.1, next.1), spread.keeps h.from b.0 b.2))
+        (λ (high : level ≤ next.0).
+        let level_is : next.0 ≡ level = omega (arith, high, next.1, low) in
+        let marked = spread.marks h c (subst (λ k. answer_at marks h.to ≡ Some k) level_is next.2) in
+        (marked.0, omega (arith, (walks h.from marked.0 marked.1).0, high, next.1), marked.1))
+        (cases_lt next.0 level))
 
   -- where one more level marks nothing, each walk is found
   pub AreDistances-found : Spreads hops level marks marks → AreDistances hops target marks
@@ -108,13 +111,13 @@ module _ (hops : List Hop) (target level : ℕ) (marks : List (Option ℕ)) (fou
     leasts i (suc m) (h, c, from, w) =
         let next = leasts h.to m w in
         subst (λ k. (n : ℕ) × (n ≤ suc m) × (answer_at marks k ≡ Some n)) from
-          (⊎_elim
-            (λ (low : next.0 < level). let b = nearer_found h c next.0 next.2 low in (b.0, omega (arith, b.1, next.1), b.2))
-            (λ (high : level ≤ next.0).
-              let level_is : next.0 ≡ level = omega (arith, high, (found.walk h.to next.0 next.2).0) in
-              let marked = spread.marks h c (subst (λ k. answer_at marks h.to ≡ Some k) level_is next.2) in
-              (marked.0, omega (arith, (found.walk h.from marked.0 marked.1).0, high, next.1), marked.1))
-            (cases_lt next.0 level))
+        (⊎_elim
+        (λ (low : next.0 < level). let b = nearer_found h c next.0 next.2 low in (b.0, omega (arith, b.1, next.1), b.2))
+        (λ (high : level ≤ next.0).
+        let level_is : next.0 ≡ level = omega (arith, high, (found.walk h.to next.0 next.2).0) in
+        let marked = spread.marks h c (subst (λ k. answer_at marks h.to ≡ Some k) level_is next.2) in
+        (marked.0, omega (arith, (found.walk h.from marked.0 marked.1).0, high, next.1), marked.1))
+        (cases_lt next.0 level))
 
 -- a mark leaves one place fewer without
 pub unmarked-mark : (marks : List (Option ℕ)) (i v : ℕ) → i < length marks → answer_at marks i ≡ None → count_by is_none (set marks i (Some v)) + 1 ≡ count_by is_none marks

@@ -58,39 +58,56 @@ module _ (s : Stack) (ways : List Ways) (roots : List ℕ) (trees : List (Vec �
     -- a hop that leads down leads nearer
     pub nearer_of : (h : Hop) → Contains tables.hops h → LeadsDown w.distances.items h → (a : DpId) × (e : DpId) × IsAt s h.from a × IsAt s h.to e × LeadsNearer s a b h.port e h.far_port
     nearer_of h c (n, here, there) =
-        let x = tables.are_hops.sound h c in
-        (x.0, x.1, x.2, x.3, record {
-          rest = n;
-          link = x.4;
-          from_here = distance_found s tables.stack tables.hops tables.are_hops t b at_b w.distances.items are.distances h.from (suc n) x.0 x.2 here;
-          from_there = distance_found s tables.stack tables.hops tables.are_hops t b at_b w.distances.items are.distances h.to n x.1 x.3 there;
-        })
+        let x = tables.are_hops.sound h c in (
+          x.0,
+          x.1,
+          x.2,
+          x.3,
+          record {
+            rest = n;
+            link = x.4;
+            from_here = distance_found s tables.stack tables.hops tables.are_hops t b at_b w.distances.items are.distances h.from (suc n) x.0 x.2 here;
+            from_there = distance_found s tables.stack tables.hops tables.are_hops t b at_b w.distances.items are.distances h.to n x.1 x.3 there;
+          },
+        )
 
     -- and what leads nearer is a hop that leads down
     pub hop_of_nearer : (a : DpId) (p : ℕ) (e : DpId) (q : ℕ) → LeadsNearer s a b p e q → (h : Hop) × Contains tables.hops h × IsAt s h.from a × IsAt s h.to e × (h.port ≡ p) × (h.far_port ≡ q) × LeadsDown w.distances.items h
     hop_of_nearer a p e q near =
-        let h = tables.are_hops.complete a p e q near.link in
-        (h.0, h.1, h.2, h.3, h.4, h.5,
-         (near.rest,
-          distance_is_found s tables.stack tables.hops tables.are_hops t b at_b w.distances.items are.distances h.0.from (suc near.rest) a h.2 near.from_here,
-          distance_is_found s tables.stack tables.hops tables.are_hops t b at_b w.distances.items are.distances h.0.to near.rest e h.3 near.from_there))
+        let h = tables.are_hops.complete a p e q near.link in (
+          h.0,
+          h.1,
+          h.2,
+          h.3,
+          h.4,
+          h.5,
+          (
+            near.rest,
+            distance_is_found s tables.stack tables.hops tables.are_hops t b at_b w.distances.items are.distances h.0.from (suc near.rest) a h.2 near.from_here,
+            distance_is_found s tables.stack tables.hops tables.are_hops t b at_b w.distances.items are.distances h.0.to near.rest e h.3 near.from_there,
+          ),
+        )
 
     -- the chosen hop is the next hop
     pub hop_found : (i : ℕ) (a : DpId) → IsAt s i a → (g : Hop) → answer_at w.hops.items i ≡ Some g → (e : DpId) × IsAt s g.from a × IsAt s g.to e × IsHop s a b g.port e g.far_port
     hop_found i a at_a g is_g =
         let f = are.first.sound i g is_g in
         let x = nearer_of g f.0 f.2 in
-        let same : x.0 ≡ a = at_same s i x.0 a (subst (λ k. IsAt s k x.0) f.1 x.2) at_a in
-        (x.1, subst (λ y. IsAt s g.from y) same x.2, x.3, record {
-          nearer = subst (λ y. LeadsNearer s y b g.port x.1 g.far_port) same x.4;
-          first = λ p e q near.
-            let h = hop_of_nearer a p e q near in
-            let g' = are.first.first h.0 h.1 h.6 in
-            let from : h.0.from ≡ i = place_same s tables.stack h.0.from i a h.2 at_a in
-            let it : g'.0 ≡ g = same_Some g'.0 g (sym (subst (λ k. answer_at w.hops.items k ≡ Some g'.0) from g'.1) ∙ is_g) in
-            let before : ComesBefore g h.0 = subst (λ y. ComesBefore y h.0) it g'.2 in
-            subst (λ k. ChosenBefore s x.1 g.port e k) h.4 (g.to, h.0.to, x.3, h.3, before);
-        })
+        let same : x.0 ≡ a = at_same s i x.0 a (subst (λ k. IsAt s k x.0) f.1 x.2) at_a in (
+          x.1,
+          subst (λ y. IsAt s g.from y) same x.2,
+          x.3,
+          record {
+            nearer = subst (λ y. LeadsNearer s y b g.port x.1 g.far_port) same x.4;
+            first = λ p e q near.
+                let h = hop_of_nearer a p e q near in
+                let g' = are.first.first h.0 h.1 h.6 in
+                let from : h.0.from ≡ i = place_same s tables.stack h.0.from i a h.2 at_a in
+                let it : g'.0 ≡ g = same_Some g'.0 g (sym (subst (λ k. answer_at w.hops.items k ≡ Some g'.0) from g'.1) ∙ is_g) in
+                let before : ComesBefore g h.0 = subst (λ y. ComesBefore y h.0) it g'.2 in
+                subst (λ k. ChosenBefore s x.1 g.port e k) h.4 (g.to, h.0.to, x.3, h.3, before);
+          },
+        )
 
     -- where none is chosen, the place is the target or no walk leads to it
     pub hop_none : (i : ℕ) (a : DpId) → IsAt s i a → answer_at w.hops.items i ≡ None → (a ≡ b) ⊎ ((m : ℕ) → Walk s a b m → ⊥)
@@ -135,20 +152,20 @@ module _ (s : Stack) (ways : List Ways) (roots : List ℕ) (trees : List (Vec �
       record {
         joined = (root.joined.0, (distance_found s tables.stack tables.hops tables.are_hops i d at_d w.distances.items are.distances r root.joined.0 x at_x root.joined.1).walk);
         first = λ e walk.
-          let j = walk_start s tables.stack walk.0 e d walk.1 in
-          let found = are.distances.least j.0 walk.0 (walk_by_places s tables.stack tables.hops tables.are_hops walk.0 j.0 i e d j.1 at_d walk.1) in
-          let first = root.first j.0 found.0 found.2 in
-          record {
-            i = r;
-            j = j.0;
-            m = first.m;
-            n = first.n;
-            at_i = first.at_i;
-            at_j = first.at_j;
-            is_d = same_Some first.m.id x (sym (ids-node s.nodes r first.m first.at_i) ∙ at_x);
-            is_e = same_Some first.n.id e (sym (ids-node s.nodes j.0 first.n first.at_j) ∙ j.1);
-            ranks = first.ranks;
-          };
+            let j = walk_start s tables.stack walk.0 e d walk.1 in
+            let found = are.distances.least j.0 walk.0 (walk_by_places s tables.stack tables.hops tables.are_hops walk.0 j.0 i e d j.1 at_d walk.1) in
+            let first = root.first j.0 found.0 found.2 in
+            record {
+              i = r;
+              j = j.0;
+              m = first.m;
+              n = first.n;
+              at_i = first.at_i;
+              at_j = first.at_j;
+              is_d = same_Some first.m.id x (sym (ids-node s.nodes r first.m first.at_i) ∙ at_x);
+              is_e = same_Some first.n.id e (sym (ids-node s.nodes j.0 first.n first.at_j) ∙ j.1);
+              ranks = first.ranks;
+            };
       }
 
   -- what the table of roots has at a place
@@ -190,39 +207,44 @@ module _ (s : Stack) (ways : List Ways) (roots : List ℕ) (trees : List (Vec �
       let f = hop_found r x.0 x.1 w are i.0 d i.1 g.0 is_g in
       let same = hop_same s tables.stack d x.0 g.0.port p f.0 e g.0.far_port q f.3 hop in
       let i_within : i.0 < length roots = omega (arith, tables.roots_len, ids-within s.nodes i.0 d i.1) in
-      let r_within : r < length ways = omega (arith, tables.ways_len, of.0) in
-      (g.0,
-       tables.are_uplinks.complete i.0 g.0 (record {
-         root = r;
-         to_root = w;
-         is_root = slice_get-get_or roots i.0 0 i_within;
-         is_to_root = slice_get-get_or ways r default r_within;
-         first = is_g;
-       }),
-       f.1, subst (λ y. IsAt s g.0.to y) same.1 f.2, same.0, same.2)
+      let r_within : r < length ways = omega (arith, tables.ways_len, of.0) in (
+        g.0,
+        tables.are_uplinks.complete i.0 g.0 (record {
+          root = r;
+          to_root = w;
+          is_root = slice_get-get_or roots i.0 0 i_within;
+          is_to_root = slice_get-get_or ways r default r_within;
+          first = is_g;
+        }),
+        f.1,
+        subst (λ y. IsAt s g.0.to y) same.1 f.2,
+        same.0,
+        same.2,
+      )
 
   -- the ends of the table's uplinks are the tree ports
   pub tree_ports_found : (i : ℕ) (d : DpId) → IsAt s i d → (p : ℕ) → IsEndOfSome tables.uplinks i p ↔ IsTreePort s d p
-  tree_ports_found i d at_d p =
-      (λ (h, c, ends).
-         let up = tables.are_uplinks.sound h c in
-         let x = uplink_found up.0 h up.1 in
-         ⊎_elim
-           (λ (y : (h.from ≡ i) × (h.port ≡ p)).
-             let same : x.0 ≡ d = at_same s i x.0 d (subst (λ k. IsAt s k x.0) y.0 x.2) at_d in
-             (x.1, h.far_port, inl (subst (λ k. IsUplink s d k x.1 h.far_port) y.1 (subst (λ z. IsUplink s z h.port x.1 h.far_port) same x.4))))
-           (λ (y : (h.to ≡ i) × (h.far_port ≡ p)).
-             let same : x.1 ≡ d = at_same s i x.1 d (subst (λ k. IsAt s k x.1) y.0 x.3) at_d in
-             (x.0, h.port, inr (subst (λ k. IsUplink s x.0 h.port d k) y.1 (subst (λ z. IsUplink s x.0 h.port z h.far_port) same x.4))))
-           ends,
-       λ (e, q, up). ⊎_elim
-         (λ (y : IsUplink s d p e q).
-           let h = uplink_is_found d p e q y in
-           (h.0, h.1, inl (place_same s tables.stack h.0.from i d h.2 at_d, h.4)))
-         (λ (y : IsUplink s e q d p).
-           let h = uplink_is_found e q d p y in
-           (h.0, h.1, inr (place_same s tables.stack h.0.to i d h.3 at_d, h.5)))
-         up)
+  tree_ports_found i d at_d p = (
+    λ (h, c, ends).
+        let up = tables.are_uplinks.sound h c in
+        let x = uplink_found up.0 h up.1 in
+        ⊎_elim
+        (λ (y : (h.from ≡ i) × (h.port ≡ p)).
+        let same : x.0 ≡ d = at_same s i x.0 d (subst (λ k. IsAt s k x.0) y.0 x.2) at_d in
+        (x.1, h.far_port, inl (subst (λ k. IsUplink s d k x.1 h.far_port) y.1 (subst (λ z. IsUplink s z h.port x.1 h.far_port) same x.4))))
+        (λ (y : (h.to ≡ i) × (h.far_port ≡ p)).
+        let same : x.1 ≡ d = at_same s i x.1 d (subst (λ k. IsAt s k x.1) y.0 x.3) at_d in
+        (x.0, h.port, inr (subst (λ k. IsUplink s x.0 h.port d k) y.1 (subst (λ z. IsUplink s x.0 h.port z h.far_port) same x.4))))
+        ends,
+    λ (e, q, up). ⊎_elim
+        (λ (y : IsUplink s d p e q).
+        let h = uplink_is_found d p e q y in
+        (h.0, h.1, inl (place_same s tables.stack h.0.from i d h.2 at_d, h.4)))
+        (λ (y : IsUplink s e q d p).
+        let h = uplink_is_found e q d p y in
+        (h.0, h.1, inr (place_same s tables.stack h.0.to i d h.3 at_d, h.5)))
+        up,
+  )
 
   pub tree_answer : (i : ℕ) (d : DpId) → IsAt s i d → (ports : List ℕ) → IsTreeOf tables.uplinks i ports → (p : ℕ) → Contains ports p ↔ IsTreePort s d p
   tree_answer i d at_d ports tree p =

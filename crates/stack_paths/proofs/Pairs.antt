@@ -21,11 +21,11 @@ module _ {X : Type 0} (R : X → X → Type 0) (xs : List X) (i : ℕ) (within :
   pairs_step before here j k e lt low = ⊎_elim
       (λ (lower : k < i). before j k e lt lower)
       (λ (high : i ≤ k).
-        let same : i ≡ k = omega (arith, high, low) in
-        let low_j : j < i = omega (arith, lt, same) in
-        let pair : R (get_or (take i xs) j e) (get_or xs i d) = here j e (omega (arith, low_j, length-take-le i xs (omega (arith, within)))) in
-        let pair' : R (get_or xs j e) (get_or xs i d) = subst (λ y. R y (get_or xs i d)) (get_or-take i xs j e low_j) pair in
-        subst (λ n. R (get_or xs j e) (get_or xs n e)) same (subst (R (get_or xs j e)) (get_or_default xs i d e within) pair'))
+      let same : i ≡ k = omega (arith, high, low) in
+      let low_j : j < i = omega (arith, lt, same) in
+      let pair : R (get_or (take i xs) j e) (get_or xs i d) = here j e (omega (arith, low_j, length-take-le i xs (omega (arith, within)))) in
+      let pair' : R (get_or xs j e) (get_or xs i d) = subst (λ y. R y (get_or xs i d)) (get_or-take i xs j e low_j) pair in
+      subst (λ n. R (get_or xs j e) (get_or xs n e)) same (subst (R (get_or xs j e)) (get_or_default xs i d e within) pair'))
       (cases_lt k i)
 
   -- one that doesn't

@@ -49,8 +49,8 @@ place_same s is i j d at_i at_j =
     let id_i = ids-at s.nodes i d at_i x in
     let id_j = ids-at s.nodes j d at_j x in
     ⊎_elim (λ (lt : i < j). absurd (is.distinct i j x lt (ids-within s.nodes j d at_j) (id_i ∙ sym id_j)))
-      (λ (ge : j ≤ i). ⊎_elim (λ (gt : j < i). absurd (is.distinct j i x gt (ids-within s.nodes i d at_i) (id_j ∙ sym id_i)))
-        (λ (le : i ≤ j). omega (arith, ge, le)) (cases_lt j i)) (cases_lt i j)
+    (λ (ge : j ≤ i). ⊎_elim (λ (gt : j < i). absurd (is.distinct j i x gt (ids-within s.nodes i d at_i) (id_j ∙ sym id_i)))
+    (λ (le : i ≤ j). omega (arith, ge, le)) (cases_lt j i)) (cases_lt i j)
 
 -- each place below the number of nodes has a datapath
 pub id_there : (nodes : List Node) (i : ℕ) → i < length nodes → (d : DpId) × (slice_get (ids nodes) i ≡ Some d)

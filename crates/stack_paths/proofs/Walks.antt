@@ -18,9 +18,9 @@ module _ (s : Stack) (is : IsStack s) where
   link_ends d p e q (l, c, j) =
       let two = All-contains (λ (m : StackLink). IsNode s m.a × IsNode s m.b × (m.a ≡ m.b → ⊥)) s.links l is.between_two c in
       ⊎_elim
-        (λ (x : (l.a ≡ d) × (l.a_port ≡ p) × (l.b ≡ e) × (l.b_port ≡ q)). (subst (IsNode s) x.0 two.0, subst (IsNode s) x.2 two.1, λ same. two.2 (x.0 ∙ same ∙ sym x.2)))
-        (λ (x : (l.b ≡ d) × (l.b_port ≡ p) × (l.a ≡ e) × (l.a_port ≡ q)). (subst (IsNode s) x.0 two.1, subst (IsNode s) x.2 two.0, λ same. two.2 (x.2 ∙ sym same ∙ sym x.0)))
-        j
+      (λ (x : (l.a ≡ d) × (l.a_port ≡ p) × (l.b ≡ e) × (l.b_port ≡ q)). (subst (IsNode s) x.0 two.0, subst (IsNode s) x.2 two.1, λ same. two.2 (x.0 ∙ same ∙ sym x.2)))
+      (λ (x : (l.b ≡ d) × (l.b_port ≡ p) × (l.a ≡ e) × (l.a_port ≡ q)). (subst (IsNode s) x.0 two.1, subst (IsNode s) x.2 two.0, λ same. two.2 (x.2 ∙ sym same ∙ sym x.0)))
+      j
 
   -- a walk begins and ends at datapaths of the stack
   pub walk_start : (n : ℕ) (a b : DpId) → Walk s a b n → IsNode s a
@@ -53,9 +53,9 @@ module _ (s : Stack) (is : IsStack s) where
       distance_found i n a at_a e = record {
         walk = walk_from_places n i t a b at_a at_b (are_distances.walk i n e);
         least = λ m w.
-          let found = are_distances.least i m (walk_by_places m i t a b at_a at_b w) in
-          let same : n ≡ found.0 = same_Some n found.0 (sym e ∙ found.2) in
-          omega (arith, same, found.1);
+            let found = are_distances.least i m (walk_by_places m i t a b at_a at_b w) in
+            let same : n ≡ found.0 = same_Some n found.0 (sym e ∙ found.2) in
+            omega (arith, same, found.1);
       }
 
       -- and the distance is found
@@ -77,12 +77,12 @@ module _ (s : Stack) (is : IsStack s) where
   link_same d p l m c c' end_l end_m = ⊎_elim
       (λ (lt : c.0 < c'.0). absurd (is.ports_apart c.0 c'.0 l lt c'.1 d p (subst (λ (x : StackLink). IsEnd x d p) (sym c.2) end_l) (subst (λ (x : StackLink). IsEnd x d p) (sym (other l)) end_m)))
       (λ (ge : c'.0 ≤ c.0). ⊎_elim
-        (λ (gt : c'.0 < c.0). absurd (is.ports_apart c'.0 c.0 l gt c.1 d p (subst (λ (x : StackLink). IsEnd x d p) (sym (other l)) end_m) (subst (λ (x : StackLink). IsEnd x d p) (sym c.2) end_l)))
-        (λ (le : c.0 ≤ c'.0). let same : c.0 ≡ c'.0 = omega (arith, ge, le) in sym c.2 ∙ ap (λ k. get_or s.links k l) same ∙ other l)
-        (cases_lt c'.0 c.0))
+      (λ (gt : c'.0 < c.0). absurd (is.ports_apart c'.0 c.0 l gt c.1 d p (subst (λ (x : StackLink). IsEnd x d p) (sym (other l)) end_m) (subst (λ (x : StackLink). IsEnd x d p) (sym c.2) end_l)))
+      (λ (le : c.0 ≤ c'.0). let same : c.0 ≡ c'.0 = omega (arith, ge, le) in sym c.2 ∙ ap (λ k. get_or s.links k l) same ∙ other l)
+      (cases_lt c'.0 c.0))
       (cases_lt c.0 c'.0) where
-    other : (x : StackLink) → get_or s.links c'.0 x ≡ m
-    other x = get_or_default s.links c'.0 x m c'.1 ∙ c'.2
+        other : (x : StackLink) → get_or s.links c'.0 x ≡ m
+        other x = get_or_default s.links c'.0 x m c'.1 ∙ c'.2
 
   -- and so it leads to one far end
   pub far_end_same : (d : DpId) (p : ℕ) (e e' : DpId) (q q' : ℕ) → HasLink s d p e q → HasLink s d p e' q' → (e ≡ e') × (q ≡ q')
@@ -91,12 +91,12 @@ module _ (s : Stack) (is : IsStack s) where
       let j'' = subst (λ (x : StackLink). Joins x d p e' q') (sym same) j' in
       let two = All-contains (λ (m : StackLink). IsNode s m.a × IsNode s m.b × (m.a ≡ m.b → ⊥)) s.links l is.between_two c in
       ⊎_elim
-        (λ (x : (l.a ≡ d) × (l.a_port ≡ p) × (l.b ≡ e) × (l.b_port ≡ q)). ⊎_elim
-          (λ (y : (l.a ≡ d) × (l.a_port ≡ p) × (l.b ≡ e') × (l.b_port ≡ q')). (sym x.2 ∙ y.2, sym x.3 ∙ y.3))
-          (λ (y : (l.b ≡ d) × (l.b_port ≡ p) × (l.a ≡ e') × (l.a_port ≡ q')). absurd (two.2 (x.0 ∙ sym y.0)))
-          j'')
-        (λ (x : (l.b ≡ d) × (l.b_port ≡ p) × (l.a ≡ e) × (l.a_port ≡ q)). ⊎_elim
-          (λ (y : (l.a ≡ d) × (l.a_port ≡ p) × (l.b ≡ e') × (l.b_port ≡ q')). absurd (two.2 (y.0 ∙ sym x.0)))
-          (λ (y : (l.b ≡ d) × (l.b_port ≡ p) × (l.a ≡ e') × (l.a_port ≡ q')). (sym x.2 ∙ y.2, sym x.3 ∙ y.3))
-          j'')
-        j
+      (λ (x : (l.a ≡ d) × (l.a_port ≡ p) × (l.b ≡ e) × (l.b_port ≡ q)). ⊎_elim
+      (λ (y : (l.a ≡ d) × (l.a_port ≡ p) × (l.b ≡ e') × (l.b_port ≡ q')). (sym x.2 ∙ y.2, sym x.3 ∙ y.3))
+      (λ (y : (l.b ≡ d) × (l.b_port ≡ p) × (l.a ≡ e') × (l.a_port ≡ q')). absurd (two.2 (x.0 ∙ sym y.0)))
+      j'')
+      (λ (x : (l.b ≡ d) × (l.b_port ≡ p) × (l.a ≡ e) × (l.a_port ≡ q)). ⊎_elim
+      (λ (y : (l.a ≡ d) × (l.a_port ≡ p) × (l.b ≡ e') × (l.b_port ≡ q')). absurd (two.2 (y.0 ∙ sym x.0)))
+      (λ (y : (l.b ≡ d) × (l.b_port ≡ p) × (l.a ≡ e') × (l.a_port ≡ q')). (sym x.2 ∙ y.2, sym x.3 ∙ y.3))
+      j'')
+      j

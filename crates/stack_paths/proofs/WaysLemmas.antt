@@ -10,11 +10,11 @@ use Rattle.stack_paths.specs.Trees.{ReachThemselves}
 pub each_push : {X : Type 0} (P : ℕ → X → Type 0) (xs : List X) (y : X) → ((i : ℕ) (d : X) → i < length xs → P i (get_or xs i d)) → P (length xs) y → (i : ℕ) (d : X) → i < length (xs ++ y ∷ []) → P i (get_or (xs ++ y ∷ []) i d)
 each_push P xs y before here i d within =
     ⊎_elim
-      (λ (low : i < length xs). subst (P i) (sym (get_or_append_left xs (y ∷ []) d i low)) (before i d low))
-      (λ (high : length xs ≤ i).
-        let it : length xs ≡ i = omega (arith, high, within, length_push xs y) in
-        subst (P i) (sym (get_or_push xs y d i it)) (subst (λ k. P k y) it here))
-      (cases_lt i (length xs))
+    (λ (low : i < length xs). subst (P i) (sym (get_or_append_left xs (y ∷ []) d i low)) (before i d low))
+    (λ (high : length xs ≤ i).
+    let it : length xs ≡ i = omega (arith, high, within, length_push xs y) in
+    subst (P i) (sym (get_or_push xs y d i it)) (subst (λ k. P k y) it here))
+    (cases_lt i (length xs))
 
 -- the ways to a place have its own distance
 pub reach_themselves : (hops : List Hop) (count : ℕ) (ways : List Ways) → AllWays hops count ways → ReachThemselves count ways

@@ -13,3 +13,6 @@ mod ways;
 
 pub use paths::Paths;
 pub use stack::is_stack;
+
+#[cfg(test)]
+mod tests;

@@ -50,8 +50,8 @@ fn hop_at(ways: &[Ways], from: usize, to: usize) -> Option<PortNo>
     ensures { (d : _) → MatchOption result
         (answer_at (slice_index_or ways.now to d).hops.items from ≡ None)
         (λ port. (h : _)
-            × (answer_at (slice_index_or ways.now to d).hops.items from ≡ Some h)
-            × (h.port ≡ port)) }
+        × (answer_at (slice_index_or ways.now to d).hops.items from ≡ Some h)
+        × (h.port ≡ port)) }
 {
     let ways = &ways[to];
     match &ways.hops[from] {

@@ -9,7 +9,12 @@ use std::alloc::Global;
 
 /// Whether the first of two datapaths is the root rather than the second, by their priorities and
 /// then by their places.
-fn ranks_first(first: Option<u32>, first_place: usize, second: Option<u32>, second_place: usize) -> bool
+fn ranks_first(
+    first: Option<u32>,
+    first_place: usize,
+    second: Option<u32>,
+    second_place: usize,
+) -> bool
     ensures { MatchBool result
         (RanksFirst first first_place second second_place)
         (RanksFirst second second_place first first_place) }
@@ -38,7 +43,7 @@ fn takes_root(nodes: &[Node], distances: &[Option<u32>], place: usize, root: usi
     requires root { root < length nodes.now }
     ensures { MatchBool result
         (((n : ℕ) × (answer_at distances.now place ≡ Some n))
-            × PlaceRanksFirst nodes.now place root)
+        × PlaceRanksFirst nodes.now place root)
         ((n : ℕ) → answer_at distances.now place ≡ Some n → PlaceRanksFirst nodes.now root place) }
 {
     distances[place].is_some() && place_ranks_first(nodes, place, root)
@@ -62,11 +67,7 @@ fn root_among(nodes: &[Node], distances: &[Option<u32>], start: usize) -> usize
 }
 
 /// The root of the part of each place.
-pub(crate) fn roots_of(
-    alloc: Global,
-    nodes: &[Node],
-    ways: &[Ways],
-) -> Result<Vec<usize>, NoMemory>
+pub(crate) fn roots_of(alloc: Global, nodes: &[Node], ways: &[Ways]) -> Result<Vec<usize>, NoMemory>
     requires size { length ways.now ≡ length nodes.now }
     requires each { ReachThemselves (length nodes.now) ways.now }
     ensures len { IfOk result (λ roots. vec_len roots ≡ length nodes.now) }

@@ -39,8 +39,8 @@ fn are_distinct(nodes: &[Node]) -> bool
 fn is_between_two(nodes: &[Node], link: &StackLink) -> bool
     ensures { IsTrue result
         ↔ (((i : ℕ) × (slice_get (ids nodes.now) i ≡ Some link.now.a))
-            × ((i : ℕ) × (slice_get (ids nodes.now) i ≡ Some link.now.b))
-            × (link.now.a ≢ link.now.b)) }
+        × ((i : ℕ) × (slice_get (ids nodes.now) i ≡ Some link.now.b))
+        × (link.now.a ≢ link.now.b)) }
 {
     is_node(nodes, link.a) && is_node(nodes, link.b) && link.a != link.b
 }
@@ -49,10 +49,10 @@ fn is_between_two(nodes: &[Node], link: &StackLink) -> bool
 fn are_between_two(nodes: &[Node], links: &[StackLink]) -> bool
     ensures { IsTrue result
         ↔ All
-            (λ l. ((i : ℕ) × (slice_get (ids nodes.now) i ≡ Some l.a))
-                × ((i : ℕ) × (slice_get (ids nodes.now) i ≡ Some l.b))
-                × (l.a ≢ l.b))
-            links.now }
+        (λ l. ((i : ℕ) × (slice_get (ids nodes.now) i ≡ Some l.a))
+        × ((i : ℕ) × (slice_get (ids nodes.now) i ≡ Some l.b))
+        × (l.a ≢ l.b))
+        links.now }
 {
     for link in links {
         if !is_between_two(nodes, link) {
@@ -112,11 +112,11 @@ fn are_nodes(nodes: &[Node]) -> bool
 fn are_links(nodes: &[Node], links: &[StackLink]) -> bool
     ensures { IsTrue result
         ↔ (All
-            (λ l. ((i : ℕ) × (slice_get (ids nodes.now) i ≡ Some l.a))
-                × ((i : ℕ) × (slice_get (ids nodes.now) i ≡ Some l.b))
-                × (l.a ≢ l.b))
-            links.now
-            × AllPairs ArePortsApart links.now) }
+        (λ l. ((i : ℕ) × (slice_get (ids nodes.now) i ≡ Some l.a))
+        × ((i : ℕ) × (slice_get (ids nodes.now) i ≡ Some l.b))
+        × (l.a ≢ l.b))
+        links.now
+        × AllPairs ArePortsApart links.now) }
 {
     are_between_two(nodes, links) && are_apart(links)
 }

@@ -14,12 +14,7 @@ pub(crate) struct Ways {
     pub(crate) hops: Vec<Option<Hop>>,
 }
 
-fn ways_to(
-    alloc: Global,
-    count: usize,
-    hops: &[Hop],
-    target: usize,
-) -> Result<Ways, NoMemory>
+fn ways_to(alloc: Global, count: usize, hops: &[Hop], target: usize) -> Result<Ways, NoMemory>
     requires small { count ≤ 64 }
     requires target { target < count }
     requires places { All (λ h. (h.from < count) × (h.to < count)) hops.now }

@@ -21,14 +21,14 @@ loop-hop-preserved c =
     let room : hop.from < length best.items = omega (arith, places, c.loop-hop.invariant.len, best.ok.0) in
     let chosen : c.index.result.now ≡ answer_at best.items hop.from = get_or_read best.items hop.from c.index.result.now room c.index.ensures None in
     elim c.if-is_next.branch [
-      then-is_next w ↦
-        rw w.best-is (record {
-          len = c.loop-hop.invariant.len;
-          first = AreFirst-take hops distances best.items i hop within is so_far room w.if-is_next.ensures.0 (λ g e. if_some c.index.result.now (λ x. ComesBefore hop x) w.if-is_next.ensures.1 g (chosen ∙ e));
-        })
-    | else-is_next w ↦
-        rw w.best-is (record {
-          len = c.loop-hop.invariant.len;
-          first = AreFirst-skip hops distances best.items i hop within is so_far (λ down. let g = some_and c.index.result.now (λ x. ComesBefore x hop) (w.if-is_next.ensures down) in (g.0, sym chosen ∙ g.1, g.2));
-        })
+      | then-is_next w ↦
+          rw w.best-is (record {
+            len = c.loop-hop.invariant.len;
+            first = AreFirst-take hops distances best.items i hop within is so_far room w.if-is_next.ensures.0 (λ g e. if_some c.index.result.now (λ x. ComesBefore hop x) w.if-is_next.ensures.1 g (chosen ∙ e));
+          })
+      | else-is_next w ↦
+          rw w.best-is (record {
+            len = c.loop-hop.invariant.len;
+            first = AreFirst-skip hops distances best.items i hop within is so_far (λ down. let g = some_and c.index.result.now (λ x. ComesBefore x hop) (w.if-is_next.ensures down) in (g.0, sym chosen ∙ g.1, g.2));
+          })
     ]

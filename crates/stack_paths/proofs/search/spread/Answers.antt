@@ -22,20 +22,20 @@ loop-hop-preserved c =
     let places = subst (λ (h : Hop). (h.from < length old) × (h.to < length old)) (sym is) (c.requires.places i hop within) in
     let room : hop.from < length new = omega (arith, places) in
     elim c.if-is_new_step.branch [
-      then-is_new_step w ↦
-        let test = w.if-is_new_step.ensures.0 refl in
-        let fewer = unmarked-mark new hop.from (level + 1) room test.0 in
-        record {
-          spreads = rw w.marks-is (Spreads-mark hops level old new i hop within is so_far (level + 1) (omega arith) room test.0 (level_stays hops level old new i hop within is so_far hop.to test.1));
-          falls = rw (w.marks-is, w.is_new-is) (omega (arith, fewer, c.loop-hop.invariant.falls));
-          unchanged = λ e. absurd (false≢true (sym e ∙ w.is_new-is));
-        }
-    | else-is_new_step w ↦
-        let skips : answer_at old hop.to ≡ Some level → (n : ℕ) × (answer_at new hop.from ≡ Some n) =
+      | then-is_new_step w ↦
+          let test = w.if-is_new_step.ensures.0 refl in
+          let fewer = unmarked-mark new hop.from (level + 1) room test.0 in
+          record {
+            spreads = rw w.marks-is (Spreads-mark hops level old new i hop within is so_far (level + 1) (omega arith) room test.0 (level_stays hops level old new i hop within is so_far hop.to test.1));
+            falls = rw (w.marks-is, w.is_new-is) (omega (arith, fewer, c.loop-hop.invariant.falls));
+            unchanged = λ e. absurd (false≢true (sym e ∙ w.is_new-is));
+          }
+      | else-is_new_step w ↦
+          let skips : answer_at old hop.to ≡ Some level → (n : ℕ) × (answer_at new hop.from ≡ Some n) =
           λ leads. ⊎_elim (λ h. h) (λ empty. absurd (false≢true (w.if-is_new_step.ensures.1 (empty, so_far.keeps hop.to level leads)))) (some_or_none (answer_at new hop.from)) in
-        record {
-          spreads = rw w.marks-is (Spreads-skip hops level old new i hop within is so_far skips);
-          falls = rw (w.marks-is, w.is_new-is) c.loop-hop.invariant.falls;
-          unchanged = λ e. w.marks-is ∙ c.loop-hop.invariant.unchanged (sym w.is_new-is ∙ e);
-        }
+          record {
+            spreads = rw w.marks-is (Spreads-skip hops level old new i hop within is so_far skips);
+            falls = rw (w.marks-is, w.is_new-is) c.loop-hop.invariant.falls;
+            unchanged = λ e. w.marks-is ∙ c.loop-hop.invariant.unchanged (sym w.is_new-is ∙ e);
+          }
     ]

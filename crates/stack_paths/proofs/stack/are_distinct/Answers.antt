@@ -10,9 +10,10 @@ nothing = record { id = record { 0 = 0 }; priority = None }
 
 pub returns-then-not-is_new : goal.returns-then-not-is_new
 unfolding nothing
-returns-then-not-is_new c =
-    (λ t. absurd (false≢true t),
-     λ pairs. absurd (not_pairs (λ (m n : Node). m.id ≡ n.id → ⊥) c.args.nodes.now c.loop-place.place (omega arith) nothing (λ all. false≢true (c.if-not-is_new.ensures.1 all)) pairs))
+returns-then-not-is_new c = (
+  λ t. absurd (false≢true t),
+  λ pairs. absurd (not_pairs (λ (m n : Node). m.id ≡ n.id → ⊥) c.args.nodes.now c.loop-place.place (omega arith) nothing (λ all. false≢true (c.if-not-is_new.ensures.1 all)) pairs),
+)
 
 pub loop-place-preserved : goal.loop-place-preserved
 unfolding nothing

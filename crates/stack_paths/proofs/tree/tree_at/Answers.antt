@@ -17,8 +17,9 @@ returns c =
     let made : c.dedup.new.self.items ≡ dedup eqb sorted = dedup_is eqb sorted c.dedup.new.self.items c.dedup.ensures.filtered in
     record {
       ends = λ p.
-        let before = c.in_ok-ports.ensures p in
-        (λ x. before.0 (Contains-permutation sorted found p (IsPermutation-sym found sorted moved) (Contains-from_dedup eqb sorted p (subst (λ (xs : List ℕ). Contains xs p) made x))),
-         λ e. subst (λ (xs : List ℕ). Contains xs p) (sym made) (Contains-dedup_nat sorted p (Contains-permutation found sorted p moved (before.1 e))));
+          let before = c.in_ok-ports.ensures p in (
+            λ x. before.0 (Contains-permutation sorted found p (IsPermutation-sym found sorted moved) (Contains-from_dedup eqb sorted p (subst (λ (xs : List ℕ). Contains xs p) made x))),
+            λ e. subst (λ (xs : List ℕ). Contains xs p) (sym made) (Contains-dedup_nat sorted p (Contains-permutation found sorted p moved (before.1 e))),
+          );
       ascending = subst IsStrictlyIncreasing (sym made) (IsStrictlyIncreasing-dedup sorted c.sort_unstable.ensures.sorted);
     }

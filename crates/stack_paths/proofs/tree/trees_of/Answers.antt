@@ -11,6 +11,7 @@ loop-place-preserved c =
     let one = c.in_ok-tree_at.field-0 in
     let P : ℕ → Vec ℕ Global → Type 0 = λ i v. IsTreeOf uplinks i v.items in
     let size : c.loop-place.place ≡ length trees.items = omega (arith, c.loop-place.invariant.0, trees.ok.0) in
-    let here = subst (λ (t : ℕ). P t one) size c.in_ok-tree_at.ensures in
-    (omega (arith, c.in_ok-push.ensures.len, c.loop-place.invariant.0),
-     subst (λ (xs : List (Vec ℕ Global)). (i : ℕ) (d : Vec ℕ Global) → i < length xs → P i (slice_index_or xs i d)) (sym {A = List (Vec ℕ Global)} c.in_ok-push.ensures.items) (each_push P trees.items one c.loop-place.invariant.1 here))
+    let here = subst (λ (t : ℕ). P t one) size c.in_ok-tree_at.ensures in (
+      omega (arith, c.in_ok-push.ensures.len, c.loop-place.invariant.0),
+      subst (λ (xs : List (Vec ℕ Global)). (i : ℕ) (d : Vec ℕ Global) → i < length xs → P i (slice_index_or xs i d)) (sym {A = List (Vec ℕ Global)} c.in_ok-push.ensures.items) (each_push P trees.items one c.loop-place.invariant.1 here),
+    )

@@ -19,9 +19,10 @@ returns c = λ h.
     let is_way : slice_get ways r ≡ Some way = slice_get_read ways (length ways) r way refl r_within c.index-ways-roots.is in
     let size = subst (λ (w : Ways). length w.hops.items ≡ length roots) (sym c.index-ways-roots.is) (c.requires.hops r way r_within) in
     let in_way : place < length way.hops.items = omega (arith, size, c.requires.place) in
-    let read : c.index.result.now ≡ answer_at way.hops.items place = get_or_read way.hops.items place c.index.result.now in_way c.index.ensures None in
-    (λ e. record { root = r; to_root = way; is_root = is_root; is_to_root = is_way; first = sym read ∙ e },
-     λ u.
-       let same_root : u.root ≡ r = same_Some u.root r (sym u.is_root ∙ is_root) in
-       let same_way : u.to_root ≡ way = same_Some u.to_root way (sym u.is_to_root ∙ subst (λ k. slice_get ways k ≡ Some way) (sym same_root) is_way) in
-       read ∙ subst (λ (w : Ways). answer_at w.hops.items place ≡ Some h) same_way u.first)
+    let read : c.index.result.now ≡ answer_at way.hops.items place = get_or_read way.hops.items place c.index.result.now in_way c.index.ensures None in (
+      λ e. record { root = r; to_root = way; is_root = is_root; is_to_root = is_way; first = sym read ∙ e },
+      λ u.
+          let same_root : u.root ≡ r = same_Some u.root r (sym u.is_root ∙ is_root) in
+          let same_way : u.to_root ≡ way = same_Some u.to_root way (sym u.is_to_root ∙ subst (λ k. slice_get ways k ≡ Some way) (sym same_root) is_way) in
+          read ∙ subst (λ (w : Ways). answer_at w.hops.items place ≡ Some h) same_way u.first,
+    )

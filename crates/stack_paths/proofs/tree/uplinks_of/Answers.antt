@@ -16,34 +16,34 @@ loop-place-preserved c =
     let items = c.loop-place.uplinks.items in
     let before = c.loop-place.invariant in
     elim c.match-uplink_at.branch [
-      in-Some+in_ok-push w ↦
-        let hop = w.in-Some.hop in
-        let made : c.match-uplink_at.uplinks.items ≡ items ++ hop ∷ [] = ap (λ (v : Vec Hop Global). v.items) w.uplinks-is ∙ w.in_ok-push.ensures.items in
-        let uplink : UplinkAt ways roots place hop = (w.in-Some.ensures hop).0 refl in
-        record {
-          sound = λ h in_new. ⊎_elim
-            (λ (old : Contains items h). before.sound h old)
-            (λ (same : hop ≡ h). (place, subst (λ (x : Hop). UplinkAt ways roots place x) same uplink))
-            (Contains-push_cases items hop h (subst (λ (xs : List Hop). Contains xs h) made in_new));
-          complete = λ i low h u. subst (λ (xs : List Hop). Contains xs h) (sym made) (⊎_elim
-            (λ (lower : i < place). Contains-append_left items (hop ∷ []) h (before.complete i lower h u))
-            (λ (high : place ≤ i).
-              let here : i ≡ place = omega (arith, high, low) in
-              let same : hop ≡ h = same_Some hop h ((w.in-Some.ensures h).1 (subst (λ (k : ℕ). UplinkAt ways roots k h) here u)) in
-              subst (λ (x : Hop). Contains (items ++ hop ∷ []) x) same (Contains-push items hop))
-            (cases_lt i place));
-        }
-    | in_default w ↦
-        let same_list : c.match-uplink_at.uplinks.items ≡ items = ap (λ (v : Vec Hop Global). v.items) w.uplinks-is in
-        record {
-          sound = λ h in_new. before.sound h (subst (λ (xs : List Hop). Contains xs h) same_list in_new);
-          complete = λ i low h u. subst (λ (xs : List Hop). Contains xs h) (sym same_list) (⊎_elim
-            (λ (lower : i < place). before.complete i lower h u)
-            (λ (high : place ≤ i).
-              let here : i ≡ place = omega (arith, high, low) in
-              absurd (none-some h ((w.in_default.ensures h).1 (subst (λ (k : ℕ). UplinkAt ways roots k h) here u))))
-            (cases_lt i place));
-        }
+      | in-Some+in_ok-push w ↦
+          let hop = w.in-Some.hop in
+          let made : c.match-uplink_at.uplinks.items ≡ items ++ hop ∷ [] = ap (λ (v : Vec Hop Global). v.items) w.uplinks-is ∙ w.in_ok-push.ensures.items in
+          let uplink : UplinkAt ways roots place hop = (w.in-Some.ensures hop).0 refl in
+          record {
+            sound = λ h in_new. ⊎_elim
+                (λ (old : Contains items h). before.sound h old)
+                (λ (same : hop ≡ h). (place, subst (λ (x : Hop). UplinkAt ways roots place x) same uplink))
+                (Contains-push_cases items hop h (subst (λ (xs : List Hop). Contains xs h) made in_new));
+            complete = λ i low h u. subst (λ (xs : List Hop). Contains xs h) (sym made) (⊎_elim
+                (λ (lower : i < place). Contains-append_left items (hop ∷ []) h (before.complete i lower h u))
+                (λ (high : place ≤ i).
+                let here : i ≡ place = omega (arith, high, low) in
+                let same : hop ≡ h = same_Some hop h ((w.in-Some.ensures h).1 (subst (λ (k : ℕ). UplinkAt ways roots k h) here u)) in
+                subst (λ (x : Hop). Contains (items ++ hop ∷ []) x) same (Contains-push items hop))
+                (cases_lt i place));
+          }
+      | in_default w ↦
+          let same_list : c.match-uplink_at.uplinks.items ≡ items = ap (λ (v : Vec Hop Global). v.items) w.uplinks-is in
+          record {
+            sound = λ h in_new. before.sound h (subst (λ (xs : List Hop). Contains xs h) same_list in_new);
+            complete = λ i low h u. subst (λ (xs : List Hop). Contains xs h) (sym same_list) (⊎_elim
+                (λ (lower : i < place). before.complete i lower h u)
+                (λ (high : place ≤ i).
+                let here : i ≡ place = omega (arith, high, low) in
+                absurd (none-some h ((w.in_default.ensures h).1 (subst (λ (k : ℕ). UplinkAt ways roots k h) here u))))
+                (cases_lt i place));
+          }
     ]
 
 pub returns : goal.returns

@@ -15,7 +15,7 @@ pub roots_of-requires-clause-each : goal.roots_of-requires-clause-each
 roots_of-requires-clause-each c =
     let count = length c.args.nodes.now in
     subst (λ (xs : List Ways). ReachThemselves count xs) (sym {A = List Ways} c.as_slice-2.ensures.value)
-      (reach_themselves c.as_slice.result.now count c.in_ok-ways.ways.items c.in_ok-ways.ensures.each)
+    (reach_themselves c.as_slice.result.now count c.in_ok-ways.ways.items c.in_ok-ways.ensures.each)
 
 pub invariant_of-result : goal.invariant_of-result
 invariant_of-result c =
@@ -34,9 +34,9 @@ invariant_of-result c =
       roots_len = omega (arith, c.in_ok-roots.ensures.len, c.in_ok-roots.roots.ok.0);
       are_roots = subst (λ (xs : List Ways). AreRoots nodes xs roots) c.as_slice-2.ensures.value c.in_ok-roots.ensures.roots;
       are_uplinks =
-        subst (λ (xs : List Ways). AreUplinks xs roots uplinks) c.as_slice-3.ensures.value
+          subst (λ (xs : List Ways). AreUplinks xs roots uplinks) c.as_slice-3.ensures.value
           (subst (λ (xs : List ℕ). AreUplinks c.as_slice-3.result.now xs uplinks) c.as_slice-4.ensures.value
-            (subst (λ (xs : List Hop). AreUplinks c.as_slice-3.result.now c.as_slice-4.result.now xs) (sym {A = List Hop} c.as_slice-5.ensures.value) c.in_ok-uplinks.ensures));
+          (subst (λ (xs : List Hop). AreUplinks c.as_slice-3.result.now c.as_slice-4.result.now xs) (sym {A = List Hop} c.as_slice-5.ensures.value) c.in_ok-uplinks.ensures));
       trees_len = omega (arith, c.in_ok-trees.ensures.len, c.in_ok-trees.trees.ok.0);
       are_trees = c.in_ok-trees.ensures.each;
     } in

@@ -41,8 +41,8 @@ returns-in_default-clause-none c =
     let are : AreTables s c.self.inside.ways.items c.self.inside.roots.items c.self.inside.trees.items = subst (λ (x : Stack). AreTables x c.self.inside.ways.items c.self.inside.roots.items c.self.inside.trees.items) c.self.view_is c.self.invariant in
     let nodes : c.as_slice-nodes.result.now ≡ s.nodes = c.as_slice-nodes.ensures ∙ ap (λ (x : Stack). x.nodes) c.self.view_is in
     elim c.in_default.branch [
-      in_default-via-in-Some+in_default w ↦ inr (no_walk_to _ _ _ _ are c.args.from c.args.to (λ i e. w.in_default.ensures' i (subst (λ (ns : List Node). slice_get (ids ns) i ≡ Some c.args.to) (sym nodes) e)))
-    | in_default-via-in_default w ↦
-        let nowhere = MatchOption-at_none ((i : ℕ) → slice_get (ids c.as_slice-nodes.result.now) i ≡ Some c.args.from → ⊥) (λ i. slice_get (ids c.as_slice-nodes.result.now) i ≡ Some c.args.from) w.in_default.is-0 c.place_of.ensures in
-        inr (no_walk_from _ _ _ _ are c.args.from c.args.to (λ i e. nowhere i (subst (λ (ns : List Node). slice_get (ids ns) i ≡ Some c.args.from) (sym nodes) e)))
+      | in_default-via-in-Some+in_default w ↦ inr (no_walk_to _ _ _ _ are c.args.from c.args.to (λ i e. w.in_default.ensures' i (subst (λ (ns : List Node). slice_get (ids ns) i ≡ Some c.args.to) (sym nodes) e)))
+      | in_default-via-in_default w ↦
+          let nowhere = MatchOption-at_none ((i : ℕ) → slice_get (ids c.as_slice-nodes.result.now) i ≡ Some c.args.from → ⊥) (λ i. slice_get (ids c.as_slice-nodes.result.now) i ≡ Some c.args.from) w.in_default.is-0 c.place_of.ensures in
+          inr (no_walk_from _ _ _ _ are c.args.from c.args.to (λ i e. nowhere i (subst (λ (ns : List Node). slice_get (ids ns) i ≡ Some c.args.from) (sym nodes) e)))
     ]

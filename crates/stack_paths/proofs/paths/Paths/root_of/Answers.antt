@@ -13,5 +13,5 @@ returns-in-Some-clause-root c =
     let nodes : c.as_slice-nodes.result.now ≡ s.nodes = c.as_slice-nodes.ensures ∙ ap (λ (x : Stack). x.nodes) c.self.view_is in
     let at : IsAt s c.in-Some.place c.args.dp = subst (λ (ns : List Node). slice_get (ids ns) c.in-Some.place ≡ Some c.args.dp) nodes c.in-Some.ensures in
     root_answer _ _ _ _ are c.in-Some.place c.args.dp c.root_at.result at
-      (λ x. subst (λ (ns : List Node). slice_get (ids ns) (slice_index_or c.self.inside.roots.items c.in-Some.place x) ≡ Some c.root_at.result) nodes
-        (subst (λ (rs : List ℕ). slice_get (ids c.as_slice-nodes.result.now) (slice_index_or rs c.in-Some.place x) ≡ Some c.root_at.result) c.as_slice.ensures.value (c.root_at.ensures x)))
+    (λ x. subst (λ (ns : List Node). slice_get (ids ns) (slice_index_or c.self.inside.roots.items c.in-Some.place x) ≡ Some c.root_at.result) nodes
+    (subst (λ (rs : List ℕ). slice_get (ids c.as_slice-nodes.result.now) (slice_index_or rs c.in-Some.place x) ≡ Some c.root_at.result) c.as_slice.ensures.value (c.root_at.ensures x)))
