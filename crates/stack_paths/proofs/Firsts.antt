@@ -1,9 +1,9 @@
-use Rattle.std.proofs.Common.{◌≡◌, ℕ, zero, suc, ◌+◌, ◌<◌, ◌≤◌, List, length, Some, None, Option, sym, refl, ◌∙◌, ap, subst, inl, inr, ⊎_elim, arith}
-use Rattle.std.specs.Prelude.{◌⊎◌, slice_get}
+use Rattle.std.proofs.Common.{◌≡◌, ℕ, ◌<◌, ◌≤◌, Some, None, Option, sym, ◌∙◌, ap, subst, ⊎_elim, arith}
+use Rattle.std.specs.Prelude.{slice_get}
 use Rattle.std.proofs.lemmas.Option.{same_Some}
 use Rattle.net_base.specs.declared.stack.Node.{Node}
 use Rattle.net_base.specs.declared.numbers.DpId.{DpId}
-use Rattle.stack_paths.specs.Stack.{Stack, IsAt, IsStack, HasLink, LeadsNearer, ChosenBefore, IsHop, LessPriority, RanksFirst, GoesFirst, IsRoot, IsJoined}
+use Rattle.stack_paths.specs.Stack.{Stack, IsAt, IsStack, HasLink, ChosenBefore, IsHop, LessPriority, RanksFirst, GoesFirst, IsRoot}
 use Rattle.stack_paths.proofs.Places.{at_same, place_same, ids-node}
 use Rattle.stack_paths.proofs.Walks.{far_end_same}
 

@@ -1,14 +1,14 @@
-use Rattle.std.proofs.Common.{◌≡◌, ℕ, zero, suc, ◌+◌, ◌<◌, ◌≤◌, List, [], ◌∷◌, length, Some, None, Option, slice_get, refl, sym, ◌∙◌, ap, subst, inl, inr, ⊎_elim, arith}
+use Rattle.std.proofs.Common.{◌≡◌, ℕ, zero, suc, ◌<◌, ◌≤◌, List, [], ◌∷◌, Some, slice_get, refl, sym, ap, subst, inl, inr, ⊎_elim, arith}
 use Rattle.std.specs.Prelude.{◌⊎◌, Contains}
 use Rattle.std.proofs.lemmas.Bool.{cases_lt, cases_eq}
 use Rattle.std.proofs.lemmas.Option.{same_Some, none-some}
 use Rattle.net_base.specs.declared.stack.Node.{Node}
 use Rattle.net_base.specs.declared.stack.StackLink.{StackLink}
 use Rattle.net_base.specs.declared.numbers.DpId.{DpId}
-use Rattle.stack_paths.specs.Stack.{Stack, ids, IsAt, IsNode, Joins, HasLink, IsStack, Walk, IsJoined, IsDistance, LeadsNearer, ChosenBefore, IsHop, IsNextHop, GoesFirst, IsRoot, IsUplink, Follows, IsTreePort}
+use Rattle.stack_paths.specs.Stack.{Stack, ids, IsNode, Joins, HasLink, IsStack, Walk, IsJoined, IsDistance, LeadsNearer, ChosenBefore, IsHop, IsRoot, IsUplink, Follows, IsTreePort}
 use Rattle.stack_paths.proofs.Finite.{IsKnown, contains_here, contains_there, contains_cons, known_any, least_of, first_of_list}
-use Rattle.stack_paths.proofs.Places.{at_same, place_same}
-use Rattle.stack_paths.proofs.Walks.{link_ends, walk_start, walk_end}
+use Rattle.stack_paths.proofs.Places.{place_same}
+use Rattle.stack_paths.proofs.Walks.{link_ends, walk_start}
 use Rattle.stack_paths.proofs.Firsts.{root_same, hop_same}
 
 -- a link leads both ways

@@ -1,17 +1,16 @@
-use Rattle.std.proofs.Common.{◌≡◌, ℕ, zero, suc, ◌+◌, ◌<◌, ◌≤◌, ◌↔◌, List, [], ◌∷◌, length, get_or, Some, None, Option, Vec, Global, slice_get, sym, refl, ◌∙◌, ap, subst, inl, inr, ⊎_elim, arith}
+use Rattle.std.proofs.Common.{◌≡◌, ℕ, zero, suc, ◌<◌, ◌≤◌, ◌↔◌, List, [], ◌∷◌, length, Some, None, Option, Vec, Global, slice_get, sym, refl, ◌∙◌, subst, inl, inr, ⊎_elim, arith}
 use Rattle.std.specs.Prelude.{◌⊎◌, Contains, MatchOption, IfSome, IfNone, slice_index_or}
 use Rattle.std.proofs.lemmas.Option.{same_Some, none-some, slice_get_within, slice_get-get_or, get_or_from_slice_get}
-use Rattle.net_base.specs.declared.stack.Node.{Node}
 use Rattle.net_base.specs.declared.numbers.DpId.{DpId}
 use Rattle.stack_paths.specs.declared.hops.Hop.{Hop}
 use Rattle.stack_paths.specs.declared.ways.Ways.{Ways}
-use Rattle.stack_paths.specs.Stack.{Stack, ids, IsAt, IsNode, HasLink, IsStack, Walk, IsDistance, LeadsNearer, ChosenBefore, IsHop, IsNextHop, IsRoot, IsUplink, IsTreePort}
-use Rattle.stack_paths.specs.Hops.{answer_at, IsHops, AreDistances, AreWays, AreFirst, LeadsDown, ComesBefore}
-use Rattle.stack_paths.specs.Trees.{IsRootOf, UplinkAt, IsEndOf, IsEndOfSome, IsTreeOf}
+use Rattle.stack_paths.specs.Stack.{Stack, ids, IsAt, Walk, IsDistance, LeadsNearer, ChosenBefore, IsHop, IsNextHop, IsRoot, IsUplink, IsTreePort}
+use Rattle.stack_paths.specs.Hops.{answer_at, AreWays, LeadsDown, ComesBefore}
+use Rattle.stack_paths.specs.Trees.{IsRootOf, UplinkAt, IsEndOfSome, IsTreeOf}
 use Rattle.stack_paths.specs.Tables.{AreTables}
 use Rattle.stack_paths.proofs.Places.{ids-within, ids-node, id_there, at_same, place_same}
 use Rattle.stack_paths.proofs.Firsts.{root_same, hop_same}
-use Rattle.stack_paths.proofs.Walks.{link_ends, walk_start, walk_end, walk_from_places, walk_by_places, distance_found, distance_is_found, no_walk}
+use Rattle.stack_paths.proofs.Walks.{link_ends, walk_start, walk_end, walk_by_places, distance_found, distance_is_found, no_walk}
 
 -- some item of a list that has one
 pub some_item : {X : Type 0} (xs : List X) (i : ℕ) → i < length xs → X

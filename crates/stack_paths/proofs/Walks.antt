@@ -1,14 +1,13 @@
-use Rattle.std.proofs.Common.{◌≡◌, ℕ, zero, suc, ◌+◌, ◌<◌, ◌≤◌, List, length, get_or, Some, None, Option, slice_get, sym, refl, ◌∙◌, ap, subst, inl, inr, ⊎_elim, arith}
-use Rattle.std.specs.Prelude.{◌⊎◌, Contains, All}
-use Rattle.std.proofs.lemmas.Bool.{cases_lt, cases_eq}
+use Rattle.std.proofs.Common.{◌≡◌, ℕ, zero, suc, ◌<◌, ◌≤◌, List, get_or, Some, None, Option, sym, ◌∙◌, ap, subst, inl, inr, ⊎_elim, arith}
+use Rattle.std.specs.Prelude.{Contains}
+use Rattle.std.proofs.lemmas.Bool.{cases_lt}
 use Rattle.std.proofs.lemmas.List.Elements.{All-contains}
 use Rattle.std.proofs.lemmas.Option.{same_Some, none-some}
 use Rattle.std.proofs.lemmas.List.{get_or_default}
-use Rattle.net_base.specs.declared.stack.Node.{Node}
 use Rattle.net_base.specs.declared.stack.StackLink.{StackLink}
 use Rattle.net_base.specs.declared.numbers.DpId.{DpId}
 use Rattle.stack_paths.specs.declared.hops.Hop.{Hop}
-use Rattle.stack_paths.specs.Stack.{Stack, ids, IsAt, IsNode, IsEnd, Joins, HasLink, IsStack, Walk, IsJoined, IsDistance}
+use Rattle.stack_paths.specs.Stack.{Stack, IsAt, IsNode, IsEnd, Joins, HasLink, IsStack, Walk, IsDistance}
 use Rattle.stack_paths.specs.Hops.{answer_at, IsHops, WalkAt, AreDistances}
 use Rattle.stack_paths.proofs.Places.{at_same, place_same}
 

@@ -3,7 +3,7 @@ use Rattle.std.proofs.lemmas.Bool.{cases_lt}
 use Rattle.std.proofs.lemmas.List.{get_or_append_left, get_or_push, length_push}
 use Rattle.stack_paths.specs.declared.hops.Hop.{Hop}
 use Rattle.stack_paths.specs.declared.ways.Ways.{Ways}
-use Rattle.stack_paths.specs.Hops.{AreWays, AllWays}
+use Rattle.stack_paths.specs.Hops.{AllWays}
 use Rattle.stack_paths.specs.Trees.{ReachThemselves}
 
 -- what holds at each place still does after a push of what holds at the next

@@ -1,4 +1,4 @@
-use Rattle.std.specs.Prelude.{◌≡◌, ◌⊎◌, ◌+◌, ◌<◌, ◌≤◌, ℕ, zero, suc, List, length, Option, Some, None, Contains, slice_index_or, slice_get}
+use Rattle.std.specs.Prelude.{◌≡◌, ◌⊎◌, ◌<◌, ◌≤◌, ℕ, zero, suc, List, length, Option, Some, None, Contains, slice_index_or}
 use Rattle.net_base.specs.declared.numbers.DpId.{DpId}
 use Rattle.stack_paths.specs.declared.hops.Hop.{Hop}
 use Rattle.stack_paths.specs.declared.ways.Ways.{Ways}

@@ -1,4 +1,4 @@
-use Rattle.std.specs.Prelude.{◌≡◌, ◌⊎◌, ◌↔◌, ◌<◌, ◌≤◌, ℕ, suc, List, length, Option, Some, None, Contains, slice_index_or, slice_get}
+use Rattle.std.specs.Prelude.{◌≡◌, ◌⊎◌, ◌↔◌, ◌<◌, ℕ, List, length, Option, Some, Contains, slice_index_or, slice_get}
 use Rattle.std.specs.List.Sorted.{IsStrictlyIncreasing}
 use Rattle.net_base.specs.declared.stack.Node.{Node}
 use Rattle.stack_paths.specs.declared.hops.Hop.{Hop}

@@ -274,11 +274,7 @@ fn roots_go_by_priority_and_then_by_order(rt: HostRuntime) -> Result<(), Fail> {
         (6, Some(7), &[1, 2]),
         (8, Some(7), &[1, 2]),
     ];
-    let others: [TreeRow; 3] = [
-        (10, Some(9), &[1]),
-        (11, Some(11), &[]),
-        (12, None, &[]),
-    ];
+    let others: [TreeRow; 3] = [(10, Some(9), &[1]), (11, Some(11), &[]), (12, None, &[])];
     assert!(rt; are_trees(&paths, &joined));
     assert!(rt; are_trees(&paths, &others));
     let ways = [

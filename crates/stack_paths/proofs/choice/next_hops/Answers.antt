@@ -1,7 +1,7 @@
-use Rattle.std.proofs.Common.{rules, ◌≡◌, ◌+◌, ◌<◌, ◌≤◌, ℕ, length, List, Option, Some, None, get_or, set, sym, ap, refl, ◌∙◌, subst, arith, take, vec_len}
+use Rattle.std.proofs.Common.{◌≡◌, ◌<◌, length, None, get_or, sym, ◌∙◌, subst, arith}
 use Rattle.std.proofs.lemmas.List.{get_or_read}
 use Rattle.stack_paths.specs.declared.hops.Hop.{Hop}
-use Rattle.stack_paths.specs.Hops.{answer_at, LeadsDown, ComesBefore, AreFirst}
+use Rattle.stack_paths.specs.Hops.{answer_at, ComesBefore}
 use Rattle.stack_paths.proofs.Choices.{AreFirst-skip, AreFirst-take, some_and, if_some}
 use Rattle.stack_paths.proofs.choice.next_hops.Goals as goal
 use Rattle.stack_paths.proofs.choice.next_hops.Goals.{then-is_next, else-is_next}

@@ -1,8 +1,4 @@
-use Rattle.std.proofs.Common.{rules, ◌≡◌, ◌+◌, ◌<◌, ◌++◌, ◌∷◌, [], ℕ, List, length, get_or, take, sym, ap, ◌∙◌, subst, arith}
-use Rattle.net_base.specs.declared.stack.StackLink.{StackLink}
-use Rattle.stack_paths.specs.declared.hops.Hop.{Hop}
-use Rattle.stack_paths.specs.Stack.{Stack}
-use Rattle.stack_paths.specs.Hops.{IsHops}
+use Rattle.std.proofs.Common.{◌<◌, length, take, arith}
 use Rattle.stack_paths.proofs.HopsLemmas.{IsHops-push, places_within}
 use Rattle.stack_paths.proofs.hops.hops_of.Goals as goal
 

@@ -1,7 +1,5 @@
-use Rattle.std.proofs.Common.{rules, ◌≡◌, ◌<◌, ◌≤◌, ◌+◌, length, map, ℕ, Some, slice_get, arith, ap, sym, ◌∙◌, below_more}
-use Rattle.std.proofs.lemmas.Bool.{false≢true}
+use Rattle.std.proofs.Common.{arith, below_more}
 use Rattle.std.proofs.lemmas.Bool.Decides.{nat_tests}
-use Rattle.stack_paths.specs.Stack.{ids}
 use Rattle.stack_paths.proofs.Places.{ids-get_or, ids-within}
 use Rattle.stack_paths.proofs.hops.place_of.Goals as goal
 

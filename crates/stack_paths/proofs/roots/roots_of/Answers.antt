@@ -1,4 +1,4 @@
-use Rattle.std.proofs.Common.{◌≡◌, ◌+◌, ◌<◌, ◌++◌, ◌∷◌, [], ℕ, length, List, Option, get_or, sym, subst, ap, ◌∙◌, arith, vec_len}
+use Rattle.std.proofs.Common.{◌≡◌, ◌<◌, ℕ, length, List, Option, sym, subst, arith}
 use Rattle.std.proofs.lemmas.List.{get_or_default}
 use Rattle.stack_paths.specs.declared.ways.Ways.{Ways}
 use Rattle.stack_paths.specs.Trees.{IsRootPlace, IsRootOf, AreRoots}

@@ -1,4 +1,4 @@
-use Rattle.std.proofs.Common.{rules, ◌≡◌, ◌+◌, ◌<◌, ◌≤◌, ℕ, suc, length, take, drop, ◌++◌, List, count_by, is_none, Option, Some, sym, ap, refl, ◌∙◌, subst, arith}
+use Rattle.std.proofs.Common.{◌≡◌, ◌+◌, ◌≤◌, ℕ, suc, length, List, count_by, is_none, Option, sym, ap, refl, ◌∙◌, subst, arith}
 use Rattle.stack_paths.specs.Hops.{Spreads, AreDistances}
 use Rattle.stack_paths.proofs.Prefix.{rewritten}
 use Rattle.stack_paths.proofs.Levels.{Found, Found-more, AreDistances-found}

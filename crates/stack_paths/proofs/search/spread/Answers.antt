@@ -1,9 +1,7 @@
-use Rattle.std.proofs.Common.{rules, ◌≡◌, ◌+◌, ◌<◌, ◌≤◌, ℕ, suc, length, false, true, count_by, is_none, if◌then◌else◌, List, Some, None, get_or, slice_index_or, sym, refl, ◌∙◌, subst, arith, take, ⊎_elim}
-use Rattle.std.specs.Prelude.{Contains, IsTrue}
+use Rattle.std.proofs.Common.{◌≡◌, ◌+◌, ◌<◌, ℕ, length, Some, get_or, sym, refl, ◌∙◌, subst, arith, ⊎_elim}
 use Rattle.std.proofs.lemmas.Bool.{false≢true}
-use Rattle.std.proofs.lemmas.List.Elements.{All-contains, Contains-get_or}
 use Rattle.stack_paths.specs.declared.hops.Hop.{Hop}
-use Rattle.stack_paths.specs.Hops.{answer_at, Spreads}
+use Rattle.stack_paths.specs.Hops.{answer_at}
 use Rattle.stack_paths.proofs.Levels.{Spreads-skip, Spreads-mark, level_stays, unmarked-mark, some_or_none}
 use Rattle.stack_paths.proofs.search.spread.Goals as goal
 use Rattle.stack_paths.proofs.search.spread.Goals.{then-is_new_step, else-is_new_step}

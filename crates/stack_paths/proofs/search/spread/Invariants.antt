@@ -1,4 +1,4 @@
-use Rattle.std.proofs.Common.{◌≡◌, ◌+◌, ◌≤◌, take, false, true}
+use Rattle.std.proofs.Common.{◌≡◌, ◌+◌, ◌≤◌, take, false}
 use Rattle.std.specs.Prelude.{count_by, is_none, if◌then◌else◌}
 use Rattle.stack_paths.specs.Hops.{Spreads}
 use Rattle.stack_paths.proofs.search.spread.Given as goal

@@ -1,4 +1,4 @@
-use Rattle.std.proofs.Common.{◌≡◌, ◌<◌, ℕ, take, length, refl, sym, subst, arith}
+use Rattle.std.proofs.Common.{take, refl, sym, subst, arith}
 use Rattle.std.specs.Prelude.{All}
 use Rattle.std.proofs.lemmas.Bool.{false≢true}
 use Rattle.net_base.specs.declared.stack.StackLink.{StackLink}

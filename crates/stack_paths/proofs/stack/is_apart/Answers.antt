@@ -1,4 +1,4 @@
-use Rattle.std.proofs.Common.{◌≡◌, ◌<◌, ℕ, length, refl, arith}
+use Rattle.std.proofs.Common.{refl, arith}
 use Rattle.std.proofs.lemmas.Bool.{false≢true}
 use Rattle.net_base.specs.declared.stack.StackLink.{StackLink}
 use Rattle.stack_paths.specs.Stack.{ArePortsApart}

@@ -1,8 +1,8 @@
-use Rattle.std.proofs.Common.{◌≡◌, ◌<◌, ◌≤◌, ◌+◌, ℕ, length, List, take, get_or, sym, refl, subst, ap, ◌∙◌, inl, inr, ⊎_elim, arith}
-use Rattle.std.specs.Prelude.{Contains, ◌⊎◌}
+use Rattle.std.proofs.Common.{◌≡◌, ◌<◌, length, List, take, get_or, sym, subst, inl, inr, ⊎_elim, arith}
+use Rattle.std.specs.Prelude.{Contains}
 use Rattle.std.proofs.lemmas.List.{take_all}
 use Rattle.stack_paths.specs.declared.hops.Hop.{Hop}
-use Rattle.stack_paths.specs.Trees.{IsEndOf, IsEndOfSome}
+use Rattle.stack_paths.specs.Trees.{IsEndOf}
 use Rattle.stack_paths.proofs.Prefix.{contains_later, contains_last, contains_cases}
 use Rattle.stack_paths.proofs.tree.ends_at.Goals as goal
 

@@ -1,12 +1,11 @@
-use Rattle.std.proofs.Common.{◌≡◌, ◌<◌, ℕ, length, List, sym, refl, subst, ap, ◌∙◌, arith, eqb, nat_cmp}
+use Rattle.std.proofs.Common.{◌≡◌, ℕ, List, sym, subst, eqb}
 use Rattle.std.specs.Prelude.{Contains}
 use Rattle.std.specs.List.{dedup}
-use Rattle.std.specs.List.Sorted.{IsStrictlyIncreasing, IsSorted}
+use Rattle.std.specs.List.Sorted.{IsStrictlyIncreasing}
 use Rattle.std.proofs.lemmas.List.Filters.{dedup_is}
 use Rattle.std.proofs.lemmas.List.Kept.{Contains-dedup_nat, Contains-from_dedup}
 use Rattle.std.proofs.lemmas.List.Sorted.{Contains-permutation, IsPermutation-sym}
 use Rattle.std.proofs.lemmas.Map.Keys.{IsStrictlyIncreasing-dedup}
-use Rattle.stack_paths.specs.Trees.{IsEndOfSome, IsTreeOf}
 use Rattle.stack_paths.proofs.tree.tree_at.Goals as goal
 
 pub returns : goal.returns

@@ -1,4 +1,4 @@
-use Rattle.std.proofs.Common.{◌≡◌, ◌+◌, ◌<◌, ◌++◌, ◌∷◌, [], ℕ, length, List, Vec, Global, sym, subst, arith, vec_len}
+use Rattle.std.proofs.Common.{◌≡◌, ◌<◌, ℕ, length, List, Vec, Global, sym, subst, arith}
 use Rattle.std.specs.Prelude.{slice_index_or}
 use Rattle.stack_paths.specs.Trees.{IsTreeOf}
 use Rattle.stack_paths.proofs.WaysLemmas.{each_push}

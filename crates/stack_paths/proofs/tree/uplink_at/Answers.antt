@@ -1,10 +1,8 @@
-use Rattle.std.proofs.Common.{◌≡◌, ◌<◌, ℕ, length, List, Option, Some, None, get_or, slice_get, sym, refl, subst, ap, ◌∙◌, arith}
+use Rattle.std.proofs.Common.{◌≡◌, ◌<◌, length, Some, None, get_or, slice_get, sym, refl, subst, ◌∙◌, arith}
 use Rattle.std.proofs.lemmas.List.{get_or_read}
 use Rattle.std.proofs.lemmas.Option.{slice_get-get_or, slice_get_read, same_Some}
-use Rattle.stack_paths.specs.declared.hops.Hop.{Hop}
 use Rattle.stack_paths.specs.declared.ways.Ways.{Ways}
 use Rattle.stack_paths.specs.Hops.{answer_at}
-use Rattle.stack_paths.specs.Trees.{UplinkAt}
 use Rattle.stack_paths.proofs.tree.uplink_at.Goals as goal
 
 pub returns : goal.returns

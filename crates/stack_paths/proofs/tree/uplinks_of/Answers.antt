@@ -1,10 +1,10 @@
-use Rattle.std.proofs.Common.{◌≡◌, ◌<◌, ◌≤◌, ◌+◌, ◌++◌, ◌∷◌, [], ℕ, length, List, Option, Some, None, Vec, Global, get_or, slice_get, sym, refl, subst, ap, ◌∙◌, ⊎_elim, arith}
+use Rattle.std.proofs.Common.{◌≡◌, ◌<◌, ◌≤◌, ◌++◌, ◌∷◌, [], ℕ, List, Vec, Global, sym, refl, subst, ap, ◌∙◌, ⊎_elim, arith}
 use Rattle.std.specs.Prelude.{Contains}
 use Rattle.std.proofs.lemmas.Bool.{cases_lt}
 use Rattle.std.proofs.lemmas.List.Elements.{Contains-append_left, Contains-push, Contains-push_cases}
 use Rattle.std.proofs.lemmas.Option.{slice_get_within, same_Some, none-some}
 use Rattle.stack_paths.specs.declared.hops.Hop.{Hop}
-use Rattle.stack_paths.specs.Trees.{UplinkAt, AreUplinks}
+use Rattle.stack_paths.specs.Trees.{UplinkAt}
 use Rattle.stack_paths.proofs.tree.uplinks_of.Goals as goal
 use Rattle.stack_paths.proofs.tree.uplinks_of.Goals.{in-Some+in_ok-push, in_default}
 

@@ -1,4 +1,4 @@
-use Rattle.std.proofs.Common.{◌≡◌, ◌+◌, ◌<◌, ◌++◌, ◌∷◌, [], ℕ, length, List, sym, subst, arith, vec_len}
+use Rattle.std.proofs.Common.{◌≡◌, ℕ, length, List, sym, subst, arith}
 use Rattle.stack_paths.specs.declared.ways.Ways.{Ways}
 use Rattle.stack_paths.specs.Hops.{AreWays, AllWays}
 use Rattle.stack_paths.proofs.WaysLemmas.{each_push}

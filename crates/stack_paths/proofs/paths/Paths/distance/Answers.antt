@@ -1,11 +1,11 @@
-use Rattle.std.proofs.Common.{◌≡◌, ◌<◌, ◌≤◌, ℕ, zero, List, length, Option, Some, None, sym, refl, ap, ◌∙◌, subst, arith}
-use Rattle.std.specs.Prelude.{IfSome, IfNone, slice_get, slice_index_or}
+use Rattle.std.proofs.Common.{◌≡◌, List, Some, sym, ap, ◌∙◌, subst}
+use Rattle.std.specs.Prelude.{slice_get, slice_index_or}
 use Rattle.net_base.specs.declared.stack.Node.{Node}
 use Rattle.stack_paths.specs.declared.ways.Ways.{Ways}
-use Rattle.stack_paths.specs.Stack.{Stack, ids, Walk, IsDistance, IsAt}
+use Rattle.stack_paths.specs.Stack.{Stack, ids, IsAt}
 use Rattle.stack_paths.specs.Hops.{answer_at}
 use Rattle.stack_paths.specs.Tables.{AreTables}
-use Rattle.stack_paths.proofs.Lookups.{distance_walk, distance_least, distance_none, no_walk_to, no_walk_from}
+use Rattle.stack_paths.proofs.Lookups.{distance_walk, distance_least, distance_none, no_walk_to}
 use Rattle.stack_paths.proofs.paths.Paths.distance.Goals as goal
 use Rattle.stack_paths.proofs.paths.Paths.distance.Goals.{After-distance_at}
 

@@ -1,12 +1,9 @@
-use Rattle.std.proofs.Common.{◌≡◌, ◌<◌, ◌≤◌, ℕ, zero, List, length, Option, Some, Vec, Global, sym, refl, ap, ◌∙◌, subst, arith}
-use Rattle.std.specs.Prelude.{slice_index_or}
-use Rattle.net_base.specs.declared.stack.Node.{Node}
-use Rattle.net_base.specs.declared.stack.StackLink.{StackLink}
+use Rattle.std.proofs.Common.{ℕ, List, length, sym, subst, arith}
 use Rattle.stack_paths.specs.declared.hops.Hop.{Hop}
 use Rattle.stack_paths.specs.declared.ways.Ways.{Ways}
-use Rattle.stack_paths.specs.Stack.{Stack, IsStack}
-use Rattle.stack_paths.specs.Hops.{answer_at, IsHops, AllWays}
-use Rattle.stack_paths.specs.Trees.{ReachThemselves, AreRoots, AreUplinks, IsTreeOf}
+use Rattle.stack_paths.specs.Stack.{Stack}
+use Rattle.stack_paths.specs.Hops.{IsHops}
+use Rattle.stack_paths.specs.Trees.{ReachThemselves, AreRoots, AreUplinks}
 use Rattle.stack_paths.specs.Tables.{AreTables}
 use Rattle.stack_paths.proofs.WaysLemmas.{reach_themselves}
 use Rattle.stack_paths.proofs.paths.Paths.new.Goals as goal

@@ -1,4 +1,4 @@
-use Rattle.std.proofs.Common.{◌≡◌, ℕ, List, Option, Some, None, sym, refl, ap, ◌∙◌, subst, inr}
+use Rattle.std.proofs.Common.{◌≡◌, ℕ, List, Option, Some, None, sym, ap, ◌∙◌, subst, inr}
 use Rattle.std.specs.Prelude.{MatchOption, slice_get, slice_index_or}
 use Rattle.std.proofs.lemmas.Option.{MatchOption-at_none}
 use Rattle.net_base.specs.declared.stack.Node.{Node}

@@ -1,7 +1,7 @@
-use Rattle.std.proofs.Common.{◌≡◌, ℕ, List, Option, Some, None, sym, refl, ap, ◌∙◌, subst}
+use Rattle.std.proofs.Common.{◌≡◌, ℕ, List, Some, ap, ◌∙◌, subst}
 use Rattle.std.specs.Prelude.{slice_get, slice_index_or}
 use Rattle.net_base.specs.declared.stack.Node.{Node}
-use Rattle.stack_paths.specs.Stack.{Stack, ids, IsAt, IsRoot}
+use Rattle.stack_paths.specs.Stack.{Stack, ids, IsAt}
 use Rattle.stack_paths.specs.Tables.{AreTables}
 use Rattle.stack_paths.proofs.Lookups.{root_answer}
 use Rattle.stack_paths.proofs.paths.Paths.root_of.Goals as goal

@@ -1,8 +1,7 @@
-use Rattle.std.proofs.Common.{◌≡◌, ◌<◌, ℕ, List, Option, Some, None, Vec, Global, length, sym, refl, ap, ◌∙◌, subst, arith, ◌↔◌}
-use Rattle.std.specs.Prelude.{Contains, slice_get, slice_index_or}
-use Rattle.std.specs.List.Sorted.{IsStrictlyIncreasing}
+use Rattle.std.proofs.Common.{◌≡◌, ℕ, List, Some, Vec, Global, sym, ap, ◌∙◌, subst}
+use Rattle.std.specs.Prelude.{slice_get}
 use Rattle.net_base.specs.declared.stack.Node.{Node}
-use Rattle.stack_paths.specs.Stack.{Stack, ids, IsAt, IsTreePort}
+use Rattle.stack_paths.specs.Stack.{Stack, ids, IsAt}
 use Rattle.stack_paths.specs.Trees.{IsTreeOf}
 use Rattle.stack_paths.specs.Tables.{AreTables}
 use Rattle.stack_paths.proofs.Places.{ids-within}
