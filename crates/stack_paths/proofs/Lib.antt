@@ -1,0 +1,12 @@
+pub mod Prefix
+pub mod Places
+pub mod Levels
+pub mod Choices
+pub mod WaysLemmas
+pub mod HopsLemmas
+pub mod Walks
+pub mod Lookups
+pub mod Firsts
+pub mod Pairs
+pub mod Finite
+pub mod LawLemmas

@@ -1,0 +1,4 @@
+pub mod Stack
+pub mod Hops
+pub mod Trees
+pub mod Tables
