@@ -1,0 +1,4 @@
+pub mod Checksum
+pub mod Frame
+pub mod Numbers
+pub mod Packets

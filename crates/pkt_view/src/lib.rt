@@ -1,0 +1,8 @@
+//! Ethernet frames: the packet that a frame shows, the Internet checksum, and the frames that ask
+//! for an address and that answer ARP and ICMP echo requests.
+#![tactic(auto)]
+
+mod bytes;
+mod frame;
+
+pub use frame::{FrameView, UpperView, view};
