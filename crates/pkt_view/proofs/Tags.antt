@@ -1,8 +1,10 @@
 -- Tags that stand in a row, one by one.
-use Rattle.std.proofs.Common.{◌≡◌, ℕ, suc, ◌+◌, ◌*◌, ◌<◌, ◌≤◌, Bool, true, false, List, [], ◌∷◌, length, drop, refl, sym, ap, ◌∙◌, arith, length-drop}
+use Rattle.std.proofs.Common.{◌≡◌, ℕ, suc, ◌+◌, ◌*◌, ◌<◌, ◌≤◌, Bool, true, false, List, [], ◌∷◌, length, drop, refl, sym, ap, ◌∙◌, arith, length-drop, ◌++◌, append_assoc}
 use Rattle.std.proofs.lemmas.List.{drop-drop}
 use Rattle.pkt_view.specs.Numbers.{number_at}
 use Rattle.pkt_view.specs.Frame.{is_tag_type, tag_count}
+use Rattle.of_match.specs.declared.packet.Tag.{Tag}
+use Rattle.pkt_view.specs.Packets.{tag_of, tags_of}
 
 front_more : (bytes : List ℕ) → 4 ≤ length bytes → is_tag_type (number_at 2 0 bytes) ≡ true → tag_count bytes ≡ suc (tag_count (drop 4 bytes))
 unfolding tag_count
@@ -43,3 +45,31 @@ tags_end bytes at t = front_end (drop at bytes) (ap is_tag_type (number-drop at 
 
 pub tags_short : (bytes : List ℕ) (at : ℕ) → length bytes < at + 4 → tag_count (drop at bytes) ≡ 0
 tags_short bytes at h = front_short (drop at bytes) (omega (arith, h, length-drop at bytes))
+-- ---- the tags themselves
+
+list_more : (bytes : List ℕ) → 4 ≤ length bytes → tags_of bytes ≡ tag_of bytes ∷ tags_of (drop 4 bytes)
+unfolding tags_of
+list_more [] h = absurd (omega (arith, h))
+list_more (a ∷ []) h = absurd (omega (arith, h))
+list_more (a ∷ b ∷ []) h = absurd (omega (arith, h))
+list_more (a ∷ b ∷ c ∷ []) h = absurd (omega (arith, h))
+list_more (a ∷ b ∷ c ∷ d ∷ more) h = refl
+
+list_short : (bytes : List ℕ) → length bytes < 4 → tags_of bytes ≡ []
+unfolding tags_of
+list_short [] h = refl
+list_short (a ∷ []) h = refl
+list_short (a ∷ b ∷ []) h = refl
+list_short (a ∷ b ∷ c ∷ []) h = refl
+list_short (a ∷ b ∷ c ∷ d ∷ more) h = absurd (omega (arith, h))
+
+pub tags_of-more : (bytes : List ℕ) (at : ℕ) → at + 4 ≤ length bytes → tags_of (drop at bytes) ≡ tag_of (drop at bytes) ∷ tags_of (drop (at + 4) bytes)
+tags_of-more bytes at h =
+    list_more (drop at bytes) (omega (arith, h, length-drop at bytes)) ∙ ap (λ rest. tag_of (drop at bytes) ∷ tags_of rest) (drop-drop 4 at bytes)
+
+pub tags_of-short : (bytes : List ℕ) (at : ℕ) → length bytes < at + 4 → tags_of (drop at bytes) ≡ []
+tags_of-short bytes at h = list_short (drop at bytes) (omega (arith, h, length-drop at bytes))
+
+-- a tag behind the tags so far
+pub joined : (sofar all rest : List Tag) (tag : Tag) (new : List Tag) → new ≡ sofar ++ tag ∷ [] → sofar ++ tag ∷ rest ≡ all → new ++ rest ≡ all
+joined sofar all rest tag new n e = ap (λ tags. tags ++ rest) n ∙ append_assoc sofar (tag ∷ []) rest ∙ e

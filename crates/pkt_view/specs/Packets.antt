@@ -30,7 +30,7 @@ l4_in proto body =
     else (if (proto == 1) && nat_le 2 (length body) then Icmp (slice_index body 0) (slice_index body 1) else NoL4))
 
 -- a fragment that isn't the first one has none of them (RFC 791, 3.1, Fragment Offset)
-abbrev pub l4_of : List ℕ → List ℕ → L4
+unfoldable pub l4_of : List ℕ → List ℕ → L4
 l4_of header body = if number_at 2 6 header % 2 ^ 13 == 0 then l4_in (slice_index header 9) body else NoL4
 
 -- how many bytes these take

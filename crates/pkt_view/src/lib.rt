@@ -4,5 +4,7 @@
 
 mod bytes;
 mod frame;
+mod packet;
 
 pub use frame::{FrameView, UpperView, view};
+pub use packet::packet_of;
