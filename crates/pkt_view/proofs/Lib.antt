@@ -1,1 +1,4 @@
+pub mod Choice
+pub mod Shapes
+pub mod Sums
 pub mod Tags

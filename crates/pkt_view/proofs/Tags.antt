@@ -6,7 +6,7 @@ use Rattle.pkt_view.specs.Frame.{is_tag_type, tag_count}
 use Rattle.of_match.specs.declared.packet.Tag.{Tag}
 use Rattle.pkt_view.specs.Packets.{tag_of, tags_of}
 
-front_more : (bytes : List ℕ) → 4 ≤ length bytes → is_tag_type (number_at 2 0 bytes) ≡ true → tag_count bytes ≡ suc (tag_count (drop 4 bytes))
+pub front_more : (bytes : List ℕ) → 4 ≤ length bytes → is_tag_type (number_at 2 0 bytes) ≡ true → tag_count bytes ≡ suc (tag_count (drop 4 bytes))
 unfolding tag_count
 front_more [] h t = absurd (omega (arith, h))
 front_more (a ∷ []) h t = absurd (omega (arith, h))
@@ -14,7 +14,7 @@ front_more (a ∷ b ∷ []) h t = absurd (omega (arith, h))
 front_more (a ∷ b ∷ c ∷ []) h t = absurd (omega (arith, h))
 front_more (a ∷ b ∷ c ∷ d ∷ more) h t = rw t refl
 
-front_end : (bytes : List ℕ) → is_tag_type (number_at 2 0 bytes) ≡ false → tag_count bytes ≡ 0
+pub front_end : (bytes : List ℕ) → is_tag_type (number_at 2 0 bytes) ≡ false → tag_count bytes ≡ 0
 unfolding tag_count
 front_end [] t = refl
 front_end (a ∷ []) t = refl
@@ -22,7 +22,7 @@ front_end (a ∷ b ∷ []) t = refl
 front_end (a ∷ b ∷ c ∷ []) t = refl
 front_end (a ∷ b ∷ c ∷ d ∷ more) t = rw t refl
 
-front_short : (bytes : List ℕ) → length bytes < 4 → tag_count bytes ≡ 0
+pub front_short : (bytes : List ℕ) → length bytes < 4 → tag_count bytes ≡ 0
 unfolding tag_count
 front_short [] h = refl
 front_short (a ∷ []) h = refl
@@ -45,6 +45,7 @@ tags_end bytes at t = front_end (drop at bytes) (ap is_tag_type (number-drop at 
 
 pub tags_short : (bytes : List ℕ) (at : ℕ) → length bytes < at + 4 → tag_count (drop at bytes) ≡ 0
 tags_short bytes at h = front_short (drop at bytes) (omega (arith, h, length-drop at bytes))
+
 -- ---- the tags themselves
 
 list_more : (bytes : List ℕ) → 4 ≤ length bytes → tags_of bytes ≡ tag_of bytes ∷ tags_of (drop 4 bytes)

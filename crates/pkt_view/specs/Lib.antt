@@ -2,3 +2,4 @@ pub mod Checksum
 pub mod Frame
 pub mod Numbers
 pub mod Packets
+pub mod Shaped

@@ -4,7 +4,10 @@
 
 mod bytes;
 mod frame;
+pub mod laws;
 mod packet;
+mod sum;
 
 pub use frame::{FrameView, UpperView, view};
 pub use packet::packet_of;
+pub use sum::checksum;

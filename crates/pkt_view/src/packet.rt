@@ -144,14 +144,22 @@ fn ipv4_rest(alloc: Global, header: &[u8], body: &[u8]) -> Result<Bytes, NoMemor
 fn first(bytes: &[u8], len: usize) -> &[u8]
     ensures { result.now ≡ take len bytes.now }
 {
-    if len <= bytes.len() { &bytes[..len] } else { bytes }
+    if len <= bytes.len() {
+        &bytes[..len]
+    } else {
+        bytes
+    }
 }
 
 // What follows so many bytes.
 fn behind(bytes: &[u8], len: usize) -> &[u8]
     ensures { result.now ≡ drop len bytes.now }
 {
-    if len <= bytes.len() { &bytes[len..] } else { &[] }
+    if len <= bytes.len() {
+        &bytes[len..]
+    } else {
+        &[]
+    }
 }
 
 #[tactic(auto, unfolding(crate::specs::Packets::packet_of_parts))]

@@ -10,7 +10,7 @@ loop-at-preserved c =
     let more = tags_of-more c.args.bytes.now c.loop-at.at c.loop-at-test.true in
     record {
       within = omega arith;
-      read = joined c.loop-at.tags (tags_of c.args.bytes.now) (tags_of (drop (c.loop-at.at + 4) c.args.bytes.now)) (tag_of (drop c.loop-at.at c.args.bytes.now)) c.push.new.self (c.in_ok-push.ensures.ok ∙ ap (λ (tag : Tag). c.loop-at.tags ++ tag ∷ []) (c.tag_of.ensures ∙ ap tag_of (take_rest c.args.bytes.now c.loop-at.at))) (ap (λ (tags : List Tag). c.loop-at.tags ++ tags) (sym more) ∙ c.loop-at.invariant.read)
+      read = joined c.loop-at.tags (tags_of c.args.bytes.now) (tags_of (drop (c.loop-at.at + 4) c.args.bytes.now)) (tag_of (drop c.loop-at.at c.args.bytes.now)) c.push.new.self (c.in_ok-push.ensures.ok ∙ ap (λ (tag : Tag). c.loop-at.tags ++ tag ∷ []) (c.tag_of.ensures ∙ ap tag_of (take_rest c.args.bytes.now c.loop-at.at))) (ap (λ (tags : List Tag). c.loop-at.tags ++ tags) (sym more) ∙ c.loop-at.invariant.read);
     }
 
 pub returns : goal.returns
