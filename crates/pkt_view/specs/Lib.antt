@@ -2,4 +2,5 @@ pub mod Checksum
 pub mod Frame
 pub mod Numbers
 pub mod Packets
+pub mod Replies
 pub mod Shaped

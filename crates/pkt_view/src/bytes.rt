@@ -1,10 +1,10 @@
 //! Numbers and addresses that stand in bytes.
 
-ghost use Rattle.std.specs.Prelude.{◌≡◌, ◌+◌, ◌≤◌, length};
-ghost use Rattle.pkt_view.specs.Numbers.{number_at, mac_at, ip4_at};
+ghost use Rattle.std.specs.Prelude.{◌≡◌, ◌+◌, ◌≤◌, ◌++◌, length, OnOk};
+ghost use Rattle.pkt_view.specs.Numbers.{number_at, number, mac_at, ip4_at};
 
 use byteorder::{BigEndian, ByteOrder};
-use net_base::{Ip4, Mac};
+use net_base::{Bytes, Ip4, Mac, NoMemory};
 
 /// The number of two bytes that begins at a place.
 #[tactic(auto, unfolding(crate::specs::Numbers::number_at))]
@@ -32,4 +32,24 @@ pub fn mac_at(bytes: &[u8], at: usize) -> Mac
     let mut mac = [0u8; 6];
     mac.copy_from_slice(&bytes[at..at + 6]);
     Mac(mac)
+}
+
+/// Adds a number of two bytes at the end.
+#[tactic(auto, unfolding(crate::specs::Numbers::number))]
+pub fn put_u16(out: &mut Bytes, value: u16) -> Result<(), NoMemory>
+    ensures { OnOk result (out.new ≡ out.old ++ number 2 value) }
+{
+    let mut bytes = [0u8; 2];
+    BigEndian::write_u16(&mut bytes, value);
+    out.append(&bytes)
+}
+
+/// Adds an IPv4 address at the end.
+#[tactic(auto, unfolding(crate::specs::Numbers::number))]
+pub fn put_ip4(out: &mut Bytes, address: Ip4) -> Result<(), NoMemory>
+    ensures { OnOk result (out.new ≡ out.old ++ number 4 address.0) }
+{
+    let mut bytes = [0u8; 4];
+    BigEndian::write_u32(&mut bytes, address.0);
+    out.append(&bytes)
 }
