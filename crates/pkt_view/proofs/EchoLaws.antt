@@ -1,5 +1,5 @@
 -- The header and the ICMP part of an echo reply.
-use Rattle.std.proofs.Common.{◌≡◌, ℕ, ◌+◌, ◌%◌, ◌≤◌, ◌<◌, List, [], ◌∷◌, ◌++◌, length, take, drop, slice_index, refl, sym, ap, subst, ◌∙◌, arith, length-append, length-drop}
+use Rattle.std.proofs.Common.{◌≡◌, ℕ, ◌+◌, ◌≤◌, List, [], ◌∷◌, ◌++◌, length, take, drop, slice_index, refl, sym, ap, ◌∙◌, arith, length-append, length-drop}
 use Rattle.std.proofs.lemmas.List.{length-take-le, drop-drop, take_all}
 use Rattle.std.proofs.Math.Seq.{take-append_seam, drop-append_seam}
 use Rattle.pkt_view.proofs.Sums.{right_checksum}
@@ -52,7 +52,7 @@ source_exchanged header n h =
 pub target_exchanged : (header : List ℕ) (n : ℕ) → 20 ≤ length header → take 4 (drop 16 (reply_header header n)) ≡ take 4 (drop 12 header)
 target_exchanged header n h =
     let behind : drop 16 (reply_header header n) ≡ take 4 (drop 12 header) =
-        sym (drop-drop 4 12 (reply_header header n)) ∙ ap (λ (l : List ℕ). drop 4 l) (addresses header n h) ∙ drop_front 4 (take 4 (drop 16 header)) (take 4 (drop 12 header)) (part_len 4 16 header (omega (arith, h))) in
+    sym (drop-drop 4 12 (reply_header header n)) ∙ ap (λ (l : List ℕ). drop 4 l) (addresses header n h) ∙ drop_front 4 (take 4 (drop 16 header)) (take 4 (drop 12 header)) (part_len 4 16 header (omega (arith, h))) in
     ap (λ (l : List ℕ). take 4 l) behind ∙ take_all 4 (take 4 (drop 12 header)) (omega (arith, part_len 4 12 header (omega (arith, h))))
 
 pub header_len : (header : List ℕ) (n : ℕ) → 20 ≤ length header → length (reply_header header n) ≡ 20

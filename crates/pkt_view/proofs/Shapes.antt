@@ -1,11 +1,9 @@
 -- The packet of a frame is shaped.
-use Rattle.std.proofs.Common.{◌≡◌, ℕ, zero, suc, ◌+◌, ◌*◌, ◌-◌, ◌%◌, ◌/◌, ◌^◌, ◌<◌, ◌≤◌, ◌&&◌, ◌||◌, ◌==◌, Bool, true, false, cond, List, [], ◌∷◌, take, drop, length, refl, sym, ap, subst, ◌∙◌, arith, inl, inr, ◌⊎◌, IfSome, Option, Some, None, nat_le, slice_index}
+use Rattle.std.proofs.Common.{◌≡◌, ℕ, suc, ◌+◌, ◌*◌, ◌-◌, ◌%◌, ◌^◌, ◌&&◌, ◌==◌, Bool, true, false, List, [], ◌∷◌, take, drop, length, refl, sym, ap, subst, ◌∙◌, arith, inl, inr, IfSome, Option, Some, None, nat_le, slice_index}
 use Rattle.std.specs.Prelude.{All}
 use Rattle.std.proofs.lemmas.List.Elements.{All-cons, All-nil}
 use Rattle.std.proofs.lemmas.Bool.{eqb-true}
 use Rattle.std.specs.Option.{option_map}
-use Rattle.of_match.specs.declared.packet.Tag.{Tag}
-use Rattle.of_match.specs.declared.packet.L4.{L4}
 use Rattle.pkt_view.proofs.Choice.{by_if, and_left, or_cases}
 use Rattle.pkt_view.proofs.Tags.{front_more, front_end, front_short}
 use Rattle.pkt_view.specs.Numbers.{number_at}

@@ -1,5 +1,5 @@
 -- One's complement sums.
-use Rattle.std.proofs.Common.{◌≡◌, ℕ, zero, suc, ◌+◌, ◌-◌, ◌*◌, ◌%◌, ◌^◌, ◌<◌, ◌≤◌, ◌==◌, Bool, true, false, List, [], ◌∷◌, ◌++◌, length, drop, get_or, refl, sym, ap, ◌∙◌, arith, length-drop, get_or-drop, nat_lt, append_assoc, ◌/◌}
+use Rattle.std.proofs.Common.{◌≡◌, ℕ, zero, suc, ◌+◌, ◌-◌, ◌*◌, ◌%◌, ◌^◌, ◌<◌, ◌≤◌, ◌==◌, List, [], ◌∷◌, ◌++◌, length, drop, get_or, refl, sym, ap, ◌∙◌, arith, length-drop, get_or-drop, nat_lt, append_assoc, ◌/◌}
 use Rattle.std.specs.Prelude.{sum, All}
 use Rattle.std.specs.List.{fold}
 use Rattle.std.proofs.Math.Nat.{add-mod_right}
@@ -92,6 +92,7 @@ pub done_even : (s rest total : ℕ) → s ≤ 65535 → rest ≡ 0 → ones_com
 done_even s rest total h r t =
     let left : s ≡ s + rest = omega (arith, r) in
     sym (ones_small s h) ∙ ap ones_complement left ∙ t
+
 -- ---- what the one's complement sum is
 
 pub ones_most : (n : ℕ) → ones_complement n ≤ 65535

@@ -1,5 +1,5 @@
 -- Tags that stand in a row, one by one.
-use Rattle.std.proofs.Common.{◌≡◌, ℕ, suc, ◌+◌, ◌*◌, ◌<◌, ◌≤◌, Bool, true, false, List, [], ◌∷◌, length, drop, refl, sym, ap, ◌∙◌, arith, length-drop, ◌++◌, append_assoc}
+use Rattle.std.proofs.Common.{◌≡◌, ℕ, suc, ◌+◌, ◌*◌, ◌<◌, ◌≤◌, true, false, List, [], ◌∷◌, length, drop, refl, ap, ◌∙◌, arith, length-drop, ◌++◌, append_assoc}
 use Rattle.std.proofs.lemmas.List.{drop-drop}
 use Rattle.pkt_view.specs.Numbers.{number_at}
 use Rattle.pkt_view.specs.Frame.{is_tag_type, tag_count}

@@ -1,5 +1,5 @@
 -- The parts of an Ethernet frame (IEEE 802.3, 3.1.1 and 3.2; IEEE 802.1Q, 9.3).
-use Rattle.std.specs.Prelude.{ℕ, suc, ◌≤◌, ◌+◌, ◌-◌, ◌*◌, ◌/◌, ◌%◌, Bool, ◌==◌, ◌&&◌, ◌||◌, not, nat_le, if◌then◌else◌, List, [], ◌∷◌, Option, Some, None, length, take, drop, slice_index}
+use Rattle.std.specs.Prelude.{ℕ, suc, ◌≤◌, ◌+◌, ◌-◌, ◌*◌, ◌/◌, ◌%◌, Bool, ◌==◌, ◌&&◌, ◌||◌, not, nat_le, if◌then◌else◌, List, ◌∷◌, Option, Some, None, length, take, drop, slice_index}
 use Rattle.net_base.specs.declared.address.Mac.{Mac}
 use Rattle.net_base.specs.declared.address.Ip4.{Ip4}
 use Rattle.pkt_view.specs.declared.frame.FrameView.{FrameView}

@@ -1,5 +1,5 @@
 -- The packet of a frame.
-use Rattle.std.specs.Prelude.{ℕ, ◌+◌, ◌*◌, ◌/◌, ◌%◌, ◌^◌, ◌<◌, ◌≡◌, ◌⊎◌, Bool, ◌==◌, ◌&&◌, nat_le, if◌then◌else◌, List, [], ◌∷◌, ◌++◌, Option, length, take, drop, slice_index, All}
+use Rattle.std.specs.Prelude.{ℕ, ◌/◌, ◌%◌, ◌^◌, ◌==◌, ◌&&◌, nat_le, if◌then◌else◌, List, [], ◌∷◌, ◌++◌, Option, length, take, drop, slice_index}
 use Rattle.std.specs.Option.{option_map}
 use Rattle.of_match.specs.declared.packet.Tag.{Tag}
 use Rattle.of_match.specs.declared.packet.L4.{L4}

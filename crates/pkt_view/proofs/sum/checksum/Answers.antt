@@ -1,6 +1,6 @@
-use Rattle.std.proofs.Common.{◌≡◌, ◌+◌, ◌-◌, ◌*◌, ap, sym, ◌∙◌, arith, drop, ℕ, add-zero}
+use Rattle.std.proofs.Common.{◌≡◌, ◌+◌, ◌-◌, ◌*◌, ap, sym, ◌∙◌, arith, drop, ℕ}
 use Rattle.std.specs.Prelude.{sum}
-use Rattle.pkt_view.specs.Checksum.{words, ones_complement, internet_checksum, carried}
+use Rattle.pkt_view.specs.Checksum.{words, ones_complement, internet_checksum}
 use Rattle.pkt_view.proofs.Sums.{carried_later, done_odd, done_even, words_more, words_last, words_end}
 use Rattle.pkt_view.proofs.sum.checksum.Goals as goal
 use Rattle.pkt_view.proofs.sum.checksum.Goals.{then-at-bytes, else-at-bytes}
