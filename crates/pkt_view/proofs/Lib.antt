@@ -1,0 +1,5 @@
+pub mod Choice
+pub mod EchoLaws
+pub mod Shapes
+pub mod Sums
+pub mod Tags

@@ -1,0 +1,79 @@
+-- The packet of a frame is shaped.
+use Rattle.std.proofs.Common.{◌≡◌, ℕ, suc, ◌+◌, ◌*◌, ◌-◌, ◌%◌, ◌^◌, ◌&&◌, ◌==◌, Bool, true, false, List, [], ◌∷◌, take, drop, length, refl, sym, ap, subst, ◌∙◌, arith, inl, inr, IfSome, Option, Some, None, nat_le, slice_index}
+use Rattle.std.specs.Prelude.{All}
+use Rattle.std.proofs.lemmas.List.Elements.{All-cons, All-nil}
+use Rattle.std.proofs.lemmas.Bool.{eqb-true}
+use Rattle.std.specs.Option.{option_map}
+use Rattle.pkt_view.proofs.Choice.{by_if, and_left, or_cases}
+use Rattle.pkt_view.proofs.Tags.{front_more, front_end, front_short}
+use Rattle.pkt_view.specs.Numbers.{number_at}
+use Rattle.pkt_view.specs.Frame.{UpperParts, FrameParts, header_len, is_tag_type, tag_count, type_place, has_type, is_arp, is_ipv4, upper_parts, parts_with, parts}
+use Rattle.pkt_view.specs.Packets.{tag_of, tags_of, l4_in, l4_of, upper_of, packet_of_parts, packet}
+use Rattle.pkt_view.specs.Shaped.{IsTag, AgreesWithProto, AgreesWithType, IsShaped}
+
+-- ---- the tags
+
+a_tag : (bytes : List ℕ) → is_tag_type (number_at 2 0 bytes) ≡ true → IsTag (tag_of bytes)
+a_tag bytes t =
+    record {
+      tpid = elim (or_cases (number_at 2 0 bytes == 0x8100) (number_at 2 0 bytes == 0x88a8) t) [ inl e ↦ inl (eqb-true (number_at 2 0 bytes) 0x8100 e) | inr e ↦ inr (eqb-true (number_at 2 0 bytes) 0x88a8 e) ];
+      pcp = omega arith;
+      vid = omega arith;
+    }
+
+same_type : (a b c d : ℕ) (more less : List ℕ) → number_at 2 0 (a ∷ b ∷ c ∷ d ∷ more) ≡ number_at 2 0 (a ∷ b ∷ c ∷ d ∷ less)
+unfolding number_at
+same_type a b c d more less = refl
+
+tags_there : (a b c d : ℕ) (more : List ℕ) (n : ℕ) → n ≡ suc (suc (suc (suc (4 * tag_count more)))) → is_tag_type (number_at 2 0 (a ∷ b ∷ c ∷ d ∷ more)) ≡ true → All IsTag (tags_of (take (4 * tag_count more) more)) → All IsTag (tags_of (take n (a ∷ b ∷ c ∷ d ∷ more)))
+unfolding tags_of
+tags_there a b c d more n e t rest =
+    let P : ℕ → Type 0 = λ k. All IsTag (tags_of (take k (a ∷ b ∷ c ∷ d ∷ more))) in
+    let less = take (4 * tag_count more) more in
+    let first : IsTag (tag_of (a ∷ b ∷ c ∷ d ∷ less)) = a_tag (a ∷ b ∷ c ∷ d ∷ less) (ap is_tag_type (same_type a b c d less more) ∙ t) in
+    subst P (sym e) (All-cons IsTag (tag_of (a ∷ b ∷ c ∷ d ∷ less)) (tags_of less) first rest)
+
+tags_none : (bytes : List ℕ) (n : ℕ) → n ≡ 0 → All IsTag (tags_of (take n bytes))
+unfolding tags_of
+tags_none bytes n e =
+    let P : ℕ → Type 0 = λ k. All IsTag (tags_of (take k bytes)) in
+    subst P (sym e) (All-nil IsTag)
+
+tags_step : (a b c d : ℕ) (more : List ℕ) (n : ℕ) (test : Bool) → is_tag_type (number_at 2 0 (a ∷ b ∷ c ∷ d ∷ more)) ≡ test → n ≡ 4 * tag_count (a ∷ b ∷ c ∷ d ∷ more) → All IsTag (tags_of (take (4 * tag_count more) more)) → All IsTag (tags_of (take n (a ∷ b ∷ c ∷ d ∷ more)))
+tags_step a b c d more n true t e rest =
+    let one : tag_count (a ∷ b ∷ c ∷ d ∷ more) ≡ suc (tag_count more) = front_more (a ∷ b ∷ c ∷ d ∷ more) (omega arith) t in
+    tags_there a b c d more n (omega (arith, e, one)) t rest
+tags_step a b c d more n false t e rest =
+    let none = front_end (a ∷ b ∷ c ∷ d ∷ more) t in
+    tags_none (a ∷ b ∷ c ∷ d ∷ more) n (omega (arith, e, none))
+
+tags_all : (bytes : List ℕ) (n : ℕ) → n ≡ 4 * tag_count bytes → All IsTag (tags_of (take n bytes))
+tags_all [] n e = tags_none [] n (omega (arith, e, front_short [] (omega arith)))
+tags_all (a ∷ []) n e = tags_none (a ∷ []) n (omega (arith, e, front_short (a ∷ []) (omega arith)))
+tags_all (a ∷ b ∷ []) n e = tags_none (a ∷ b ∷ []) n (omega (arith, e, front_short (a ∷ b ∷ []) (omega arith)))
+tags_all (a ∷ b ∷ c ∷ []) n e = tags_none (a ∷ b ∷ c ∷ []) n (omega (arith, e, front_short (a ∷ b ∷ c ∷ []) (omega arith)))
+tags_all (a ∷ b ∷ c ∷ d ∷ more) n e = tags_step a b c d more n (is_tag_type (number_at 2 0 (a ∷ b ∷ c ∷ d ∷ more))) refl e (tags_all more (4 * tag_count more) refl)
+
+-- ---- what lies behind the EtherType
+
+l4_agrees : (proto : ℕ) (body : List ℕ) → AgreesWithProto proto (l4_in proto body)
+l4_agrees proto body =
+    by_if (AgreesWithProto proto) ((proto == 6) && nat_le 4 (length body)) _ _ (λ e. eqb-true proto 6 (and_left (proto == 6) _ e)) (λ _. by_if (AgreesWithProto proto) ((proto == 17) && nat_le 4 (length body)) _ _ (λ e. eqb-true proto 17 (and_left (proto == 17) _ e)) (λ _. by_if (AgreesWithProto proto) ((proto == 1) && nat_le 2 (length body)) _ _ (λ e. eqb-true proto 1 (and_left (proto == 1) _ e)) (λ _. tt)))
+
+l4_of_agrees : (header body : List ℕ) → AgreesWithProto (slice_index header 9) (l4_of header body)
+unfolding l4_of
+l4_of_agrees header body =
+    by_if (AgreesWithProto (slice_index header 9)) (number_at 2 6 header % 2 ^ 13 == 0) _ _ (λ _. l4_agrees (slice_index header 9) body) (λ _. tt)
+
+upper_agrees : (eth_type : ℕ) (payload : List ℕ) → AgreesWithType eth_type (upper_of (upper_parts eth_type payload))
+unfolding upper_parts
+upper_agrees eth_type payload =
+    let P : UpperParts → Type 0 = λ u. AgreesWithType eth_type (upper_of u) in
+    by_if P (is_arp eth_type payload) _ _ (λ e. eqb-true eth_type 0x0806 (and_left _ _ (and_left _ _ (and_left _ _ (and_left _ _ (and_left _ _ e)))))) (λ _. by_if P (is_ipv4 eth_type payload) _ _ (λ e. (eqb-true eth_type 0x0800 (and_left _ _ (and_left _ _ (and_left _ _ (and_left _ _ e)))), l4_of_agrees (take (header_len payload) payload) (drop (header_len payload) payload))) (λ _. tt))
+
+-- ---- the whole
+
+pub packet_shaped : (frame : List ℕ) → IfSome (packet frame) IsShaped
+unfolding parts packet_of_parts
+packet_shaped frame =
+    by_if (λ (o : Option FrameParts). IfSome (option_map packet_of_parts o) IsShaped) (has_type frame) (Some (parts_with (type_place frame) frame)) None (λ _. record { tags = tags_all (drop 12 frame) (type_place frame - 12) (omega arith); upper = upper_agrees (number_at 2 (type_place frame) frame) (drop (type_place frame + 2) frame) }) (λ _. tt)

@@ -1,0 +1,6 @@
+pub mod Checksum
+pub mod Frame
+pub mod Numbers
+pub mod Packets
+pub mod Replies
+pub mod Shaped
