@@ -22,7 +22,7 @@ pub match_padding : (out : List ℕ) (fields : List Field) →
 match_padding out fields =
     let body = flat_map field_bytes fields in
     let len : length ((number 2 1 ++ number 2 (4 + length body)) ++ body) ≡ 4 + length body =
-        omega (arith, length-append (number 2 1 ++ number 2 (4 + length body)) body, length-append (number 2 1) (number 2 (4 + length body)), number_length 2 1, number_length 2 (4 + length body)) in
+    omega (arith, length-append (number 2 1 ++ number 2 (4 + length body)) body, length-append (number 2 1) (number 2 (4 + length body)), number_length 2 1, number_length 2 (4 + length body)) in
     rw len (simp append_assoc)
 
 pub set_length : (f : Field) → length (set_bytes f) ≡ up_to_8 (4 + length (field_bytes f))
@@ -30,7 +30,7 @@ set_length f =
     let body = field_bytes f in
     let head = number 2 25 ++ number 2 (up_to_8 (4 + length body)) in
     let len : length (head ++ body) ≡ 4 + length body =
-        omega (arith, length-append head body, length-append (number 2 25) (number 2 (up_to_8 (4 + length body))), number_length 2 25, number_length 2 (up_to_8 (4 + length body))) in
+    omega (arith, length-append head body, length-append (number 2 25) (number 2 (up_to_8 (4 + length body))), number_length 2 25, number_length 2 (up_to_8 (4 + length body))) in
     length-append (head ++ body) (replicate ((8 - length (head ++ body) % 8) % 8) 0) ∙ rw (len, length-replicate) refl
 
 pub set_padding : (out : List ℕ) (f : Field) →
@@ -39,7 +39,7 @@ set_padding out f =
     let body = field_bytes f in
     let head = number 2 25 ++ number 2 (up_to_8 (4 + length body)) in
     let len : length (head ++ body) ≡ 4 + length body =
-        omega (arith, length-append head body, length-append (number 2 25) (number 2 (up_to_8 (4 + length body))), number_length 2 25, number_length 2 (up_to_8 (4 + length body))) in
+    omega (arith, length-append head body, length-append (number 2 25) (number 2 (up_to_8 (4 + length body))), number_length 2 25, number_length 2 (up_to_8 (4 + length body))) in
     rw len (simp append_assoc)
 
 -- a field without and with a mask

@@ -6,9 +6,10 @@ mod fault;
 mod instructions;
 mod matches;
 mod number;
+mod reading;
 
-pub use actions::put_actions;
+pub use actions::{get_actions, put_actions, read_actions};
 pub use fault::{PartCause, PartFault, PartRefused};
-pub use instructions::put_instrs;
-pub use matches::put_match;
+pub use instructions::{get_instrs, get_instrs_at, put_instrs};
+pub use matches::{get_match, get_match_at, get_match_seen, get_match_seen_at, put_match};
 pub use number::{number_at, put_number, put_zeros, u8_at, u16_at, u32_at, u64_at};
