@@ -8,7 +8,7 @@ mod matches;
 mod number;
 mod reading;
 
-pub use actions::{get_actions, put_actions, read_actions};
+pub use actions::{actions_len, get_actions, put_actions, read_actions};
 pub use fault::{PartCause, PartFault, PartRefused};
 pub use instructions::{get_instrs, get_instrs_at, put_instrs};
 pub use matches::{get_match, get_match_at, get_match_seen, get_match_seen_at, put_match};
