@@ -1,8 +1,12 @@
-ghost use Rattle.std.specs.Prelude.{◌≡◌, ◌++◌, OnOk};
+ghost use Rattle.std.specs.Prelude.{◌≡◌, ◌≤◌, ◌<◌, ◌+◌, ◌++◌, ◌^◌, length, OnOk, IfOk};
+ghost use Rattle.of_wire.specs.Reading.{Gives};
+ghost use Rattle.of13_codec.specs.Decoding.{features_at};
 ghost use Rattle.of13_codec.specs.Messages.{features_bytes};
 
+use crate::message::Message;
+use crate::sizes::exactly;
 use net_base::{Bytes, DpId, NoMemory};
-use of_wire::{put_number, put_zeros};
+use of_wire::{PartRefused, put_number, put_zeros, u8_at, u32_at, u64_at};
 
 /// What a switch says of itself (OpenFlow 1.3, 7.3.1).
 #[derive(Clone, Copy, Debug, PartialEq, Eq)]
@@ -25,4 +29,20 @@ pub fn put_features(m: &FeaturesReply, out: &mut Bytes) -> Result<(), NoMemory>
     put_zeros(out, 2)?;
     put_number(out, u128::from(m.capabilities), 4)?;
     put_zeros(out, 4)
+}
+
+/// Reads the body of a FEATURES_REPLY.
+#[tactic(auto, unfolding(crate::specs::Decoding::features_at))]
+pub fn read_features(body: &[u8]) -> Result<Message, PartRefused>
+    requires { length body.now < 2 ^ 16 }
+    ensures { Gives (λ m. m) result (features_at body.now) }
+{
+    exactly(24, body)?;
+    Ok(Message::FeaturesReply(FeaturesReply {
+        dp: DpId(u64_at(body, 0)),
+        n_buffers: u32_at(body, 8),
+        n_tables: u8_at(body, 12),
+        auxiliary: u8_at(body, 13),
+        capabilities: u32_at(body, 16),
+    }))
 }

@@ -15,9 +15,16 @@ pub const VERSION: u8 = 4;
 #[derive(Debug, Drop)]
 pub enum Message {
     /// HELLO (7.5.1): the highest version of the sender, and the versions that it knows.
-    Hello { version: u8, bitmap: Option<u32> },
+    Hello {
+        version: u8,
+        bitmap: Option<u32>,
+    },
     /// ERROR (7.4.4).
-    Error { kind: u16, code: u16, payload: Bytes },
+    Error {
+        kind: u16,
+        code: u16,
+        payload: Bytes,
+    },
     /// ECHO_REQUEST (7.5.2).
     EchoRequest(Bytes),
     /// ECHO_REPLY (7.5.3).
@@ -29,7 +36,10 @@ pub enum Message {
     /// PACKET_IN (7.4.1).
     PacketIn(PacketIn),
     /// PORT_STATUS (7.4.3).
-    PortStatus { reason: u8, port: PortDesc },
+    PortStatus {
+        reason: u8,
+        port: PortDesc,
+    },
     /// PACKET_OUT (7.3.7).
     PacketOut(PacketOut),
     /// FLOW_MOD (7.3.4.1).
@@ -37,17 +47,28 @@ pub enum Message {
     /// MULTIPART_REQUEST of the ports' descriptions (7.3.5.8).
     PortDescRequest,
     /// MULTIPART_REQUEST of a port's counters, or of all ports' (7.3.5.6).
-    PortStatsRequest { port: u32 },
+    PortStatsRequest {
+        port: u32,
+    },
     /// MULTIPART_REPLY with ports' descriptions; more may follow.
-    PortDescReply { more: bool, ports: PortDescs },
+    PortDescReply {
+        more: bool,
+        ports: PortDescs,
+    },
     /// MULTIPART_REPLY with ports' counters; more may follow.
-    PortStatsReply { more: bool, ports: PortStatsList },
+    PortStatsReply {
+        more: bool,
+        ports: PortStatsList,
+    },
     /// BARRIER_REQUEST (7.3.8).
     BarrierRequest,
     /// BARRIER_REPLY (7.3.8).
     BarrierReply,
     /// A message of another type, or of another multipart type.
-    Other { kind: u8, body: Bytes },
+    Other {
+        kind: u8,
+        body: Bytes,
+    },
 }
 
 impl Message {

@@ -1,10 +1,15 @@
-ghost use Rattle.std.specs.Prelude.{◌≡◌, ◌++◌, OnOk};
+ghost use Rattle.std.specs.Prelude.{◌≡◌, ◌≤◌, ◌<◌, ◌+◌, ◌++◌, ◌^◌, length, OnOk, IfOk};
+ghost use Rattle.of_wire.specs.Reading.{Gives};
+ghost use Rattle.of13_codec.specs.Decoding.{port_of, port_status_at, stats_of};
 ghost use Rattle.std.specs.List.{flat_map};
 ghost use Rattle.of_wire.specs.Parts.{number};
 ghost use Rattle.of13_codec.specs.Messages.{port_bytes, port_front, port_back, port_status_bytes, port_stats_bytes};
 
+use crate::message::Message;
+use crate::sizes::exactly;
 use net_base::{Bytes, Items, Mac, NoMemory};
-use of_wire::{put_number, put_zeros};
+use of_wire::{PartRefused, put_number, put_zeros, u8_at, u32_at, u64_at};
+use std::alloc::Global;
 
 /// A port of a switch (OpenFlow 1.3, 7.2.1). `name` has 16 bytes, padded with zeros, and `rest` the
 /// 24 of the features and speeds.
@@ -89,4 +94,67 @@ pub fn put_port_stats(stats: &PortStats, out: &mut Bytes) -> Result<(), NoMemory
     put_counters(&stats.counters, out)?;
     put_number(out, u128::from(stats.sec), 4)?;
     put_number(out, u128::from(stats.nsec), 4)
+}
+
+/// The port that 64 bytes describe.
+#[tactic(auto, unfolding(crate::specs::Decoding::port_of))]
+pub fn port_of(alloc: Global, bytes: &[u8]) -> Result<PortDesc, NoMemory>
+    requires { 64 ≤ length bytes.now }
+    ensures { IfOk result (λ p. p ≡ port_of bytes.now) }
+{
+    let hw = Mac([
+        bytes[8], bytes[9], bytes[10], bytes[11], bytes[12], bytes[13],
+    ]);
+    let name = Bytes::from_slice(alloc, &bytes[16..32])?;
+    let rest = Bytes::from_slice(alloc, &bytes[40..64])?;
+    Ok(PortDesc {
+        no: u32_at(bytes, 0),
+        hw,
+        name,
+        config: u32_at(bytes, 32),
+        state: u32_at(bytes, 36),
+        rest,
+    })
+}
+
+/// Reads the body of a PORT_STATUS.
+#[tactic(auto, unfolding(crate::specs::Decoding::port_status_at))]
+pub fn read_port_status(alloc: Global, body: &[u8]) -> Result<Message, PartRefused>
+    requires { length body.now < 2 ^ 16 }
+    ensures { Gives (λ m. m) result (port_status_at body.now) }
+{
+    exactly(72, body)?;
+    let (_, bytes) = body.split_at(8);
+    let port = port_of(alloc, bytes)?;
+    Ok(Message::PortStatus {
+        reason: u8_at(body, 0),
+        port,
+    })
+}
+
+/// The counters in 112 bytes.
+#[tactic(auto, unfolding(crate::specs::Decoding::stats_of))]
+pub fn stats_of(bytes: &[u8]) -> PortStats
+    requires { 112 ≤ length bytes.now }
+    ensures { result ≡ stats_of bytes.now }
+{
+    PortStats {
+        no: u32_at(bytes, 0),
+        counters: [
+            u64_at(bytes, 8),
+            u64_at(bytes, 16),
+            u64_at(bytes, 24),
+            u64_at(bytes, 32),
+            u64_at(bytes, 40),
+            u64_at(bytes, 48),
+            u64_at(bytes, 56),
+            u64_at(bytes, 64),
+            u64_at(bytes, 72),
+            u64_at(bytes, 80),
+            u64_at(bytes, 88),
+            u64_at(bytes, 96),
+        ],
+        sec: u32_at(bytes, 104),
+        nsec: u32_at(bytes, 108),
+    }
 }
