@@ -1,0 +1,228 @@
+ghost use Rattle.std.specs.Prelude.{◌≡◌, ◌≤◌, ◌<◌, ◌+◌, ◌++◌, ◌^◌, length, ℕ, OnOk, IfOk};
+ghost use Rattle.of_wire.specs.Reading.{Gives};
+ghost use Rattle.of13_codec.specs.Decoding.{other_at, port_desc_request_at, port_stats_request_at, port_desc_reply_at, port_stats_reply_at, request_at, has_more, port_step, stats_step, ports_at, ports_stats_at, reply_at};
+ghost use Rattle.std.specs.List.{flat_map};
+ghost use Rattle.of13_codec.specs.Messages.{multipart_head, port_bytes, port_stats_bytes, port_desc_reply_bytes, port_stats_request_bytes, port_stats_reply_bytes};
+
+use crate::message::Message;
+use crate::ports::{
+    PortDesc, PortDescs, PortStats, PortStatsList, port_of, put_port, put_port_stats, stats_of,
+};
+use crate::sizes::{at_least, exactly, short};
+use net_base::{Bytes, NoMemory};
+use of_wire::{PartFault, PartRefused, put_number, put_zeros, u16_at, u32_at};
+use std::alloc::Global;
+
+// The multipart types that are known (OpenFlow 1.3, 7.3.5).
+pub const PORT_STATS: u128 = 4;
+
+pub const PORT_DESC: u128 = 13;
+
+/// Writes the front of a multipart message: its type and its flags.
+pub fn put_multipart_head(kind: u128, flags: u128, out: &mut Bytes) -> Result<(), NoMemory>
+    ensures { OnOk result (out.new ≡ out.old ++ multipart_head kind flags) }
+{
+    put_number(out, kind, 2)?;
+    put_number(out, flags, 2)?;
+    put_zeros(out, 4)
+}
+
+/// Writes the body of a request of a port's counters.
+pub fn put_port_stats_request(port: u32, out: &mut Bytes) -> Result<(), NoMemory>
+    ensures { OnOk result (out.new ≡ out.old ++ port_stats_request_bytes port) }
+{
+    put_multipart_head(PORT_STATS, 0, out)?;
+    put_number(out, u128::from(port), 4)?;
+    put_zeros(out, 4)
+}
+
+fn put_ports(ports: &[PortDesc], out: &mut Bytes) -> Result<(), NoMemory>
+    ensures { OnOk result (out.new ≡ out.old ++ flat_map port_bytes ports.now) }
+{
+    for port in ports {
+        put_port(port, out)?;
+    }
+    Ok(())
+}
+
+fn put_ports_stats(stats: &[PortStats], out: &mut Bytes) -> Result<(), NoMemory>
+    ensures { OnOk result (out.new ≡ out.old ++ flat_map port_stats_bytes stats.now) }
+{
+    for port in stats {
+        put_port_stats(port, out)?;
+    }
+    Ok(())
+}
+
+/// Writes the body of a reply with ports' descriptions.
+pub fn put_port_desc_reply(more: bool, ports: &[PortDesc], out: &mut Bytes) -> Result<(), NoMemory>
+    ensures { OnOk result (out.new ≡ out.old ++ port_desc_reply_bytes more ports.now) }
+{
+    put_multipart_head(PORT_DESC, if more { 1 } else { 0 }, out)?;
+    put_ports(ports, out)
+}
+
+/// Writes the body of a reply with ports' counters.
+pub fn put_port_stats_reply(
+    more: bool,
+    stats: &[PortStats],
+    out: &mut Bytes,
+) -> Result<(), NoMemory>
+    ensures { OnOk result (out.new ≡ out.old ++ port_stats_reply_bytes more stats.now) }
+{
+    put_multipart_head(PORT_STATS, if more { 1 } else { 0 }, out)?;
+    put_ports_stats(stats, out)
+}
+
+fn read_port_desc_request(body: &[u8]) -> Result<Message, PartRefused>
+    requires { length body.now < 2 ^ 16 }
+    ensures { Gives (λ m. m) result (port_desc_request_at body.now) }
+{
+    exactly(8, body)?;
+    Ok(Message::PortDescRequest)
+}
+
+fn read_port_stats_request(body: &[u8]) -> Result<Message, PartRefused>
+    requires { length body.now < 2 ^ 16 }
+    ensures { Gives (λ m. m) result (port_stats_request_at body.now) }
+{
+    exactly(16, body)?;
+    Ok(Message::PortStatsRequest {
+        port: u32_at(body, 8),
+    })
+}
+
+pub fn read_other(alloc: Global, kind: u8, body: &[u8]) -> Result<Message, PartRefused>
+    ensures { Gives (λ m. m) result (other_at kind body.now) }
+{
+    let body = Bytes::from_slice(alloc, body)?;
+    Ok(Message::Other { kind, body })
+}
+
+/// Reads the body of a MULTIPART_REQUEST.
+#[tactic(auto, unfolding(crate::specs::Decoding::request_at))]
+pub fn read_request(alloc: Global, body: &[u8]) -> Result<Message, PartRefused>
+    requires { length body.now < 2 ^ 16 }
+    ensures { Gives (λ m. m) result (request_at body.now) }
+{
+    at_least(8, body)?;
+    match u128::from(u16_at(body, 0)) {
+        PORT_DESC => read_port_desc_request(body),
+        PORT_STATS => read_port_stats_request(body),
+        _ => read_other(alloc, 18, body),
+    }
+}
+
+fn has_more(body: &[u8]) -> bool
+    requires { 8 ≤ length body.now }
+    ensures { result ≡ has_more body.now }
+{
+    u16_at(body, 2) % 2 == 1
+}
+
+#[tactic(auto, unfolding(crate::specs::Decoding::port_step))]
+fn take_port(
+    alloc: Global,
+    past: PartFault,
+    ports: &mut PortDescs,
+    bytes: &[u8],
+) -> Result<usize, PartRefused>
+    ensures exact { (at : ℕ) → Gives (λ n. (ports.new, n)) result (port_step past ports.old at bytes.now) }
+    ensures taken { IfOk result (λ n. (4 ≤ n) × (n ≤ length bytes.now)) }
+{
+    if bytes.len() < 64 {
+        return Err(PartRefused::At(past));
+    }
+    ports.push(port_of(alloc, bytes)?)?;
+    Ok(64)
+}
+
+#[tactic(auto, unfolding(crate::specs::Decoding::stats_step))]
+fn take_stats(
+    past: PartFault,
+    stats: &mut PortStatsList,
+    bytes: &[u8],
+) -> Result<usize, PartRefused>
+    ensures exact { (at : ℕ) → Gives (λ n. (stats.new, n)) result (stats_step past stats.old at bytes.now) }
+    ensures taken { IfOk result (λ n. (4 ≤ n) × (n ≤ length bytes.now)) }
+{
+    if bytes.len() < 112 {
+        return Err(PartRefused::At(past));
+    }
+    stats.push(stats_of(bytes))?;
+    Ok(112)
+}
+
+/// Reads ports' descriptions up to the end of the bytes.
+#[tactic(auto, unfolding(crate::specs::Decoding::ports_at))]
+fn read_ports(alloc: Global, past: PartFault, bytes: &[u8]) -> Result<PortDescs, PartRefused>
+    ensures { Gives (λ p. p) result (ports_at past bytes.now) }
+{
+    let mut ports = PortDescs::new(alloc);
+    let mut rest = bytes;
+    while !rest.is_empty() {
+        let taken = take_port(alloc, past, &mut ports, rest)?;
+        let (_, after) = rest.split_at(taken);
+        rest = after;
+    }
+    Ok(ports)
+}
+
+/// Reads ports' counters up to the end of the bytes.
+#[tactic(auto, unfolding(crate::specs::Decoding::ports_stats_at))]
+fn read_ports_stats(
+    alloc: Global,
+    past: PartFault,
+    bytes: &[u8],
+) -> Result<PortStatsList, PartRefused>
+    ensures { Gives (λ p. p) result (ports_stats_at past bytes.now) }
+{
+    let mut stats = PortStatsList::new(alloc);
+    let mut rest = bytes;
+    while !rest.is_empty() {
+        let taken = take_stats(past, &mut stats, rest)?;
+        let (_, after) = rest.split_at(taken);
+        rest = after;
+    }
+    Ok(stats)
+}
+
+fn read_port_desc_reply(alloc: Global, body: &[u8]) -> Result<Message, PartRefused>
+    requires head { 8 ≤ length body.now }
+    requires small { length body.now < 2 ^ 16 }
+    ensures { Gives (λ m. m) result (port_desc_reply_at body.now) }
+{
+    let (_, items) = body.split_at(8);
+    let ports = read_ports(alloc, short(body), items)?;
+    Ok(Message::PortDescReply {
+        more: has_more(body),
+        ports,
+    })
+}
+
+fn read_port_stats_reply(alloc: Global, body: &[u8]) -> Result<Message, PartRefused>
+    requires head { 8 ≤ length body.now }
+    requires small { length body.now < 2 ^ 16 }
+    ensures { Gives (λ m. m) result (port_stats_reply_at body.now) }
+{
+    let (_, items) = body.split_at(8);
+    let ports = read_ports_stats(alloc, short(body), items)?;
+    Ok(Message::PortStatsReply {
+        more: has_more(body),
+        ports,
+    })
+}
+
+/// Reads the body of a MULTIPART_REPLY.
+#[tactic(auto, unfolding(crate::specs::Decoding::reply_at))]
+pub fn read_reply(alloc: Global, body: &[u8]) -> Result<Message, PartRefused>
+    requires { length body.now < 2 ^ 16 }
+    ensures { Gives (λ m. m) result (reply_at body.now) }
+{
+    at_least(8, body)?;
+    match u128::from(u16_at(body, 0)) {
+        PORT_DESC => read_port_desc_reply(alloc, body),
+        PORT_STATS => read_port_stats_reply(alloc, body),
+        _ => read_other(alloc, 19, body),
+    }
+}

@@ -1,0 +1,13 @@
+use Rattle.std.proofs.Common.{◌≡◌, ◌+◌, length, []}
+use Rattle.of_wire.specs.Reading.{action_step, actions_at}
+use Rattle.of_wire.proofs.Many.{Left}
+use Rattle.of_wire.proofs.actions.read_actions.Given as goal
+
+abbrev pub invariant-loop-rest : goal.invariant-loop-rest
+invariant-loop-rest l = record {
+  place : l.place + length l.rest ≡ l.at + length l.bytes;
+  left : Left (action_step l.past) (actions_at l.past l.at l.bytes) l.actions l.place l.rest;
+}
+
+abbrev pub decreases-loop-rest : goal.decreases-loop-rest
+decreases-loop-rest l = length l.rest

@@ -1,0 +1,32 @@
+use Rattle.std.proofs.Common.{◌≡◌, ◌+◌, ◌<◌, length, drop, [], refl, sym, ◌∙◌, ap, arith}
+use Rattle.std.proofs.lemmas.Bool.{eqb-false, eqb-true}
+use Rattle.std.proofs.lemmas.List.{length-drop}
+use Rattle.std.proofs.lemmas.Result.{err_from_is_err_and}
+use Rattle.of_wire.specs.Reading.{instr_step, instrs_at, fault_at}
+use Rattle.of_wire.specs.declared.fault.PartCause.TheVariants.{Short}
+use Rattle.of_wire.proofs.Many.{Left, starts, goes, ends, is_done, is_some, is_none}
+use Rattle.of_wire.proofs.instructions.get_instrs_at.Goals as goal
+
+pub loop-rest-init : goal.loop-rest-init
+unfolding instrs_at
+loop-rest-init c = record {
+  place = refl;
+  left = rw c.new-instrs.ensures (starts (instr_step (fault_at (c.args.at + length c.args.bytes.now) Short)) [] c.args.at c.args.bytes.now);
+}
+
+pub returns-in_err-taken : goal.returns-in_err-taken
+returns-in_err-taken c =
+    let p = err_from_is_err_and c.from_residual.result c.from_residual.ensures.1 in
+    rw (p.1, p.2) (ends (instr_step (fault_at (c.args.at + length c.args.bytes.now) Short)) (instrs_at c.args.at c.args.bytes.now) c.loop-rest.instrs c.loop-rest.place c.loop-rest.rest.now c.in_err-taken.field-0.0
+    (is_some c.loop-rest.rest.now (c.loop-rest-test.ensures)) c.in_err-taken.ensures.exact c.loop-rest.invariant.left)
+
+pub loop-rest-preserved : goal.loop-rest-preserved
+loop-rest-preserved c =
+    record {
+      place = omega (arith, c.loop-rest.invariant.place, c.split_at.ensures.back_len);
+      left = rw c.split_at.ensures.back (goes (instr_step (fault_at (c.args.at + length c.args.bytes.now) Short)) (instrs_at c.args.at c.args.bytes.now) c.loop-rest.instrs c.loop-rest.place c.loop-rest.rest.now (c.take_instr.new.instrs, c.in_ok-taken.taken)
+          (is_some c.loop-rest.rest.now c.loop-rest-test.ensures) (omega (arith, c.in_ok-taken.ensures.taken.0)) c.in_ok-taken.ensures.exact c.loop-rest.invariant.left);
+    }
+
+pub returns : goal.returns
+returns c = is_done (instr_step (fault_at (c.args.at + length c.args.bytes.now) Short)) (instrs_at c.args.at c.args.bytes.now) c.loop-rest.instrs c.loop-rest.place c.loop-rest.rest.now (is_none c.loop-rest.rest.now c.loop-rest-test.ensures) c.loop-rest.invariant.left

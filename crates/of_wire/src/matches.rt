@@ -1,0 +1,476 @@
+ghost use Rattle.std.specs.Prelude.{◌≡◌, ◌≤◌, ◌<◌, ◌+◌, ◌++◌, ◌^◌, length, List, [], true, false, OnOk, IfOk, IfSome};
+ghost use Rattle.std.specs.List.{flat_map};
+ghost use Rattle.of_wire.specs.Parts.{field_bytes, match_bytes};
+ghost use Rattle.net_base.specs.declared.field.Field.{Field};
+ghost use Rattle.of_wire.specs.Reading.{Gives, fault_at, first_fields, last_fields, field_numbered, field_named, has_mask, payload_len, wanted_len, field_value, stands, has_exactly, is_exactly, is_tagged, has_tagged, first_above, has_prerequisites, placed, known_field, known_step, unknown_step, field_step, many, fields_at, sized_match_at, match_at};
+
+use crate::fault::{PartCause, PartFault, PartRefused};
+use crate::number::{number_at, put_number, put_zeros, u8_at, u16_at};
+use crate::reading::{past_end, refused, take_padding};
+use net_base::{Bytes, Field, FieldId, Fields, NoMemory};
+use std::alloc::Global;
+
+/// The class of the fields that every switch knows (OpenFlow 1.3, 7.2.3.3).
+const OPENFLOW_BASIC: u128 = 0x8000;
+
+/// The type of a match of fields.
+const OXM_MATCH: u128 = 1;
+
+/// Writes a field of a match, with its mask where that leaves a bit out (OpenFlow 1.3, 7.2.3.2).
+pub fn put_field(field: &Field, out: &mut Bytes) -> Result<(), NoMemory>
+    ensures { OnOk result (out.new ≡ out.old ++ field_bytes field.now) }
+{
+    let len = field.id.byte_len();
+    let head = 2 * u128::from(field.id.number());
+    put_number(out, OPENFLOW_BASIC, 2)?;
+    if field.mask == field.id.all_ones() {
+        put_number(out, head, 1)?;
+        put_number(out, len as u128, 1)?;
+        put_number(out, field.value, len)?;
+    } else {
+        put_number(out, head + 1, 1)?;
+        put_number(out, 2 * len as u128, 1)?;
+        put_number(out, field.value, len)?;
+        put_number(out, field.mask, len)?;
+    }
+    Ok(())
+}
+
+fn put_fields(fields: &[Field], out: &mut Bytes) -> Result<(), NoMemory>
+    ensures { OnOk result (out.new ≡ out.old ++ flat_map field_bytes fields.now) }
+{
+    for field in fields {
+        put_field(field, out)?;
+    }
+    Ok(())
+}
+
+/// How many bytes a field takes.
+#[tactic(auto, using(crate::proofs::Lengths::field_plain, crate::proofs::Lengths::field_masked))]
+pub fn field_len(field: &Field) -> usize
+    ensures exact { result ≡ length (field_bytes field.now) }
+    ensures most { result ≤ 16 }
+{
+    let len = field.id.byte_len();
+    if field.mask == field.id.all_ones() {
+        4 + len
+    } else {
+        4 + 2 * len
+    }
+}
+
+/// How many bytes a match takes, its type and length among them, without its padding.
+fn match_len(fields: &[Field]) -> u128
+    ensures { result ≡ 4 + length (flat_map field_bytes fields.now) }
+{
+    let mut total = 4;
+    for field in fields {
+        total += field_len(field) as u128;
+    }
+    total
+}
+
+/// Writes a match of these fields, in their order (OpenFlow 1.3, 7.2.3.1).
+#[tactic(auto, using(crate::proofs::Lengths::match_padding))]
+pub fn put_match(fields: &[Field], out: &mut Bytes) -> Result<(), NoMemory>
+    ensures { OnOk result (out.new ≡ out.old ++ match_bytes fields.now) }
+{
+    let len = match_len(fields);
+    put_number(out, OXM_MATCH, 2)?;
+    put_number(out, len, 2)?;
+    put_fields(fields, out)?;
+    put_zeros(out, ((8 - len % 8) % 8) as usize)
+}
+
+/// The fields of the numbers below 13 (OpenFlow 1.3, 7.2.3.7).
+fn first_fields(number: u8) -> Option<FieldId>
+    ensures { result ≡ first_fields number }
+{
+    match number {
+        0 => Some(FieldId::InPort),
+        3 => Some(FieldId::EthDst),
+        4 => Some(FieldId::EthSrc),
+        5 => Some(FieldId::EthType),
+        6 => Some(FieldId::VlanVid),
+        7 => Some(FieldId::VlanPcp),
+        10 => Some(FieldId::IpProto),
+        11 => Some(FieldId::Ipv4Src),
+        12 => Some(FieldId::Ipv4Dst),
+        _ => None,
+    }
+}
+
+/// The fields of the numbers from 13 on.
+fn last_fields(number: u8) -> Option<FieldId>
+    ensures { result ≡ last_fields number }
+{
+    match number {
+        13 => Some(FieldId::TcpSrc),
+        14 => Some(FieldId::TcpDst),
+        15 => Some(FieldId::UdpSrc),
+        16 => Some(FieldId::UdpDst),
+        19 => Some(FieldId::Icmpv4Type),
+        20 => Some(FieldId::Icmpv4Code),
+        21 => Some(FieldId::ArpOp),
+        22 => Some(FieldId::ArpSpa),
+        23 => Some(FieldId::ArpTpa),
+        _ => None,
+    }
+}
+
+/// The field with a number.
+#[tactic(auto, unfolding(crate::specs::Reading::field_numbered))]
+fn field_numbered(number: u8) -> Option<FieldId>
+    ensures { result ≡ field_numbered number }
+{
+    if number < 13 {
+        first_fields(number)
+    } else {
+        last_fields(number)
+    }
+}
+
+/// The field that a header names: one of the basic class, by its number (OpenFlow 1.3, 7.2.3.2).
+#[tactic(auto, unfolding(crate::specs::Reading::field_named))]
+pub fn field_named(bytes: &[u8]) -> Option<FieldId>
+    requires { 4 ≤ length bytes.now }
+    ensures { result ≡ field_named bytes.now }
+{
+    if u128::from(u16_at(bytes, 0)) == OPENFLOW_BASIC {
+        field_numbered(u8_at(bytes, 2) / 2)
+    } else {
+        None
+    }
+}
+
+/// Whether a header says that a mask follows the value.
+pub fn has_mask(bytes: &[u8]) -> bool
+    requires { 4 ≤ length bytes.now }
+    ensures { result ≡ has_mask bytes.now }
+{
+    u8_at(bytes, 2) % 2 == 1
+}
+
+fn wanted_len(id: FieldId, masked: bool) -> usize
+    ensures { result ≡ wanted_len id masked }
+{
+    if masked {
+        2 * id.byte_len()
+    } else {
+        id.byte_len()
+    }
+}
+
+/// The value behind a header, and the mask where the header says that there is one.
+#[tactic(auto, unfolding(crate::specs::Reading::field_value))]
+pub fn field_value(id: FieldId, bytes: &[u8]) -> Field
+    requires { 4 + wanted_len id (has_mask bytes.now) ≤ length bytes.now }
+    ensures { result ≡ field_value id bytes.now }
+{
+    let len = id.byte_len();
+    let value = number_at(bytes, 4, len);
+    let mask = if has_mask(bytes) {
+        number_at(bytes, 4 + len, len)
+    } else {
+        id.all_ones()
+    };
+    Field { id, value, mask }
+}
+
+fn stands(id: FieldId, fields: &[Field]) -> bool
+    ensures { result ≡ stands id fields.now }
+{
+    fields.iter().any(|f| f.id.number() == id.number())
+}
+
+fn is_exactly(id: FieldId, value: u128, field: &Field) -> bool
+    ensures { result ≡ is_exactly id value field.now }
+{
+    field.id.number() == id.number() && field.value == value && field.mask == id.all_ones()
+}
+
+fn has_exactly(id: FieldId, value: u128, fields: &[Field]) -> bool
+    ensures { result ≡ has_exactly id value fields.now }
+{
+    fields.iter().any(|f| is_exactly(id, value, f))
+}
+
+fn is_tagged(field: &Field) -> bool
+    ensures { result ≡ is_tagged field.now }
+{
+    field.id.number() == FieldId::VlanVid.number() && field.value != 0
+}
+
+fn has_tagged(fields: &[Field]) -> bool
+    ensures { result ≡ has_tagged fields.now }
+{
+    fields.iter().any(|f| is_tagged(f))
+}
+
+/// Whether what has to stand before a field does (OpenFlow 1.3, 7.2.3.6).
+#[tactic(auto, unfolding(crate::specs::Reading::has_prerequisites))]
+fn has_prerequisites(id: FieldId, fields: &[Field]) -> bool
+    ensures { result ≡ has_prerequisites id fields.now }
+{
+    match id {
+        FieldId::VlanPcp => has_tagged(fields),
+        FieldId::IpProto | FieldId::Ipv4Src | FieldId::Ipv4Dst => {
+            has_exactly(FieldId::EthType, 0x0800, fields)
+        }
+        FieldId::TcpSrc | FieldId::TcpDst => has_exactly(FieldId::IpProto, 6, fields),
+        FieldId::UdpSrc | FieldId::UdpDst => has_exactly(FieldId::IpProto, 17, fields),
+        FieldId::Icmpv4Type | FieldId::Icmpv4Code => has_exactly(FieldId::IpProto, 1, fields),
+        FieldId::ArpOp | FieldId::ArpSpa | FieldId::ArpTpa => {
+            has_exactly(FieldId::EthType, 0x0806, fields)
+        }
+        FieldId::InPort | FieldId::EthDst | FieldId::EthSrc | FieldId::EthType | FieldId::VlanVid =>
+            true,
+    }
+}
+
+fn first_above(number: u8, fields: &[Field]) -> Option<usize>
+    ensures value { result ≡ first_above number fields.now }
+    ensures within { IfSome result (λ i. i < length fields.now) }
+{
+    fields.iter().position(|g| number < g.id.number())
+}
+
+/// Puts a field into its place among fields in ascending order of their numbers.
+#[tactic(auto, unfolding(crate::specs::Reading::placed))]
+fn place(field: Field, fields: &mut Fields) -> Result<(), NoMemory>
+    ensures { OnOk result (fields.new ≡ placed field fields.old) }
+{
+    match first_above(field.id.number(), fields.as_slice()) {
+        Some(at) => fields.insert(at, field),
+        None => fields.push(field),
+    }
+}
+
+/// A known field: its length has to be that of its value, and of its mask where it has one.
+#[tactic(auto, unfolding(crate::specs::Reading::known_field))]
+fn known_field(past: PartFault, id: FieldId, at: u32, bytes: &[u8]) -> Result<Field, PartRefused>
+    requires head { 4 ≤ length bytes.now }
+    requires small { at + length bytes.now < 2 ^ 32 }
+    ensures exact { Gives (λ f. f) result (known_field past id at bytes.now) }
+    ensures there { IfOk result (λ f. 4 + payload_len bytes.now ≤ length bytes.now) }
+{
+    let len = usize::from(u8_at(bytes, 3));
+    if len != wanted_len(id, has_mask(bytes)) {
+        return Err(refused(at + 3, PartCause::BadLength));
+    }
+    if bytes.len() < 4 + len {
+        return Err(PartRefused::At(past));
+    }
+    Ok(field_value(id, bytes))
+}
+
+/// Reads a known field, which comes once, and, where that is asked, behind its prerequisites.
+#[tactic(auto, unfolding(crate::specs::Reading::known_step))]
+fn take_known(
+    strict: bool,
+    past: PartFault,
+    id: FieldId,
+    fields: &mut Fields,
+    at: u32,
+    bytes: &[u8],
+) -> Result<usize, PartRefused>
+    requires head { 4 ≤ length bytes.now }
+    requires small { at + length bytes.now < 2 ^ 32 }
+    ensures exact { Gives (λ n. (fields.new, n)) result (known_step strict past id fields.old at bytes.now) }
+    ensures taken { IfOk result (λ n. (4 ≤ n) × (n ≤ length bytes.now)) }
+{
+    if stands(id, fields.as_slice()) {
+        return Err(refused(at, PartCause::Repeated));
+    }
+    if strict && !has_prerequisites(id, fields.as_slice()) {
+        return Err(refused(at, PartCause::Prerequisite));
+    }
+    let field = known_field(past, id, at, bytes)?;
+    place(field, fields)?;
+    Ok(4 + usize::from(u8_at(bytes, 3)))
+}
+
+/// Passes over a field that isn't known, or refuses it.
+#[tactic(auto, unfolding(crate::specs::Reading::unknown_step))]
+fn pass_over(strict: bool, past: PartFault, at: u32, bytes: &[u8]) -> Result<usize, PartRefused>
+    requires { 4 ≤ length bytes.now }
+    ensures exact { (fields : List Field) → Gives (λ n. (fields, n)) result (unknown_step strict past fields at bytes.now) }
+    ensures taken { IfOk result (λ n. (4 ≤ n) × (n ≤ length bytes.now)) }
+{
+    if strict {
+        return Err(refused(at, PartCause::BadClass));
+    }
+    let len = 4 + usize::from(u8_at(bytes, 3));
+    if bytes.len() < len {
+        return Err(PartRefused::At(past));
+    }
+    Ok(len)
+}
+
+/// Reads one field more, and says how many bytes it takes.
+#[tactic(auto, unfolding(crate::specs::Reading::field_step))]
+fn take_field(
+    strict: bool,
+    past: PartFault,
+    fields: &mut Fields,
+    at: u32,
+    bytes: &[u8],
+) -> Result<usize, PartRefused>
+    requires { at + length bytes.now < 2 ^ 32 }
+    ensures exact { Gives (λ n. (fields.new, n)) result (field_step strict past fields.old at bytes.now) }
+    ensures taken { IfOk result (λ n. (4 ≤ n) × (n ≤ length bytes.now)) }
+{
+    if bytes.len() < 4 {
+        return Err(PartRefused::At(past));
+    }
+    match field_named(bytes) {
+        Some(id) => take_known(strict, past, id, fields, at, bytes),
+        None => pass_over(strict, past, at, bytes),
+    }
+}
+
+/// Reads fields up to the end of the bytes.
+fn read_field_list(
+    alloc: Global,
+    strict: bool,
+    past: PartFault,
+    at: u32,
+    bytes: &[u8],
+) -> Result<Fields, PartRefused>
+    requires { at + length bytes.now < 2 ^ 32 }
+    ensures { Gives (λ f. f) result (many (field_step strict past) (length bytes.now) [] at bytes.now) }
+{
+    let mut fields = Fields::new(alloc);
+    let mut rest = bytes;
+    let mut place = at;
+    while !rest.is_empty() {
+        let taken = take_field(strict, past, &mut fields, place, rest)?;
+        let (_, after) = rest.split_at(taken);
+        rest = after;
+        place += taken as u32;
+    }
+    Ok(fields)
+}
+
+/// Reads the fields of a match whose length is this, in ascending order of their numbers.
+#[tactic(auto, unfolding(crate::specs::Reading::fields_at))]
+fn read_fields(
+    alloc: Global,
+    strict: bool,
+    len: usize,
+    at: u32,
+    bytes: &[u8],
+) -> Result<Fields, PartRefused>
+    requires head { 4 ≤ len }
+    requires there { 4 ≤ length bytes.now }
+    requires small { at + length bytes.now < 2 ^ 32 }
+    ensures { Gives (λ f. f) result (fields_at strict len at bytes.now) }
+{
+    let end = at + bytes.len() as u32;
+    let wrong = PartFault {
+        at: at + 2,
+        cause: PartCause::BadLength,
+    };
+    let short = PartFault {
+        at: end,
+        cause: PartCause::Short,
+    };
+    let past = past_end(len, bytes.len(), wrong, short);
+    let (_, behind) = bytes.split_at(4);
+    let (region, _) = behind.split_at((len - 4).min(behind.len()));
+    read_field_list(alloc, strict, past, at + 4, region)
+}
+
+/// Reads the rest of a match whose length is this: its fields and its padding.
+#[tactic(auto, unfolding(crate::specs::Reading::sized_match_at))]
+fn read_sized_match(
+    alloc: Global,
+    strict: bool,
+    len: usize,
+    at: u32,
+    bytes: &[u8],
+) -> Result<(Fields, usize), PartRefused>
+    requires head { 4 ≤ len }
+    requires most { len < 2 ^ 16 }
+    requires there { 4 ≤ length bytes.now }
+    requires small { at + length bytes.now < 2 ^ 32 }
+    ensures exact { Gives (λ x. x) result (sized_match_at strict len at bytes.now) }
+    ensures taken { IfOk result (λ x. x.1 ≤ length bytes.now) }
+{
+    let fields = read_fields(alloc, strict, len, at, bytes)?;
+    let short = PartFault {
+        at: at + bytes.len() as u32,
+        cause: PartCause::Short,
+    };
+    let taken = take_padding(short, at, len, len + (8 - len % 8) % 8, bytes)?;
+    Ok((fields, taken))
+}
+
+/// Reads a match (OpenFlow 1.3, 7.2.3.1). Places of faults count from `at` at the first byte.
+#[tactic(auto, unfolding(crate::specs::Reading::match_at))]
+fn read_match(
+    alloc: Global,
+    strict: bool,
+    at: u32,
+    bytes: &[u8],
+) -> Result<(Fields, usize), PartRefused>
+    requires { at + length bytes.now < 2 ^ 32 }
+    ensures exact { Gives (λ x. x) result (match_at strict at bytes.now) }
+    ensures taken { IfOk result (λ x. x.1 ≤ length bytes.now) }
+{
+    if bytes.len() < 4 {
+        return Err(refused(at + bytes.len() as u32, PartCause::Short));
+    }
+    if u128::from(u16_at(bytes, 0)) != OXM_MATCH {
+        return Err(refused(at, PartCause::BadClass));
+    }
+    let len = usize::from(u16_at(bytes, 2));
+    if len < 4 {
+        return Err(refused(at + 2, PartCause::BadLength));
+    }
+    read_sized_match(alloc, strict, len, at, bytes)
+}
+
+/// Reads the match at the front of the bytes, with its fields in ascending order of their numbers,
+/// and says how many bytes it takes with its padding (OpenFlow 1.3, 7.2.3). Fields that aren't
+/// known, fields that stand twice and fields without their prerequisites are refused.
+pub fn get_match(alloc: Global, bytes: &[u8]) -> Result<(Fields, usize), PartRefused>
+    requires { length bytes.now < 2 ^ 32 }
+    ensures exact { Gives (λ x. x) result (match_at true 0 bytes.now) }
+    ensures taken { IfOk result (λ x. x.1 ≤ length bytes.now) }
+{
+    read_match(alloc, true, 0, bytes)
+}
+
+/// Reads the match at the front of the bytes as one that a switch reports: fields that aren't
+/// known are passed over, and no field needs a prerequisite.
+pub fn get_match_seen(alloc: Global, bytes: &[u8]) -> Result<(Fields, usize), PartRefused>
+    requires { length bytes.now < 2 ^ 32 }
+    ensures exact { Gives (λ x. x) result (match_at false 0 bytes.now) }
+    ensures taken { IfOk result (λ x. x.1 ≤ length bytes.now) }
+{
+    read_match(alloc, false, 0, bytes)
+}
+
+/// `get_match` for a match inside a message: the places of faults count from the message's first
+/// byte, and the first byte given here stands at `at`.
+pub fn get_match_at(alloc: Global, at: u32, bytes: &[u8]) -> Result<(Fields, usize), PartRefused>
+    requires { at + length bytes.now < 2 ^ 32 }
+    ensures exact { Gives (λ x. x) result (match_at true at bytes.now) }
+    ensures taken { IfOk result (λ x. x.1 ≤ length bytes.now) }
+{
+    read_match(alloc, true, at, bytes)
+}
+
+/// `get_match_seen` for a match inside a message.
+pub fn get_match_seen_at(
+    alloc: Global,
+    at: u32,
+    bytes: &[u8],
+) -> Result<(Fields, usize), PartRefused>
+    requires { at + length bytes.now < 2 ^ 32 }
+    ensures exact { Gives (λ x. x) result (match_at false at bytes.now) }
+    ensures taken { IfOk result (λ x. x.1 ≤ length bytes.now) }
+{
+    read_match(alloc, false, at, bytes)
+}
