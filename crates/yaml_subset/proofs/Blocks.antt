@@ -22,7 +22,7 @@ block_begins (suc n) lines h = let e : suc n - 1 ≡ n = omega arith in rw e ref
 pub ruleset block_rules = (block_none, block_begins)
 
 -- the lines that aren't deeper begin the next groups
-groups_after : (n : ℕ) (lines : List Line) → groups_of n (after_leading (is_deeper n) lines) ≡ groups_of n lines
+pub groups_after : (n : ℕ) (lines : List Line) → groups_of n (after_leading (is_deeper n) lines) ≡ groups_of n lines
 groups_after n [] = refl
 groups_after n (line ∷ lines) =
     elim (nat_lt n line.indent) as (λ t. t ≡ is_deeper n line → groups_of n (cond t (after_leading (is_deeper n) lines) (line ∷ lines)) ≡ groups_of n (line ∷ lines))
@@ -33,7 +33,7 @@ length-after n [] = omega arith
 length-after n (line ∷ lines) = let k : length (after_leading (is_deeper n) lines) ≤ length lines = length-after n lines in
     elim (is_deeper n line) as (λ t. length (cond t (after_leading (is_deeper n) lines) (line ∷ lines)) ≤ length (line ∷ lines)) [ true ↦ omega arith | false ↦ omega arith ]
 
-not_below : (n : ℕ) → nat_lt n n ≡ false
+pub not_below : (n : ℕ) → nat_lt n n ≡ false
 not_below n = grind (arith, nat_tests)
 
 -- whether the first line is deeper

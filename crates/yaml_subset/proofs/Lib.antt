@@ -1,4 +1,10 @@
 pub mod Blocks
+pub mod Entries
+pub mod Joined
 pub mod Leading
 pub mod Lines
+pub mod Maps
+pub mod Parts
+pub mod Scalars
 pub mod Utf8
+pub mod Whole

@@ -1,6 +1,8 @@
-ghost use Rattle.std.specs.Prelude.{◌≡◌, ◌<◌, ◌≤◌, ◌^◌, ◌↔◌, ◌++◌, length, drop, IsTrue, MatchOption, IfOk, OnOk, Ok, pos, neg_ℤ};
+ghost use Rattle.std.specs.Prelude.{◌≡◌, ◌<◌, ◌≤◌, ◌^◌, ◌↔◌, ◌++◌, length, drop, IsTrue, MatchOption, IfOk, OnOk, IfSome, IfNone, Ok, pos, neg_ℤ};
 ghost use Rattle.std.specs.Str.{bytes_eq};
 ghost use Rattle.std.specs.Char.{digit_value};
+ghost use Rattle.yaml_subset.specs.declared.tree.Tree.{Tree};
+ghost use Rattle.yaml_subset.specs.FirstForm.{ReadsFirstForm};
 ghost use Rattle.yaml_subset.specs.Reading.{Gives, Lends, in_class, leading, after_leading, is_blank, value_from, all_digits, is_decimal, is_negative, all_hexadecimal, is_hexadecimal, is_true_word, is_false_word, is_plain, positive, negative, text_of, number_or_text, plain, plain_scalar, closes, quoted_scalar, scalar, begins_with_space, value_of, key_in, key_of, behind_colon, entry_of, line_entry, listed, entries_of, lines_of, same_key, has_key, is_deeper, may_follow, indent_of, block, held, tree_of, first_form};
 
 use crate::tree::{Key, Pair, Tree};
@@ -519,15 +521,25 @@ fn first_form(alloc: Global, text: &[u8]) -> Result<Tree, Stop>
     tree_of(alloc, lines.as_slice())
 }
 
-/// The tree that a text of the first form has; `None` where the text isn't of that form.
-pub fn read_first_form(alloc: Global, text: &[u8]) -> Result<Option<Tree>, NoMemory>
-    ensures exact { IfOk result (λ found. found ≡ first_form text.now) }
+fn exact_form(alloc: Global, text: &[u8]) -> Result<Option<Tree>, NoMemory>
+    ensures { IfOk result (λ found. found ≡ first_form text.now) }
 {
     match first_form(alloc, text) {
         Ok(tree) => Ok(Some(tree)),
         Err(Stop::Form) => Ok(None),
         Err(Stop::Memory(none)) => Err(none),
     }
+}
+
+/// The tree of a text of the first form; `None` exactly where the text isn't of that form.
+#[tactic(auto, using(crate::proofs::Whole::reads))]
+pub fn read_first_form(alloc: Global, text: &[u8]) -> Result<Option<Tree>, NoMemory>
+    // What is read is a tree of the text.
+    ensures read { IfOk result (λ found. IfSome found (λ tree. ReadsFirstForm text.now tree)) }
+    // Where nothing is read, the text has no tree.
+    ensures none { IfOk result (λ found. IfNone found ((tree : Tree) → ReadsFirstForm text.now tree → ⊥)) }
+{
+    exact_form(alloc, text)
 }
 
 #[cfg(test)]

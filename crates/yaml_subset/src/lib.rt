@@ -2,6 +2,7 @@
 #![tactic(auto)]
 
 mod first_form;
+pub mod laws;
 mod tree;
 
 pub use first_form::read_first_form;
