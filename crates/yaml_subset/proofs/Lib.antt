@@ -5,6 +5,7 @@ pub mod Leading
 pub mod Lines
 pub mod Maps
 pub mod Parts
+pub mod Pieces
 pub mod Scalars
 pub mod Utf8
 pub mod Whole
