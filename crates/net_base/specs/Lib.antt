@@ -1,3 +1,5 @@
+pub mod Address
+pub mod AddressReading
 pub mod Field
 pub mod FieldId
 pub mod Numbers

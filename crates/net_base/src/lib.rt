@@ -3,8 +3,11 @@
 #![tactic(auto)]
 
 mod address;
+mod ascii;
 mod field;
 mod items;
+pub mod laws;
+mod net4;
 mod numbers;
 mod stack;
 mod text;
@@ -13,6 +16,7 @@ mod try_copy;
 pub use address::{Ip4, Mac};
 pub use field::{Field, FieldId, Fields};
 pub use items::{Bytes, Items};
+pub use net4::Net4;
 pub use numbers::{DpId, Moment, PortNo, Vid};
 pub use stack::{Node, Nodes, StackLink, StackLinks};
 pub use text::{Names, Text};

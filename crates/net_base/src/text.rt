@@ -1,4 +1,5 @@
 ghost use Rattle.std.specs.Prelude.{◌≡◌, [], ◌++◌, ◌↔◌, length, IsTrue, IfOk, OnOk, OnErr};
+ghost use Rattle.std.specs.Str.{IsUtf8};
 
 use crate::items::Items;
 use crate::try_copy::{NoMemory, TryCopy};
@@ -46,6 +47,18 @@ impl Text {
         ensures err { OnErr result (self.new ≡ self.old) }
     {
         self.text.push_str(piece)
+    }
+
+    /// Adds bytes that are UTF-8 at the end. After `NoMemory` the text is as it was.
+    pub(crate) fn append_utf8(&mut self, piece: &[u8]) -> Result<(), NoMemory>
+        requires { IsUtf8 piece.now }
+        ensures ok { OnOk result (self.new ≡ self.old ++ piece.now) }
+        ensures err { OnErr result (self.new ≡ self.old) }
+    {
+        match str::from_utf8(piece) {
+            Ok(text) => self.append(text),
+            Err(_) => unreachable!(),
+        }
     }
 
     /// The text itself.

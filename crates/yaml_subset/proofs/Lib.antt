@@ -4,3 +4,5 @@ pub mod BlockLaws
 pub mod LineLaws
 pub mod EntryLaws
 pub mod ReadingLaws
+pub mod FrontLaws
+pub mod DigitLaws

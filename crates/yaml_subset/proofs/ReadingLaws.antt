@@ -28,11 +28,11 @@ unfolding lines_from upto
 upto_is k state line more zero = refl
 upto_is k state line more (suc m) = refl
 
-abbrev err : YamlFault → Result Tree YamlFault
+abbrev pub err : YamlFault → Result Tree YamlFault
 err fault = Err fault
 
 -- equal faults stand on one line
-line_same : (m n : ℕ) (c d : YamlCause) → err (fault_at m c) ≡ err (fault_at n d) → m ≡ n
+pub line_same : (m n : ℕ) (c d : YamlCause) → err (fault_at m c) ≡ err (fault_at n d) → m ≡ n
 line_same m n c d h = let e : fault_at m c ≡ fault_at n d = cc in ap (λ (f : YamlFault). f.line) e
 
 breaks_at : (r : Result State YamlCause) (k : ℕ) (state : State) (more : List (List ℕ)) (n : ℕ) (cause : YamlCause)

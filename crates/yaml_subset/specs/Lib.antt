@@ -12,3 +12,5 @@ pub mod Blocks
 pub mod Reading
 pub mod Seen
 pub mod Accepted
+pub mod DigitLaws
+pub mod Printed

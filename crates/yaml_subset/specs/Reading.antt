@@ -1,5 +1,6 @@
 -- A whole text: its lines one after the other, and the first fault.
 use Rattle.std.specs.Prelude.{◌≡◌, ℕ, ◌+◌, nat_lt, ◌==◌, if◌then◌else◌, List, [], ◌∷◌, length, take, count_by, Result, Ok, Err}
+use Rattle.std.specs.Str.{is_utf8}
 use Rattle.std.specs.Str.Lines.{lines}
 use Rattle.std.specs.Str.Lossy.{utf8_valid_len}
 use Rattle.yaml_subset.specs.declared.fault.YamlCause.{YamlCause}
@@ -31,7 +32,7 @@ line_not_utf8 text = count_by (λ b. b == 10) (take (utf8_valid_len text) text) 
 -- the tree of a text, or its first fault
 unfoldable pub read_of : List ℕ → Result Tree YamlFault
 read_of text = if nat_lt 1048576 (length text) then Err (fault_at 0 TooLong)
-    else if utf8_valid_len text == length text then lines_from 0 Start (lines text)
+    else if is_utf8 text then lines_from 0 Start (lines text)
     else Err (fault_at (line_not_utf8 text) NotUtf8)
 
 -- a refusal is the fault of the text, unless memory ran out

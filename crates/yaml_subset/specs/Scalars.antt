@@ -1,7 +1,6 @@
 -- Scalars, and what they stand for as values and as keys.
 use Rattle.std.specs.Prelude.{ℕ, Bool, true, false, ◌||◌, ◌&&◌, ◌==◌, ◌-◌, if◌then◌else◌, List, [], ◌∷◌, length, take, drop, codes, Option, Some, None, Result, Ok, Err}
-use Rattle.std.specs.Str.{bytes_eq}
-use Rattle.std.specs.Str.Lossy.{utf8_valid_len}
+use Rattle.std.specs.Str.{bytes_eq, is_utf8}
 use Rattle.yaml_subset.specs.declared.fault.YamlForm.TheVariants.{MergeKey}
 use Rattle.yaml_subset.specs.declared.fault.YamlForm.TheVariants as form
 use Rattle.yaml_subset.specs.declared.fault.YamlCause.{YamlCause}
@@ -22,7 +21,7 @@ use Rattle.yaml_subset.specs.Gives.{◌>>=◌}
 
 -- the bytes as a text
 unfoldable pub text_of : List ℕ → Result (List ℕ) YamlCause
-text_of bytes = if utf8_valid_len bytes == length bytes then Ok bytes else Err NotUtf8
+text_of bytes = if is_utf8 bytes then Ok bytes else Err NotUtf8
 
 -- a plain scalar, and what follows it
 unfoldable pub plain_scalar : Bool → List ℕ → Result (Scanned × List ℕ) YamlCause

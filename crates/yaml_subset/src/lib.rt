@@ -11,6 +11,7 @@ pub mod laws;
 mod lines;
 mod numbers;
 mod plain;
+mod print;
 mod quoted;
 mod reading;
 mod scalars;
@@ -18,6 +19,7 @@ mod stack;
 mod tree;
 
 pub use fault::{YamlCause, YamlFault, YamlForm, YamlRefused};
+pub use print::print_yaml;
 pub use reading::read_yaml;
 pub use tree::{Key, Pair, Pairs, Tree, Trees};
 

@@ -1,0 +1,5 @@
+use Rattle.net_base.proofs.Addresses.{mac_spelled}
+use Rattle.net_base.proofs.laws.printed_mac.Goals as goal
+
+pub returns : goal.returns
+returns c = mac_spelled

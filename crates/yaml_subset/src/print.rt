@@ -1,0 +1,340 @@
+ghost use Rattle.std.specs.Prelude.{◌≡◌, ◌++◌, [], ◌∷◌, map, length, IfOk, OnOk, Some, None, ◌<◌, ◌/◌, ◌%◌, codes};
+ghost use Rattle.std.specs.Char.{digit_char};
+ghost use Rattle.std.specs.Str.{bytes_eq};
+ghost use Rattle.std.specs.List.{list_all};
+ghost use Rattle.std.specs.Fmt.{signed_decimal};
+ghost use Rattle.yaml_subset.specs.Printed.{escaped, all_escaped, is_plain_byte, begins_with_letter, is_word_of_its_own, is_bool_word, stays_plain, text_scalar, key_scalar, scalar_or_lines, behind, item_lines, pair_lines, piece_of, pair_piece, printed};
+
+use crate::tree::{Key, Pair, Tree};
+use net_base::{Bytes, NoMemory};
+use std::alloc::Global;
+
+fn append_escaped(out: &mut Bytes, b: u8) -> Result<(), NoMemory>
+    ensures { OnOk result (out.new ≡ out.old ++ escaped b) }
+{
+    match b {
+        b'\\' => out.append(b"\\\\"),
+        b'"' => out.append(b"\\\""),
+        b'\n' => out.append(b"\\n"),
+        b'\t' => out.append(b"\\t"),
+        b'\r' => out.append(b"\\r"),
+        _ if b.is_ascii_control() => append_code(out, b),
+        _ => out.push(b),
+    }
+}
+
+fn append_code(out: &mut Bytes, b: u8) -> Result<(), NoMemory>
+    ensures { OnOk result (out.new ≡ out.old ++ (codes "\\u00" ++ digit_char (b / 16) ∷ digit_char (b % 16) ∷ [])) }
+{
+    out.append(b"\\u00")?;
+    out.push(hex_char(b / 16))?;
+    out.push(hex_char(b % 16))
+}
+
+fn hex_char(digit: u8) -> u8
+    requires { digit < 16 }
+    ensures { result ≡ digit_char digit }
+{
+    if digit < 10 {
+        b'0' + digit
+    } else {
+        b'a' - 10 + digit
+    }
+}
+
+fn append_all_escaped(out: &mut Bytes, text: &[u8]) -> Result<(), NoMemory>
+    ensures { OnOk result (out.new ≡ out.old ++ all_escaped text.now) }
+{
+    for b in text {
+        append_escaped(out, *b)?;
+    }
+    Ok(())
+}
+
+fn is(word: &[u8], other: &[u8]) -> bool
+    ensures { result ≡ bytes_eq word.now other.now }
+{
+    word == other
+}
+
+fn is_word_of_its_own(text: &[u8]) -> bool
+    ensures { result ≡ is_word_of_its_own text.now }
+{
+    is(text, b"null") || is_bool_word(text)
+}
+
+fn is_bool_word(text: &[u8]) -> bool
+    ensures { result ≡ is_bool_word text.now }
+{
+    is(text, b"true")
+        || is(text, b"True")
+        || is(text, b"TRUE")
+        || is(text, b"false")
+        || is(text, b"False")
+        || is(text, b"FALSE")
+}
+
+fn begins_with_letter(text: &[u8]) -> bool
+    ensures { result ≡ begins_with_letter text.now }
+{
+    match text {
+        [b, ..] => b.is_ascii_alphabetic(),
+        [] => false,
+    }
+}
+
+fn is_plain_byte(b: u8) -> bool
+    ensures { result ≡ is_plain_byte b }
+{
+    b.is_ascii_alphanumeric() || b == b'_' || b == b'-' || b == b'.' || b == b'/'
+}
+
+fn all_plain(text: &[u8]) -> bool
+    ensures { result ≡ list_all is_plain_byte text.now }
+{
+    text.iter().all(|b| is_plain_byte(*b))
+}
+
+fn stays_plain(text: &[u8]) -> bool
+    ensures { result ≡ stays_plain text.now }
+{
+    begins_with_letter(text) && all_plain(text) && !is_word_of_its_own(text)
+}
+
+#[tactic(auto, unfolding(crate::specs::Printed::text_scalar))]
+fn append_text(out: &mut Bytes, text: &[u8]) -> Result<(), NoMemory>
+    ensures { OnOk result (out.new ≡ out.old ++ text_scalar text.now) }
+{
+    if stays_plain(text) {
+        return out.append(text);
+    }
+    out.push(b'"')?;
+    append_all_escaped(out, text)?;
+    out.push(b'"')
+}
+
+fn append_int(alloc: Global, out: &mut Bytes, n: i128) -> Result<(), NoMemory>
+    ensures { OnOk result (out.new ≡ out.old ++ signed_decimal n) }
+{
+    let digits = format!(in alloc; "{n}")?;
+    out.append(digits.as_str().as_bytes())
+}
+
+fn append_key(alloc: Global, out: &mut Bytes, key: &Key) -> Result<(), NoMemory>
+    ensures { OnOk result (out.new ≡ out.old ++ key_scalar key.now) }
+{
+    match key {
+        Key::Int(n) => append_int(alloc, out, *n),
+        Key::Text(text) => append_text(out, text.as_str().as_bytes()),
+    }
+}
+
+/// The scalar that a tree is printed as on one line; `None` where it takes lines of its own.
+#[tactic(auto, using(crate::proofs::Pieces::piece_rules))]
+fn scalar_of(alloc: Global, tree: &Tree) -> Result<Option<Bytes>, NoMemory>
+    ensures { IfOk result (λ found. found ≡ (piece_of tree.now).inline) }
+{
+    let mut out = Bytes::new(alloc);
+    match tree {
+        Tree::Null => out.append(b"null")?,
+        Tree::Bool(true) => out.append(b"true")?,
+        Tree::Bool(false) => out.append(b"false")?,
+        Tree::Int(n) => append_int(alloc, &mut out, *n)?,
+        Tree::Text(text) => append_text(&mut out, text.as_str().as_bytes())?,
+        Tree::List(items) => {
+            if !items.is_empty() {
+                return Ok(None);
+            }
+            out.append(b"[]")?
+        }
+        Tree::Map(pairs) => {
+            if !pairs.is_empty() {
+                return Ok(None);
+            }
+            out.append(b"{}")?
+        }
+    }
+    Ok(Some(out))
+}
+
+fn deeper(alloc: Global, indent: &[u8]) -> Result<Bytes, NoMemory>
+    ensures { IfOk result (λ made. made ≡ indent.now ++ codes "  ") }
+{
+    let mut made = Bytes::from_slice(alloc, indent)?;
+    made.append(b"  ")?;
+    Ok(made)
+}
+
+/// Prints what stands behind the colon or the hyphen of a tree in a block at this indent.
+#[cycle(lines)]
+fn print_behind(alloc: Global, out: &mut Bytes, tree: &Tree, indent: &[u8]) -> Result<(), NoMemory>
+    ensures { OnOk result (out.new ≡ out.old ++ behind (piece_of tree.now) indent.now) }
+{
+    match scalar_of(alloc, tree)? {
+        Some(scalar) => {
+            out.push(b' ')?;
+            out.append(scalar.as_slice())?;
+            out.push(b'\n')
+        }
+        None => {
+            out.push(b'\n')?;
+            let indent = deeper(alloc, indent)?;
+            print_lines(alloc, out, tree, indent.as_slice())
+        }
+    }
+}
+
+/// Prints the lines of a list or a map at this indent.
+#[cycle(lines)]
+fn print_lines(alloc: Global, out: &mut Bytes, tree: &Tree, indent: &[u8]) -> Result<(), NoMemory>
+    ensures { OnOk result (out.new ≡ out.old ++ (piece_of tree.now).lines indent.now) }
+{
+    match tree {
+        Tree::List(items) => print_items(alloc, out, items.as_slice(), indent),
+        Tree::Map(pairs) => print_pairs(alloc, out, pairs.as_slice(), indent),
+        _ => Ok(()),
+    }
+}
+
+#[cycle(lines)]
+fn print_items(
+    alloc: Global,
+    out: &mut Bytes,
+    items: &[Tree],
+    indent: &[u8],
+) -> Result<(), NoMemory>
+    ensures { OnOk result (out.new ≡ out.old ++ item_lines indent.now (map piece_of items.now)) }
+{
+    for item in items {
+        out.append(indent)?;
+        out.push(b'-')?;
+        print_behind(alloc, out, item, indent)?;
+    }
+    Ok(())
+}
+
+#[cycle(lines)]
+fn print_pairs(
+    alloc: Global,
+    out: &mut Bytes,
+    pairs: &[Pair],
+    indent: &[u8],
+) -> Result<(), NoMemory>
+    ensures { OnOk result (out.new ≡ out.old ++ pair_lines indent.now (map pair_piece pairs.now)) }
+{
+    for pair in pairs {
+        out.append(indent)?;
+        append_key(alloc, out, &pair.key)?;
+        out.push(b':')?;
+        print_behind(alloc, out, &pair.value, indent)?;
+    }
+    Ok(())
+}
+
+/// The canonical form of a tree: a scalar on a line, or a block with two spaces for each level.
+pub fn print_yaml(alloc: Global, tree: &Tree) -> Result<Bytes, NoMemory>
+    ensures { IfOk result (λ text. text ≡ printed tree.now) }
+{
+    let mut out = Bytes::new(alloc);
+    match scalar_of(alloc, tree)? {
+        Some(scalar) => {
+            out.append(scalar.as_slice())?;
+            out.push(b'\n')?;
+        }
+        None => print_lines(alloc, &mut out, tree, &[])?,
+    }
+    Ok(out)
+}
+
+#[cfg(test)]
+mod tests {
+    use super::*;
+    use crate::first_form::read_first_form;
+    use crate::tree::Pairs;
+    use net_base::{Items, Text};
+    use std::test::Fail;
+
+    fn text(alloc: Global, text: &str) -> Result<Tree, NoMemory> {
+        Ok(Tree::Text(Text::from_str(alloc, text)?))
+    }
+
+    const TEXTS: [(&str, &str); 16] = [
+        ("office", "office\n"),
+        ("a-b_c.d/e", "a-b_c.d/e\n"),
+        ("", "\"\"\n"),
+        (" a ", "\" a \"\n"),
+        ("null", "\"null\"\n"),
+        ("True", "\"True\"\n"),
+        ("FALSE", "\"FALSE\"\n"),
+        ("12", "\"12\"\n"),
+        ("0x1", "\"0x1\"\n"),
+        ("-a", "\"-a\"\n"),
+        ("a: b", "\"a: b\"\n"),
+        ("# x", "\"# x\"\n"),
+        ("a\"b\\c", "\"a\\\"b\\\\c\"\n"),
+        ("\n\t\r", "\"\\n\\t\\r\"\n"),
+        ("\u{1}\u{1f}\u{7f}", "\"\\u0001\\u001f\\u007f\"\n"),
+        ("\u{e9}", "\"\u{e9}\"\n"),
+    ];
+
+    #[test]
+    fn texts_are_quoted_where_they_must_be(rt: HostRuntime) -> Result<(), Fail> {
+        for (plain, printed) in TEXTS {
+            let tree = text(rt.alloc(), plain)?;
+            let found = print_yaml(rt.alloc(), &tree)?;
+            assert_eq!(rt; found.as_slice(), printed.as_bytes());
+        }
+        Ok(())
+    }
+
+    const INTS: [(i128, &str); 4] = [
+        (0, "0\n"),
+        (-7, "-7\n"),
+        (i128::MAX, "170141183460469231731687303715884105727\n"),
+        (i128::MIN, "-170141183460469231731687303715884105728\n"),
+    ];
+
+    #[test]
+    fn whole_numbers_are_decimal(rt: HostRuntime) -> Result<(), Fail> {
+        for (n, printed) in INTS {
+            let found = print_yaml(rt.alloc(), &Tree::Int(n))?;
+            assert_eq!(rt; found.as_slice(), printed.as_bytes());
+        }
+        Ok(())
+    }
+
+    #[test]
+    fn maps_and_values_are_in_block_form(rt: HostRuntime) -> Result<(), Fail> {
+        let read = read_first_form(rt.alloc(), b"b:\n    1: null\n    'x':\na: true")?;
+        assert!(rt; read.is_none());
+        let read = read_first_form(
+            rt.alloc(),
+            b"b:\n    0x10: null\n    c:\n        d: \"null\"\na: true",
+        )?;
+        let tree = read.ok_or("a tree")?;
+        let found = print_yaml(rt.alloc(), &tree)?;
+        assert_eq!(rt;
+            found.as_slice(),
+            b"b:\n  16: null\n  c:\n    d: \"null\"\na: true\n".as_slice()
+        );
+        Ok(())
+    }
+
+    #[test]
+    fn lists_are_in_block_form(rt: HostRuntime) -> Result<(), Fail> {
+        let alloc = rt.alloc();
+        let mut inner = Items::new(alloc);
+        inner.push(Tree::Bool(false))?;
+        inner.push(Tree::Map(Pairs::new(alloc)))?;
+        let mut outer = Items::new(alloc);
+        outer.push(Tree::List(Items::new(alloc)))?;
+        outer.push(Tree::List(inner))?;
+        outer.push(Tree::Null)?;
+        let found = print_yaml(alloc, &Tree::List(outer))?;
+        assert_eq!(rt;
+            found.as_slice(),
+            b"- []\n-\n  - false\n  - {}\n- null\n".as_slice()
+        );
+        Ok(())
+    }
+}
