@@ -542,11 +542,11 @@ fn entries_stand_in_key_order(rt: HostRuntime) -> Result<(), Fail> {
         (0, 0, masked, 1, None),
     ];
     let tables = tables_of(rt.alloc(), &rows)?;
-    let mut ports = [0; 9];
-    for (port, entry) in ports.iter_mut().zip(tables.iter()) {
-        *port = sends_to(Some(entry)).unwrap_or(0);
+    let mut ports = Items::new(rt.alloc());
+    for entry in tables.iter() {
+        ports.push(sends_to(Some(entry)).unwrap_or(0))?;
     }
-    assert_eq!(rt; ports, [1, 2, 3, 4, 5, 6, 7, 8, 9]);
+    assert_eq!(rt; ports.as_slice(), [1, 2, 3, 4, 5, 6, 7, 8, 9].as_slice());
     Ok(())
 }
 
