@@ -1,8 +1,10 @@
 //! Laws of the definitions: each function is empty, and its contract is the law.
 
-ghost use Rattle.std.specs.Prelude.{◌≡◌, ◌≤◌, ◌<◌, ◌%◌, ◌-◌, ◌^◌, ℕ, List, All, IfSome, length, take, drop, sum};
+ghost use Rattle.std.specs.Prelude.{◌≡◌, ◌++◌, false, ◌≤◌, ◌<◌, ◌%◌, ◌-◌, ◌^◌, ℕ, List, All, IfSome, length, take, drop, sum};
 ghost use Rattle.std.specs.List.{fold};
 ghost use Rattle.pkt_view.specs.Checksum.{carried, ones_complement, internet_checksum};
+ghost use Rattle.pkt_view.specs.Frame.{is_tag_type, parts};
+ghost use Rattle.pkt_view.specs.Numbers.{number};
 ghost use Rattle.pkt_view.specs.Packets.{packet};
 ghost use Rattle.pkt_view.specs.Replies.{reply_header, reply_icmp};
 ghost use Rattle.pkt_view.specs.Shaped.{IsShaped};
@@ -12,6 +14,14 @@ ghost use Rattle.pkt_view.specs.Shaped.{IsShaped};
 #[tactic(auto, using(crate::proofs::Shapes::packet_shaped))]
 pub fn packet_of_a_frame_is_shaped()
     ensures { (frame : List ℕ) → IfSome (packet frame) IsShaped }
+{}
+
+/// A frame is its parts in a row: two addresses, the tags, the EtherType and the payload; and that
+/// type is none that shows a tag (IEEE 802.3, 3.1.1; IEEE 802.1Q, 9.3).
+#[tactic(auto, using(crate::proofs::Spelled::frame_in_a_row, crate::proofs::Spelled::type_shows_no_tag))]
+pub fn frame_is_its_parts()
+    ensures row { (frame : List ℕ) → All (λ b. b < 256) frame → IfSome (parts frame) (λ p. frame ≡ p.dst.0 ++ p.src.0 ++ p.tags ++ number 2 p.eth_type ++ p.payload) }
+    ensures no_tag { (frame : List ℕ) → IfSome (parts frame) (λ p. is_tag_type p.eth_type ≡ false) }
 {}
 
 /// The one's complement sum has 16 bits, is congruent to the plain sum modulo 65,535, and is 0 for
