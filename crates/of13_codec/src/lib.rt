@@ -5,6 +5,7 @@ mod codec;
 mod features;
 mod flow_mod;
 mod hello;
+pub mod laws;
 mod message;
 mod multipart;
 mod packet_in;
@@ -21,3 +22,6 @@ pub use packet_in::PacketIn;
 pub use packet_out::PacketOut;
 pub use ports::{PortDesc, PortDescs, PortStats, PortStatsList};
 pub use refused::WireRefused;
+
+#[cfg(test)]
+mod tests;
