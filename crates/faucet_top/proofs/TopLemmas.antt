@@ -128,7 +128,6 @@ dp_of_none e = cc
 module _ (words : List (List ℕ)) (status : ℕ) (contents : Option Contents) (fault absence : Type 0) (o0 o1 e0 e1 : Option (List ℕ)) (wf : Type 0)
     (no_meaning : meaning words ≡ None → Delivers usage status o0 o1 e0 e1 wf)
     (plan : (config dp : List ℕ) → meaning words ≡ Some (Plan config dp) → PlanAnswered config dp status contents fault absence o0 o1 e0 e1 wf) where
-
   usage_only_by : (m : Option Job) → meaning words ≡ m → status ≡ 1 → meaning words ≡ None
   usage_only_by None e s = e
   usage_only_by (Some (Plan config dp)) e s = let p = plan config dp e in absurd (not_one status o0 o1 e0 e1 wf config dp p.made p.given s)

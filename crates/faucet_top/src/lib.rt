@@ -16,6 +16,5 @@ pub use top::faucet;
 
 #[cfg(test)]
 mod plain;
-
 #[cfg(test)]
 mod tests;

@@ -1,8 +1,8 @@
 //! What the commands write, over files and streams in memory.
 
+use crate::cold::make_cold;
 use crate::faucet;
 use crate::plain::plain_cold;
-use crate::cold::make_cold;
 use crate::shape::make_conf;
 use fg_outside::{CallNos, Folder, Folders, HeldFile, HeldFiles, MemFiles, MemSink, NoHub};
 use net_base::{Bytes, Names, NoMemory, Text};
@@ -10,7 +10,8 @@ use std::alloc::Global;
 use std::test::Fail;
 use yaml_subset::read_yaml;
 
-const QUICK_START: &str = "vlans:\n    office:\n        vid: 100\n        description: \"office network\"\ndps:\n    sw1:\n        dp_id: 0x1\n        hardware: \"Open vSwitch\"\n        interfaces:\n            1:\n                name: \"host1\"\n                description: \"host1 network namespace\"\n                native_vlan: office\n            2:\n                name: \"host2\"\n                description: \"host2 network namespace\"\n                native_vlan: office\n";
+const QUICK_START: &str =
+    "vlans:\n    office:\n        vid: 100\n        description: \"office network\"\ndps:\n    sw1:\n        dp_id: 0x1\n        hardware: \"Open vSwitch\"\n        interfaces:\n            1:\n                name: \"host1\"\n                description: \"host1 network namespace\"\n                native_vlan: office\n            2:\n                name: \"host2\"\n                description: \"host2 network namespace\"\n                native_vlan: office\n";
 
 const USAGE: &str = "usage: faucet check, plan, replay, serve, gauge, gauge-serve or bench\n";
 
@@ -103,13 +104,38 @@ fn each_refusal_is_one_line(rt: HostRuntime) -> Result<(), Fail> {
         (["plan", "f.yaml"].as_slice(), QUICK_START, 1, USAGE),
         (["plan", "f.yaml", ""].as_slice(), QUICK_START, 1, USAGE),
         (["plan", "-f", "sw1"].as_slice(), QUICK_START, 1, USAGE),
-        (["plan", "f.yaml", "sw1", "x"].as_slice(), QUICK_START, 1, USAGE),
-        (["plan", "f.yaml", "sw9"].as_slice(), QUICK_START, 2, "f.yaml: dps.sw9: Unresolved\n"),
-        (["plan", "f.yaml", "sw"].as_slice(), QUICK_START, 2, "f.yaml: dps.sw: Unresolved\n"),
-        (["plan", "nofile", "sw1"].as_slice(), QUICK_START, 3, "nofile: read fault\n"),
+        (
+            ["plan", "f.yaml", "sw1", "x"].as_slice(),
+            QUICK_START,
+            1,
+            USAGE,
+        ),
+        (
+            ["plan", "f.yaml", "sw9"].as_slice(),
+            QUICK_START,
+            2,
+            "f.yaml: dps.sw9: Unresolved\n",
+        ),
+        (
+            ["plan", "f.yaml", "sw"].as_slice(),
+            QUICK_START,
+            2,
+            "f.yaml: dps.sw: Unresolved\n",
+        ),
+        (
+            ["plan", "nofile", "sw1"].as_slice(),
+            QUICK_START,
+            3,
+            "nofile: read fault\n",
+        ),
         (plan, "", 2, "f.yaml: not in the first form\n"),
         (plan, "a: 1\n\tb: 2\n", 2, "f.yaml: line 2: Tab\n"),
-        (plan, "version: 2\nversion: 2\n", 2, "f.yaml: line 2: DuplicateKey\n"),
+        (
+            plan,
+            "version: 2\nversion: 2\n",
+            2,
+            "f.yaml: line 2: DuplicateKey\n",
+        ),
         (plan, "vlans: &a\n", 2, "f.yaml: line 1: LeftOut Anchor\n"),
     ];
     for (words, text, status, line) in cases {
@@ -126,17 +152,26 @@ fn each_failing_call_has_its_status(rt: HostRuntime) -> Result<(), Fail> {
     let alloc = rt.alloc();
     let words = ["plan", "f.yaml", "sw1"];
     for failing_read in 1..=2 {
-        let outside = Outside { failing_read, ..SURE };
+        let outside = Outside {
+            failing_read,
+            ..SURE
+        };
         let ran = run(alloc, &words, QUICK_START, outside)?;
         assert_eq!(rt; ran.status, 3);
         assert_eq!(rt; ran.err.as_slice(), b"f.yaml: read fault\n".as_slice());
         assert_eq!(rt; ran.out.as_slice().len(), 0);
     }
-    let outside = Outside { failing_out: 1, ..SURE };
+    let outside = Outside {
+        failing_out: 1,
+        ..SURE
+    };
     let ran = run(alloc, &words, QUICK_START, outside)?;
     assert_eq!(rt; ran.status, 4);
     assert_eq!(rt; ran.out.as_slice().len(), 0);
-    let outside = Outside { failing_err: 2, ..SURE };
+    let outside = Outside {
+        failing_err: 2,
+        ..SURE
+    };
     let ran = run(alloc, &words, "", outside)?;
     assert_eq!(rt; ran.status, 4);
     assert_eq!(rt; ran.err.as_slice(), b"f.yaml".as_slice());
@@ -176,7 +211,10 @@ fn the_plain_cold_start_agrees(rt: HostRuntime) -> Result<(), Fail> {
         assert_eq!(rt; shipped.len(), plain.len());
         for (a, b) in shipped.as_slice().iter().zip(plain.as_slice()) {
             assert!(rt; a.key == b.key, "{text}");
-            let (a, b) = (format!(in alloc; "{:?}", a.instrs)?, format!(in alloc; "{:?}", b.instrs)?);
+            let (a, b) = (
+                format!(in alloc; "{:?}", a.instrs)?,
+                format!(in alloc; "{:?}", b.instrs)?,
+            );
             assert_eq!(rt; a.as_str(), b.as_str());
         }
     }
