@@ -1,5 +1,4 @@
 pub mod Adds
 pub mod FormLemmas
-pub mod Numbers
 pub mod PlanLemmas
 pub mod TopLemmas

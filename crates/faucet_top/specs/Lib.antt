@@ -4,7 +4,6 @@ pub mod Cold
 pub mod Ends
 pub mod Form
 pub mod Messages
-pub mod Parts
 pub mod Refusals
 pub mod Shaped
 pub mod Status

@@ -6,7 +6,6 @@ mod conf;
 mod deliver;
 mod form;
 mod messages;
-mod parts;
 mod plan;
 mod shape;
 mod top;

@@ -1,129 +1,67 @@
-ghost use Rattle.std.specs.Prelude.{◌≡◌, ◌++◌, IfOk, OnOk, length};
-ghost use Rattle.std.specs.List.{flat_map};
-ghost use Rattle.faucet_top.specs.Parts.{number, match_bytes, instr_bytes};
-ghost use Rattle.faucet_top.specs.Messages.{message, flow_mod_target, flow_mod_terms, flow_mod_filter, flow_mod, add, delete_all, barrier_request, next_xid, adds, xid_after, opening};
+ghost use Rattle.std.specs.Prelude.{◌≡◌, ◌++◌, IfOk, OnOk};
+ghost use Rattle.of13_codec.specs.Messages.{written};
+ghost use Rattle.faucet_top.specs.Messages.{add, delete_all, flow_mod, next_xid, adds, xid_after, opening};
 
-use crate::parts::{put_instrs, put_match, put_number, put_zeros};
-use net_base::{Bytes, Field, NoMemory};
-use of_match::{Entry, Instr};
+use net_base::{Bytes, Fields, NoMemory, TryCopy};
+use of_match::{Entry, Instrs};
+use of13_codec::{FlowMod, Message, encode};
 use std::alloc::Global;
-
-/// The wire version of OpenFlow 1.3.
-const VERSION: u128 = 4;
-
-// The types of messages (OpenFlow 1.3, 7.1).
-const FLOW_MOD: u128 = 14;
-
-const BARRIER_REQUEST: u128 = 20;
 
 /// The cookie of every entry of this controller.
 const COOKIE: u64 = 0x5adc_15c0;
 
 /// No buffered packet, any port, any group: all the same number (OpenFlow 1.3, 7.2.1, 7.3.4.1).
-const NONE: u128 = 0xffff_ffff;
+const NONE: u32 = 0xffff_ffff;
 
 /// Every table.
 const ALL_TABLES: u8 = 0xff;
 
-/// The commands of a FLOW_MOD (OpenFlow 1.3, 7.3.4.1).
+// The commands of a FLOW_MOD (OpenFlow 1.3, 7.3.4.1).
 const ADD: u8 = 0;
-
 const DELETE: u8 = 3;
 
-/// A FLOW_MOD, but for the fields that are the same in every one of this controller.
-#[derive(Drop)]
-struct FlowMod<'a> {
-    cookie: u64,
-    table: u8,
-    command: u8,
-    priority: u16,
-    fields: &'a [Field],
-    instrs: &'a [Instr],
-}
-
-fn put_message(out: &mut Bytes, kind: u128, xid: u32, body: &[u8]) -> Result<(), NoMemory>
-    ensures { OnOk result (out.new ≡ out.old ++ message kind xid body.now) }
+/// Adds an entry.
+fn make_add(alloc: Global, entry: &Entry) -> Result<Message, NoMemory>
+    ensures { IfOk result (λ made. made ≡ add entry.now) }
 {
-    put_number(out, VERSION, 1)?;
-    put_number(out, kind, 1)?;
-    put_number(out, 8 + body.len() as u128, 2)?;
-    put_number(out, u128::from(xid), 4)?;
-    out.append(body)
-}
-
-fn put_flow_mod_target(out: &mut Bytes, m: &FlowMod) -> Result<(), NoMemory>
-    ensures { OnOk result (out.new ≡ out.old ++ flow_mod_target m.now.cookie m.now.table m.now.command) }
-{
-    put_number(out, u128::from(m.cookie), 8)?;
-    put_number(out, 0, 8)?;
-    put_number(out, u128::from(m.table), 1)?;
-    put_number(out, u128::from(m.command), 1)?;
-    Ok(())
-}
-
-fn put_flow_mod_terms(out: &mut Bytes, priority: u16) -> Result<(), NoMemory>
-    ensures { OnOk result (out.new ≡ out.old ++ flow_mod_terms priority) }
-{
-    put_number(out, 0, 2)?;
-    put_number(out, 0, 2)?;
-    put_number(out, u128::from(priority), 2)?;
-    put_number(out, NONE, 4)
-}
-
-fn put_flow_mod_filter(out: &mut Bytes) -> Result<(), NoMemory>
-    ensures { OnOk result (out.new ≡ out.old ++ flow_mod_filter) }
-{
-    put_number(out, NONE, 4)?;
-    put_number(out, NONE, 4)?;
-    put_number(out, 0, 2)?;
-    put_zeros(out, 2)
-}
-
-fn put_flow_mod(alloc: Global, out: &mut Bytes, xid: u32, m: &FlowMod) -> Result<(), NoMemory>
-    ensures { OnOk result (out.new ≡ out.old
-        ++ flow_mod xid m.now.cookie m.now.table m.now.command m.now.priority m.now.fields.now m.now.instrs.now) }
-{
-    let mut body = Bytes::new(alloc);
-    put_flow_mod_target(&mut body, m)?;
-    put_flow_mod_terms(&mut body, m.priority)?;
-    put_flow_mod_filter(&mut body)?;
-    put_match(alloc, &mut body, m.fields)?;
-    put_instrs(alloc, &mut body, m.instrs)?;
-    put_message(out, FLOW_MOD, xid, body.as_slice())
-}
-
-fn put_add(alloc: Global, out: &mut Bytes, xid: u32, entry: &Entry) -> Result<(), NoMemory>
-    ensures { OnOk result (out.new ≡ out.old ++ add xid entry.now) }
-{
-    let m = FlowMod {
+    let fields = entry.key.fields.copy(alloc)?;
+    let instrs = entry.instrs.copy(alloc)?;
+    Ok(Message::FlowMod(FlowMod {
         cookie: COOKIE,
+        cookie_mask: 0,
         table: entry.key.table,
         command: ADD,
+        idle: 0,
+        hard: 0,
         priority: entry.key.priority,
-        fields: entry.key.fields.as_slice(),
-        instrs: entry.instrs.as_slice(),
-    };
-    put_flow_mod(alloc, out, xid, &m)
+        buffer: NONE,
+        out_port: NONE,
+        out_group: NONE,
+        flags: 0,
+        fields,
+        instrs,
+    }))
 }
 
-fn put_delete_all(alloc: Global, out: &mut Bytes, xid: u32) -> Result<(), NoMemory>
-    ensures { OnOk result (out.new ≡ out.old ++ delete_all xid) }
+/// Deletes every entry of every table.
+fn make_delete_all(alloc: Global) -> Message
+    ensures { result ≡ delete_all }
 {
-    let m = FlowMod {
+    Message::FlowMod(FlowMod {
         cookie: 0,
+        cookie_mask: 0,
         table: ALL_TABLES,
         command: DELETE,
+        idle: 0,
+        hard: 0,
         priority: 0,
-        fields: &[],
-        instrs: &[],
-    };
-    put_flow_mod(alloc, out, xid, &m)
-}
-
-fn put_barrier_request(out: &mut Bytes, xid: u32) -> Result<(), NoMemory>
-    ensures { OnOk result (out.new ≡ out.old ++ barrier_request xid) }
-{
-    put_message(out, BARRIER_REQUEST, xid, &[])
+        buffer: NONE,
+        out_port: NONE,
+        out_group: NONE,
+        flags: 0,
+        fields: Fields::new(alloc),
+        instrs: Instrs::new(alloc),
+    })
 }
 
 /// The transaction id behind another one.
@@ -134,13 +72,19 @@ fn xid_behind(xid: u32) -> u32
 }
 
 /// Writes one add for each entry, and gives the transaction id behind the last.
-fn put_adds(alloc: Global, out: &mut Bytes, first: u32, entries: &[Entry]) -> Result<u32, NoMemory>
+fn put_adds(
+    alloc: Global,
+    out: &mut Bytes,
+    first: u32,
+    entries: &[Entry],
+) -> Result<u32, NoMemory>
     ensures bytes { OnOk result (out.new ≡ out.old ++ adds first entries.now) }
     ensures xid { IfOk result (λ xid. xid ≡ xid_after first entries.now) }
 {
     let mut xid = first;
     for entry in entries {
-        put_add(alloc, out, xid, entry)?;
+        let message = make_add(alloc, entry)?;
+        encode(alloc, &message, xid, out)?;
         xid = xid_behind(xid);
     }
     Ok(xid)
@@ -152,9 +96,9 @@ pub fn make_opening(alloc: Global, entries: &[Entry]) -> Result<Bytes, NoMemory>
     ensures { IfOk result (λ made. made ≡ opening entries.now) }
 {
     let mut out = Bytes::new(alloc);
-    put_delete_all(alloc, &mut out, 1)?;
-    put_barrier_request(&mut out, 2)?;
+    encode(alloc, &make_delete_all(alloc), 1, &mut out)?;
+    encode(alloc, &Message::BarrierRequest, 2, &mut out)?;
     let last = put_adds(alloc, &mut out, 3, entries)?;
-    put_barrier_request(&mut out, last)?;
+    encode(alloc, &Message::BarrierRequest, last, &mut out)?;
     Ok(out)
 }

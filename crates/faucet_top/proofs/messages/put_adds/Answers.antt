@@ -1,5 +1,4 @@
-use Rattle.std.proofs.Common.{◌≡◌, ◌++◌, sym, ap, ◌∙◌, append_assoc, drop, ◌+◌}
-use Rattle.faucet_top.specs.Messages.{add, adds, xid_after, next_xid}
+use Rattle.std.proofs.Common.{append_assoc}
 use Rattle.faucet_top.proofs.Adds.{adds-drop, xid_after-drop}
 use Rattle.faucet_top.proofs.messages.put_adds.Goals as goal
 
@@ -9,6 +8,6 @@ loop-entry-preserved c =
     let es = c.args.entries.now in
     let e = c.entry-item.result in
     record {
-      bytes = rw (c.in_ok-put_add.ensures, c.xid_behind-xid.ensures, append_assoc, ← adds-drop c.loop-entry.xid i es e c.loop-entry-test.true c.entry-item.is) c.loop-entry.invariant.bytes;
+      bytes = rw (c.in_ok-encode.ensures.ok, c.in_ok-message.ensures, c.xid_behind-xid.ensures, append_assoc, ← adds-drop c.loop-entry.xid i es e c.loop-entry-test.true c.entry-item.is) c.loop-entry.invariant.bytes;
       xid = rw (c.xid_behind-xid.ensures, ← xid_after-drop c.loop-entry.xid i es e c.loop-entry-test.true) c.loop-entry.invariant.xid;
     }

@@ -1,9 +1,0 @@
-use Rattle.std.proofs.Common.{ap, ◌∙◌, ◌++◌, List, ℕ, take, drop, ◌-◌}
-use Rattle.faucet_top.specs.Parts.{number}
-use Rattle.faucet_top.proofs.Numbers.{low_bytes}
-use Rattle.faucet_top.proofs.parts.put_number.Goals as goal
-
-pub returns : goal.returns
-unfolding number
-returns c =
-    c.in_ok-append.ensures.ok ∙ (ap (λ (bytes : List ℕ). c.args.out.now ++ take (16 - (16 - c.args.len)) (drop (16 - c.args.len) bytes)) c.write_u128.ensures ∙ ap (λ (bytes : List ℕ). c.args.out.now ++ bytes) (low_bytes c.args.len c.args.value c.requires))
