@@ -1,10 +1,8 @@
-use Rattle.std.proofs.Common.{◌≡◌, ℕ, zero, suc, ◌-◌, ◌<◌, List, [], ◌∷◌, length, drop, refl, arith, true, false, Result, Ok, Err}
-use Rattle.yaml_subset.specs.declared.fault.YamlCause.{YamlCause}
+use Rattle.std.proofs.Common.{◌≡◌, ℕ, zero, suc, ◌-◌, ◌<◌, List, [], ◌∷◌, refl, arith, true, false, Err}
 use Rattle.yaml_subset.specs.declared.fault.YamlCause.TheVariants.{TooDeep}
 use Rattle.yaml_subset.specs.declared.stack.Frame.{Frame}
 use Rattle.yaml_subset.specs.declared.blocks.Place.{Place}
 use Rattle.yaml_subset.specs.declared.blocks.Place.TheVariants.{Item}
-use Rattle.yaml_subset.specs.declared.blocks.State.{State}
 use Rattle.yaml_subset.specs.Characters.{marks}
 use Rattle.yaml_subset.specs.Blocks.{list_frame, key_or_value, behind_dash, content}
 

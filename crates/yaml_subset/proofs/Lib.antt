@@ -6,3 +6,4 @@ pub mod EntryLaws
 pub mod ReadingLaws
 pub mod FrontLaws
 pub mod DigitLaws
+pub mod Pieces

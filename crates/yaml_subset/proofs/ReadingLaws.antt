@@ -1,5 +1,5 @@
 -- A text is read line by line, so its first lines alone are read in the same way.
-use Rattle.std.proofs.Common.{◌≡◌, ℕ, zero, suc, ◌+◌, ◌-◌, ◌<◌, ◌≤◌, List, [], ◌∷◌, ◌++◌, length, take, drop, Result, Ok, Err, refl, sym, ◌∙◌, ap, arith, subst}
+use Rattle.std.proofs.Common.{◌≡◌, ℕ, zero, suc, ◌+◌, ◌<◌, ◌≤◌, List, [], ◌∷◌, ◌++◌, length, take, drop, Result, Ok, Err, refl, sym, ◌∙◌, ap, arith, subst}
 use Rattle.std.proofs.lemmas.List.{take-append-drop}
 use Rattle.yaml_subset.specs.declared.fault.YamlCause.{YamlCause}
 use Rattle.yaml_subset.specs.declared.fault.YamlFault.{YamlFault}

@@ -1,5 +1,5 @@
 -- Which lines a text may begin with, and which line is the first that it may not have.
-use Rattle.std.specs.Prelude.{◌≡◌, ℕ, ◌+◌, ◌<◌, ◌≤◌, List, ◌∷◌, length, take, Result, Ok, Err}
+use Rattle.std.specs.Prelude.{◌≡◌, ℕ, ◌<◌, ◌≤◌, List, take, Result, Ok, Err}
 use Rattle.std.specs.Str.Lines.{lines}
 use Rattle.yaml_subset.specs.declared.fault.YamlCause.{YamlCause}
 use Rattle.yaml_subset.specs.declared.fault.YamlFault.{YamlFault}

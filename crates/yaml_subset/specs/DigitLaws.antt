@@ -1,7 +1,7 @@
 -- What digits stand for, by place value.
 use Rattle.std.specs.Prelude.{◌≡◌, ℕ, ◌+◌, ◌*◌, ◌<◌, List, [], ◌∷◌, unwrap_or, Option, MatchOption}
 use Rattle.yaml_subset.specs.Quoted.{hex_digit}
-use Rattle.yaml_subset.specs.Numbers.{greatest, magnitude}
+use Rattle.yaml_subset.specs.Numbers.{greatest}
 
 -- the number of the digits behind those of m
 unfoldable pub digits_value : ℕ → ℕ → List ℕ → ℕ

@@ -1,5 +1,5 @@
 -- What is printed of a fault, and what a reader of the code gives.
-use Rattle.std.specs.Prelude.{◌≡◌, ℕ, List, ◌++◌, codes, Result, Ok, Err}
+use Rattle.std.specs.Prelude.{ℕ, List, ◌++◌, codes}
 use Rattle.yaml_subset.specs.declared.fault.YamlForm.{YamlForm}
 use Rattle.yaml_subset.specs.declared.fault.YamlForm.TheVariants.{Anchor, Alias, Tag, BlockScalar, Directive, ComplexKey, MergeKey, Documents, LongFlow, LongQuote, Wide}
 use Rattle.yaml_subset.specs.declared.fault.YamlCause.{YamlCause}

@@ -1,5 +1,5 @@
 -- Whole numbers, in decimal or hexadecimal digits.
-use Rattle.std.specs.Prelude.{ℕ, Bool, true, false, ◌||◌, ◌&&◌, not, nat_lt, nat_le, ◌==◌, ◌+◌, ◌*◌, ◌^◌, if◌then◌else◌, List, [], ◌∷◌, length, drop, Option, Some, None, is_some, unwrap_or, ℤ, pos, ◌-ℤ◌}
+use Rattle.std.specs.Prelude.{ℕ, Bool, false, ◌||◌, ◌&&◌, not, nat_lt, nat_le, ◌==◌, ◌+◌, ◌*◌, if◌then◌else◌, List, [], ◌∷◌, length, drop, Option, Some, None, is_some, unwrap_or, ℤ, pos, ◌-ℤ◌}
 use Rattle.std.specs.List.{list_all}
 use Rattle.std.specs.Option.{option_and_then}
 use Rattle.yaml_subset.specs.declared.numbers.Number.{Number}

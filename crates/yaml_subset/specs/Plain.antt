@@ -1,5 +1,5 @@
 -- Plain scalars: where they begin and where they end.
-use Rattle.std.specs.Prelude.{ℕ, Bool, true, false, ◌||◌, ◌&&◌, ◌==◌, if◌then◌else◌, List, [], ◌∷◌, Option, Some, None, Result, Ok, Err}
+use Rattle.std.specs.Prelude.{ℕ, Bool, ◌||◌, ◌&&◌, ◌==◌, if◌then◌else◌, List, [], ◌∷◌, Option, Some, None, Result, Ok, Err}
 use Rattle.yaml_subset.specs.declared.fault.YamlForm.{YamlForm}
 use Rattle.yaml_subset.specs.declared.fault.YamlForm.TheVariants.{LongFlow}
 use Rattle.yaml_subset.specs.declared.fault.YamlCause.{YamlCause}

@@ -1,5 +1,5 @@
 -- Scalars, and what they stand for as values and as keys.
-use Rattle.std.specs.Prelude.{ℕ, Bool, true, false, ◌||◌, ◌&&◌, ◌==◌, ◌-◌, if◌then◌else◌, List, [], ◌∷◌, length, take, drop, codes, Option, Some, None, Result, Ok, Err}
+use Rattle.std.specs.Prelude.{ℕ, Bool, true, false, ◌||◌, ◌&&◌, ◌-◌, if◌then◌else◌, List, [], length, take, drop, codes, Option, Some, None, Result, Ok, Err}
 use Rattle.std.specs.Str.{bytes_eq, is_utf8}
 use Rattle.yaml_subset.specs.declared.fault.YamlForm.TheVariants.{MergeKey}
 use Rattle.yaml_subset.specs.declared.fault.YamlForm.TheVariants as form

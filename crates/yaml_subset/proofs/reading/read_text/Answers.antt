@@ -1,4 +1,4 @@
-use Rattle.std.proofs.Common.{◌≡◌, ◌≤◌, ◌+◌, length, map, ap, arith, List, ℕ, sym, ◌∙◌, Bor}
+use Rattle.std.proofs.Common.{◌≡◌, length, map, ap, arith, List, ℕ, Bor}
 use Rattle.std.proofs.lemmas.List.{length-map}
 use Rattle.std.specs.Str.Lines.{lines}
 use Rattle.yaml_subset.proofs.LineLaws.{lines_at_most}
