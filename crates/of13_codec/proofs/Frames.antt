@@ -73,4 +73,4 @@ framed_again v k xid body version small kind fits ids =
     let right : is_version (number_in 0 1 frame) (number_in 1 1 frame) ≡ true = rw (n0, n1) version in
     let same : eqb (number_in 2 2 frame) (length frame) ≡ true = eq-eqb _ _ (n2 ∙ sym whole) in
     passes (ltb (length frame) 8) (is_version (number_in 0 1 frame) (number_in 1 1 frame)) (eqb (number_in 2 2 frame) (length frame)) (with_xid (number_in 4 4 frame) (body_at (number_in 0 1 frame) (number_in 1 1 frame) (drop 8 frame))) long right same
-        ∙ rw (n0, n1, n4, d8) refl
+    ∙ rw (n0, n1, n4, d8) refl
