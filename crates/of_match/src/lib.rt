@@ -21,3 +21,6 @@ pub use perform::act;
 pub use pipeline::run;
 pub use tables::{Tables, TablesIter, apply};
 pub use well_formed::{Prerequisite, has_prerequisite, is_well_formed, prerequisite_of};
+
+#[cfg(test)]
+mod tests;
