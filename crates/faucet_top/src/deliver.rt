@@ -1,7 +1,7 @@
-ghost use Rattle.std.specs.Prelude.{◌≡◌, ◌≤◌, ◌⊎◌, Result};
+ghost use Rattle.std.specs.Prelude.{◌≡◌, ◌≤◌, ◌⊎◌, [], ◌∷◌, Result, codes};
 ghost use Rattle.fg_outside.specs.Counts.{Rose};
 ghost use Rattle.fg_outside.specs.Wrote.{appended, AppendsFront, line_of};
-ghost use Rattle.faucet_top.specs.Answer.{Delivers, plan_answer, usage};
+ghost use Rattle.faucet_top.specs.Answer.{Delivers, plan_answer, usage, line};
 ghost use Rattle.faucet_top.specs.Status.{number_of_status};
 ghost use Rattle.faucet_top.specs.Ends.{Ends, refused_status, refusal_line, fault_line};
 
@@ -69,6 +69,22 @@ pub fn deliver_usage<E: Sink>(err: &mut E) -> Status
     end_with_line(err, &[USAGE], Status::Usage)
 }
 
+/// Says in which line a text was refused, and the cause in two pieces.
+fn deliver_cause<E: Sink>(
+    err: &mut E,
+    config: &str,
+    number: &str,
+    cause: &str,
+    form: &str,
+) -> Status
+    ensures ends { Ends Status.Refused (line (config.now ∷ codes ": line " ∷ number.now ∷ codes ": " ∷ cause.now ∷ form.now ∷ []))
+        (E.wrote err.old) (E.wrote err.new) (Rose (E.faults err.old) (E.faults err.new)) result }
+    ensures faults { E.faults err.old ≤ E.faults err.new }
+{
+    let pieces = [config, ": line ", number, ": ", cause, form];
+    end_with_line(err, &pieces, Status::Refused)
+}
+
 /// Says where and why a text was refused.
 fn deliver_fault<E: Sink>(err: &mut E, config: &str, fault: YamlFault) -> Status
     ensures ends { Ends Status.Refused (fault_line config.now fault) (E.wrote err.old) (E.wrote err.new) (Rose (E.faults err.old) (E.faults err.new)) result }
@@ -77,8 +93,7 @@ fn deliver_fault<E: Sink>(err: &mut E, config: &str, fault: YamlFault) -> Status
     let mut buffer = Buffer::new();
     let number = buffer.format(fault.line);
     let (cause, form) = fault.cause.names();
-    let pieces = [config, ": line ", number, ": ", cause, form];
-    end_with_line(err, &pieces, Status::Refused)
+    deliver_cause(err, config, number, cause, form)
 }
 
 /// Says why there is no batch.

@@ -18,6 +18,7 @@ const ALL_TABLES: u8 = 0xff;
 
 // The commands of a FLOW_MOD (OpenFlow 1.3, 7.3.4.1).
 const ADD: u8 = 0;
+
 const DELETE: u8 = 3;
 
 /// Adds an entry.
@@ -72,12 +73,7 @@ fn xid_behind(xid: u32) -> u32
 }
 
 /// Writes one add for each entry, and gives the transaction id behind the last.
-fn put_adds(
-    alloc: Global,
-    out: &mut Bytes,
-    first: u32,
-    entries: &[Entry],
-) -> Result<u32, NoMemory>
+fn put_adds(alloc: Global, out: &mut Bytes, first: u32, entries: &[Entry]) -> Result<u32, NoMemory>
     ensures bytes { OnOk result (out.new ≡ out.old ++ adds first entries.now) }
     ensures xid { IfOk result (λ xid. xid ≡ xid_after first entries.now) }
 {
