@@ -1,6 +1,6 @@
 -- Reading a message from its bytes, with the fault that is met. Places count from the first byte
 -- of the frame, so the body, which is what stands behind the header, begins at 8.
-use Rattle.std.specs.Prelude.{◌≡◌, ℕ, ◌+◌, ◌-◌, ◌*◌, ◌%◌, Bool, true, false, not, ◌&&◌, ◌||◌, ◌==◌, nat_lt, if◌then◌else◌, List, [], ◌∷◌, ◌++◌, length, take, drop, slice_index, slice_range, Option, Some, None, Result, Ok, Err}
+use Rattle.std.specs.Prelude.{◌≡◌, ℕ, ◌+◌, ◌%◌, Bool, true, false, not, ◌&&◌, ◌||◌, ◌==◌, nat_lt, if◌then◌else◌, List, [], ◌∷◌, ◌++◌, length, take, drop, slice_index, slice_range, Option, Some, None, Result, Ok, Err}
 use Rattle.of_wire.specs.declared.fault.PartFault.{PartFault}
 use Rattle.of_wire.specs.declared.fault.PartCause.TheVariants.{Short, BadLength}
 use Rattle.of_wire.specs.Numbers.{number_in}
@@ -10,9 +10,6 @@ use Rattle.net_base.specs.declared.field.Field.{Field}
 use Rattle.of_match.specs.declared.action.Instr.{Instr}
 use Rattle.of13_codec.specs.declared.message.Message.{Message}
 use Rattle.of13_codec.specs.declared.message.Message.TheVariants.{Hello, Error, EchoRequest, EchoReply, FeaturesRequest, FeaturesReply as Features, PacketIn as Packet, PortStatus, PacketOut as Send, FlowMod as Change, PortDescRequest, PortStatsRequest, PortDescReply, PortStatsReply, BarrierRequest, BarrierReply, Other}
-use Rattle.of13_codec.specs.declared.features.FeaturesReply.{FeaturesReply}
-use Rattle.of13_codec.specs.declared.packet_in.PacketIn.{PacketIn}
-use Rattle.of13_codec.specs.declared.packet_out.PacketOut.{PacketOut}
 use Rattle.of13_codec.specs.declared.flow_mod.FlowMod.{FlowMod}
 use Rattle.of13_codec.specs.declared.ports.PortDesc.{PortDesc}
 use Rattle.of13_codec.specs.declared.ports.PortStats.{PortStats}

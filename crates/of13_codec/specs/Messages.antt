@@ -1,5 +1,5 @@
 -- How messages are spelled (OpenFlow 1.3, 7), with zeros in all padding.
-use Rattle.std.specs.Prelude.{ℕ, ◌+◌, Bool, List, [], ◌∷◌, ◌++◌, length, Option, Some, None, if◌then◌else◌}
+use Rattle.std.specs.Prelude.{ℕ, ◌+◌, Bool, List, [], ◌++◌, length, Option, Some, None, if◌then◌else◌}
 use Rattle.std.specs.List.{flat_map}
 use Rattle.of_wire.specs.Parts.{number, zeros, match_bytes, action_bytes, instr_bytes}
 use Rattle.of13_codec.specs.declared.message.Message.{Message}

@@ -1,7 +1,7 @@
 -- Commands of distinct keys settle to one result in every order.
 use Rattle.std.proofs.Common.{◌≡◌, ℕ, zero, suc, ◌<◌, List, [], ◌∷◌, length, get_or, set, Option, Some, None, IsSome, length-set, refl, sym, ap, ◌∙◌, arith}
 use Rattle.std.specs.List.{AllByRecursion, swap}
-use Rattle.std.specs.List.Sorted.{IsPermutation, SwapsInRange, apply_swaps}
+use Rattle.std.specs.List.Sorted.{SwapsInRange, apply_swaps}
 use Rattle.of_match.specs.declared.entry.Key.{Key}
 use Rattle.of_match.specs.declared.entry.Entry.{Entry}
 use Rattle.of_match.specs.declared.entry.Command.{Command}

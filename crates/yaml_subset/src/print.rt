@@ -249,7 +249,7 @@ pub fn print_yaml(alloc: Global, tree: &Tree) -> Result<Bytes, NoMemory>
 #[cfg(test)]
 mod tests {
     use super::*;
-    use crate::first_form::read_first_form;
+    use crate::reading::read_yaml;
     use crate::tree::Pairs;
     use net_base::{Items, Text};
     use std::test::Fail;
@@ -304,19 +304,33 @@ mod tests {
     }
 
     #[test]
-    fn maps_and_values_are_in_block_form(rt: HostRuntime) -> Result<(), Fail> {
-        let read = read_first_form(rt.alloc(), b"b:\n    1: null\n    'x':\na: true")?;
-        assert!(rt; read.is_none());
-        let read = read_first_form(
-            rt.alloc(),
-            b"b:\n    0x10: null\n    c:\n        d: \"null\"\na: true",
-        )?;
-        let tree = read.ok_or("a tree")?;
-        let found = print_yaml(rt.alloc(), &tree)?;
-        assert_eq!(rt;
-            found.as_slice(),
-            b"b:\n  16: null\n  c:\n    d: \"null\"\na: true\n".as_slice()
-        );
+    fn a_printed_tree_is_read_back(rt: HostRuntime) -> Result<(), Fail> {
+        let alloc = rt.alloc();
+        let cases = [
+            (
+                "b: {0x10: null, c: {d: \"null\"}}\na: true",
+                "b:\n  16: null\n  c:\n    d: \"null\"\na: true\n",
+            ),
+            (
+                "vlans:\n    office:\n        vid: 100\n        description: \"office network\"\n",
+                "vlans:\n  office:\n    vid: 100\n    description: \"office network\"\n",
+            ),
+            (
+                "[[], {}, -170141183460469231731687303715884105728]",
+                "- []\n- {}\n- -170141183460469231731687303715884105728\n",
+            ),
+        ];
+        for (given, want) in cases {
+            let tree = read_yaml(alloc, given.as_bytes()).ok().ok_or("a tree")?;
+            let printed = print_yaml(alloc, &tree)?;
+            assert_eq!(rt; printed.as_slice(), want.as_bytes());
+            let again = read_yaml(alloc, printed.as_slice()).ok().ok_or("a tree")?;
+            let (tree, again) = (
+                format!(in alloc; "{tree:?}")?,
+                format!(in alloc; "{again:?}")?,
+            );
+            assert_eq!(rt; tree.as_str(), again.as_str());
+        }
         Ok(())
     }
 

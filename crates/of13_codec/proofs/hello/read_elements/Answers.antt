@@ -1,8 +1,8 @@
-use Rattle.std.proofs.Common.{◌≡◌, ◌+◌, ◌<◌, length, drop, None, Ok, refl, sym, ◌∙◌, ap, subst, arith}
+use Rattle.std.proofs.Common.{◌≡◌, length, None, Ok, refl, sym, ◌∙◌, ap, subst, arith}
 use Rattle.std.proofs.lemmas.Result.{err_from_is_err_and}
 use Rattle.of_wire.specs.Reading.{Fails, many}
 use Rattle.of13_codec.specs.Decoding.{hello_step, short}
-use Rattle.of_wire.proofs.Many.{Left, starts, goes, ends, is_done, is_some, is_none}
+use Rattle.of_wire.proofs.Many.{starts, goes, ends, is_done, is_some, is_none}
 use Rattle.of13_codec.proofs.hello.read_elements.Goals as goal
 
 pub loop-rest-init : goal.loop-rest-init

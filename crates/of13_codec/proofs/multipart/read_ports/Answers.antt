@@ -1,7 +1,7 @@
-use Rattle.std.proofs.Common.{◌≡◌, ◌+◌, ◌<◌, length, drop, [], refl, sym, ◌∙◌, ap, arith}
+use Rattle.std.proofs.Common.{◌+◌, [], arith}
 use Rattle.std.proofs.lemmas.Result.{err_from_is_err_and}
 use Rattle.of13_codec.specs.Decoding.{port_step, ports_at}
-use Rattle.of_wire.proofs.Many.{Left, starts, goes, ends, is_done, is_some, is_none}
+use Rattle.of_wire.proofs.Many.{starts, goes, ends, is_done, is_some, is_none}
 use Rattle.of13_codec.proofs.multipart.read_ports.Goals as goal
 
 pub loop-rest-init : goal.loop-rest-init

@@ -1,9 +1,7 @@
-use Rattle.std.proofs.Common.{◌≡◌, ◌+◌, ◌<◌, length, drop, [], refl, sym, ◌∙◌, ap, arith}
-use Rattle.std.proofs.lemmas.Bool.{eqb-false, eqb-true}
-use Rattle.std.proofs.lemmas.List.{length-drop}
+use Rattle.std.proofs.Common.{[], refl, arith}
 use Rattle.std.proofs.lemmas.Result.{err_from_is_err_and}
 use Rattle.of_wire.specs.Reading.{action_step, actions_at}
-use Rattle.of_wire.proofs.Many.{Left, starts, goes, ends, is_done, is_some, is_none}
+use Rattle.of_wire.proofs.Many.{starts, goes, ends, is_done, is_some, is_none}
 use Rattle.of_wire.proofs.actions.read_actions.Goals as goal
 
 pub loop-rest-init : goal.loop-rest-init

@@ -1,4 +1,4 @@
-use Rattle.std.proofs.Common.{◌≡◌, ◌+◌, length, []}
+use Rattle.std.proofs.Common.{◌≡◌, ◌+◌, length}
 use Rattle.of_wire.specs.Reading.{action_step, actions_at}
 use Rattle.of_wire.proofs.Many.{Left}
 use Rattle.of_wire.proofs.actions.read_actions.Given as goal

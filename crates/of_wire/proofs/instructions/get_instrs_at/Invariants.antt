@@ -1,4 +1,4 @@
-use Rattle.std.proofs.Common.{◌≡◌, ◌+◌, length, []}
+use Rattle.std.proofs.Common.{◌≡◌, ◌+◌, length}
 use Rattle.of_wire.specs.Reading.{instr_step, instrs_at, fault_at}
 use Rattle.of_wire.specs.declared.fault.PartCause.TheVariants.{Short}
 use Rattle.of_wire.proofs.Many.{Left}
