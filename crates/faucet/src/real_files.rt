@@ -1,20 +1,24 @@
-ghost use Rattle.std.specs.Prelude.{◌≤◌, length, None, IfOk};
+ghost use Rattle.std.specs.Prelude.{◌≤◌, ◌≡◌, length, None, IfOk};
 
 use fg_outside::{Failed, Files};
+use net_base::Text;
 use std::io::{self, Read, Seek, SeekFrom};
 use std::{fs, rt};
 
 /// A file that is open at a place.
 #[derive(Drop)]
 struct OpenAt<F> {
+    name: Text,
     file: F,
     at: u64,
 }
 
 /// The files of the system. They tell nothing of what they hold, and count their faults and absences.
+/// The file that was read last stays open, so that a pipe can be read to its end.
 #[derive(Drop)]
 pub struct RealFiles<'a, R: rt::Files> {
     rt: &'a R,
+    open: Option<OpenAt<R::File>>,
     faults: u64,
     absences: u64,
 }
@@ -23,24 +27,53 @@ impl<'a, R: rt::Files> RealFiles<'a, R> {
     pub fn new(rt: &'a R) -> RealFiles<'a, R> {
         RealFiles {
             rt,
+            open: None,
             faults: 0,
             absences: 0,
         }
     }
 }
 
-/// Opens the named file at a place and reads from there.
-fn read_from<R: rt::Files>(rt: &R, name: &str, from: u64, buf: &mut [u8]) -> io::Result<usize>
-    ensures { IfOk result (λ n. n ≤ length buf.old) }
-{
+/// The named file, open at a place: the one that is open where it stands there, else opened anew.
+fn open_at<R: rt::Files + AllocGlobal>(
+    rt: &R,
+    open: Option<OpenAt<R::File>>,
+    name: &str,
+    from: u64,
+) -> io::Result<OpenAt<R::File>> {
+    if let Some(open) = open {
+        if open.at == from && open.name.as_str() == name {
+            return Ok(open);
+        }
+    }
     let mut file = fs::open(rt, name)?;
     if from > 0 {
         file.seek(SeekFrom::Start(from))?;
     }
-    file.read(buf)
+    let name = Text::from_str(rt.alloc(), name)?;
+    Ok(OpenAt {
+        name,
+        file,
+        at: from,
+    })
 }
 
-impl<R: rt::Files> Files for RealFiles<'_, R> {
+impl<R: rt::Files + AllocGlobal> RealFiles<'_, R> {
+    fn read_from(&mut self, name: &str, from: u64, buf: &mut [u8]) -> io::Result<usize>
+        ensures count { IfOk result (λ n. n ≤ length buf.old) }
+        ensures length { length buf.new ≡ length buf.old }
+        ensures faults { self.new.faults ≡ self.old.faults }
+        ensures absences { self.new.absences ≡ self.old.absences }
+    {
+        let mut open = open_at(self.rt, self.open.take(), name, from)?;
+        let n = open.file.read(buf)?;
+        open.at = open.at.saturating_add(n as u64);
+        self.open = Some(open);
+        Ok(n)
+    }
+}
+
+impl<R: rt::Files + AllocGlobal> Files for RealFiles<'_, R> {
     ghost contents = { λ _. None };
 
     ghost faults = { λ f. f.faults };
@@ -48,7 +81,7 @@ impl<R: rt::Files> Files for RealFiles<'_, R> {
     ghost absences = { λ f. f.absences };
 
     fn read_at(&mut self, name: &str, from: u64, buf: &mut [u8]) -> Result<Option<usize>, Failed> {
-        match read_from(self.rt, name, from, buf) {
+        match self.read_from(name, from, buf) {
             Ok(n) if (n as u64) <= u64::MAX - from => Ok(Some(n)),
             Err(e) if e.kind() == io::ErrorKind::NotFound => {
                 self.absences = self.absences.saturating_add(1);
@@ -61,5 +94,7 @@ impl<R: rt::Files> Files for RealFiles<'_, R> {
         }
     }
 
-    fn refresh(&mut self) {}
+    fn refresh(&mut self) {
+        self.open = None;
+    }
 }
