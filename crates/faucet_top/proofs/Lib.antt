@@ -1,4 +1,7 @@
 pub mod Adds
 pub mod FormLemmas
+pub mod Ordered
+pub mod InOrder
+pub mod ConfInOrder
 pub mod PlanLemmas
 pub mod TopLemmas

@@ -5,6 +5,7 @@ mod cold;
 mod conf;
 mod deliver;
 mod form;
+pub mod laws;
 mod messages;
 mod plan;
 mod shape;
