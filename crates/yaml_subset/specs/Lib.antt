@@ -11,6 +11,12 @@ pub mod Flow
 pub mod Blocks
 pub mod Reading
 pub mod Seen
+pub mod Levels
+pub mod SingleQuoted
+pub mod PlainText
+pub mod LineValue
+pub mod Grammar
 pub mod Accepted
 pub mod DigitLaws
 pub mod Printed
+pub mod ReadBack

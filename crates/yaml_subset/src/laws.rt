@@ -1,6 +1,6 @@
 //! Laws of the definitions alone, which say nothing of the code.
 
-ghost use Rattle.std.specs.Prelude.{◌≡◌, ℕ, List, [], ◌∷◌, ◌++◌, ◌<◌, true, length, Err};
+ghost use Rattle.std.specs.Prelude.{◌≡◌, ℕ, Bool, List, [], ◌∷◌, ◌++◌, ◌<◌, ◌≤◌, true, false, length, Ok, Err};
 ghost use Rattle.std.specs.Str.{is_utf8};
 ghost use Rattle.std.specs.Str.Lines.{lines};
 ghost use Rattle.yaml_subset.specs.declared.fault.YamlCause.{YamlCause};
@@ -9,6 +9,15 @@ ghost use Rattle.yaml_subset.specs.Reading.{fault_at, lines_from, read_of};
 ghost use Rattle.yaml_subset.specs.Numbers.{magnitude};
 ghost use Rattle.yaml_subset.specs.DigitLaws.{digits_value, IsMagnitude};
 ghost use Rattle.yaml_subset.specs.Accepted.{first_lines, HasTree, BreaksAt};
+ghost use Rattle.yaml_subset.specs.declared.tree.Tree.{Tree};
+ghost use Rattle.yaml_subset.specs.Printed.{printed};
+ghost use Rattle.yaml_subset.specs.ReadBack.{is_sound, IsSpelled};
+ghost use Rattle.yaml_subset.specs.Grammar.{Reads, ReadsWithin, HasTreeOrFault};
+ghost use Rattle.yaml_subset.specs.Levels.{levels};
+ghost use Rattle.yaml_subset.specs.Quoted.{single_from};
+ghost use Rattle.yaml_subset.specs.SingleQuoted.{IsSingleQuoted};
+ghost use Rattle.yaml_subset.specs.Scalars.{plain_scalar};
+ghost use Rattle.yaml_subset.specs.PlainText.{IsPlain};
 
 /// A fault stands in the first line that breaks the text: any fewer lines alone are an accepted text,
 /// and with that line they are none, for the same cause, whatever lines follow.
@@ -31,4 +40,63 @@ pub fn a_front_of_whole_lines_of_an_accepted_text_is_accepted()
 /// passes the greatest magnitude of an `i128`.
 pub fn digits_are_wide_exactly_where_their_number_is()
     ensures { (digits : List ℕ) (base : ℕ) → 0 < base → IsMagnitude (magnitude base 0 digits) (digits_value base 0 digits) }
+{}
+
+/// What is printed of a tree is read back as the tree, where its keys differ, it nests at most 32 lists
+/// and maps, and the text is no longer than what is read.
+pub fn a_printed_tree_is_read_back()
+    ensures read { (t : Tree) → IsSpelled t → read_of (printed t) ≡ Ok t }
+    ensures grammar { (t : Tree) → IsSpelled t → Reads (printed t) t }
+{}
+
+/// A tree that is read has maps whose keys differ, and nests at most 32 lists and maps.
+pub fn a_tree_that_is_read_is_sound()
+    ensures { (text : List ℕ) (t : Tree) → read_of text ≡ Ok t → (is_sound t ≡ true) × (levels t ≤ 32) }
+{}
+
+/// What is printed of a tree that was read is read back as the tree, unless it is longer than what is
+/// read.
+pub fn a_tree_that_is_read_is_read_back()
+    ensures { (text : List ℕ) (t : Tree) → read_of text ≡ Ok t → length (printed t) ≤ 1048576 → read_of (printed t) ≡ Ok t }
+{}
+
+/// What is read is of the grammar: where the reader gives a tree, the text has it by the grammar.
+pub fn what_is_read_is_of_the_grammar()
+    ensures { (text : List ℕ) (t : Tree) → read_of text ≡ Ok t → Reads text t }
+{}
+
+/// What is of the grammar is read: where a text has a tree by the grammar, the reader gives it.
+pub fn what_is_of_the_grammar_is_read()
+    ensures { (text : List ℕ) (t : Tree) → Reads text t → read_of text ≡ Ok t }
+{}
+
+/// A text has at most one tree by the grammar.
+pub fn a_text_has_at_most_one_tree()
+    ensures { (text : List ℕ) (t u : Tree) → Reads text t → Reads text u → t ≡ u }
+{}
+
+/// The levels of the grammar bound how many lists and maps a tree nests, and nothing else: a text's tree
+/// within so many levels nests at most so many, and where it does it is the text's tree within them.
+pub fn levels_bound_how_deep_a_tree_is()
+    ensures deep { (n : ℕ) (text : List ℕ) (t : Tree) → ReadsWithin n text t → levels t ≤ n }
+    ensures within { (m n : ℕ) (text : List ℕ) (t : Tree) → levels t ≤ n → ReadsWithin m text t → ReadsWithin n text t }
+{}
+
+/// A text has a tree by the grammar, or reading it gives a fault, and never both.
+pub fn a_text_has_a_tree_or_a_fault()
+    ensures { (text : List ℕ) → HasTreeOrFault text }
+{}
+
+/// A text is read behind a single quote exactly where it stands there with its quotes doubled, up to a
+/// quote behind which no other follows.
+pub fn a_single_quoted_text_is_spelled_with_its_quotes_doubled()
+    ensures found { (rest text after : List ℕ) → single_from false [] rest ≡ Ok (text, after) → IsSingleQuoted rest text after }
+    ensures read { (rest text after : List ℕ) → IsSingleQuoted rest text after → single_from false [] rest ≡ Ok (text, after) }
+{}
+
+/// A plain scalar is read exactly as the text up to the first place where one ends, without the spaces
+/// before it.
+pub fn a_plain_text_ends_at_the_first_place_where_one_ends()
+    ensures found { (flow : Bool) (rest text after : List ℕ) → plain_scalar flow rest ≡ Ok (record { plain = true; text = text }, after) → IsPlain flow rest text after }
+    ensures read { (flow : Bool) (rest text after : List ℕ) → IsPlain flow rest text after → plain_scalar flow rest ≡ Ok (record { plain = true; text = text }, after) }
 {}

@@ -1,9 +1,11 @@
-ghost use Rattle.std.specs.Prelude.{◌≡◌, ◌++◌, [], ◌∷◌, map, length, IfOk, OnOk, Some, None, ◌<◌, ◌/◌, ◌%◌, codes};
+ghost use Rattle.std.specs.Prelude.{◌≡◌, ◌++◌, [], ◌∷◌, map, length, IfOk, OnOk, Ok, Some, None, ◌<◌, ◌/◌, ◌%◌, codes};
 ghost use Rattle.std.specs.Char.{digit_char};
 ghost use Rattle.std.specs.Str.{bytes_eq};
 ghost use Rattle.std.specs.List.{list_all};
 ghost use Rattle.std.specs.Fmt.{signed_decimal};
 ghost use Rattle.yaml_subset.specs.Printed.{escaped, all_escaped, is_plain_byte, begins_with_letter, is_word_of_its_own, is_bool_word, stays_plain, text_scalar, key_scalar, scalar_or_lines, behind, item_lines, pair_lines, piece_of, pair_piece, printed};
+ghost use Rattle.yaml_subset.specs.ReadBack.{IsSpelled};
+ghost use Rattle.yaml_subset.specs.Reading.{read_of};
 
 use crate::tree::{Key, Pair, Tree};
 use net_base::{Bytes, NoMemory};
@@ -231,9 +233,12 @@ fn print_pairs(
     Ok(())
 }
 
-/// The canonical form of a tree: a scalar on a line, or a block with two spaces for each level.
+/// The canonical form of a tree: a scalar on a line, or a block with two spaces for each level. It is
+/// read back as the tree.
+#[tactic(auto, using(crate::proofs::PrintedText::read_back))]
 pub fn print_yaml(alloc: Global, tree: &Tree) -> Result<Bytes, NoMemory>
-    ensures { IfOk result (λ text. text ≡ printed tree.now) }
+    ensures canonical { IfOk result (λ text. text ≡ printed tree.now) }
+    ensures read_back { IfOk result (λ text. IsSpelled tree.now → read_of text ≡ Ok tree.now) }
 {
     let mut out = Bytes::new(alloc);
     match scalar_of(alloc, tree)? {

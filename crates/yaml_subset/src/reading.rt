@@ -4,6 +4,7 @@ ghost use Rattle.std.specs.Prelude.{◌≡◌, ◌==◌, ◌+◌, ◌<◌, ◌�
 ghost use Rattle.std.specs.Str.Lines.{lines};
 ghost use Rattle.yaml_subset.specs.Reading.{at_line, lines_from, line_not_utf8, read_of, GivesTree};
 ghost use Rattle.yaml_subset.specs.Reading.{FailsText};
+ghost use Rattle.yaml_subset.specs.Grammar.{GivesByGrammar};
 ghost use Rattle.yaml_subset.specs.declared.fault.YamlRefused.TheVariants.{Memory};
 ghost use Rattle.yaml_subset.specs.declared.blocks.State.TheVariants.{Start};
 
@@ -76,9 +77,10 @@ fn read_text(alloc: Global, text: &str) -> Result<Tree, YamlRefused>
 /// Reads the tree of a text. A refusal is the text's first fault: `TooLong` at line 0 for a text of
 /// over 1,048,576 bytes, else `NotUtf8` at the line in which the bytes stop being UTF-8, else the cause
 /// at the leftmost column of the first line at which no accepted text goes on so.
-#[tactic(auto, using(crate::proofs::Text::valid_lens), unfolding(crate::specs::Reading::read_of))]
+#[tactic(auto, using(crate::proofs::Text::valid_lens, crate::proofs::GrammarLaws::by_grammar), unfolding(crate::specs::Reading::read_of))]
 pub fn read_yaml(alloc: Global, text: &[u8]) -> Result<Tree, YamlRefused>
     ensures exact { GivesTree result (read_of text.now) }
+    ensures grammar { GivesByGrammar result text.now }
 {
     if text.len() > MOST_BYTES {
         return Err(YamlRefused::At(YamlFault {
