@@ -1,1 +1,9 @@
 pub mod Frames
+pub mod Bodies
+pub mod PortLaws
+pub mod StatsLaws
+pub mod HelloLaws
+pub mod PacketLaws
+pub mod DecodeLaws
+pub mod Written
+pub mod Spelled

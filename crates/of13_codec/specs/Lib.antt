@@ -1,2 +1,4 @@
 pub mod Decoding
 pub mod Messages
+pub mod Spelling
+pub mod WellFormed

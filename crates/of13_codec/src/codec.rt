@@ -1,8 +1,11 @@
-ghost use Rattle.std.specs.Prelude.{◌≡◌, ◌≤◌, ◌<◌, ◌++◌, ◌+◌, ◌^◌, length, OnOk, OnErr, MatchOption};
+ghost use Rattle.std.specs.Prelude.{◌≡◌, ◌≤◌, ◌<◌, ◌++◌, ◌+◌, ◌^◌, ℕ, List, length, Ok, OnOk, OnErr, IfOk, MatchOption};
 ghost use Rattle.of_wire.specs.Reading.{Gives};
 ghost use Rattle.of_wire.specs.Numbers.{number_in};
 ghost use Rattle.of13_codec.specs.Decoding.{error_at, other_at, bare_at, echo_request_at, echo_reply_at, low_at, high_at, body_at, is_version, decoded, Decodes, head_of};
+ghost use Rattle.of13_codec.specs.declared.message.Message.{Message};
 ghost use Rattle.of13_codec.specs.Messages.{body_of, error_bytes, framed, written};
+ghost use Rattle.of13_codec.specs.Spelling.{Spells};
+ghost use Rattle.of13_codec.specs.WellFormed.{IsWellFormed, FitsFrame};
 
 use crate::features::{put_features, read_features};
 use crate::flow_mod::{put_flow_mod, read_flow_mod};
@@ -70,10 +73,9 @@ fn put_framed(version: u8, kind: u8, xid: u32, body: &[u8], out: &mut Bytes) -> 
     out.append(body)
 }
 
-/// Adds a message with a transaction id to the end of `out` (OpenFlow 1.3, 7.1). After `NoMemory`
-/// `out` is as it was.
+/// Adds what is written of a message to the end of `out`.
 #[tactic(auto, unfolding(crate::specs::Messages::written))]
-pub fn encode(alloc: Global, message: &Message, xid: u32, out: &mut Bytes) -> Result<(), NoMemory>
+fn put_message(alloc: Global, message: &Message, xid: u32, out: &mut Bytes) -> Result<(), NoMemory>
     ensures ok { OnOk result (out.new ≡ out.old ++ written message.now xid) }
     ensures err { OnErr result (out.new ≡ out.old) }
 {
@@ -88,6 +90,17 @@ pub fn encode(alloc: Global, message: &Message, xid: u32, out: &mut Bytes) -> Re
         &mut whole,
     )?;
     out.append(whole.as_slice())
+}
+
+/// Adds a message with a transaction id to the end of `out` (OpenFlow 1.3, 7.1). After `NoMemory`
+/// `out` is as it was.
+pub fn encode(alloc: Global, message: &Message, xid: u32, out: &mut Bytes) -> Result<(), NoMemory>
+    ensures ok { OnOk result (out.new ≡ out.old ++ written message.now xid) }
+    ensures err { OnErr result (out.new ≡ out.old) }
+    ensures spelled { IsWellFormed message.now → FitsFrame message.now
+        → OnOk result ((added : List ℕ) × (out.new ≡ out.old ++ added) × Spells message.now xid added) }
+{
+    put_message(alloc, message, xid, out)
 }
 
 /// What stands at the front of every message (OpenFlow 1.3, 7.1).
@@ -210,11 +223,9 @@ fn is_version(version: u8, kind: u8) -> bool
     }
 }
 
-/// Reads the message that a whole frame spells, with its transaction id. A frame shorter than a
-/// header is `Length`, then come a wrong version, a length that isn't the frame's, and the first
-/// fault of the body, whose place counts from the frame's first byte.
+/// Reads a frame, whose version, length and body are tested in this order.
 #[tactic(auto, unfolding(crate::specs::Decoding::decoded))]
-pub fn decode(alloc: Global, frame: &[u8]) -> Result<(Message, u32), WireRefused>
+fn read_frame(alloc: Global, frame: &[u8]) -> Result<(Message, u32), WireRefused>
     ensures { Decodes result (decoded frame.now) }
 {
     if frame.len() < 8 {
@@ -234,4 +245,15 @@ pub fn decode(alloc: Global, frame: &[u8]) -> Result<(Message, u32), WireRefused
         Err(PartRefused::At(fault)) => Err(WireRefused::Body(fault)),
         Err(PartRefused::Memory) => Err(WireRefused::Memory),
     }
+}
+
+/// Reads the message that a whole frame spells, with its transaction id. A frame shorter than a
+/// header is `Length`, then come a wrong version, a length that isn't the frame's, and the first
+/// fault of the body, whose place counts from the frame's first byte.
+pub fn decode(alloc: Global, frame: &[u8]) -> Result<(Message, u32), WireRefused>
+    ensures exact { Decodes result (decoded frame.now) }
+    ensures spelled { IfOk result (λ x. Spells x.0 x.1 frame.now) }
+    ensures complete { (m : Message) (xid : ℕ) → Spells m xid frame.now → Decodes result (Ok (m, xid)) }
+{
+    read_frame(alloc, frame)
 }

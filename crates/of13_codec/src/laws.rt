@@ -3,6 +3,8 @@
 ghost use Rattle.std.specs.Prelude.{◌≡◌, ◌<◌, ◌+◌, ◌++◌, ◌^◌, ℕ, List, [], length, true, Ok};
 ghost use Rattle.of13_codec.specs.declared.message.Message.{Message};
 ghost use Rattle.of13_codec.specs.Messages.{version_of, kind_of, body_of, framed, written};
+ghost use Rattle.of13_codec.specs.Spelling.{Spells};
+ghost use Rattle.of13_codec.specs.WellFormed.{IsWellFormed, FitsFrame};
 ghost use Rattle.of13_codec.specs.Decoding.{is_version, with_xid, body_at, decoded};
 
 /// No frame that spells a message is the front of another that does.
@@ -16,4 +18,20 @@ pub fn header_is_read_again()
     ensures { (m : Message) (xid : ℕ) → is_version (version_of m) (kind_of m) ≡ true → version_of m < 256 → kind_of m < 256
         → 8 + length (body_of m) < 2 ^ 16 → xid < 2 ^ 32
         → decoded (written m xid) ≡ with_xid xid (body_at (version_of m) (kind_of m) (body_of m)) }
+{}
+
+/// What is written of a well-formed message that fits spells it, so that it is read again.
+pub fn written_message_is_spelled()
+    ensures spelled { (m : Message) (xid : ℕ) → IsWellFormed m → FitsFrame m → xid < 2 ^ 32 → Spells m xid (written m xid) }
+    ensures read { (m : Message) (xid : ℕ) → IsWellFormed m → FitsFrame m → xid < 2 ^ 32 → decoded (written m xid) ≡ Ok (m, xid) }
+{}
+
+/// Bytes spell one message, with one transaction id.
+pub fn bytes_spell_one_message()
+    ensures { (m n : Message) (x y : ℕ) (bytes : List ℕ) → Spells m x bytes → Spells n y bytes → (m ≡ n) × (x ≡ y) }
+{}
+
+/// No spelling of a message is the front of another.
+pub fn no_spelling_begins_another()
+    ensures { (m n : Message) (x y : ℕ) (bytes rest : List ℕ) → Spells m x bytes → Spells n y (bytes ++ rest) → rest ≡ [] }
 {}

@@ -24,4 +24,6 @@ pub use ports::{PortDesc, PortDescs, PortStats, PortStatsList};
 pub use refused::WireRefused;
 
 #[cfg(test)]
+mod message_tests;
+#[cfg(test)]
 mod tests;

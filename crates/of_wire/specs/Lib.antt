@@ -1,4 +1,7 @@
 pub mod Causes
+pub mod Grammar
 pub mod Numbers
 pub mod Parts
 pub mod Reading
+pub mod Spelling
+pub mod WellFormed

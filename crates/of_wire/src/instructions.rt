@@ -1,7 +1,9 @@
-ghost use Rattle.std.specs.Prelude.{◌≡◌, ◌≤◌, ◌<◌, ◌+◌, ◌++◌, ◌^◌, length, OnOk, IfOk};
+ghost use Rattle.std.specs.Prelude.{◌≡◌, ◌≤◌, ◌<◌, ◌+◌, ◌++◌, ◌^◌, length, List, Ok, OnOk, IfOk};
 ghost use Rattle.std.specs.List.{flat_map};
 ghost use Rattle.of_wire.specs.Parts.{instr_bytes};
 ghost use Rattle.of_wire.specs.Numbers.{number_in};
+ghost use Rattle.of_match.specs.declared.action.Instr.{Instr};
+ghost use Rattle.of_wire.specs.Spelling.{SpellsInstrs};
 ghost use Rattle.of_wire.specs.Reading.{Gives, is_goto, has_goto, is_apply, has_apply, goto_at, applied_at, apply_at, instr_of, instr_at, instr_step, instrs_at};
 
 use crate::actions::{actions_len, put_actions, read_actions};
@@ -233,7 +235,9 @@ pub fn get_instrs_at(alloc: Global, at: u32, bytes: &[u8]) -> Result<Instrs, Par
 /// Reads the instructions that all of the bytes spell (OpenFlow 1.3, 7.2.4).
 pub fn get_instrs(alloc: Global, bytes: &[u8]) -> Result<Instrs, PartRefused>
     requires { length bytes.now < 2 ^ 32 }
-    ensures { Gives (λ i. i) result (instrs_at 0 bytes.now) }
+    ensures exact { Gives (λ i. i) result (instrs_at 0 bytes.now) }
+    ensures spelled { IfOk result (λ instrs. SpellsInstrs instrs bytes.now) }
+    ensures complete { (instrs : List Instr) → SpellsInstrs instrs bytes.now → Gives (λ i. i) result (Ok instrs) }
 {
     get_instrs_at(alloc, 0, bytes)
 }

@@ -4,8 +4,10 @@
 mod actions;
 mod fault;
 mod instructions;
+pub mod laws;
 mod matches;
 mod number;
+pub mod order_laws;
 mod reading;
 
 pub use actions::{actions_len, get_actions, put_actions, read_actions};
@@ -15,5 +17,7 @@ pub use matches::{get_match, get_match_at, get_match_seen, get_match_seen_at, pu
 pub use number::{number_at, put_number, put_zeros, u8_at, u16_at, u32_at, u64_at};
 pub use reading::{past_end, refused, take_padding};
 
+#[cfg(test)]
+mod part_tests;
 #[cfg(test)]
 mod tests;

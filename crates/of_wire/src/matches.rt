@@ -1,6 +1,7 @@
-ghost use Rattle.std.specs.Prelude.{◌≡◌, ◌≤◌, ◌<◌, ◌+◌, ◌++◌, ◌^◌, length, List, [], true, false, OnOk, IfOk, IfSome};
+ghost use Rattle.std.specs.Prelude.{◌≡◌, ◌≤◌, ◌<◌, ◌+◌, ◌++◌, ◌^◌, ℕ, length, take, List, [], true, false, Ok, OnOk, IfOk, IfSome};
 ghost use Rattle.std.specs.List.{flat_map};
 ghost use Rattle.of_wire.specs.Parts.{field_bytes, match_bytes};
+ghost use Rattle.of_wire.specs.Spelling.{SpellsMatch, SpellsMatchSeen};
 ghost use Rattle.net_base.specs.declared.field.Field.{Field};
 ghost use Rattle.of_wire.specs.Reading.{Gives, fault_at, first_fields, last_fields, field_numbered, field_named, has_mask, payload_len, wanted_len, field_value, stands, has_exactly, is_exactly, is_tagged, has_tagged, first_above, has_prerequisites, placed, known_field, known_step, unknown_step, field_step, many, fields_at, sized_match_at, match_at};
 
@@ -438,6 +439,9 @@ pub fn get_match(alloc: Global, bytes: &[u8]) -> Result<(Fields, usize), PartRef
     requires { length bytes.now < 2 ^ 32 }
     ensures exact { Gives (λ x. x) result (match_at true 0 bytes.now) }
     ensures taken { IfOk result (λ x. x.1 ≤ length bytes.now) }
+    ensures spelled { IfOk result (λ x. SpellsMatch x.0 (take x.1 bytes.now)) }
+    ensures complete { (fields : List Field) (spelling rest : List ℕ) → SpellsMatch fields spelling → bytes.now ≡ spelling ++ rest
+        → Gives (λ x. x) result (Ok (fields, length spelling)) }
 {
     read_match(alloc, true, 0, bytes)
 }
@@ -448,6 +452,9 @@ pub fn get_match_seen(alloc: Global, bytes: &[u8]) -> Result<(Fields, usize), Pa
     requires { length bytes.now < 2 ^ 32 }
     ensures exact { Gives (λ x. x) result (match_at false 0 bytes.now) }
     ensures taken { IfOk result (λ x. x.1 ≤ length bytes.now) }
+    ensures spelled { IfOk result (λ x. SpellsMatchSeen x.0 (take x.1 bytes.now)) }
+    ensures complete { (fields : List Field) (spelling rest : List ℕ) → SpellsMatchSeen fields spelling → bytes.now ≡ spelling ++ rest
+        → Gives (λ x. x) result (Ok (fields, length spelling)) }
 {
     read_match(alloc, false, 0, bytes)
 }

@@ -1,0 +1,97 @@
+-- Fields in ascending order stay as they are, and what a field asks for stands before it.
+use Rattle.std.proofs.Common.{◌≡◌, ℕ, suc, ◌≤◌, ◌<◌, Bool, true, false, ◌||◌, eqb, ltb, List, [], ◌∷◌, ◌++◌, length, Some, None, refl, sym, ap, ◌∙◌, arith}
+use Rattle.std.specs.List.{AllByRecursion, list_any, position_or_len}
+use Rattle.std.proofs.lemmas.Bool.{le-ltb, ne_eqb, and_left, or_from, cond-false}
+use Rattle.std.proofs.lemmas.List.Folds.{list_any-append}
+use Rattle.net_base.specs.declared.field.Field.{Field}
+use Rattle.net_base.specs.declared.field.FieldId.{FieldId}
+use Rattle.net_base.specs.declared.field.FieldId.TheVariants.{InPort, EthDst, EthSrc, EthType, VlanVid, VlanPcp, IpProto, Ipv4Src, Ipv4Dst, TcpSrc, TcpDst, UdpSrc, UdpDst, Icmpv4Type, Icmpv4Code, ArpOp, ArpSpa, ArpTpa}
+use Rattle.net_base.specs.FieldId.{number_of}
+use Rattle.of_match.specs.declared.well_formed.Prerequisite.{Prerequisite}
+use Rattle.of_match.specs.declared.well_formed.Prerequisite.TheVariants.{Tagged, Exactly}
+use Rattle.of_match.specs.WellFormed.{meets, has_prerequisite}
+use Rattle.of_wire.specs.Reading.{placed, placed_at, first_above, stands}
+
+abbrev pub AreBelow : ℕ → List Field → Type 0
+AreBelow n fields = AllByRecursion (λ g. number_of g.id < n) fields
+
+abbrev pub AreFrom : ℕ → List Field → Type 0
+AreFrom n fields = AllByRecursion (λ g. n ≤ number_of g.id) fields
+
+pub below_push : (n : ℕ) (fields : List Field) (f : Field) → AreBelow n fields → number_of f.id < n → AreBelow n (fields ++ f ∷ [])
+below_push n [] f h k = (k, tt)
+below_push n (g ∷ fields) f h k = (h.0, below_push n fields f h.1 k)
+
+pub below_more : (m n : ℕ) (fields : List Field) → AreBelow m fields → m ≤ n → AreBelow n fields
+below_more m n [] h k = tt
+below_more m n (g ∷ fields) h k = (omega (arith, h.0), below_more m n fields h.1 k)
+
+pub from_above : (n : ℕ) (fields : List Field) → AllByRecursion (λ g. n < number_of g.id) fields → AreFrom n fields
+from_above n [] h = tt
+from_above n (g ∷ fields) h = (omega (arith, h.0), from_above n fields h.1)
+
+none_above : (n : ℕ) (fields : List Field) → AreBelow n fields → length fields ≤ position_or_len (λ (g : Field). ltb n (number_of g.id)) fields
+none_above n [] h = omega arith
+none_above n (g ∷ fields) h =
+    let t : ltb n (number_of g.id) ≡ false = le-ltb _ _ (omega (arith, h.0)) in
+    let more = none_above n fields h.1 in
+    let is : position_or_len (λ (g : Field). ltb n (number_of g.id)) (g ∷ fields) ≡ suc (position_or_len (λ (g : Field). ltb n (number_of g.id)) fields) = rw t (omega arith) in
+    omega (arith, is)
+
+pub placed_last : (f : Field) (fields : List Field) → AreBelow (number_of f.id) fields → placed f fields ≡ fields ++ f ∷ []
+unfolding placed
+placed_last f fields h =
+    let n = number_of f.id in
+    let at = position_or_len (λ (g : Field). ltb n (number_of g.id)) fields in
+    let none : first_above n fields ≡ None = cond-false (ltb at (length fields)) (Some at) None (le-ltb _ _ (none_above n fields h)) in
+    ap (λ o. placed_at o f fields) none
+
+pub stands_not : (id : FieldId) (fields : List Field) → AreBelow (number_of id) fields → stands id fields ≡ false
+stands_not id [] h = refl
+stands_not id (g ∷ fields) h = or_from _ _ (ne_eqb _ _ (λ e. omega (arith, e, h.0))) (stands_not id fields h.1)
+
+-- ---- prerequisites
+
+abbrev asked : Prerequisite → ℕ
+asked Tagged = number_of VlanVid
+asked (Exactly id value) = number_of id
+
+meets_not : (p : Prerequisite) (f : Field) → asked p < number_of f.id → meets p f ≡ false
+meets_not Tagged f h =
+    let ne : number_of f.id ≡ number_of VlanVid → ⊥ = λ e. omega (arith, e, h) in
+    and_left (eqb (number_of f.id) (number_of VlanVid)) _ (ne_eqb _ _ ne)
+meets_not (Exactly id value) f h =
+    let ne : number_of f.id ≡ number_of id → ⊥ = λ e. omega (arith, e, h) in
+    and_left (eqb (number_of f.id) (number_of id)) _ (ne_eqb _ _ ne)
+
+none_meets : (p : Prerequisite) (n : ℕ) (fields : List Field) → asked p < n → AreFrom n fields → list_any (meets p) fields ≡ false
+none_meets p n [] k h = refl
+none_meets p n (g ∷ fields) k h = or_from _ _ (meets_not p g (omega (arith, h.0))) (none_meets p n fields k h.1)
+
+or_left_is : (a b : Bool) → (a || b) ≡ true → b ≡ false → a ≡ true
+or_left_is true b e k = refl
+or_left_is false b e k = sym k ∙ e
+
+met_before : (p : Prerequisite) (n : ℕ) (before rest : List Field) → asked p < n → AreFrom n rest → list_any (meets p) (before ++ rest) ≡ true → list_any (meets p) before ≡ true
+met_before p n before rest k h e = or_left_is _ _ (sym (list_any-append (meets p) before rest) ∙ e) (none_meets p n rest k h)
+
+-- what a field asks for has a lower number, so it stands before it
+pub prerequisite_before : (id : FieldId) (before rest : List Field) → AreFrom (number_of id) rest → has_prerequisite id (before ++ rest) ≡ true → has_prerequisite id before ≡ true
+prerequisite_before InPort before rest h e = refl
+prerequisite_before EthDst before rest h e = refl
+prerequisite_before EthSrc before rest h e = refl
+prerequisite_before EthType before rest h e = refl
+prerequisite_before VlanVid before rest h e = refl
+prerequisite_before VlanPcp before rest h e = met_before Tagged 7 before rest (omega arith) h e
+prerequisite_before IpProto before rest h e = met_before (Exactly EthType 0x0800) 10 before rest (omega arith) h e
+prerequisite_before Ipv4Src before rest h e = met_before (Exactly EthType 0x0800) 11 before rest (omega arith) h e
+prerequisite_before Ipv4Dst before rest h e = met_before (Exactly EthType 0x0800) 12 before rest (omega arith) h e
+prerequisite_before TcpSrc before rest h e = met_before (Exactly IpProto 6) 13 before rest (omega arith) h e
+prerequisite_before TcpDst before rest h e = met_before (Exactly IpProto 6) 14 before rest (omega arith) h e
+prerequisite_before UdpSrc before rest h e = met_before (Exactly IpProto 17) 15 before rest (omega arith) h e
+prerequisite_before UdpDst before rest h e = met_before (Exactly IpProto 17) 16 before rest (omega arith) h e
+prerequisite_before Icmpv4Type before rest h e = met_before (Exactly IpProto 1) 19 before rest (omega arith) h e
+prerequisite_before Icmpv4Code before rest h e = met_before (Exactly IpProto 1) 20 before rest (omega arith) h e
+prerequisite_before ArpOp before rest h e = met_before (Exactly EthType 0x0806) 21 before rest (omega arith) h e
+prerequisite_before ArpSpa before rest h e = met_before (Exactly EthType 0x0806) 22 before rest (omega arith) h e
+prerequisite_before ArpTpa before rest h e = met_before (Exactly EthType 0x0806) 23 before rest (omega arith) h e

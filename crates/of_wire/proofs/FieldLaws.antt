@@ -1,0 +1,286 @@
+-- Fields of a match are read exactly where they are spelled.
+use Rattle.std.proofs.Common.{◌≡◌, ℕ, ◌+◌, ◌*◌, ◌/◌, ◌%◌, ◌≤◌, Bool, true, false, not, ◌&&◌, cond, eqb, ltb, List, ◌++◌, length, take, drop, Option, Some, None, Result, Ok, Err, refl, sym, ap, ◌∙◌, subst, arith, inl, inr}
+use Rattle.std.proofs.lemmas.Bool.{ltb-false, eqb-true, eqb-false, le-ltb, eq-eqb, ne_eqb, not-false, and_cases, cases_Bool}
+use Rattle.std.proofs.lemmas.List.{length-drop, length-take-le, length-append, take-append-drop}
+use Rattle.net_base.specs.declared.field.Field.{Field}
+use Rattle.net_base.specs.declared.field.FieldId.{FieldId}
+use Rattle.net_base.specs.FieldId.{number_of, byte_len_of, all_ones}
+use Rattle.of_wire.specs.declared.fault.PartFault.{PartFault}
+use Rattle.of_wire.specs.declared.fault.PartCause.TheVariants.{BadLength, BadClass, Repeated, Prerequisite}
+use Rattle.of_wire.specs.Numbers.{number_in}
+use Rattle.of_wire.specs.Reading.{◌>>=◌, fault_at, field_named, has_mask, payload_len, wanted_len, field_value, stands, has_prerequisites, placed, known_field, known_step, unknown_step, named_step, field_step}
+use Rattle.of_wire.specs.Spelling.{SpellsPlain, SpellsMasked, SpellsField, SpellsUnknown, SpellsItem, MayStand, known}
+use Rattle.of_wire.proofs.Grammars.{AreBytes, bytes_take, has_number, number_then, number_again, number_ends, number_of_take, number_of_front}
+use Rattle.of_wire.proofs.Chosen.{bind_ok, passed, held, one_answer}
+use Rattle.of_wire.proofs.FieldNames.{named, named_again, unnamed, unnamed_again, one_byte}
+use Rattle.of_wire.proofs.FieldOrder.{view, view_some, view_none, stands_in_order, prerequisites_in_order}
+use Rattle.of_wire.proofs.Joining.{Part, IsRead}
+
+-- ---- a field that is read is spelled
+
+plain_parts : (id : FieldId) (v : ℕ) (xs : List ℕ) → AreBytes xs → length xs ≡ 4 + byte_len_of id → number_in 0 2 xs ≡ 0x8000 → number_in 2 1 xs ≡ 2 * number_of id
+    → number_in 3 1 xs ≡ byte_len_of id → number_in 4 (byte_len_of id) xs ≡ v → SpellsPlain (record { id = id; value = v; mask = all_ones id }) xs
+plain_parts id v xs h len c k l e = record {
+  parts =
+      number_then 0 2 0x8000 _ xs h (omega arith) c (
+      number_then 2 1 (2 * number_of id) _ xs h (omega arith) k (
+      number_then 3 1 (byte_len_of id) _ xs h (omega arith) l (
+      has_number 4 (byte_len_of id) v xs h (sym len) e)));
+  whole_mask = refl;
+}
+
+masked_parts : (id : FieldId) (v m : ℕ) (xs : List ℕ) → AreBytes xs → length xs ≡ 4 + 2 * byte_len_of id → number_in 0 2 xs ≡ 0x8000 → number_in 2 1 xs ≡ 2 * number_of id + 1
+    → number_in 3 1 xs ≡ 2 * byte_len_of id → number_in 4 (byte_len_of id) xs ≡ v → number_in (4 + byte_len_of id) (byte_len_of id) xs ≡ m
+    → SpellsMasked (record { id = id; value = v; mask = m }) xs
+masked_parts id v m xs h len c k l e g =
+    number_then 0 2 0x8000 _ xs h (omega arith) c (
+    number_then 2 1 (2 * number_of id + 1) _ xs h (omega arith) k (
+    number_then 3 1 (2 * byte_len_of id) _ xs h (omega arith) l (
+    number_then 4 (byte_len_of id) v _ xs h (omega arith) e (
+    has_number (4 + byte_len_of id) (byte_len_of id) m xs h (omega arith) g))))
+
+pub plain_sound : (id : FieldId) (bytes : List ℕ) → AreBytes bytes → field_named bytes ≡ Some id → has_mask bytes ≡ false → payload_len bytes ≡ byte_len_of id → 4 + byte_len_of id ≤ length bytes
+    → SpellsPlain (field_value id bytes) (take (4 + byte_len_of id) bytes)
+unfolding field_value
+plain_sound id bytes h name flag len room =
+    let n = named bytes id name in
+    let xs = take (4 + byte_len_of id) bytes in
+    let w = 4 + byte_len_of id in
+    let one = one_byte id in
+    let odd : number_in 2 1 bytes % 2 ≡ 1 → ⊥ = eqb-false _ _ flag in
+    rw flag (plain_parts id (number_in 4 (byte_len_of id) bytes) xs (bytes_take w bytes h) (length-take-le w bytes room)
+    (number_of_take 0 2 w bytes (omega arith) room ∙ n.0)
+    (number_of_take 2 1 w bytes (omega arith) room ∙ omega (arith, n.1))
+    (number_of_take 3 1 w bytes (omega arith) room ∙ len)
+    (number_of_take 4 (byte_len_of id) w bytes (omega arith) room))
+
+pub masked_sound : (id : FieldId) (bytes : List ℕ) → AreBytes bytes → field_named bytes ≡ Some id → has_mask bytes ≡ true → payload_len bytes ≡ 2 * byte_len_of id → 4 + 2 * byte_len_of id ≤ length bytes
+    → SpellsMasked (field_value id bytes) (take (4 + 2 * byte_len_of id) bytes)
+unfolding field_value
+masked_sound id bytes h name flag len room =
+    let n = named bytes id name in
+    let xs = take (4 + 2 * byte_len_of id) bytes in
+    let w = 4 + 2 * byte_len_of id in
+    let one = one_byte id in
+    let odd : number_in 2 1 bytes % 2 ≡ 1 = eqb-true _ _ flag in
+    rw flag (masked_parts id (number_in 4 (byte_len_of id) bytes) (number_in (4 + byte_len_of id) (byte_len_of id) bytes) xs (bytes_take w bytes h) (length-take-le w bytes room)
+    (number_of_take 0 2 w bytes (omega arith) room ∙ n.0)
+    (number_of_take 2 1 w bytes (omega arith) room ∙ omega (arith, n.1))
+    (number_of_take 3 1 w bytes (omega arith) room ∙ len)
+    (number_of_take 4 (byte_len_of id) w bytes (omega arith) room)
+    (number_of_take (4 + byte_len_of id) (byte_len_of id) w bytes (omega arith) room))
+
+record Sized (id : FieldId) (bytes : List ℕ) : Type 0 where
+  pub room : 4 + payload_len bytes ≤ length bytes
+  pub spelled : SpellsField (field_value id bytes) (take (4 + payload_len bytes) bytes)
+
+field_sound : (id : FieldId) (bytes : List ℕ) → AreBytes bytes → field_named bytes ≡ Some id → payload_len bytes ≡ wanted_len id (has_mask bytes) → 4 + payload_len bytes ≤ length bytes
+    → SpellsField (field_value id bytes) (take (4 + payload_len bytes) bytes)
+field_sound id bytes h name len room = elim (cases_Bool (has_mask bytes)) [
+  | inl t ↦
+      let l : payload_len bytes ≡ 2 * byte_len_of id = len ∙ rw t refl in
+      inr (subst (λ n. SpellsMasked (field_value id bytes) (take (4 + n) bytes)) (sym l) (masked_sound id bytes h name t l (omega arith)))
+  | inr t ↦
+      let l : payload_len bytes ≡ byte_len_of id = len ∙ rw t refl in
+      inl (subst (λ n. SpellsPlain (field_value id bytes) (take (4 + n) bytes)) (sym l) (plain_sound id bytes h name t l (omega arith)))
+]
+
+-- ---- a field that is spelled is read again
+
+pub record FieldAgain (f : Field) (masked : Bool) (bytes : List ℕ) (size : ℕ) : Type 0 where
+  pub name : field_named bytes ≡ Some f.id
+  pub flag : has_mask bytes ≡ masked
+  pub len : payload_len bytes ≡ wanted_len f.id masked
+  pub room : 4 + wanted_len f.id masked ≤ length bytes
+  pub size_is : size ≡ 4 + wanted_len f.id masked
+  pub value : field_value f.id bytes ≡ f
+
+pub plain_again : (f : Field) (first rest : List ℕ) → SpellsPlain f first → FieldAgain f false (first ++ rest) (length first)
+unfolding field_value
+plain_again f first rest p =
+    let bytes = first ++ rest in
+    let n = byte_len_of f.id in
+    let a = number_again 0 2 0x8000 _ first p.parts in
+    let b = number_again 2 1 (2 * number_of f.id) _ first a.behind in
+    let c = number_again 3 1 n _ first b.behind in
+    let d = number_ends 4 n f.value first c.behind in
+    let size : length first ≡ 4 + n = omega (arith, a.size, b.size, c.size, d.1) in
+    let whole : length bytes ≡ length first + length rest = length-append first rest in
+    let class : number_in 0 2 bytes ≡ 0x8000 = number_of_front 0 2 first rest (omega arith) ∙ a.value in
+    let head : number_in 2 1 bytes ≡ 2 * number_of f.id = number_of_front 2 1 first rest (omega arith) ∙ b.value in
+    let len : number_in 3 1 bytes ≡ n = number_of_front 3 1 first rest (omega (arith, one_byte f.id)) ∙ c.value in
+    let v : number_in 4 n bytes ≡ f.value = number_of_front 4 n first rest (omega arith) ∙ d.0 in
+    let flag : has_mask bytes ≡ false = ne_eqb _ _ (λ e. omega (arith, e, head)) in
+    let m = p.whole_mask in
+    record {
+      name = named_again bytes f.id class (omega (arith, head));
+      flag = flag;
+      len = len;
+      room = omega arith;
+      size_is = size;
+      value = rw (flag, v, sym m) refl;
+    }
+
+pub masked_again : (f : Field) (first rest : List ℕ) → SpellsMasked f first → FieldAgain f true (first ++ rest) (length first)
+unfolding field_value
+masked_again f first rest p =
+    let bytes = first ++ rest in
+    let n = byte_len_of f.id in
+    let a = number_again 0 2 0x8000 _ first p in
+    let b = number_again 2 1 (2 * number_of f.id + 1) _ first a.behind in
+    let c = number_again 3 1 (2 * n) _ first b.behind in
+    let d = number_again 4 n f.value _ first c.behind in
+    let e = number_ends (4 + n) n f.mask first d.behind in
+    let size : length first ≡ 4 + 2 * n = omega (arith, a.size, b.size, c.size, d.size, e.1) in
+    let whole : length bytes ≡ length first + length rest = length-append first rest in
+    let class : number_in 0 2 bytes ≡ 0x8000 = number_of_front 0 2 first rest (omega arith) ∙ a.value in
+    let head : number_in 2 1 bytes ≡ 2 * number_of f.id + 1 = number_of_front 2 1 first rest (omega arith) ∙ b.value in
+    let len : number_in 3 1 bytes ≡ 2 * n = number_of_front 3 1 first rest (omega (arith, one_byte f.id)) ∙ c.value in
+    let v : number_in 4 n bytes ≡ f.value = number_of_front 4 n first rest (omega arith) ∙ d.value in
+    let m : number_in (4 + n) n bytes ≡ f.mask = number_of_front (4 + n) n first rest (omega arith) ∙ e.0 in
+    let flag : has_mask bytes ≡ true = eq-eqb _ _ (omega (arith, head)) in
+    record {
+      name = named_again bytes f.id class (omega (arith, head));
+      flag = flag;
+      len = len;
+      room = omega arith;
+      size_is = size;
+      value = rw (flag, v, m) refl;
+    }
+
+-- ---- a known field among others
+
+known_sound : (strict : Bool) (past : PartFault) (id : FieldId) (before : List (Option Field)) (at : ℕ) (bytes : List ℕ) (y : List Field × ℕ) → AreBytes bytes → field_named bytes ≡ Some id
+    → known_step strict past id (view before) at bytes ≡ Ok y → Part (SpellsItem strict) view before bytes y
+unfolding known_step known_field field_value
+known_sound strict past id before at bytes y h name e =
+    let fs = view before in
+    let read = known_field past id at bytes in
+    let f = field_value id bytes in
+    let n = 4 + payload_len bytes in
+    let next = λ (f : Field). Ok (placed f fs, 4 + payload_len bytes) in
+    let a = passed (stands id fs) (fault_at at Repeated) (cond (strict && not (has_prerequisites id fs)) (Err (fault_at at Prerequisite)) (read >>= next)) y e in
+    let b = passed (strict && not (has_prerequisites id fs)) (fault_at at Prerequisite) (read >>= next) y a.1 in
+    let c = bind_ok read next y b.1 in
+    let r : Result Field PartFault = Ok f in
+    let d = held (eqb (payload_len bytes) (wanted_len id (has_mask bytes))) (fault_at (at + 3) BadLength) (cond (ltb (length bytes) n) (Err past) r) c.value c.first in
+    let g = passed (ltb (length bytes) n) past r c.value d.1 in
+    let is : f ≡ c.value = one_answer r f c.value refl g.1 in
+    let room : n ≤ length bytes = ltb-false _ _ g.0 in
+    let spelled = field_sound id bytes h name (eqb-true _ _ d.0) room in
+    let q : Result (List Field × ℕ) PartFault = Ok (placed c.value fs, n) in
+    let out : (placed c.value fs, n) ≡ y = one_answer q _ y refl c.then_ in
+    let once : stands id (known before) ≡ false = sym (stands_in_order id (known before)) ∙ a.0 in
+    let met : strict ≡ true → not (has_prerequisites id fs) ≡ false = λ t. elim (and_cases strict (not (has_prerequisites id fs)) b.0) [ inl lax ↦ absurd (cc) | inr holds ↦ holds ] in
+    let may : MayStand strict (known before) f = record { once = once; prerequisites = λ t. sym (prerequisites_in_order id (known before)) ∙ not-false _ (met t) } in
+    let size : length (take n bytes) ≡ n = length-take-le n bytes room in
+    let part : Part (SpellsItem strict) view before bytes (placed c.value fs, n) = record {
+      part = Some f;
+      parts = record { first = take n bytes; rest = drop n bytes; whole = sym (take-append-drop n bytes); in_front = (spelled, may); behind = omega arith };
+      size = size;
+      seen = ap (λ g. placed g fs) (sym is) ∙ sym (view_some before f);
+    } in
+    subst (λ (z : List Field × ℕ). Part (SpellsItem strict) view before bytes z) out part
+
+unknown_sound : (strict : Bool) (past : PartFault) (before : List (Option Field)) (at : ℕ) (bytes : List ℕ) (y : List Field × ℕ) → AreBytes bytes → field_named bytes ≡ None
+    → unknown_step strict past (view before) at bytes ≡ Ok y → Part (SpellsItem strict) view before bytes y
+unfolding unknown_step
+unknown_sound strict past before at bytes y h name e =
+    let n = 4 + payload_len bytes in
+    let r : Result (List Field × ℕ) PartFault = Ok (view before, n) in
+    let a = passed strict (fault_at at BadClass) (cond (ltb (length bytes) n) (Err past) r) y e in
+    let b = passed (ltb (length bytes) n) past r y a.1 in
+    let out : (view before, n) ≡ y = one_answer r _ y refl b.1 in
+    let room : n ≤ length bytes = ltb-false _ _ b.0 in
+    let xs = take n bytes in
+    let hx = bytes_take n bytes h in
+    let size : length xs ≡ n = length-take-le n bytes room in
+    let spelled : SpellsUnknown xs = record {
+      class = number_in 0 2 bytes;
+      head = number_in 2 1 bytes;
+      len = payload_len bytes;
+      parts =
+          number_then 0 2 (number_in 0 2 bytes) _ xs hx (omega arith) (number_of_take 0 2 n bytes (omega arith) room) (
+          number_then 2 1 (number_in 2 1 bytes) _ xs hx (omega arith) (number_of_take 2 1 n bytes (omega arith) room) (
+          number_then 3 1 (payload_len bytes) _ xs hx (omega arith) (number_of_take 3 1 n bytes (omega arith) room) (
+          omega (arith, length-drop 4 xs))));
+      unknown = λ id c k. unnamed bytes id name c k;
+    } in
+    let part : Part (SpellsItem strict) view before bytes (view before, n) = record {
+      part = None;
+      parts = record { first = xs; rest = drop n bytes; whole = sym (take-append-drop n bytes); in_front = (spelled, a.0); behind = omega arith };
+      size = size;
+      seen = sym (view_none before);
+    } in
+    subst (λ (z : List Field × ℕ). Part (SpellsItem strict) view before bytes z) out part
+
+named_sound : (strict : Bool) (past : PartFault) (o : Option FieldId) (before : List (Option Field)) (at : ℕ) (bytes : List ℕ) (y : List Field × ℕ) → AreBytes bytes → field_named bytes ≡ o
+    → named_step o strict past (view before) at bytes ≡ Ok y → Part (SpellsItem strict) view before bytes y
+named_sound strict past (Some id) before at bytes y h name e = known_sound strict past id before at bytes y h name e
+named_sound strict past None before at bytes y h name e = unknown_sound strict past before at bytes y h name e
+
+pub step_sound : (strict : Bool) (past : PartFault) (before : List (Option Field)) (at : ℕ) (bytes : List ℕ) (y : List Field × ℕ) → AreBytes bytes
+    → field_step strict past (view before) at bytes ≡ Ok y → Part (SpellsItem strict) view before bytes y
+unfolding field_step
+step_sound strict past before at bytes y h e =
+    let a = passed (ltb (length bytes) 4) past (named_step (field_named bytes) strict past (view before) at bytes) y e in
+    named_sound strict past (field_named bytes) before at bytes y h refl a.1
+
+known_complete : (strict masked : Bool) (past : PartFault) (before : List (Option Field)) (f : Field) (at : ℕ) (first rest : List ℕ)
+    → FieldAgain f masked (first ++ rest) (length first) → MayStand strict (known before) f
+    → field_step strict past (view before) at (first ++ rest) ≡ Ok (placed f (view before), length first)
+unfolding field_step known_step known_field
+known_complete strict masked past before f at first rest g may =
+    let bytes = first ++ rest in
+    let fs = view before in
+    let long : ltb (length bytes) 4 ≡ false = le-ltb _ _ (omega (arith, g.room)) in
+    let name = g.name in let value = g.value in let flag = g.flag in
+    let once : stands f.id fs ≡ false = stands_in_order f.id (known before) ∙ may.once in
+    let met : (strict && not (has_prerequisites f.id fs)) ≡ false = met_or_lax strict (has_prerequisites f.id fs) (λ t. prerequisites_in_order f.id (known before) ∙ may.prerequisites t) in
+    let len : payload_len bytes ≡ wanted_len f.id (has_mask bytes) = g.len ∙ ap (wanted_len f.id) (sym flag) in
+    let same : eqb (payload_len bytes) (wanted_len f.id (has_mask bytes)) ≡ true = eq-eqb _ _ len in
+    let there : ltb (length bytes) (4 + payload_len bytes) ≡ false = le-ltb _ _ (omega (arith, g.room, g.len)) in
+    let size : 4 + payload_len bytes ≡ length first = omega (arith, g.size_is, g.len) in
+    rw (long, name, once, met, same, there, value, size) refl
+  where
+    met_or_lax : (strict has : Bool) → (strict ≡ true → has ≡ true) → (strict && not has) ≡ false
+    met_or_lax true has h = rw (h refl) refl
+    met_or_lax false has h = refl
+
+unknown_complete : (past : PartFault) (before : List (Option Field)) (at : ℕ) (first rest : List ℕ) → SpellsUnknown first
+    → (field_step false past (view before) at (first ++ rest) ≡ Ok (view before, length first)) × (1 ≤ length first)
+unfolding field_step unknown_step
+unknown_complete past before at first rest p =
+    let bytes = first ++ rest in
+    let a = number_again 0 2 p.class _ first p.parts in
+    let b = number_again 2 1 p.head _ first a.behind in
+    let c = number_again 3 1 p.len _ first b.behind in
+    let size : length first ≡ 4 + p.len = omega (arith, a.size, b.size, c.size, c.behind) in
+    let whole : length bytes ≡ length first + length rest = length-append first rest in
+    let class : number_in 0 2 bytes ≡ p.class = number_of_front 0 2 first rest (omega arith) ∙ a.value in
+    let head : number_in 2 1 bytes ≡ p.head = number_of_front 2 1 first rest (omega arith) ∙ b.value in
+    let len : payload_len bytes ≡ p.len = number_of_front 3 1 first rest (omega arith) ∙ c.value in
+    let name : field_named bytes ≡ None = unnamed_again bytes (λ id e k. p.unknown id (sym class ∙ e) (ap (λ n. n / 2) (sym head) ∙ k)) in
+    let long : ltb (length bytes) 4 ≡ false = le-ltb _ _ (omega arith) in
+    let there : ltb (length bytes) (4 + payload_len bytes) ≡ false = le-ltb _ _ (omega (arith, len)) in
+    let all : 4 + payload_len bytes ≡ length first = omega (arith, len) in
+    (rw (long, name, there, all) refl, omega arith)
+
+pub step_complete : (strict : Bool) (past : PartFault) (before : List (Option Field)) (item : Option Field) (at : ℕ) (first rest : List ℕ)
+    → SpellsItem strict before item first → IsRead view (field_step strict past) before item at first rest
+step_complete strict past before (Some f) at first rest p = elim p.0 [
+  | inl q ↦ let g = plain_again f first rest q in record {
+    read = known_complete strict false past before f at first rest g p.1 ∙ ap (λ v. Ok (v, length first)) (sym (view_some before f));
+    some = omega (arith, g.size_is);
+  }
+  | inr q ↦ let g = masked_again f first rest q in record {
+    read = known_complete strict true past before f at first rest g p.1 ∙ ap (λ v. Ok (v, length first)) (sym (view_some before f));
+    some = omega (arith, g.size_is);
+  }
+]
+step_complete strict past before None at first rest p =
+    let u = unknown_complete past before at first rest p.0 in
+    record {
+      read = ap (λ s. field_step s past (view before) at (first ++ rest)) p.1 ∙ u.0 ∙ ap (λ v. Ok (v, length first)) (sym (view_none before));
+      some = u.1;
+    }

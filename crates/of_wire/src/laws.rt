@@ -1,0 +1,54 @@
+//! Laws of the definitions: each function is empty, and its contract is the law.
+
+ghost use Rattle.std.specs.Prelude.{◌≡◌, ◌≤◌, ◌+◌, ◌*◌, ◌++◌, ℕ, Bool, List, [], length};
+ghost use Rattle.std.specs.List.{AllByRecursion, flat_map, list_any};
+ghost use Rattle.net_base.specs.declared.field.Field.{Field};
+ghost use Rattle.net_base.specs.declared.field.FieldId.{FieldId};
+ghost use Rattle.of_match.specs.declared.action.Action.{Action};
+ghost use Rattle.of_match.specs.declared.action.Instr.{Instr};
+ghost use Rattle.of_match.specs.WellFormed.{has_prerequisite, AreAscending};
+ghost use Rattle.of_wire.specs.Parts.{number, field_bytes, match_bytes, action_bytes, instr_bytes};
+ghost use Rattle.of_wire.specs.Reading.{has_prerequisites};
+ghost use Rattle.of_wire.specs.Spelling.{known, SpellsAnyMatch, SpellsMatch, SpellsMatchSeen, SpellsActions, SpellsInstrs};
+ghost use Rattle.of_wire.specs.WellFormed.{IsMatch, IsMatchSeen, IsAction, AreInstrs};
+
+/// What is written of well-formed parts spells them.
+pub fn written_parts_are_spelled()
+    ensures to_a_switch { (fields : List Field) → IsMatch fields → SpellsMatch fields (match_bytes fields) }
+    ensures by_a_switch { (fields : List Field) → IsMatchSeen fields → SpellsMatchSeen fields (match_bytes fields) }
+    ensures actions { (actions : List Action) → AllByRecursion IsAction actions → SpellsActions actions (flat_map action_bytes actions) }
+    ensures instrs { (instrs : List Instr) → AreInstrs instrs → SpellsInstrs instrs (flat_map instr_bytes instrs) }
+{}
+
+/// No spelling of a match is the front of another, and one spelling spells one match.
+pub fn no_match_begins_another()
+    ensures { (strict : Bool) (a b : List Field) (spelling rest : List ℕ)
+        → SpellsAnyMatch strict a spelling → SpellsAnyMatch strict b (spelling ++ rest) → (a ≡ b) × (rest ≡ []) }
+{}
+
+/// Bytes spell one list of actions, and one of instructions.
+pub fn bytes_spell_one_list()
+    ensures actions { (a b : List Action) (bytes : List ℕ) → SpellsActions a bytes → SpellsActions b bytes → a ≡ b }
+    ensures instrs { (a b : List Instr) (bytes : List ℕ) → SpellsInstrs a bytes → SpellsInstrs b bytes → a ≡ b }
+{}
+
+/// What reading asks of the fields before a field is what a well-formed match has.
+pub fn prerequisites_agree()
+    ensures { (id : FieldId) (fields : List Field) → has_prerequisites id fields ≡ has_prerequisite id fields }
+{}
+
+/// A number takes the bytes that it is given; a field takes at most 16 bytes, an action at most 24.
+pub fn parts_take_few_bytes()
+    ensures number { (len value : ℕ) → length (number len value) ≡ len }
+    ensures fields { (fields : List Field) → length (flat_map field_bytes fields) ≤ 16 * length fields }
+    ensures in_a_match { (fields : List Field) → length (match_bytes fields) ≤ 11 + 16 * length fields }
+    ensures actions { (actions : List Action) → length (flat_map action_bytes actions) ≤ 24 * length actions }
+{}
+
+/// The fields that a match spells ascend by number, and are the known ones among what stands in its
+/// bytes, in whatever order.
+pub fn spelled_fields_are_in_order()
+    ensures ascending { (strict : Bool) (fields : List Field) (bytes : List ℕ) → SpellsAnyMatch strict fields bytes → AreAscending fields }
+    ensures same { (strict : Bool) (fields : List Field) (bytes : List ℕ) (m : SpellsAnyMatch strict fields bytes) (test : Field → Bool)
+        → list_any test fields ≡ list_any test (known m.items) }
+{}
