@@ -1,8 +1,8 @@
 pub mod Adds
 pub mod FormLemmas
 pub mod Ordered
-pub mod InOrder
-pub mod ConfInOrder
-pub mod Opened
+pub mod Accepted
+pub mod Framed
+pub mod Headline
 pub mod PlanLemmas
 pub mod TopLemmas

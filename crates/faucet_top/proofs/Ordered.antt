@@ -1,30 +1,27 @@
--- The cold start stands in key order.
-use Rattle.std.proofs.Common.{◌≡◌, ℕ, suc, ◌+◌, ◌<◌, ◌≤◌, inl, inr, Bool, true, false, cond, ◌==◌, ◌||◌, nat_lt, if◌then◌else◌, List, [], ◌∷◌, filter, length, Option, Some, None, refl, sym, ap, subst, ◌∙◌, true≢false, arith}
+-- What a configuration collects rises by its numbers.
+use Rattle.std.proofs.Common.{◌≡◌, ℕ, suc, ◌+◌, ◌<◌, ◌≤◌, inl, inr, Bool, true, false, ◌==◌, ◌||◌, nat_lt, if◌then◌else◌, List, [], ◌∷◌, length, Option, Some, None, refl, sym, ap, subst, ◌∙◌, true≢false, arith}
 use Rattle.std.specs.List.{AllByRecursion, insert, take_while, prefix_len, list_any}
 use Rattle.std.proofs.lemmas.Bool.{cases_lt, cases_order, lt-ltb, le-ltb, eq-eqb}
 use Rattle.std.proofs.lemmas.Option.{option_and_then_some, none-some, same_Some}
 use Rattle.yaml_subset.specs.declared.tree.Pair.{Pair}
+use Rattle.conf_types.specs.Valid.{Rises}
 use Rattle.faucet_top.specs.Form.{placed, collected}
 
 -- ---- lists that rise by a number
-
-abbrev pub Rises : {A : Type 0} → (A → ℕ) → List A → Type 0
-Rises f [] = Unit {0}
-Rises f (x ∷ xs) = AllByRecursion (λ y. f x < f y) xs × Rises f xs
 
 pub each : {A : Type 0} {P Q : A → Type 0} → ((x : A) → P x → Q x) → (xs : List A) → AllByRecursion P xs → AllByRecursion Q xs
 each h [] all = tt
 each h (x ∷ xs) all = (h x all.0, each h xs all.1)
 
 -- x behind those of a lesser number
-abbrev put : {A : Type 0} → (A → ℕ) → A → List A → List A
+abbrev pub put : {A : Type 0} → (A → ℕ) → A → List A → List A
 put f x [] = x ∷ []
 put f x (y ∷ ys) = if nat_lt (f y) (f x) then y ∷ put f x ys else x ∷ y ∷ ys
 
 one_more : (n : ℕ) → 1 + n ≡ suc n
 one_more n = omega arith
 
-put-insert : {A : Type 0} (f : A → ℕ) (x : A) (xs : List A) → insert xs (length (take_while (λ y. nat_lt (f y) (f x)) xs)) x ≡ put f x xs
+pub put-insert : {A : Type 0} (f : A → ℕ) (x : A) (xs : List A) → insert xs (length (take_while (λ y. nat_lt (f y) (f x)) xs)) x ≡ put f x xs
 put-insert f x [] = refl
 put-insert f x (y ∷ ys) =
     elim (cases_lt (f y) (f x)) [
@@ -32,7 +29,7 @@ put-insert f x (y ∷ ys) =
       | inr upper ↦ rw (le-ltb (f y) (f x) upper) refl
     ]
 
-all_put : {A : Type 0} (P : A → Type 0) (f : A → ℕ) (x : A) (xs : List A) → P x → AllByRecursion P xs → AllByRecursion P (put f x xs)
+pub all_put : {A : Type 0} (P : A → Type 0) (f : A → ℕ) (x : A) (xs : List A) → P x → AllByRecursion P xs → AllByRecursion P (put f x xs)
 all_put P f x [] h all = (h, tt)
 all_put P f x (y ∷ ys) h all =
     elim (cases_lt (f y) (f x)) [
@@ -65,7 +62,7 @@ rises_put f x (y ∷ ys) new r =
 
 -- ---- what is collected rises
 
-if_none : {A P : Type 0} (b : Bool) (x y : A) → ◌≡◌ {A = Option A} (if b then None else Some x) (Some y) → (b ≡ false → x ≡ y → P) → P
+pub if_none : {A P : Type 0} (b : Bool) (x y : A) → ◌≡◌ {A = Option A} (if b then None else Some x) (Some y) → (b ≡ false → x ≡ y → P) → P
 if_none true x y e k = absurd (none-some y e)
 if_none false x y e k = k refl (same_Some x y e)
 
@@ -80,19 +77,3 @@ collected_rises f read before (p ∷ ps) ys e r =
     option_and_then_some _ (read p) ys e (λ x _ e1.
     option_and_then_some _ (placed f x before) ys e1 (λ among is e2.
     collected_rises f read among ps ys e2 (placed_rises f x before among is r)))
-
-kept_all : {A : Type 0} (P : A → Type 0) (b : Bool) (x : A) (ys : List A) → P x → AllByRecursion P ys → AllByRecursion P (cond b (x ∷ ys) ys)
-kept_all P true x ys h all = (h, all)
-kept_all P false x ys h all = all
-
-all_filter : {A : Type 0} (P : A → Type 0) (p : A → Bool) (xs : List A) → AllByRecursion P xs → AllByRecursion P (filter p xs)
-all_filter P p [] all = tt
-all_filter P p (x ∷ xs) all = kept_all P (p x) x (filter p xs) all.0 (all_filter P p xs all.1)
-
-pub rises_filter : {A : Type 0} (f : A → ℕ) (p : A → Bool) (xs : List A) → Rises f xs → Rises f (filter p xs)
-rises_filter f p [] r = tt
-rises_filter f p (x ∷ xs) r = kept (p x) f x (filter p xs) (all_filter (λ y. f x < f y) p xs r.0) (rises_filter f p xs r.1)
-  where
-    kept : {A : Type 0} (b : Bool) (f : A → ℕ) (x : A) (ys : List A) → AllByRecursion (λ y. f x < f y) ys → Rises f ys → Rises f (cond b (x ∷ ys) ys)
-    kept true f x ys all r = (all, r)
-    kept false f x ys all r = r

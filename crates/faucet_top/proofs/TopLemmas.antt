@@ -9,10 +9,11 @@ use Rattle.yaml_subset.specs.Reading.{read_of}
 use Rattle.yaml_subset.specs.declared.fault.YamlFault.{YamlFault}
 use Rattle.yaml_subset.specs.declared.tree.Tree.{Tree}
 use Rattle.faucet_top.specs.Form.{conf_of}
-use Rattle.faucet_top.specs.declared.conf.Conf.{Conf}
+use Rattle.conf_types.specs.declared.conf.Conf.{Conf}
 use Rattle.faucet_top.specs.declared.plan.PlanRefused.{PlanRefused}
 use Rattle.faucet_top.specs.declared.plan.PlanRefused.TheVariants.{Unread, Refused, NotOfForm, Unresolved, Memory}
 use Rattle.faucet_top.specs.Answer.{Answer, Delivers, Makes, planned, planned_file, batch_of, batch_of_text, plan_answer, usage, answer, job_answer}
+use Rattle.faucet_top.specs.Opened.{Opens, OpensBy}
 use Rattle.faucet_top.specs.Top.{PlanAnswered, IsGiven, IsRefusal, now_held}
 use Rattle.faucet_top.specs.Words.{Job, Plan, meaning}
 
@@ -65,6 +66,15 @@ module _ (status : ℕ) (o0 o1 e0 e1 : Option (List ℕ)) (wf : Type 0) where
   not_one config dp (Err Unresolved) (inl h) s = omega (arith, h.0)
   not_one config dp (Err Memory) (inl h) s = omega (arith, h.0)
   not_one config dp made (inr h) s = omega (arith, h.0)
+
+  at_zero : (config dp : List ℕ) (made : Made) → Delivers (plan_answer config dp made) status o0 o1 e0 e1 wf → status ≡ 0 → (batch : List ℕ) × (made ≡ Ok batch) × (o1 ≡ appended o0 batch)
+  at_zero config dp (Ok batch) (inl h) s = (batch, refl, h.1)
+  at_zero config dp (Err Unread) (inl h) s = absurd (omega (arith, h.0))
+  at_zero config dp (Err NotOfForm) (inl h) s = absurd (omega (arith, h.0))
+  at_zero config dp (Err (Refused why)) (inl h) s = absurd (omega (arith, h.0))
+  at_zero config dp (Err Unresolved) (inl h) s = absurd (omega (arith, h.0))
+  at_zero config dp (Err Memory) (inl h) s = absurd (omega (arith, h.0))
+  at_zero config dp made (inr h) s = absurd (omega (arith, h.0))
 
   at_two : (config dp : List ℕ) (made : Made) → Delivers (plan_answer config dp made) status o0 o1 e0 e1 wf → status ≡ 2 → TwoCause made
   at_two config dp (Ok batch) (inl h) s = absurd (omega (arith, h.0))
@@ -160,6 +170,13 @@ module _ (words : List (List ℕ)) (status : ℕ) (contents : Option Contents) (
           | inr name ↦ inr (subst (λ (m : Made). Makes fault m (planned text dp)) name made_so)
         ])
       ]
+
+  pub opened : ((text dp batch : List ℕ) → planned text dp ≡ Ok batch → Opens text dp batch)
+      → (config dp text : List ℕ) → meaning words ≡ Some (Plan config dp) → Tells contents config (Some text) → status ≡ 0 → OpensBy text dp o0 o1
+  opened law config dp text e t s =
+      let p = plan config dp e in
+      let done = at_zero status o0 o1 e0 e1 wf config dp p.made p.given s in
+      (done.0, done.2, law text dp done.0 (subst (λ (m : Made). Makes fault m (planned text dp)) done.1 (p.told (Some text) t)))
 
   pub refused_there : (config dp : List ℕ) → meaning words ≡ Some (Plan config dp) → Tells contents config None → status ≡ 2 → ⊥
   refused_there config dp e t s =

@@ -8,10 +8,10 @@ use Rattle.yaml_subset.specs.Reading.{read_of}
 use Rattle.yaml_subset.specs.Fault.{cause_text}
 use Rattle.yaml_subset.specs.declared.fault.YamlFault.{YamlFault}
 use Rattle.yaml_subset.specs.declared.tree.Tree.{Tree}
-use Rattle.faucet_top.specs.declared.conf.Conf.{Conf}
+use Rattle.conf_types.specs.declared.conf.Conf.{Conf}
 use Rattle.faucet_top.specs.declared.plan.PlanRefused.{PlanRefused}
 use Rattle.faucet_top.specs.declared.plan.PlanRefused.TheVariants.{Unread, Refused, NotOfForm, Unresolved, Memory}
-use Rattle.faucet_top.specs.Cold.{cold}
+use Rattle.cold_plan.specs.Cold.{cold}
 use Rattle.faucet_top.specs.Form.{conf_of}
 use Rattle.faucet_top.specs.Messages.{opening}
 use Rattle.faucet_top.specs.Words.{Job, Plan, meaning}

@@ -1,9 +1,9 @@
 pub mod Answer
 pub mod Asked
-pub mod Cold
 pub mod Ends
 pub mod Form
 pub mod Messages
+pub mod Opened
 pub mod Refusals
 pub mod Shaped
 pub mod Status

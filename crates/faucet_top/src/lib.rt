@@ -1,8 +1,6 @@
 //! The commands of `faucet`, from their words to what they write.
 #![tactic(auto)]
 
-mod cold;
-mod conf;
 mod deliver;
 mod form;
 pub mod laws;
@@ -14,7 +12,5 @@ mod words;
 
 pub use top::faucet;
 
-#[cfg(test)]
-mod plain;
 #[cfg(test)]
 mod tests;

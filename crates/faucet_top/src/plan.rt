@@ -5,9 +5,9 @@ ghost use Rattle.faucet_top.specs.declared.plan.PlanRefused.TheVariants.{Memory,
 ghost use Rattle.faucet_top.specs.Answer.{planned, planned_file, Makes};
 ghost use Rattle.faucet_top.specs.Refusals.{unread_or_memory, form_or_memory, fault_or_memory};
 
-use crate::cold::make_cold;
 use crate::messages::make_opening;
 use crate::shape::{FormRefused, make_conf};
+use cold_plan::make_cold;
 use fg_outside::{Files, ReadRefused, read_whole};
 use net_base::{Bytes, NoMemory};
 use std::alloc::Global;

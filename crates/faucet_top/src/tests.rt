@@ -1,14 +1,10 @@
 //! What the commands write, over files and streams in memory.
 
-use crate::cold::make_cold;
 use crate::faucet;
-use crate::plain::plain_cold;
-use crate::shape::make_conf;
 use fg_outside::{CallNos, Folder, Folders, HeldFile, HeldFiles, MemFiles, MemSink, NoHub};
 use net_base::{Bytes, Names, NoMemory, Text};
 use std::alloc::Global;
 use std::test::Fail;
-use yaml_subset::read_yaml;
 
 const QUICK_START: &str =
     "vlans:\n    office:\n        vid: 100\n        description: \"office network\"\ndps:\n    sw1:\n        dp_id: 0x1\n        hardware: \"Open vSwitch\"\n        interfaces:\n            1:\n                name: \"host1\"\n                description: \"host1 network namespace\"\n                native_vlan: office\n            2:\n                name: \"host2\"\n                description: \"host2 network namespace\"\n                native_vlan: office\n";
@@ -188,36 +184,6 @@ fn a_full_sink_holds_a_front(rt: HostRuntime) -> Result<(), Fail> {
     assert_eq!(rt; cut.out.as_slice().len(), 1000);
     assert!(rt; whole.out.as_slice().starts_with(cut.out.as_slice()));
     assert_eq!(rt; cut.err.as_slice().len(), 0);
-    Ok(())
-}
-
-/// Configurations of the first form: how the shipped cold start and the plain one agree on them.
-const CONFIGURATIONS: [&str; 5] = [
-    QUICK_START,
-    "vlans: {a: {vid: 1}}\ndps: {d: {dp_id: 18446744073709551615, interfaces: {4294967040: {native_vlan: a}}}}\n",
-    "vlans: {b: {vid: 4094}, a: {vid: 7}}\ndps: {7: {dp_id: 0xffffffffffffffff, interfaces: {9: {native_vlan: a}, 3: {native_vlan: b}, 5: {native_vlan: a}}}}\n",
-    "vlans: {c: {vid: 3}, a: {vid: 2}, b: {vid: 1, description: unused}}\ndps: {d: {dp_id: 0, interfaces: {6: {native_vlan: a}, 5: {native_vlan: c}, 4: {native_vlan: a}, 3: {native_vlan: c}, 2: {native_vlan: a, name: x}, 1: {native_vlan: c, description: y}}}}\n",
-    "vlans: {a: {vid: 300}, b: {vid: 256}, c: {vid: 255}}\ndps: {d: {dp_id: 12, hardware: any, interfaces: {256: {native_vlan: b}, 255: {native_vlan: c}, 257: {native_vlan: a}}}}\n",
-];
-
-#[test]
-fn the_plain_cold_start_agrees(rt: HostRuntime) -> Result<(), Fail> {
-    let alloc = rt.alloc();
-    for text in CONFIGURATIONS {
-        let tree = read_yaml(alloc, text.as_bytes()).ok().ok_or("a tree")?;
-        let conf = make_conf(alloc, &tree).ok().ok_or("a configuration")?;
-        let shipped = make_cold(alloc, &conf)?;
-        let plain = plain_cold(alloc, &conf)?;
-        assert_eq!(rt; shipped.len(), plain.len());
-        for (a, b) in shipped.as_slice().iter().zip(plain.as_slice()) {
-            assert!(rt; a.key == b.key, "{text}");
-            let (a, b) = (
-                format!(in alloc; "{:?}", a.instrs)?,
-                format!(in alloc; "{:?}", b.instrs)?,
-            );
-            assert_eq!(rt; a.as_str(), b.as_str());
-        }
-    }
     Ok(())
 }
 

@@ -3,11 +3,13 @@ ghost use Rattle.fg_outside.specs.Counts.{Rose};
 ghost use Rattle.fg_outside.specs.Contents.{Contents, Tells};
 ghost use Rattle.fg_outside.specs.Wrote.{appended, AppendsFront};
 ghost use Rattle.faucet_top.specs.Answer.{Delivers, usage, answer, planned};
+ghost use Rattle.faucet_top.specs.Opened.{OpensBy};
 ghost use Rattle.faucet_top.specs.Status.{number_of_status};
 ghost use Rattle.faucet_top.specs.Top.{PlanAnswered, IsGiven, IsRefusal, IsStatus, now_held};
 ghost use Rattle.faucet_top.specs.Words.{meaning, Plan};
 
 use crate::deliver::{Status, deliver_plan, deliver_usage};
+use crate::laws;
 use crate::plan::make_batch;
 use crate::words::{Asked, read_words};
 use fg_outside::{Files, Hub, Sink};
@@ -64,6 +66,12 @@ pub fn faucet<F: Files, H: Hub, O: Sink, E: Sink>(
         (O.wrote out.old) (O.wrote out.new) (E.wrote err.old) (E.wrote err.new)
         ⊎ (Rose (F.faults files) (F.faults result.1) ⊎ (Rose (O.faults out.old) (O.faults out.new) ⊎ Rose (E.faults err.old) (E.faults err.new))) }
 
+    // The headline: where `plan` is done, what stands on `out` opens the datapath. Whatever a switch held
+    // that keeps the barrier rule, behind the last barrier it holds exactly the cold start of the
+    // configuration, and these tables send every packet exactly as the configuration describes.
+    ensures opened { (config dp text : List ℕ) → meaning words.now ≡ Some (Plan config dp) → Tells (F.contents files) config (Some text)
+        → result.0 ≡ 0 → OpensBy text dp (O.wrote out.old) (O.wrote out.new) }
+
     // Whatever fails, no byte stands on `out` that isn't of the answer.
     ensures front { (held : Contents) → F.contents files ≡ Some held
         → AppendsFront (O.wrote out.old) (O.wrote out.new) (answer words.now (now_held held)).out }
@@ -96,6 +104,7 @@ pub fn faucet<F: Files, H: Hub, O: Sink, E: Sink>(
     ensures out_faults { O.faults out.old ≤ O.faults out.new }
     ensures err_faults { E.faults err.old ≤ E.faults err.new }
 {
+    laws::a_planned_batch_opens_the_datapath();
     let mut files = files;
     let status = answer_words(alloc, words, &mut files, out, err);
     (status.number(), files, hub)

@@ -1,0 +1,86 @@
+-- What the bytes of an opening batch do to a switch that gets them.
+use Rattle.std.specs.Prelude.{◌≡◌, ℕ, ◌==◌, ◌&&◌, Bool, if◌then◌else◌, List, [], ◌∷◌, ◌++◌, length, Option, Some, None}
+use Rattle.fg_outside.specs.Wrote.{appended}
+use Rattle.yaml_subset.specs.Grammar.{Reads}
+use Rattle.yaml_subset.specs.declared.tree.Tree.{Tree}
+use Rattle.conf_types.specs.declared.conf.Conf.{Conf}
+use Rattle.of_match.specs.declared.entry.Command.{Command}
+use Rattle.of_match.specs.declared.entry.Command.TheVariants.{Add, DeleteStrict, DeleteAll}
+use Rattle.of_match.specs.declared.entry.Entry.{Entry}
+use Rattle.of_match.specs.declared.entry.Key.{Key}
+use Rattle.of_match.specs.declared.packet.Packet.{Packet}
+use Rattle.of_match.specs.declared.packet.Sent.{Sent}
+use Rattle.of_match.specs.Pipeline.{Pipes}
+use Rattle.of_match.specs.Settled.{SettlesInTurn}
+use Rattle.packet_way.specs.Way.{Arrives, sends}
+use Rattle.cold_plan.specs.Cold.{cold}
+use Rattle.of_wire.specs.Grammar.{Then}
+use Rattle.of13_codec.specs.Messages.{written}
+use Rattle.of13_codec.specs.Spelling.{Spells}
+use Rattle.of13_codec.specs.declared.flow_mod.FlowMod.{FlowMod}
+use Rattle.of13_codec.specs.declared.message.Message.{Message}
+use Rattle.of13_codec.specs.declared.message.Message.TheVariants as messages
+use Rattle.faucet_top.specs.Form.{conf_of}
+use Rattle.faucet_top.specs.Messages.{next_xid}
+
+-- ---- messages as commands of the flow tables (OpenFlow 1.3, 7.3.4.1)
+
+-- the entry stays until it is deleted, and nothing else happens: no timeouts, no flags, no packet
+abbrev pub is_lasting : FlowMod → Bool
+is_lasting m = m.idle == 0 && m.hard == 0 && m.flags == 0 && m.buffer == 0xffffffff
+
+-- what is deleted isn't narrowed by cookie, output port or group
+abbrev pub is_whole : FlowMod → Bool
+is_whole m = m.cookie_mask == 0 && m.out_port == 0xffffffff && m.out_group == 0xffffffff
+
+abbrev pub key_in : FlowMod → Key
+key_in m = record { table = m.table; priority = m.priority; fields = m.fields }
+
+-- OFPFC_ADD, OFPFC_DELETE of everything in all tables, and OFPFC_DELETE_STRICT
+abbrev pub command_in : FlowMod → Option Command
+command_in m =
+    if m.command == 0 && is_lasting m then Some (Add (record { key = key_in m; instrs = m.instrs }))
+    else if m.command == 3 && m.table == 0xff && length m.fields == 0 && is_whole m then Some DeleteAll
+    else if m.command == 4 && is_whole m then Some (DeleteStrict (key_in m))
+    else None
+
+-- Messages say these lists of commands, each with a barrier behind it (7.3.8).
+pub data Says : List Message → List (List Command) → Type 0 where
+  nothing : Says [] []
+  barrier : (more : List Message) (batches : List (List Command)) → Says more batches → Says (messages.BarrierRequest ∷ more) ([] ∷ batches)
+  command : (m : FlowMod) (c : Command) (more : List Message) (batch : List Command) (batches : List (List Command)) → command_in m ≡ Some c → Says more (batch ∷ batches) → Says (messages.FlowMod m ∷ more) ((c ∷ batch) ∷ batches)
+
+-- messages in a row, with transaction ids that count up
+abbrev pub written_from : ℕ → List Message → List ℕ
+written_from xid [] = []
+written_from xid (m ∷ more) = written m xid ++ written_from (next_xid xid) more
+
+-- bytes spell messages in a row, frame by frame, with transaction ids that count up: the standard's
+-- spelling, which allows anything where a receiver ignores it
+abbrev pub SpellAll : ℕ → List Message → List ℕ → Type 0
+SpellAll xid [] bytes = bytes ≡ []
+SpellAll xid (m ∷ more) bytes = Then (Spells m xid) (SpellAll (next_xid xid) more) bytes
+
+-- ---- a switch that gets the batch
+
+-- The batch opens the datapath that a configuration file's text describes: whatever a switch held that
+-- keeps the barrier rule, behind the last barrier it holds exactly the cold start, and these tables send
+-- every packet exactly as the configuration describes, whichever of several best entries it takes.
+pub record Opens (text dp batch : List ℕ) : Type 0 where
+  pub tree : Tree
+  pub conf : Conf
+  pub messages : List Message
+  pub commands : List (List Command)
+  pub reads : Reads text tree
+  pub accepted : conf_of tree ≡ Some conf
+  pub named : conf.dp.name ≡ dp
+  pub sent : batch ≡ written_from 1 messages
+  pub spelled : SpellAll 1 messages batch
+  pub said : Says messages commands
+  pub holds : (held settled : List Entry) → SettlesInTurn held commands settled → settled ≡ cold conf
+  pub goes : (port : ℕ) (p : Packet) → Arrives port p → Pipes (cold conf) port p (sends conf port p)
+  pub only : (port : ℕ) (p : Packet) (outs : List Sent) → Arrives port p → Pipes (cold conf) port p outs → outs ≡ sends conf port p
+
+-- what was written opens the datapath
+abbrev pub OpensBy : (text dp : List ℕ) → (before after : Option (List ℕ)) → Type 0
+OpensBy text dp before after = (batch : List ℕ) × (after ≡ appended before batch) × Opens text dp batch

@@ -1,0 +1,6 @@
+//! The way of a packet by the configuration, with no tables and no entries.
+#![tactic(auto)]
+
+mod way;
+
+pub use way::sends;
