@@ -37,3 +37,7 @@ pub mod NestedLevels
 pub mod BlockLevels
 pub mod QuoteLaws
 pub mod PlainLaws
+pub mod RowGroups
+pub mod RowsSound
+pub mod RowsRead
+pub mod RowsLines

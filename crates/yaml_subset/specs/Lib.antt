@@ -16,6 +16,7 @@ pub mod SingleQuoted
 pub mod PlainText
 pub mod LineValue
 pub mod Grammar
+pub mod PlainReader
 pub mod Accepted
 pub mod DigitLaws
 pub mod Printed

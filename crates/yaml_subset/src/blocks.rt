@@ -74,7 +74,7 @@ fn is_opening(rest: &[u8]) -> bool
 
 /// The value behind a key, on the key's line.
 #[tactic(auto, unfolding(crate::specs::Blocks::block_value))]
-fn block_value(alloc: Global, levels: usize, rest: &[u8]) -> Result<Tree, LineRefused>
+pub(crate) fn block_value(alloc: Global, levels: usize, rest: &[u8]) -> Result<Tree, LineRefused>
     ensures { Gives (λ x. x) result (block_value levels rest.now) }
 {
     let (value, after) = if is_opening(rest) {

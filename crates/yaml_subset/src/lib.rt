@@ -11,6 +11,7 @@ pub mod laws;
 mod lines;
 mod numbers;
 mod plain;
+mod plain_reader;
 mod print;
 mod quoted;
 mod reading;

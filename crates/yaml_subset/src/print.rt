@@ -321,6 +321,10 @@ mod tests {
                 "vlans:\n  office:\n    vid: 100\n    description: \"office network\"\n",
             ),
             (
+                "vlans:\n    office:\n        vid: 100\n        description: \"office network\"\ndps:\n    sw1:\n        dp_id: 0x1\n        hardware: \"Open vSwitch\"\n        interfaces:\n            1:\n                name: \"host1\"\n                description: \"host1 network namespace\"\n                native_vlan: office\n            2:\n                name: \"host2\"\n                description: \"host2 network namespace\"\n                native_vlan: office\n",
+                "vlans:\n  office:\n    vid: 100\n    description: \"office network\"\ndps:\n  sw1:\n    dp_id: 1\n    hardware: \"Open vSwitch\"\n    interfaces:\n      1:\n        name: host1\n        description: \"host1 network namespace\"\n        native_vlan: office\n      2:\n        name: host2\n        description: \"host2 network namespace\"\n        native_vlan: office\n",
+            ),
+            (
                 "[[], {}, -170141183460469231731687303715884105728]",
                 "- []\n- {}\n- -170141183460469231731687303715884105728\n",
             ),

@@ -16,7 +16,7 @@ use net_base::NoMemory;
 use std::alloc::{AllocError, Global};
 
 /// The most bytes that a text may have.
-const MOST_BYTES: usize = 1_048_576;
+pub(crate) const MOST_BYTES: usize = 1_048_576;
 
 impl From<AllocError> for YamlRefused {
     ghost from_gives = { λ _ e. e ≡ Memory };
@@ -27,7 +27,7 @@ impl From<AllocError> for YamlRefused {
 }
 
 /// The lines of a text, without their ends.
-fn split_lines<'a>(alloc: Global, text: &'a str) -> Result<Vec<&'a str>, NoMemory>
+pub(crate) fn split_lines<'a>(alloc: Global, text: &'a str) -> Result<Vec<&'a str>, NoMemory>
     ensures { IfOk result (λ v. map (λ x. x.now) v.items ≡ lines text.now) }
 {
     text.lines().collect(alloc)

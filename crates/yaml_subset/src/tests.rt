@@ -1,4 +1,5 @@
 use super::*;
+use crate::plain_reader::read_plainly;
 use net_base::NoMemory;
 use std::alloc::Global;
 use std::test::*;
@@ -347,6 +348,30 @@ fn trees_and_faults(rt: HostRuntime) -> Result<(), Fail> {
     for (text, wanted) in &FAULTS {
         let found = answer(rt.alloc(), text.as_bytes())?;
         assert_eq!(rt; found.as_str(), *wanted, "{text:?}");
+    }
+    Ok(())
+}
+
+/// What `read_plainly` answers, written down.
+fn plain_answer(alloc: Global, text: &[u8]) -> Result<String, NoMemory> {
+    let mut out = String::new(alloc);
+    match read_plainly(alloc, text)? {
+        Some(tree) => show_tree(&mut out, &tree)?,
+        None => out.push_str("no tree")?,
+    }
+    Ok(out)
+}
+
+#[test]
+fn plain_trees(rt: HostRuntime) -> Result<(), Fail> {
+    for (text, _) in &TREES {
+        let found = answer(rt.alloc(), text.as_bytes())?;
+        let plain = plain_answer(rt.alloc(), text.as_bytes())?;
+        assert_eq!(rt; plain.as_str(), found.as_str(), "{text:?}");
+    }
+    for (text, _) in &FAULTS {
+        let plain = plain_answer(rt.alloc(), text.as_bytes())?;
+        assert_eq!(rt; plain.as_str(), "no tree", "{text:?}");
     }
     Ok(())
 }
