@@ -97,14 +97,14 @@ element_sound past before kind len at bytes y h is_kind is_len e =
     } in
     subst (λ (z : Option ℕ × ℕ). Part spells bitmap_of before bytes z) out part
 
-step_sound : (past : PartFault) (before : List Element) (at : ℕ) (bytes : List ℕ) (y : Option ℕ × ℕ) → AreBytes bytes → hello_step past (bitmap_of before) at bytes ≡ Ok y
+pub step_sound : (past : PartFault) (before : List Element) (at : ℕ) (bytes : List ℕ) (y : Option ℕ × ℕ) → AreBytes bytes → hello_step past (bitmap_of before) at bytes ≡ Ok y
     → Part spells bitmap_of before bytes y
 unfolding hello_step
 step_sound past before at bytes y h e =
     let a = passed (ltb (length bytes) 4) past (element_at past (bitmap_of before) (number_in 0 2 bytes) (number_in 2 2 bytes) at bytes) y e in
     element_sound past before (number_in 0 2 bytes) (number_in 2 2 bytes) at bytes y h refl refl a.1
 
-step_complete : (past : PartFault) (before : List Element) (el : Element) (at : ℕ) (first rest : List ℕ) → SpellsElement el first → IsRead bitmap_of (hello_step past) before el at first rest
+pub step_complete : (past : PartFault) (before : List Element) (el : Element) (at : ℕ) (first rest : List ℕ) → SpellsElement el first → IsRead bitmap_of (hello_step past) before el at first rest
 unfolding hello_step element_at
 step_complete past before el at first rest p =
     let bytes = first ++ rest in

@@ -7,3 +7,9 @@ pub mod PacketLaws
 pub mod DecodeLaws
 pub mod Written
 pub mod Spelled
+pub mod HelloFaults
+pub mod ReplyFaults
+pub mod BodyFaults
+pub mod PlainFaults
+pub mod PacketFaults
+pub mod DecodeFaults

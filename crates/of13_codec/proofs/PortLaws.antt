@@ -72,7 +72,7 @@ port_front xs ys len =
 abbrev pub ports_spelled : List PortDesc → PortDesc → List ℕ → Type 0
 ports_spelled before p bytes = SpellsPort p bytes
 
-port_step_sound : (past : PartFault) (before : List PortDesc) (at : ℕ) (bytes : List ℕ) (y : List PortDesc × ℕ) → AreBytes bytes → port_step past before at bytes ≡ Ok y
+pub port_step_sound : (past : PartFault) (before : List PortDesc) (at : ℕ) (bytes : List ℕ) (y : List PortDesc × ℕ) → AreBytes bytes → port_step past before at bytes ≡ Ok y
     → Part ports_spelled (λ l. l) before bytes y
 unfolding port_step
 port_step_sound past before at bytes y h e =
@@ -91,7 +91,7 @@ port_step_sound past before at bytes y h e =
     } in
     subst (λ (z : List PortDesc × ℕ). Part ports_spelled (λ l. l) before bytes z) out part
 
-port_step_complete : (past : PartFault) (before : List PortDesc) (p : PortDesc) (at : ℕ) (first rest : List ℕ) → SpellsPort p first → IsRead (λ l. l) (port_step past) before p at first rest
+pub port_step_complete : (past : PartFault) (before : List PortDesc) (p : PortDesc) (at : ℕ) (first rest : List ℕ) → SpellsPort p first → IsRead (λ l. l) (port_step past) before p at first rest
 unfolding port_step
 port_step_complete past before p at first rest s =
     let c = port_complete p first s in

@@ -104,7 +104,7 @@ stats_front xs ys len =
 abbrev pub stats_spelled : List PortStats → PortStats → List ℕ → Type 0
 stats_spelled before s bytes = SpellsStats s bytes
 
-stats_step_sound : (past : PartFault) (before : List PortStats) (at : ℕ) (bytes : List ℕ) (y : List PortStats × ℕ) → AreBytes bytes → stats_step past before at bytes ≡ Ok y
+pub stats_step_sound : (past : PartFault) (before : List PortStats) (at : ℕ) (bytes : List ℕ) (y : List PortStats × ℕ) → AreBytes bytes → stats_step past before at bytes ≡ Ok y
     → Part stats_spelled (λ l. l) before bytes y
 unfolding stats_step
 stats_step_sound past before at bytes y h e =
@@ -123,7 +123,7 @@ stats_step_sound past before at bytes y h e =
     } in
     subst (λ (z : List PortStats × ℕ). Part stats_spelled (λ l. l) before bytes z) out part
 
-stats_step_complete : (past : PartFault) (before : List PortStats) (s : PortStats) (at : ℕ) (first rest : List ℕ) → SpellsStats s first → IsRead (λ l. l) (stats_step past) before s at first rest
+pub stats_step_complete : (past : PartFault) (before : List PortStats) (s : PortStats) (at : ℕ) (first rest : List ℕ) → SpellsStats s first → IsRead (λ l. l) (stats_step past) before s at first rest
 unfolding stats_step
 stats_step_complete past before s at first rest p =
     let c = stats_complete s first p in

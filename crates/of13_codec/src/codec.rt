@@ -5,6 +5,7 @@ ghost use Rattle.of13_codec.specs.Decoding.{error_at, other_at, bare_at, echo_re
 ghost use Rattle.of13_codec.specs.declared.message.Message.{Message};
 ghost use Rattle.of13_codec.specs.Messages.{body_of, error_bytes, framed, written};
 ghost use Rattle.of13_codec.specs.Spelling.{Spells};
+ghost use Rattle.of13_codec.specs.Faults.{TellsFrame};
 ghost use Rattle.of13_codec.specs.WellFormed.{IsWellFormed, FitsFrame};
 
 use crate::features::{put_features, read_features};
@@ -254,6 +255,7 @@ pub fn decode(alloc: Global, frame: &[u8]) -> Result<(Message, u32), WireRefused
     ensures exact { Decodes result (decoded frame.now) }
     ensures spelled { IfOk result (λ x. Spells x.0 x.1 frame.now) }
     ensures complete { (m : Message) (xid : ℕ) → Spells m xid frame.now → Decodes result (Ok (m, xid)) }
+    ensures first { TellsFrame frame.now result }
 {
     read_frame(alloc, frame)
 }

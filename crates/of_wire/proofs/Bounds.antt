@@ -1,5 +1,5 @@
 -- The most bytes that parts take.
-use Rattle.std.proofs.Common.{◌≡◌, ℕ, ◌+◌, ◌-◌, ◌*◌, ◌%◌, ◌<◌, ◌≤◌, Bool, true, false, inl, inr, List, [], ◌∷◌, ◌++◌, length, replicate, ap, ◌∙◌, arith}
+use Rattle.std.proofs.Common.{ℕ, ◌+◌, ◌-◌, ◌*◌, ◌%◌, ◌≤◌, inl, inr, List, [], ◌∷◌, ◌++◌, length, replicate, arith}
 use Rattle.std.specs.List.{flat_map}
 use Rattle.std.proofs.lemmas.Bool.Decides.{eqb_tells}
 use Rattle.std.proofs.lemmas.List.{length-append, length-replicate}
@@ -9,7 +9,7 @@ use Rattle.net_base.specs.declared.field.FieldId.TheVariants.{InPort, EthDst, Et
 use Rattle.net_base.specs.FieldId.{byte_len_of, all_ones}
 use Rattle.of_match.specs.declared.action.Action.{Action}
 use Rattle.of_match.specs.declared.action.Action.TheVariants.{Output, PushVlan, PopVlan, DecTtl, Set}
-use Rattle.of_wire.specs.Parts.{number, field_bytes, match_bytes, action_bytes, set_bytes, up_to_8}
+use Rattle.of_wire.specs.Parts.{number, field_bytes, match_bytes, action_bytes}
 use Rattle.of_wire.proofs.Lengths.{number_length, set_length, field_plain, field_masked, output_length, push_length, bare_length}
 
 six : (id : FieldId) → byte_len_of id ≤ 6

@@ -6,7 +6,6 @@ use Rattle.std.proofs.lemmas.List.{take-append-drop}
 use Rattle.std.proofs.lemmas.List.Folds.{list_any-append}
 use Rattle.net_base.specs.declared.field.Field.{Field}
 use Rattle.net_base.specs.declared.field.FieldId.{FieldId}
-use Rattle.net_base.specs.declared.field.FieldId.TheVariants.{InPort, EthDst, EthSrc, EthType, VlanVid, VlanPcp, IpProto, Ipv4Src, Ipv4Dst, TcpSrc, TcpDst, UdpSrc, UdpDst, Icmpv4Type, Icmpv4Code, ArpOp, ArpSpa, ArpTpa}
 use Rattle.net_base.specs.FieldId.{number_of}
 use Rattle.of_match.specs.declared.well_formed.Prerequisite.{Prerequisite}
 use Rattle.of_match.specs.WellFormed.{prerequisite_of, meets, has_prerequisite}
@@ -56,24 +55,7 @@ asked_in_order (Some p) fs = any_in_order (meets p) fs
 -- the two words for what has to stand before a field agree
 pub prerequisites_agree : (id : FieldId) (fields : List Field) → has_prerequisites id fields ≡ has_prerequisite id fields
 unfolding has_prerequisites
-prerequisites_agree InPort fields = refl
-prerequisites_agree EthDst fields = refl
-prerequisites_agree EthSrc fields = refl
-prerequisites_agree EthType fields = refl
-prerequisites_agree VlanVid fields = refl
-prerequisites_agree VlanPcp fields = refl
-prerequisites_agree IpProto fields = refl
-prerequisites_agree Ipv4Src fields = refl
-prerequisites_agree Ipv4Dst fields = refl
-prerequisites_agree TcpSrc fields = refl
-prerequisites_agree TcpDst fields = refl
-prerequisites_agree UdpSrc fields = refl
-prerequisites_agree UdpDst fields = refl
-prerequisites_agree Icmpv4Type fields = refl
-prerequisites_agree Icmpv4Code fields = refl
-prerequisites_agree ArpOp fields = refl
-prerequisites_agree ArpSpa fields = refl
-prerequisites_agree ArpTpa fields = refl
+prerequisites_agree id fields = refl
 
 pub prerequisites_in_order : (id : FieldId) (fs : List Field) → has_prerequisites id (in_order fs) ≡ has_prerequisite id fs
 prerequisites_in_order id fs = prerequisites_agree id (in_order fs) ∙ asked_in_order (prerequisite_of id) fs

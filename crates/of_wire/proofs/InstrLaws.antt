@@ -150,7 +150,7 @@ pub instr_complete : (past : PartFault) (before : List Instr) (i : Instr) (at : 
 instr_complete past before (Goto table) at first rest p = goto_complete past before table at first rest p
 instr_complete past before (Apply actions) at first rest p = apply_complete past before actions at first rest p
 
-step_sound : (past : PartFault) (before : List Instr) (at : ℕ) (bytes : List ℕ) (y : List Instr × ℕ) → AreBytes bytes → instr_step past before at bytes ≡ Ok y
+pub step_sound : (past : PartFault) (before : List Instr) (at : ℕ) (bytes : List ℕ) (y : List Instr × ℕ) → AreBytes bytes → instr_step past before at bytes ≡ Ok y
     → Part spells (λ l. l) before bytes y
 unfolding instr_step
 step_sound past before at bytes y h e =
@@ -167,7 +167,7 @@ step_sound past before at bytes y h e =
     } in
     subst (λ (z : List Instr × ℕ). Part spells (λ l. l) before bytes z) out part
 
-step_complete : (past : PartFault) (before : List Instr) (i : Instr) (at : ℕ) (first rest : List ℕ) → spells before i first → IsRead (λ l. l) (instr_step past) before i at first rest
+pub step_complete : (past : PartFault) (before : List Instr) (i : Instr) (at : ℕ) (first rest : List ℕ) → spells before i first → IsRead (λ l. l) (instr_step past) before i at first rest
 unfolding instr_step
 step_complete past before i at first rest p =
     let c = instr_complete past before i at first rest p in

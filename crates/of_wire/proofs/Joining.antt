@@ -20,12 +20,12 @@ pub record Parts {A S : Type 0} (spells : List A → A → List ℕ → Type 0) 
   pub joined : Joined spells before all bytes
   pub seen : y ≡ view (before ++ all)
 
-one_more : {S : Type 0} (step : S → ℕ → List ℕ → Result (S × ℕ) PartFault) (steps : ℕ) (s : S) (at : ℕ) (bytes : List ℕ) → (length bytes ≡ 0 → ⊥) →
+pub one_more : {S : Type 0} (step : S → ℕ → List ℕ → Result (S × ℕ) PartFault) (steps : ℕ) (s : S) (at : ℕ) (bytes : List ℕ) → (length bytes ≡ 0 → ⊥) →
     many step (suc steps) s at bytes ≡ (step s at bytes >>= λ x. many step steps x.0 (at + x.1) (drop x.1 bytes))
 unfolding many
 one_more step steps s at bytes ne = rw (ne_eqb (length bytes) 0 ne) refl
 
-no_more : {S : Type 0} (step : S → ℕ → List ℕ → Result (S × ℕ) PartFault) (steps : ℕ) (s : S) (at : ℕ) (bytes : List ℕ) → length bytes ≡ 0 → many step steps s at bytes ≡ Ok s
+pub no_more : {S : Type 0} (step : S → ℕ → List ℕ → Result (S × ℕ) PartFault) (steps : ℕ) (s : S) (at : ℕ) (bytes : List ℕ) → length bytes ≡ 0 → many step steps s at bytes ≡ Ok s
 unfolding many
 no_more step zero s at bytes e = refl
 no_more step (suc steps) s at bytes e = rw (eq-eqb (length bytes) 0 e) refl

@@ -18,3 +18,9 @@ pub mod Written
 pub mod Spelled
 pub mod Bounds
 pub mod Sorted
+pub mod Verdicts
+pub mod Told
+pub mod ActionFaults
+pub mod InstrFaults
+pub mod FieldFaults
+pub mod MatchFaults

@@ -140,10 +140,10 @@ action_complete past (Set f) at first rest p = set_complete past f at first rest
 
 -- ---- actions up to the end
 
-abbrev spells : List Action → Action → List ℕ → Type 0
+abbrev pub spells : List Action → Action → List ℕ → Type 0
 spells before a bytes = SpellsAction a bytes
 
-step_sound : (past : PartFault) (before : List Action) (at : ℕ) (bytes : List ℕ) (y : List Action × ℕ) → AreBytes bytes → action_step past before at bytes ≡ Ok y
+pub step_sound : (past : PartFault) (before : List Action) (at : ℕ) (bytes : List ℕ) (y : List Action × ℕ) → AreBytes bytes → action_step past before at bytes ≡ Ok y
     → Part spells (λ l. l) before bytes y
 unfolding action_step
 step_sound past before at bytes y h e =
@@ -160,7 +160,7 @@ step_sound past before at bytes y h e =
     } in
     subst (λ (z : List Action × ℕ). Part spells (λ l. l) before bytes z) out part
 
-step_complete : (past : PartFault) (before : List Action) (a : Action) (at : ℕ) (first rest : List ℕ) → SpellsAction a first → IsRead (λ l. l) (action_step past) before a at first rest
+pub step_complete : (past : PartFault) (before : List Action) (a : Action) (at : ℕ) (first rest : List ℕ) → SpellsAction a first → IsRead (λ l. l) (action_step past) before a at first rest
 unfolding action_step
 step_complete past before a at first rest p =
     let c = action_complete past a at first rest p in

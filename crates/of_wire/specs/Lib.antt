@@ -1,4 +1,5 @@
 pub mod Causes
+pub mod Faults
 pub mod Grammar
 pub mod Numbers
 pub mod Parts

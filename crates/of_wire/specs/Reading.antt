@@ -10,6 +10,7 @@ use Rattle.of_match.specs.declared.action.Action.{Action}
 use Rattle.of_match.specs.declared.action.Action.TheVariants.{Output, PushVlan, PopVlan, DecTtl, Set}
 use Rattle.of_match.specs.declared.action.Instr.{Instr}
 use Rattle.of_match.specs.declared.action.Instr.TheVariants.{Goto, Apply}
+use Rattle.of_match.specs.WellFormed.{has_prerequisite}
 use Rattle.of_wire.specs.declared.fault.PartFault.{PartFault}
 use Rattle.of_wire.specs.declared.fault.PartCause.{PartCause}
 use Rattle.of_wire.specs.declared.fault.PartCause.TheVariants.{Short, BadClass, BadLength, BadPad, Repeated, Prerequisite, UnknownAction, UnknownInstr}
@@ -107,39 +108,9 @@ field_value id bytes = record {
 abbrev pub stands : FieldId → List Field → Bool
 stands id fields = list_any (λ f. number_of f.id == number_of id) fields
 
--- whether a field stands there with just this value
-abbrev pub is_exactly : FieldId → ℕ → Field → Bool
-is_exactly id value f = (number_of f.id == number_of id) && ((f.value == value) && (f.mask == all_ones id))
-
-abbrev pub has_exactly : FieldId → ℕ → List Field → Bool
-has_exactly id value fields = list_any (is_exactly id value) fields
-
-abbrev pub is_tagged : Field → Bool
-is_tagged f = (number_of f.id == number_of VlanVid) && not (f.value == 0)
-
-abbrev pub has_tagged : List Field → Bool
-has_tagged fields = list_any is_tagged fields
-
--- what has to stand before a field (7.2.3.6 and the table of 7.2.3.7)
+-- the match has what the field asks for (7.2.3.6)
 unfoldable pub has_prerequisites : FieldId → List Field → Bool
-has_prerequisites VlanPcp fields = has_tagged fields
-has_prerequisites IpProto fields = has_exactly EthType 0x0800 fields
-has_prerequisites Ipv4Src fields = has_exactly EthType 0x0800 fields
-has_prerequisites Ipv4Dst fields = has_exactly EthType 0x0800 fields
-has_prerequisites TcpSrc fields = has_exactly IpProto 6 fields
-has_prerequisites TcpDst fields = has_exactly IpProto 6 fields
-has_prerequisites UdpSrc fields = has_exactly IpProto 17 fields
-has_prerequisites UdpDst fields = has_exactly IpProto 17 fields
-has_prerequisites Icmpv4Type fields = has_exactly IpProto 1 fields
-has_prerequisites Icmpv4Code fields = has_exactly IpProto 1 fields
-has_prerequisites ArpOp fields = has_exactly EthType 0x0806 fields
-has_prerequisites ArpSpa fields = has_exactly EthType 0x0806 fields
-has_prerequisites ArpTpa fields = has_exactly EthType 0x0806 fields
-has_prerequisites InPort fields = true
-has_prerequisites EthDst fields = true
-has_prerequisites EthSrc fields = true
-has_prerequisites EthType fields = true
-has_prerequisites VlanVid fields = true
+has_prerequisites id fields = has_prerequisite id fields
 
 -- the place of the first field above a number
 abbrev pub first_above : ℕ → List Field → Option ℕ

@@ -3,6 +3,7 @@ ghost use Rattle.std.specs.List.{flat_map};
 ghost use Rattle.of_wire.specs.Parts.{bare_action, set_bytes, action_bytes};
 ghost use Rattle.of_match.specs.declared.action.Action.{Action};
 ghost use Rattle.of_wire.specs.Spelling.{SpellsActions};
+ghost use Rattle.of_wire.specs.Faults.{TellsFirst, FaultInActions};
 ghost use Rattle.of_wire.specs.Reading.{Gives, fault_at, payload_len, set_named, set_at, sized_at, output_at, push_at, bare_at, action_of, action_at, action_step, actions_at};
 
 use crate::fault::{PartCause, PartFault, PartRefused};
@@ -324,6 +325,7 @@ pub fn get_actions(alloc: Global, bytes: &[u8]) -> Result<Actions, PartRefused>
     ensures exact { Gives (λ a. a) result (actions_at (fault_at (length bytes.now) PartCause.Short) 0 bytes.now) }
     ensures spelled { IfOk result (λ actions. SpellsActions actions bytes.now) }
     ensures complete { (actions : List Action) → SpellsActions actions bytes.now → Gives (λ a. a) result (Ok actions) }
+    ensures first { TellsFirst (FaultInActions bytes.now) result }
 {
     let past = PartFault {
         at: bytes.len() as u32,

@@ -5,6 +5,7 @@ ghost use Rattle.of_wire.specs.Numbers.{number_in};
 ghost use Rattle.of_match.specs.declared.action.Instr.{Instr};
 ghost use Rattle.of_wire.specs.Spelling.{SpellsInstrs};
 ghost use Rattle.of_wire.specs.Reading.{Gives, is_goto, has_goto, is_apply, has_apply, goto_at, applied_at, apply_at, instr_of, instr_at, instr_step, instrs_at};
+ghost use Rattle.of_wire.specs.Faults.{TellsFirst, FaultInInstrs};
 
 use crate::actions::{actions_len, put_actions, read_actions};
 use crate::fault::{PartCause, PartFault, PartRefused};
@@ -238,6 +239,7 @@ pub fn get_instrs(alloc: Global, bytes: &[u8]) -> Result<Instrs, PartRefused>
     ensures exact { Gives (λ i. i) result (instrs_at 0 bytes.now) }
     ensures spelled { IfOk result (λ instrs. SpellsInstrs instrs bytes.now) }
     ensures complete { (instrs : List Instr) → SpellsInstrs instrs bytes.now → Gives (λ i. i) result (Ok instrs) }
+    ensures first { TellsFirst (FaultInInstrs bytes.now) result }
 {
     get_instrs_at(alloc, 0, bytes)
 }

@@ -1,14 +1,14 @@
 //! Laws of the definitions: each function is empty, and its contract is the law.
 
-ghost use Rattle.std.specs.Prelude.{◌≡◌, ◌≤◌, ◌+◌, ◌*◌, ◌++◌, ℕ, Bool, List, [], length};
+ghost use Rattle.std.specs.Prelude.{◌≡◌, ◌≤◌, ◌<◌, ◌+◌, ◌*◌, ◌++◌, ℕ, Bool, List, [], length, slice_index};
 ghost use Rattle.std.specs.List.{AllByRecursion, flat_map, list_any};
 ghost use Rattle.net_base.specs.declared.field.Field.{Field};
-ghost use Rattle.net_base.specs.declared.field.FieldId.{FieldId};
 ghost use Rattle.of_match.specs.declared.action.Action.{Action};
 ghost use Rattle.of_match.specs.declared.action.Instr.{Instr};
-ghost use Rattle.of_match.specs.WellFormed.{has_prerequisite, AreAscending};
+ghost use Rattle.of_match.specs.WellFormed.{AreAscending};
 ghost use Rattle.of_wire.specs.Parts.{number, field_bytes, match_bytes, action_bytes, instr_bytes};
-ghost use Rattle.of_wire.specs.Reading.{has_prerequisites};
+ghost use Rattle.of_wire.specs.declared.fault.PartFault.{PartFault};
+ghost use Rattle.of_wire.specs.Faults.{IsFirst, SpelledOrFaulty, FaultInActions, FaultInInstrs, FaultInMatch};
 ghost use Rattle.of_wire.specs.Spelling.{known, SpellsAnyMatch, SpellsMatch, SpellsMatchSeen, SpellsActions, SpellsInstrs};
 ghost use Rattle.of_wire.specs.WellFormed.{IsMatch, IsMatchSeen, IsAction, AreInstrs};
 
@@ -32,11 +32,6 @@ pub fn bytes_spell_one_list()
     ensures instrs { (a b : List Instr) (bytes : List ℕ) → SpellsInstrs a bytes → SpellsInstrs b bytes → a ≡ b }
 {}
 
-/// What reading asks of the fields before a field is what a well-formed match has.
-pub fn prerequisites_agree()
-    ensures { (id : FieldId) (fields : List Field) → has_prerequisites id fields ≡ has_prerequisite id fields }
-{}
-
 /// A number takes the bytes that it is given; a field takes at most 16 bytes, an action at most 24.
 pub fn parts_take_few_bytes()
     ensures number { (len value : ℕ) → length (number len value) ≡ len }
@@ -51,4 +46,19 @@ pub fn spelled_fields_are_in_order()
     ensures ascending { (strict : Bool) (fields : List Field) (bytes : List ℕ) → SpellsAnyMatch strict fields bytes → AreAscending fields }
     ensures same { (strict : Bool) (fields : List Field) (bytes : List ℕ) (m : SpellsAnyMatch strict fields bytes) (test : Field → Bool)
         → list_any test fields ≡ list_any test (known m.items) }
+{}
+
+/// Bytes are spelled, and then no fault stands in them, or a fault is the first that does.
+pub fn bytes_are_spelled_or_have_a_first_fault()
+    ensures actions { (bytes : List ℕ) → ((i : ℕ) → slice_index bytes i < 256) → SpelledOrFaulty ((actions : List Action) × SpellsActions actions bytes) (FaultInActions bytes) }
+    ensures instrs { (bytes : List ℕ) → ((i : ℕ) → slice_index bytes i < 256) → SpelledOrFaulty ((instrs : List Instr) × SpellsInstrs instrs bytes) (FaultInInstrs bytes) }
+    ensures matches { (strict : Bool) (bytes : List ℕ) → ((i : ℕ) → slice_index bytes i < 256)
+        → SpelledOrFaulty ((fields : List Field) × (spelling : List ℕ) × (rest : List ℕ) × SpellsAnyMatch strict fields spelling × (bytes ≡ spelling ++ rest)) (FaultInMatch strict bytes) }
+{}
+
+/// One fault alone is the first.
+pub fn one_fault_is_the_first()
+    ensures actions { (bytes : List ℕ) (a b : PartFault) → IsFirst (FaultInActions bytes) a → IsFirst (FaultInActions bytes) b → a ≡ b }
+    ensures instrs { (bytes : List ℕ) (a b : PartFault) → IsFirst (FaultInInstrs bytes) a → IsFirst (FaultInInstrs bytes) b → a ≡ b }
+    ensures matches { (strict : Bool) (bytes : List ℕ) (a b : PartFault) → IsFirst (FaultInMatch strict bytes) a → IsFirst (FaultInMatch strict bytes) b → a ≡ b }
 {}

@@ -2,8 +2,9 @@ ghost use Rattle.std.specs.Prelude.{◌≡◌, ◌≤◌, ◌<◌, ◌+◌, ◌+
 ghost use Rattle.std.specs.List.{flat_map};
 ghost use Rattle.of_wire.specs.Parts.{field_bytes, match_bytes};
 ghost use Rattle.of_wire.specs.Spelling.{SpellsMatch, SpellsMatchSeen};
+ghost use Rattle.of_wire.specs.Faults.{TellsFirst, FaultInMatch};
 ghost use Rattle.net_base.specs.declared.field.Field.{Field};
-ghost use Rattle.of_wire.specs.Reading.{Gives, fault_at, first_fields, last_fields, field_numbered, field_named, has_mask, payload_len, wanted_len, field_value, stands, has_exactly, is_exactly, is_tagged, has_tagged, first_above, has_prerequisites, placed, known_field, known_step, unknown_step, field_step, many, fields_at, sized_match_at, match_at};
+ghost use Rattle.of_wire.specs.Reading.{Gives, fault_at, first_fields, last_fields, field_numbered, field_named, has_mask, payload_len, wanted_len, field_value, stands, first_above, has_prerequisites, placed, known_field, known_step, unknown_step, field_step, many, fields_at, sized_match_at, match_at};
 
 use crate::fault::{PartCause, PartFault, PartRefused};
 use crate::number::{number_at, put_number, put_zeros, u8_at, u16_at};
@@ -184,49 +185,12 @@ fn stands(id: FieldId, fields: &[Field]) -> bool
     fields.iter().any(|f| f.id.number() == id.number())
 }
 
-fn is_exactly(id: FieldId, value: u128, field: &Field) -> bool
-    ensures { result ≡ is_exactly id value field.now }
-{
-    field.id.number() == id.number() && field.value == value && field.mask == id.all_ones()
-}
-
-fn has_exactly(id: FieldId, value: u128, fields: &[Field]) -> bool
-    ensures { result ≡ has_exactly id value fields.now }
-{
-    fields.iter().any(|f| is_exactly(id, value, f))
-}
-
-fn is_tagged(field: &Field) -> bool
-    ensures { result ≡ is_tagged field.now }
-{
-    field.id.number() == FieldId::VlanVid.number() && field.value != 0
-}
-
-fn has_tagged(fields: &[Field]) -> bool
-    ensures { result ≡ has_tagged fields.now }
-{
-    fields.iter().any(|f| is_tagged(f))
-}
-
 /// Whether what has to stand before a field does (OpenFlow 1.3, 7.2.3.6).
 #[tactic(auto, unfolding(crate::specs::Reading::has_prerequisites))]
 fn has_prerequisites(id: FieldId, fields: &[Field]) -> bool
     ensures { result ≡ has_prerequisites id fields.now }
 {
-    match id {
-        FieldId::VlanPcp => has_tagged(fields),
-        FieldId::IpProto | FieldId::Ipv4Src | FieldId::Ipv4Dst => {
-            has_exactly(FieldId::EthType, 0x0800, fields)
-        }
-        FieldId::TcpSrc | FieldId::TcpDst => has_exactly(FieldId::IpProto, 6, fields),
-        FieldId::UdpSrc | FieldId::UdpDst => has_exactly(FieldId::IpProto, 17, fields),
-        FieldId::Icmpv4Type | FieldId::Icmpv4Code => has_exactly(FieldId::IpProto, 1, fields),
-        FieldId::ArpOp | FieldId::ArpSpa | FieldId::ArpTpa => {
-            has_exactly(FieldId::EthType, 0x0806, fields)
-        }
-        FieldId::InPort | FieldId::EthDst | FieldId::EthSrc | FieldId::EthType | FieldId::VlanVid =>
-            true,
-    }
+    of_match::has_prerequisite(id, fields)
 }
 
 fn first_above(number: u8, fields: &[Field]) -> Option<usize>
@@ -442,6 +406,7 @@ pub fn get_match(alloc: Global, bytes: &[u8]) -> Result<(Fields, usize), PartRef
     ensures spelled { IfOk result (λ x. SpellsMatch x.0 (take x.1 bytes.now)) }
     ensures complete { (fields : List Field) (spelling rest : List ℕ) → SpellsMatch fields spelling → bytes.now ≡ spelling ++ rest
         → Gives (λ x. x) result (Ok (fields, length spelling)) }
+    ensures first { TellsFirst (FaultInMatch true bytes.now) result }
 {
     read_match(alloc, true, 0, bytes)
 }
@@ -455,6 +420,7 @@ pub fn get_match_seen(alloc: Global, bytes: &[u8]) -> Result<(Fields, usize), Pa
     ensures spelled { IfOk result (λ x. SpellsMatchSeen x.0 (take x.1 bytes.now)) }
     ensures complete { (fields : List Field) (spelling rest : List ℕ) → SpellsMatchSeen fields spelling → bytes.now ≡ spelling ++ rest
         → Gives (λ x. x) result (Ok (fields, length spelling)) }
+    ensures first { TellsFirst (FaultInMatch false bytes.now) result }
 {
     read_match(alloc, false, 0, bytes)
 }

@@ -1,4 +1,5 @@
 use Rattle.std.proofs.Common.{arith}
+use Rattle.of13_codec.proofs.DecodeFaults.{frame_tells}
 use Rattle.of13_codec.proofs.Spelled.{frame_spelled, frame_read}
 use Rattle.of13_codec.proofs.codec.decode.Goals as goal
 
@@ -7,3 +8,6 @@ returns-clause-spelled c = frame_spelled c.args.frame.now c.read_frame.result (Î
 
 pub returns-clause-complete : goal.returns-clause-complete
 returns-clause-complete c = frame_read c.args.frame.now c.read_frame.result c.read_frame.ensures
+
+pub returns-clause-first : goal.returns-clause-first
+returns-clause-first c = frame_tells c.args.frame.now c.read_frame.result (Î» i. omega (arith, c.type_inv.frame i)) c.read_frame.ensures

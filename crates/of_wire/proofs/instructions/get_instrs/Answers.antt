@@ -1,5 +1,6 @@
 use Rattle.std.proofs.Common.{arith}
 use Rattle.of_wire.proofs.Spelled.{instrs_spelled, instrs_read}
+use Rattle.of_wire.proofs.InstrFaults.{instrs_tell_first}
 use Rattle.of_wire.proofs.instructions.get_instrs.Goals as goal
 
 pub returns-clause-spelled : goal.returns-clause-spelled
@@ -7,3 +8,6 @@ returns-clause-spelled c = instrs_spelled c.args.bytes.now c.get_instrs_at.resul
 
 pub returns-clause-complete : goal.returns-clause-complete
 returns-clause-complete c = instrs_read c.args.bytes.now c.get_instrs_at.result c.get_instrs_at.ensures
+
+pub returns-clause-first : goal.returns-clause-first
+returns-clause-first c = instrs_tell_first c.args.bytes.now c.get_instrs_at.result (λ i. omega (arith, c.type_inv.bytes i)) c.get_instrs_at.ensures
