@@ -1,5 +1,6 @@
-ghost use Rattle.std.specs.Prelude.{◌≡◌};
-ghost use Rattle.net_base.specs.FieldId.{number_of, byte_len_of, all_ones};
+ghost use Rattle.std.specs.Prelude.{◌≡◌, Some, None};
+ghost use Rattle.net_base.specs.declared.field.Prerequisite.TheVariants.{Exactly};
+ghost use Rattle.net_base.specs.FieldId.{row, row_of, number_of, byte_len_of, prerequisite_of, all_ones};
 ghost use Rattle.net_base.specs.Field.{exact, bits};
 
 use crate::items::Items;
@@ -29,53 +30,98 @@ pub enum FieldId {
     ArpTpa,
 }
 
+/// What a field of a match asks of the match that it stands in (OpenFlow 1.3, 7.2.3.8).
+#[derive(Clone, Copy, Debug, PartialEq, Eq)]
+pub enum Prerequisite {
+    /// A VLAN identifier that isn't 0, whatever its mask.
+    Tagged,
+    /// The field with just this value, no bit of it masked out.
+    Exactly { id: FieldId, value: u128 },
+}
+
+/// A row of the table of fields (OpenFlow 1.3, 7.2.3.7, table 12).
+#[derive(Clone, Copy, Debug, PartialEq, Eq)]
+pub struct FieldRow {
+    /// The field's number (`oxm_ofb_match_fields`).
+    pub number: u8,
+    /// How many bytes a value takes in a match.
+    pub byte_len: usize,
+    /// What the field asks of its match; `None` where it asks nothing.
+    pub prerequisite: Option<Prerequisite>,
+}
+
+impl FieldRow {
+    fn free(number: u8, byte_len: usize) -> FieldRow
+        ensures { result ≡ row number byte_len None }
+    {
+        FieldRow {
+            number,
+            byte_len,
+            prerequisite: None,
+        }
+    }
+
+    fn asks(number: u8, byte_len: usize, id: FieldId, value: u128) -> FieldRow
+        ensures { result ≡ row number byte_len (Some (Exactly id value)) }
+    {
+        FieldRow {
+            number,
+            byte_len,
+            prerequisite: Some(Prerequisite::Exactly { id, value }),
+        }
+    }
+}
+
 impl FieldId {
-    /// The field's number (OpenFlow 1.3, table 12 and `oxm_ofb_match_fields`).
+    /// The field's row in the table of fields.
+    pub fn row(self) -> FieldRow
+        ensures { result ≡ row_of self }
+    {
+        match self {
+            FieldId::InPort => FieldRow::free(0, 4),
+            FieldId::EthDst => FieldRow::free(3, 6),
+            FieldId::EthSrc => FieldRow::free(4, 6),
+            FieldId::EthType => FieldRow::free(5, 2),
+            FieldId::VlanVid => FieldRow::free(6, 2),
+            FieldId::VlanPcp => FieldRow {
+                number: 7,
+                byte_len: 1,
+                prerequisite: Some(Prerequisite::Tagged),
+            },
+            FieldId::IpProto => FieldRow::asks(10, 1, FieldId::EthType, 0x0800),
+            FieldId::Ipv4Src => FieldRow::asks(11, 4, FieldId::EthType, 0x0800),
+            FieldId::Ipv4Dst => FieldRow::asks(12, 4, FieldId::EthType, 0x0800),
+            FieldId::TcpSrc => FieldRow::asks(13, 2, FieldId::IpProto, 6),
+            FieldId::TcpDst => FieldRow::asks(14, 2, FieldId::IpProto, 6),
+            FieldId::UdpSrc => FieldRow::asks(15, 2, FieldId::IpProto, 17),
+            FieldId::UdpDst => FieldRow::asks(16, 2, FieldId::IpProto, 17),
+            FieldId::Icmpv4Type => FieldRow::asks(19, 1, FieldId::IpProto, 1),
+            FieldId::Icmpv4Code => FieldRow::asks(20, 1, FieldId::IpProto, 1),
+            FieldId::ArpOp => FieldRow::asks(21, 2, FieldId::EthType, 0x0806),
+            FieldId::ArpSpa => FieldRow::asks(22, 4, FieldId::EthType, 0x0806),
+            FieldId::ArpTpa => FieldRow::asks(23, 4, FieldId::EthType, 0x0806),
+        }
+    }
+
+    /// The field's number.
     pub fn number(self) -> u8
         ensures { result ≡ number_of self }
     {
-        match self {
-            FieldId::InPort => 0,
-            FieldId::EthDst => 3,
-            FieldId::EthSrc => 4,
-            FieldId::EthType => 5,
-            FieldId::VlanVid => 6,
-            FieldId::VlanPcp => 7,
-            FieldId::IpProto => 10,
-            FieldId::Ipv4Src => 11,
-            FieldId::Ipv4Dst => 12,
-            FieldId::TcpSrc => 13,
-            FieldId::TcpDst => 14,
-            FieldId::UdpSrc => 15,
-            FieldId::UdpDst => 16,
-            FieldId::Icmpv4Type => 19,
-            FieldId::Icmpv4Code => 20,
-            FieldId::ArpOp => 21,
-            FieldId::ArpSpa => 22,
-            FieldId::ArpTpa => 23,
-        }
+        self.row().number
     }
 
     /// How many bytes a value of the field takes in a match.
     pub fn byte_len(self) -> usize
         ensures { result ≡ byte_len_of self }
     {
-        match self {
-            FieldId::VlanPcp | FieldId::IpProto | FieldId::Icmpv4Type | FieldId::Icmpv4Code => 1,
-            FieldId::EthType
-            | FieldId::VlanVid
-            | FieldId::TcpSrc
-            | FieldId::TcpDst
-            | FieldId::UdpSrc
-            | FieldId::UdpDst
-            | FieldId::ArpOp => 2,
-            FieldId::InPort
-            | FieldId::Ipv4Src
-            | FieldId::Ipv4Dst
-            | FieldId::ArpSpa
-            | FieldId::ArpTpa => 4,
-            FieldId::EthDst | FieldId::EthSrc => 6,
-        }
+        self.row().byte_len
+    }
+
+    /// What the field asks of the match that it stands in; `None` where it asks nothing.
+    pub fn prerequisite(self) -> Option<Prerequisite>
+        ensures { result ≡ prerequisite_of self }
+    {
+        self.row().prerequisite
     }
 }
 

@@ -14,7 +14,7 @@ mod text;
 mod try_copy;
 
 pub use address::{Ip4, Mac};
-pub use field::{Field, FieldId, Fields};
+pub use field::{Field, FieldId, FieldRow, Fields, Prerequisite};
 pub use items::{Bytes, Items};
 pub use net4::Net4;
 pub use numbers::{DpId, Moment, PortNo, Vid};

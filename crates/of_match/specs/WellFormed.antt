@@ -1,35 +1,14 @@
 -- Matches that a switch accepts (OpenFlow 1.3, 7.2.3).
-use Rattle.std.specs.Prelude.{◌<◌, ◌≤◌, Bool, true, ◌==◌, ◌&&◌, not, List, [], ◌∷◌, Option, Some, None, IsTrue}
+use Rattle.std.specs.Prelude.{◌<◌, ◌≤◌, Bool, true, ◌==◌, ◌&&◌, not, List, [], ◌∷◌, IsTrue}
 use Rattle.std.specs.List.{AllByRecursion, list_any}
 use Rattle.std.specs.Option.{option_map_or}
 use Rattle.net_base.specs.declared.field.Field.{Field}
 use Rattle.net_base.specs.declared.field.FieldId.{FieldId}
-use Rattle.net_base.specs.declared.field.FieldId.TheVariants.{InPort, EthDst, EthSrc, EthType, VlanVid, VlanPcp, IpProto, Ipv4Src, Ipv4Dst, TcpSrc, TcpDst, UdpSrc, UdpDst, Icmpv4Type, Icmpv4Code, ArpOp, ArpSpa, ArpTpa}
-use Rattle.net_base.specs.FieldId.{number_of, byte_len_of}
-use Rattle.of_match.specs.declared.well_formed.Prerequisite.{Prerequisite}
-use Rattle.of_match.specs.declared.well_formed.Prerequisite.TheVariants.{Tagged, Exactly}
+use Rattle.net_base.specs.declared.field.FieldId.TheVariants.{VlanVid}
+use Rattle.net_base.specs.FieldId.{number_of, byte_len_of, prerequisite_of}
+use Rattle.net_base.specs.declared.field.Prerequisite.{Prerequisite}
+use Rattle.net_base.specs.declared.field.Prerequisite.TheVariants.{Tagged, Exactly}
 use Rattle.of_match.specs.KeyOrder.{all_ones}
-
--- what each field asks of the match that it stands in (7.2.3.8, the table of fields)
-abbrev pub prerequisite_of : FieldId → Option Prerequisite
-prerequisite_of InPort = None
-prerequisite_of EthDst = None
-prerequisite_of EthSrc = None
-prerequisite_of EthType = None
-prerequisite_of VlanVid = None
-prerequisite_of VlanPcp = Some Tagged
-prerequisite_of IpProto = Some (Exactly EthType 0x0800)
-prerequisite_of Ipv4Src = Some (Exactly EthType 0x0800)
-prerequisite_of Ipv4Dst = Some (Exactly EthType 0x0800)
-prerequisite_of TcpSrc = Some (Exactly IpProto 6)
-prerequisite_of TcpDst = Some (Exactly IpProto 6)
-prerequisite_of UdpSrc = Some (Exactly IpProto 17)
-prerequisite_of UdpDst = Some (Exactly IpProto 17)
-prerequisite_of Icmpv4Type = Some (Exactly IpProto 1)
-prerequisite_of Icmpv4Code = Some (Exactly IpProto 1)
-prerequisite_of ArpOp = Some (Exactly EthType 0x0806)
-prerequisite_of ArpSpa = Some (Exactly EthType 0x0806)
-prerequisite_of ArpTpa = Some (Exactly EthType 0x0806)
 
 -- the field is the one that is asked for: a VLAN identifier that isn't 0, whatever its mask, or a
 -- field with just this value and no bit masked out

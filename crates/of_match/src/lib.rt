@@ -20,7 +20,7 @@ pub use packet::{Acted, L4, Packet, Sent, Sents, Tag, Tags, Upper};
 pub use perform::act;
 pub use pipeline::run;
 pub use tables::{Tables, TablesIter, apply};
-pub use well_formed::{Prerequisite, has_prerequisite, is_well_formed, prerequisite_of};
+pub use well_formed::{has_prerequisite, is_well_formed};
 
 #[cfg(test)]
 mod tests;

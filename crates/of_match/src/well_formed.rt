@@ -1,36 +1,10 @@
 ghost use Rattle.std.specs.Prelude.{◌≡◌, ◌<◌, ◌↔◌, IsTrue};
 ghost use Rattle.std.specs.List.{AllByRecursion, list_any};
-ghost use Rattle.of_match.specs.WellFormed.{prerequisite_of, meets, has_prerequisite, Fits, AreAscending, IsWellFormed};
+ghost use Rattle.of_match.specs.WellFormed.{meets, has_prerequisite, Fits, AreAscending, IsWellFormed};
 ghost use Rattle.net_base.specs.FieldId.{number_of};
 
 use crate::order::full_mask;
-use net_base::{Field, FieldId};
-
-/// What a field of a match asks of the match (OpenFlow 1.3, 7.2.3.8).
-#[derive(Clone, Copy, Debug, PartialEq, Eq)]
-pub enum Prerequisite {
-    /// A VLAN identifier that isn't 0, whatever its mask.
-    Tagged,
-    /// The field with just this value, no bit of it masked out.
-    Exactly { id: FieldId, value: u128 },
-}
-
-/// What a field asks of the match that it stands in; `None` where it asks nothing.
-pub fn prerequisite_of(id: FieldId) -> Option<Prerequisite>
-    ensures { result ≡ prerequisite_of id }
-{
-    let (id, value) = match id {
-        FieldId::InPort | FieldId::EthDst | FieldId::EthSrc | FieldId::EthType | FieldId::VlanVid =>
-            return None,
-        FieldId::VlanPcp => return Some(Prerequisite::Tagged),
-        FieldId::IpProto | FieldId::Ipv4Src | FieldId::Ipv4Dst => (FieldId::EthType, 0x0800),
-        FieldId::ArpOp | FieldId::ArpSpa | FieldId::ArpTpa => (FieldId::EthType, 0x0806),
-        FieldId::TcpSrc | FieldId::TcpDst => (FieldId::IpProto, 6),
-        FieldId::UdpSrc | FieldId::UdpDst => (FieldId::IpProto, 17),
-        FieldId::Icmpv4Type | FieldId::Icmpv4Code => (FieldId::IpProto, 1),
-    };
-    Some(Prerequisite::Exactly { id, value })
-}
+use net_base::{Field, FieldId, Prerequisite};
 
 // Whether a field is the one that is asked for.
 fn meets(asked: Prerequisite, field: &Field) -> bool
@@ -57,7 +31,7 @@ fn any_meets(asked: Prerequisite, fields: &[Field]) -> bool
 pub fn has_prerequisite(id: FieldId, fields: &[Field]) -> bool
     ensures { result ≡ has_prerequisite id fields.now }
 {
-    match prerequisite_of(id) {
+    match id.prerequisite() {
         None => true,
         Some(asked) => any_meets(asked, fields),
     }

@@ -7,8 +7,8 @@ use Rattle.net_base.specs.declared.field.Field.{Field}
 use Rattle.net_base.specs.declared.field.FieldId.{FieldId}
 use Rattle.net_base.specs.declared.field.FieldId.TheVariants.{InPort, EthDst, EthSrc, EthType, VlanVid, VlanPcp, IpProto, Ipv4Src, Ipv4Dst, TcpSrc, TcpDst, UdpSrc, UdpDst, Icmpv4Type, Icmpv4Code, ArpOp, ArpSpa, ArpTpa}
 use Rattle.net_base.specs.FieldId.{number_of}
-use Rattle.of_match.specs.declared.well_formed.Prerequisite.{Prerequisite}
-use Rattle.of_match.specs.declared.well_formed.Prerequisite.TheVariants.{Tagged, Exactly}
+use Rattle.net_base.specs.declared.field.Prerequisite.{Prerequisite}
+use Rattle.net_base.specs.declared.field.Prerequisite.TheVariants.{Tagged, Exactly}
 use Rattle.of_match.specs.WellFormed.{meets, has_prerequisite}
 use Rattle.of_wire.specs.Reading.{placed, placed_at, first_above, stands}
 

@@ -6,9 +6,9 @@ use Rattle.std.proofs.lemmas.List.{take-append-drop}
 use Rattle.std.proofs.lemmas.List.Folds.{list_any-append}
 use Rattle.net_base.specs.declared.field.Field.{Field}
 use Rattle.net_base.specs.declared.field.FieldId.{FieldId}
-use Rattle.net_base.specs.FieldId.{number_of}
-use Rattle.of_match.specs.declared.well_formed.Prerequisite.{Prerequisite}
-use Rattle.of_match.specs.WellFormed.{prerequisite_of, meets, has_prerequisite}
+use Rattle.net_base.specs.FieldId.{number_of, prerequisite_of}
+use Rattle.net_base.specs.declared.field.Prerequisite.{Prerequisite}
+use Rattle.of_match.specs.WellFormed.{meets, has_prerequisite}
 use Rattle.of_wire.specs.Reading.{has_prerequisites, placed, placed_at, first_above, stands}
 use Rattle.of_wire.specs.Spelling.{known, in_order, in_order_onto}
 
