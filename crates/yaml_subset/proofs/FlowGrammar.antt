@@ -15,7 +15,7 @@ use Rattle.yaml_subset.proofs.FlowParts.{scan_shrinks, drop_one, part_at_most}
 use Rattle.yaml_subset.proofs.FlowValues.{IsRead, IsOnlyRead, NoLonger, value_ok, same_value, value_shorter, list_read, map_read, list_found, map_found}
 use Rattle.yaml_subset.proofs.LineValues.{bind_ok, false_unless, never_both, no_bracket, same, line_value_ok, flow_parts, scalar_parts, scalar_value_on_line}
 
-items_shorter : (Value : List ℕ → Tree → List ℕ → Type 0) → NoLonger Value → (vs : List Tree) (inside after : List ℕ) → AreFlowItems Value inside vs after → length after < length inside
+pub items_shorter : (Value : List ℕ → Tree → List ℕ → Type 0) → NoLonger Value → (vs : List Tree) (inside after : List ℕ) → AreFlowItems Value inside vs after → length after < length inside
 items_shorter Value short [] inside after are = let l = part_at_most false inside (93 ∷ after) are in omega arith
 items_shorter Value short (v ∷ vs) inside after are = by_end are.2 (λ next a. items_shorter Value short vs next after a)
   where
@@ -27,7 +27,7 @@ items_shorter Value short (v ∷ vs) inside after are = by_end are.2 (λ next a.
     by_end (inl w) rec = let e : length are.0 ≡ length (93 ∷ after) = ap length w.0 in omega (arith, lengths)
     by_end (inr w) rec = let e : length are.0 ≡ length (44 ∷ w.0) = ap length w.1 in omega (arith, lengths, rec w.0 w.2)
 
-entries_shorter : (Value : List ℕ → Tree → List ℕ → Type 0) → NoLonger Value → (ps before : List Pair) (inside after : List ℕ) → AreFlowEntries Value before inside ps after → length after < length inside
+pub entries_shorter : (Value : List ℕ → Tree → List ℕ → Type 0) → NoLonger Value → (ps before : List Pair) (inside after : List ℕ) → AreFlowEntries Value before inside ps after → length after < length inside
 entries_shorter Value short [] before inside after are = let l = part_at_most false inside (125 ∷ after) are in omega arith
 entries_shorter Value short (p ∷ ps) before inside after are = by_end are.2 (λ next a. entries_shorter Value short ps (before ++ p ∷ []) next after a)
   where
@@ -47,7 +47,7 @@ entries_shorter Value short (p ∷ ps) before inside after are = by_end are.2 (�
     by_end (inl w) rec = let e : length are.0 ≡ length (125 ∷ after) = ap length w.0 in omega (arith, lengths)
     by_end (inr w) rec = let e : length are.0 ≡ length (44 ∷ w.0) = ap length w.1 in omega (arith, lengths, rec w.0 w.2)
 
-flow_shorter : (n : ℕ) → NoLonger (IsFlow n)
+pub flow_shorter : (n : ℕ) → NoLonger (IsFlow n)
 flow_shorter zero start v after f = absurd f
 flow_shorter (suc n) start v after f = by_form f (nested (flow_shorter n))
   where
@@ -59,29 +59,29 @@ flow_shorter (suc n) start v after f = by_form f (nested (flow_shorter n))
     by_form (inl l) short = let e : length start ≡ length (91 ∷ l.inside) = ap length l.opens in omega (arith, items_shorter (IsNested (IsFlow n)) short l.items l.inside after l.are)
     by_form (inr m) short = let e : length start ≡ length (123 ∷ m.inside) = ap length m.opens in omega (arith, entries_shorter (IsNested (IsFlow n)) short m.pairs [] m.inside after m.are)
 
-nested_shorter : (n : ℕ) → NoLonger (IsNested (IsFlow n))
+pub nested_shorter : (n : ℕ) → NoLonger (IsNested (IsFlow n))
 nested_shorter n start v after (inl s) = scan_shrinks true start s.0 after s.1
 nested_shorter n start v after (inr f) = flow_shorter n start v after f
 
-no_open : (flow : Bool) (rest : List ℕ) (s : Scanned) (after : List ℕ) → scan flow rest ≡ Ok (s, after) → opens rest ≡ false
+pub no_open : (flow : Bool) (rest : List ℕ) (s : Scanned) (after : List ℕ) → scan flow rest ≡ Ok (s, after) → opens rest ≡ false
 no_open flow rest s after e = false_unless (opens rest) (λ o. never_both (scan flow rest) (s, after) (no_bracket flow rest o) e)
 
-or_left : (a b : Bool) → a || b ≡ false → a ≡ false
+pub or_left : (a b : Bool) → a || b ≡ false → a ≡ false
 or_left true b h = h
 or_left false b h = refl
 
-or_right : (a b : Bool) → a || b ≡ false → b ≡ false
+pub or_right : (a b : Bool) → a || b ≡ false → b ≡ false
 or_right true b h = absurd cc
 or_right false b h = h
 
-scalar_read : (n : ℕ) (rest : List ℕ) (v : Tree) (after : List ℕ) → IsScalar true rest v after → flow_value n rest ≡ Ok (v, after)
+pub scalar_read : (n : ℕ) (rest : List ℕ) (v : Tree) (after : List ℕ) → IsScalar true rest v after → flow_value n rest ≡ Ok (v, after)
 unfolding flow_scalar
 scalar_read n rest v after s =
     let o = no_open true rest s.0 after s.1 in
     flow_value_scalar n rest (or_left (begins 91 rest) (begins 123 rest) o) (or_right (begins 91 rest) (begins 123 rest) o) ∙ rw (s.1, s.2) refl
 
 -- a flow list or map is read
-flow_read : (n : ℕ) → IsRead (IsFlow n) (flow_value n)
+pub flow_read : (n : ℕ) → IsRead (IsFlow n) (flow_value n)
 unfolding flow_value
 flow_read zero start v after f = absurd f
 flow_read (suc n) start v after f = by_form f (nested (flow_read n))
@@ -106,12 +106,12 @@ scalar_found rest v after h =
     let e = same_value w.0 v s.0.1 after w.2 in
     (s.0.0, s.1 ∙ ap (λ xs. Ok (s.0.0, xs)) e.1, w.1 ∙ ap Ok e.0)
 
-begins_with : (c : ℕ) (rest : List ℕ) → begins c rest ≡ true → rest ≡ c ∷ drop 1 rest
+pub begins_with : (c : ℕ) (rest : List ℕ) → begins c rest ≡ true → rest ≡ c ∷ drop 1 rest
 begins_with c [] h = absurd cc
 begins_with c (x ∷ xs) h = ap (λ (y : ℕ). y ∷ xs) (same x c h)
 
 -- what is read within brackets is a scalar, or a flow list or map
-flow_found : (n : ℕ) → IsOnlyRead (IsNested (IsFlow n)) (flow_value n)
+pub flow_found : (n : ℕ) → IsOnlyRead (IsNested (IsFlow n)) (flow_value n)
 unfolding flow_value
 flow_found zero start v after h = by_opens (opens start) h
   where
@@ -131,7 +131,7 @@ flow_found (suc n) start v after h = by_tests (begins 91 start) (begins 123 star
         inr (inr (record { inside = drop 1 start; pairs = m.0; opens = begins_with 123 start f; is = m.1; are = m.2 }))
     by_tests false false e f g rec = inl (scalar_found start v after g)
 
-flow_opens : (n : ℕ) (part : List ℕ) (v : Tree) (after : List ℕ) → IsFlow n part v after → opens part ≡ true
+pub flow_opens : (n : ℕ) (part : List ℕ) (v : Tree) (after : List ℕ) → IsFlow n part v after → opens part ≡ true
 flow_opens zero part v after f = absurd f
 flow_opens (suc n) part v after (inl l) = ap opens l.opens
 flow_opens (suc n) part v after (inr m) = ap opens m.opens

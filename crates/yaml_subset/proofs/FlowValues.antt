@@ -36,7 +36,7 @@ opening_is : (closing : ℕ) (start : List ℕ) → is_empty start ≡ false →
 opening_is closing [] e b = absurd cc
 opening_is closing (c ∷ cs) e b = rw b refl
 
-opened_is : (closing : ℕ) (inside start : List ℕ) → next_part false inside ≡ Ok start → is_empty start ≡ false → begins closing start ≡ false → opened closing inside ≡ Ok (false, start)
+pub opened_is : (closing : ℕ) (inside start : List ℕ) → next_part false inside ≡ Ok start → is_empty start ≡ false → begins closing start ≡ false → opened closing inside ≡ Ok (false, start)
 unfolding opened
 opened_is closing inside start p e b = rw p (opening_is closing start e b)
 
@@ -51,7 +51,7 @@ ended_is : (closing : ℕ) (inside after : List ℕ) → next_part false inside 
 unfolding parted
 ended_is closing inside after p = let e = equal closing in rw (p, e) refl
 
-comma_is : (closing : ℕ) (inside next : List ℕ) → 44 == closing ≡ false → next_part false inside ≡ Ok (44 ∷ next) → parted closing inside ≡ Ok (false, next)
+pub comma_is : (closing : ℕ) (inside next : List ℕ) → 44 == closing ≡ false → next_part false inside ≡ Ok (44 ∷ next) → parted closing inside ≡ Ok (false, next)
 unfolding parted
 comma_is closing inside next c p = rw (p, c) refl
 
@@ -94,12 +94,12 @@ list_read Value value reads short (suc fuel) items inside (v ∷ vs) after few a
         let r = rec w.0 (omega (arith, l1, l2, l3, l4, few)) w.2 in
         rw (begun, is, e) (r ∙ ap (λ us. Ok (tree.List us, after)) (append_assoc items (v ∷ []) vs))
 
-key_is : (before : List Pair) (start : List ℕ) (s : Scanned) (after : List ℕ) (key : Key) → scan true start ≡ Ok (s, after) → marks 58 after ≡ true → key_of s ≡ Ok key → has_key before key ≡ false
+pub key_is : (before : List Pair) (start : List ℕ) (s : Scanned) (after : List ℕ) (key : Key) → scan true start ≡ Ok (s, after) → marks 58 after ≡ true → key_of s ≡ Ok key → has_key before key ≡ false
     → entry_key true before start ≡ Ok (key, drop 1 after)
 unfolding entry_key
 key_is before start s after key e m k h = rw (e, m, k, h) refl
 
-value_is : (Value : List ℕ → Tree → List ℕ → Type 0) (value : Reader) → IsRead Value value → (rest part : List ℕ) (v : Tree) (after : List ℕ) → next_part false rest ≡ Ok part → is_empty part ≡ false
+pub value_is : (Value : List ℕ → Tree → List ℕ → Type 0) (value : Reader) → IsRead Value value → (rest part : List ℕ) (v : Tree) (after : List ℕ) → next_part false rest ≡ Ok part → is_empty part ≡ false
     → IsFlowValue Value part v after → entry_value value rest ≡ Ok (v, after)
 unfolding entry_value
 value_is Value value reads rest part v after p e (inl w) = rw (p, e, w.0) (ap (λ x. Ok (x, part)) (sym w.1) ∙ ap (λ xs. Ok (v, xs)) (sym w.2))
@@ -167,7 +167,7 @@ pub same_value : (v w : Tree) (xs ys : List ℕ) → value_ok v xs ≡ value_ok 
 same_value v w xs ys h = let q : value_pair v xs ≡ value_pair w ys = cc in (ap (λ x. x.0) q, ap (λ x. x.1) q)
 
 -- what an opening bracket or a comma is followed by
-opening_parts : (closing : ℕ) (next : List ℕ) (o : Bool × List ℕ) → at_opening closing next ≡ Ok o
+pub opening_parts : (closing : ℕ) (next : List ℕ) (o : Bool × List ℕ) → at_opening closing next ≡ Ok o
     → ((o.0 ≡ true) × (next ≡ closing ∷ o.1)) ⊎ ((o.0 ≡ false) × (next ≡ o.1) × (is_empty next ≡ false) × (begins closing next ≡ false))
 opening_parts closing [] o h = absurd cc
 opening_parts closing (c ∷ cs) o h = by_test (c == closing) refl h
@@ -181,7 +181,7 @@ opening_parts closing (c ∷ cs) o h = by_test (c == closing) refl h
         let q : (false, c ∷ cs) ≡ o = cc in
         inr (ap (λ x. x.0) (sym q), ap (λ x. x.1) q, refl, e)
 
-opened_parts : (closing : ℕ) (inside : List ℕ) (o : Bool × List ℕ) → opened closing inside ≡ Ok o
+pub opened_parts : (closing : ℕ) (inside : List ℕ) (o : Bool × List ℕ) → opened closing inside ≡ Ok o
     → ((o.0 ≡ true) × (next_part false inside ≡ Ok (closing ∷ o.1))) ⊎ ((o.0 ≡ false) × (next_part false inside ≡ Ok o.1) × (is_empty o.1 ≡ false) × (begins closing o.1 ≡ false))
 unfolding opened
 opened_parts closing inside o h = by_cases (opening_parts closing b.0 o b.2)
@@ -194,7 +194,7 @@ opened_parts closing inside o h = by_cases (opening_parts closing b.0 o b.2)
     by_cases (inl w) = inl (w.0, b.1 ∙ ap Ok w.1)
     by_cases (inr w) = inr (w.0, b.1 ∙ ap Ok w.1, ap is_empty (sym w.1) ∙ w.2, ap (begins closing) (sym w.1) ∙ w.3)
 
-item_parts : (closing : ℕ) (next : List ℕ) (o : Bool × List ℕ) → behind_item closing next ≡ Ok o → ((o.0 ≡ true) × (next ≡ closing ∷ o.1)) ⊎ ((o.0 ≡ false) × (next ≡ 44 ∷ o.1))
+pub item_parts : (closing : ℕ) (next : List ℕ) (o : Bool × List ℕ) → behind_item closing next ≡ Ok o → ((o.0 ≡ true) × (next ≡ closing ∷ o.1)) ⊎ ((o.0 ≡ false) × (next ≡ 44 ∷ o.1))
 item_parts closing [] o h = absurd cc
 item_parts closing (c ∷ cs) o h = by_tests (c == closing) (c == 44) refl refl h
   where
@@ -208,7 +208,7 @@ item_parts closing (c ∷ cs) o h = by_tests (c == closing) (c == 44) refl refl 
         inr (ap (λ x. x.0) (sym q), ap (λ (x : ℕ). x ∷ cs) (same c 44 f) ∙ ap (λ x. 44 ∷ x.1) q)
     by_tests false false e f g = absurd cc
 
-parted_parts : (closing : ℕ) (rest : List ℕ) (o : Bool × List ℕ) → parted closing rest ≡ Ok o → ((o.0 ≡ true) × (next_part false rest ≡ Ok (closing ∷ o.1))) ⊎ ((o.0 ≡ false) × (next_part false rest ≡ Ok (44 ∷ o.1)))
+pub parted_parts : (closing : ℕ) (rest : List ℕ) (o : Bool × List ℕ) → parted closing rest ≡ Ok o → ((o.0 ≡ true) × (next_part false rest ≡ Ok (closing ∷ o.1))) ⊎ ((o.0 ≡ false) × (next_part false rest ≡ Ok (44 ∷ o.1)))
 unfolding parted
 parted_parts closing rest o h = by_cases (item_parts closing b.0 o b.2)
   where
@@ -219,7 +219,7 @@ parted_parts closing rest o h = by_cases (item_parts closing b.0 o b.2)
     by_cases (inl w) = inl (w.0, b.1 ∙ ap Ok w.1)
     by_cases (inr w) = inr (w.0, b.1 ∙ ap Ok w.1)
 
-entry_value_parts : (Value : List ℕ → Tree → List ℕ → Type 0) (value : Reader) → IsOnlyRead Value value → (rest : List ℕ) (v : Tree) (after : List ℕ) → entry_value value rest ≡ Ok (v, after)
+pub entry_value_parts : (Value : List ℕ → Tree → List ℕ → Type 0) (value : Reader) → IsOnlyRead Value value → (rest : List ℕ) (v : Tree) (after : List ℕ) → entry_value value rest ≡ Ok (v, after)
     → (part : List ℕ) × (next_part false rest ≡ Ok part) × (is_empty part ≡ false) × IsFlowValue Value part v after
 unfolding entry_value
 entry_value_parts Value value found rest v after h = by_tests (is_empty b.0) refl (begins 44 b.0 || begins 125 b.0) refl b.2

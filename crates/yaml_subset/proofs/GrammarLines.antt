@@ -229,7 +229,7 @@ started : (line : List ℕ) (l : Line) (next : State) → by_state Start line l.
 unfolding at_start
 started line l next h = h
 
-lines_split : (ls : List (List ℕ)) (k : ℕ) (t : Tree) → lines_from k Start ls ≡ Ok t → ReadsLines 32 ls t
+pub lines_split : (ls : List (List ℕ)) (k : ℕ) (t : Tree) → lines_from k Start ls ≡ Ok t → ReadsLines 32 ls t
 unfolding lines_from
 lines_split [] k t h = let e : tree.Null ≡ t = cc in sym e
 lines_split (line ∷ more) k t h = by_parts (step_parts Start line f.0 f.1) (λ g. lines_split more (k + 1) t g)
@@ -264,7 +264,7 @@ lines_split (line ∷ more) k t h = by_parts (step_parts Start line f.0 f.1) (λ
     by_parts (inl p) rec = inl (p.0, rec (ap (λ n. lines_from (k + 1) n more) p.1 ∙ f.2))
     by_parts (inr c) rec = by_mark c (is_marker 45 line) refl (started line c.at f.0 c.is)
 
-not_over : (n : ℕ) → nat_lt 1048576 n ≡ false → n ≤ 1048576
+pub not_over : (n : ℕ) → nat_lt 1048576 n ≡ false → n ≤ 1048576
 not_over n h = grind (arith, nat_tests)
 
 read_parts : (long utf8 : Bool) (read : Result Tree YamlFault) (f g : YamlFault) (t : Tree) → cond long (Err f) (cond utf8 read (Err g)) ≡ Ok t → (long ≡ false) × (utf8 ≡ true) × (read ≡ Ok t)

@@ -93,7 +93,7 @@ no_head_step line l c (inr p) = step_counted Start line l c (and_not_true (is_ma
     by_test true = rw (p.1, p.2) refl
     by_test false = refl
 
-lines_run : (ls : List (List ℕ)) (t : Tree) → ReadsLines 32 ls t → (k : ℕ) → lines_from k Start ls ≡ Ok t
+pub lines_run : (ls : List (List ℕ)) (t : Tree) → ReadsLines 32 ls t → (k : ℕ) → lines_from k Start ls ≡ Ok t
 unfolding lines_from
 lines_run [] t h k = ap Ok (sym h)
 lines_run (line ∷ more) t (inl r) k = line_more k Start Start line more (step_passed Start line r.0) ∙ lines_run more t r.1 (k + 1)
@@ -108,7 +108,7 @@ lines_run (line ∷ more) t (inr r) k = by_head r.4
         let b = bind_ok (content 32 Document [] r.0.0 r.0.1) (λ next. steps next r.1) f.0 f.1 in
         line_more k Start b.0 line more (no_head_step line r.0 r.2 d.0 ∙ b.1) ∙ later_runs more r.1 r.3 (k + 1) b.0 f.0 b.2 ∙ ap Ok f.2
 
-not_long : (n : ℕ) → n ≤ 1048576 → nat_lt 1048576 n ≡ false
+pub not_long : (n : ℕ) → n ≤ 1048576 → nat_lt 1048576 n ≡ false
 not_long n h = grind (arith, nat_tests)
 
 pub text_read : (text : List ℕ) (t : Tree) → Reads text t → read_of text ≡ Ok t

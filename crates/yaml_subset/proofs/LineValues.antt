@@ -141,7 +141,7 @@ scalar_value_on_line n part v o s = rw (o, s.scan, s.value, s.end) refl
 pub no_mark_at_end : (after : List ℕ) → line_end after ≡ Ok tt → begins 58 after ≡ false
 no_mark_at_end after h = false_unless (begins 58 after) (λ b. never_both (line_end after) tt (no_end after b) h)
 
-marks_begins : (c : ℕ) (xs : List ℕ) → begins c xs ≡ false → marks c xs ≡ false
+pub marks_begins : (c : ℕ) (xs : List ℕ) → begins c xs ≡ false → marks c xs ≡ false
 marks_begins c [] h = refl
 marks_begins c (x ∷ xs) h = rw h refl
 
@@ -160,7 +160,7 @@ and_false : (p x y : Bool) → x ≡ false → not p && x && y ≡ false
 and_false true x y h = refl
 and_false false x y h = rw h refl
 
-alone_read : (scanned : Scanned) (after : List ℕ) (v : Tree) → scalar_value scanned ≡ Ok v → line_end after ≡ Ok tt → begins 58 after ≡ false
+pub alone_read : (scanned : Scanned) (after : List ℕ) (v : Tree) → scalar_value scanned ≡ Ok v → line_end after ≡ Ok tt → begins 58 after ≡ false
     → scalar_alone scanned after ≡ Ok v
 unfolding scalar_alone
 alone_read scanned after v value end b = rw (and_false scanned.plain (begins 58 after) (begins 9 (drop 1 after)) b, value, end) refl
@@ -195,7 +195,7 @@ pub record IsValue (n : ℕ) (place : Place) (frames : List Frame) (column : ℕ
   pub is : block_value n part ≡ Ok value
   pub runs : (value_alone place frames column value >>= next) ≡ Ok end
 
-alone_parts : (scanned : Scanned) (after : List ℕ) (v : Tree) → scalar_alone scanned after ≡ Ok v → (scalar_value scanned ≡ Ok v) × (line_end after ≡ Ok tt)
+pub alone_parts : (scanned : Scanned) (after : List ℕ) (v : Tree) → scalar_alone scanned after ≡ Ok v → (scalar_value scanned ≡ Ok v) × (line_end after ≡ Ok tt)
 unfolding scalar_alone
 alone_parts scanned after v h = by_test (not scanned.plain && begins 58 after && begins 9 (drop 1 after)) h
   where

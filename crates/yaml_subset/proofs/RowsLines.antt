@@ -177,7 +177,7 @@ first_sound levels line rest more t n some h = of_head b.0 (head_sound line b.0 
     of_head true is e = record { counted = r.0; later = s.later; counts = row_counts line rest r.0 n some r.1; are = s.are; document = inl (is, document [] e) }
     of_head false is e = record { counted = r.0; later = s.later; counts = row_counts line rest r.0 n some r.1; are = s.are; document = inr (is, document (r.0 ∷ []) e) }
 
-lines_sound : (levels : ℕ) (ls : List (List ℕ)) (t : Tree) → tree_of_lines levels ls ≡ Ok t → ReadsLines levels ls t
+pub lines_sound : (levels : ℕ) (ls : List (List ℕ)) (t : Tree) → tree_of_lines levels ls ≡ Ok t → ReadsLines levels ls t
 unfolding tree_of_lines
 lines_sound levels [] t h = let e : tree.Null ≡ t = cc in sym e
 lines_sound levels (line ∷ more) t h = by_empty p.0 p.1 (is_empty p.0) refl p.2 (lines_sound levels more t)
@@ -208,7 +208,7 @@ first_is levels line more row later head c h are =
     let rows = rows_read more later (cond head [] (row ∷ [])) are in
     rw (r, h, rows) refl
 
-lines_read : (levels : ℕ) (ls : List (List ℕ)) (t : Tree) → ReadsLines levels ls t → tree_of_lines levels ls ≡ Ok t
+pub lines_read : (levels : ℕ) (ls : List (List ℕ)) (t : Tree) → ReadsLines levels ls t → tree_of_lines levels ls ≡ Ok t
 unfolding tree_of_lines
 lines_read levels [] t h = ap Ok (sym h)
 lines_read levels (line ∷ more) t (inl r) = lines_is levels line [] more true r.0 refl ∙ lines_read levels more t r.1

@@ -13,6 +13,7 @@ pub mod Reading
 pub mod Seen
 pub mod Levels
 pub mod SingleQuoted
+pub mod DoubleQuoted
 pub mod PlainText
 pub mod LineValue
 pub mod Grammar
@@ -21,3 +22,8 @@ pub mod Accepted
 pub mod DigitLaws
 pub mod Printed
 pub mod ReadBack
+pub mod FirstFault
+pub mod FlowFaults
+pub mod ScalarFaults
+pub mod LineFaults
+pub mod TextFault

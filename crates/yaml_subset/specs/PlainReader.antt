@@ -1,9 +1,11 @@
 -- A text read with no stack, by rows: a block is a range of them, and each item or entry of it takes the rows
 -- below it that stand deeper. Why a text has no tree, it does not tell: its causes mean nothing.
-use Rattle.std.specs.Prelude.{ℕ, zero, suc, Bool, true, false, ◌||◌, ◌&&◌, nat_lt, ◌==◌, ◌+◌, ◌-◌, if◌then◌else◌, List, [], ◌∷◌, ◌++◌, length, drop, Option, Some, None, Result, Ok, Err}
+use Rattle.std.specs.Prelude.{◌≤◌, ◌<◌, take, ℕ, zero, suc, Bool, true, false, ◌||◌, ◌&&◌, nat_lt, ◌==◌, ◌+◌, ◌-◌, if◌then◌else◌, List, [], ◌∷◌, ◌++◌, length, drop, Option, Some, None, Result, Ok, Err}
 use Rattle.std.specs.Str.{is_utf8}
 use Rattle.std.specs.Str.Lines.{lines}
 use Rattle.yaml_subset.specs.declared.fault.YamlCause.{YamlCause}
+use Rattle.yaml_subset.specs.declared.fault.YamlFault.{YamlFault}
+use Rattle.yaml_subset.specs.TextFault.{IsFault}
 use Rattle.yaml_subset.specs.declared.fault.YamlCause.TheVariants.{Syntax}
 use Rattle.yaml_subset.specs.declared.tree.Tree.{Tree}
 use Rattle.yaml_subset.specs.declared.tree.Tree.TheVariants as tree
@@ -12,7 +14,7 @@ use Rattle.yaml_subset.specs.Characters.{is_empty, begins, marks, next_part}
 use Rattle.yaml_subset.specs.Flow.{entry_key, with_entry}
 use Rattle.yaml_subset.specs.Blocks.{block_value, is_marker}
 use Rattle.yaml_subset.specs.Gives.{◌>>=◌}
-use Rattle.yaml_subset.specs.Grammar.{Line, Reads}
+use Rattle.yaml_subset.specs.Grammar.{ReadsLines, Line, Reads}
 
 -- A row belongs to the item or entry above it at this indent: it stands deeper, or it is an item at the indent
 -- of an entry.
@@ -177,3 +179,19 @@ found (Err c) = None
 abbrev pub AnswersByGrammar : Option Tree → List ℕ → Type 0
 AnswersByGrammar (Some t) text = Reads text t
 AnswersByGrammar None text = (t : Tree) → Reads text t → ⊥
+
+-- with line n the lines so far have no tree by the grammar, and with any fewer they have one; with none,
+-- they always have one
+abbrev pub BreaksFirst : Option ℕ → List (List ℕ) → Type 0
+BreaksFirst None all = (m : ℕ) → m ≤ length all → (t : Tree) × ReadsLines 32 (take m all) t
+BreaksFirst (Some n) all = (0 < n) × (n ≤ length all) × ((m : ℕ) → m < n → (t : Tree) × ReadsLines 32 (take m all) t) × ((t : Tree) → ReadsLines 32 (take n all) t → ⊥)
+
+-- the fault that reading gives, where it gives no tree
+abbrev pub fault_in : Result Tree YamlFault → Option YamlFault
+fault_in (Ok t) = None
+fault_in (Err fault) = Some fault
+
+-- the answer is the text's fault, or nothing where it has none
+abbrev pub AnswersFault : Option YamlFault → List ℕ → Type 0
+AnswersFault None text = (fault : YamlFault) → IsFault text fault → ⊥
+AnswersFault (Some fault) text = IsFault text fault

@@ -13,12 +13,21 @@ ghost use Rattle.yaml_subset.specs.declared.tree.Tree.{Tree};
 ghost use Rattle.yaml_subset.specs.Printed.{printed};
 ghost use Rattle.yaml_subset.specs.ReadBack.{is_sound, IsSpelled};
 ghost use Rattle.yaml_subset.specs.Grammar.{Reads, ReadsWithin, HasTreeOrFault};
+ghost use Rattle.yaml_subset.specs.declared.fault.YamlFault.{YamlFault};
+ghost use Rattle.yaml_subset.specs.TextFault.{IsFault, HasTreeOrItsFault};
 ghost use Rattle.yaml_subset.specs.PlainReader.{tree_within};
 ghost use Rattle.yaml_subset.specs.Levels.{levels};
 ghost use Rattle.yaml_subset.specs.Quoted.{single_from};
 ghost use Rattle.yaml_subset.specs.SingleQuoted.{IsSingleQuoted};
+ghost use Rattle.yaml_subset.specs.Quoted.{double_from};
+ghost use Rattle.yaml_subset.specs.declared.quoted.Escape.TheVariants.{Outside};
+ghost use Rattle.yaml_subset.specs.DoubleQuoted.{IsDoubleQuoted};
 ghost use Rattle.yaml_subset.specs.Scalars.{plain_scalar};
 ghost use Rattle.yaml_subset.specs.PlainText.{IsPlain};
+ghost use Rattle.yaml_subset.specs.Characters.{next_part, line_end};
+ghost use Rattle.yaml_subset.specs.Scalars.{scan};
+ghost use Rattle.yaml_subset.specs.FirstFault.{Tells};
+ghost use Rattle.yaml_subset.specs.ScalarFaults.{NextFault, LineEndFault, ScanFault, ScalarFault, scalar_from};
 
 /// A fault stands in the first line that breaks the text: any fewer lines alone are an accepted text,
 /// and with that line they are none, for the same cause, whatever lines follow.
@@ -95,6 +104,14 @@ pub fn a_text_has_a_tree_or_a_fault()
     ensures { (text : List ℕ) → HasTreeOrFault text }
 {}
 
+/// A text that is refused is refused with the first fault in the first line that breaks it, by the column
+/// and then by the cause's number. A text has one fault at most, and a tree or a fault.
+pub fn a_text_is_refused_with_its_first_fault()
+    ensures told { (text : List ℕ) (fault : YamlFault) → read_of text ≡ Err fault → IsFault text fault }
+    ensures one { (text : List ℕ) (f g : YamlFault) → IsFault text f → IsFault text g → f ≡ g }
+    ensures either { (text : List ℕ) → HasTreeOrItsFault text }
+{}
+
 /// A text is read behind a single quote exactly where it stands there with its quotes doubled, up to a
 /// quote behind which no other follows.
 pub fn a_single_quoted_text_is_spelled_with_its_quotes_doubled()
@@ -102,9 +119,25 @@ pub fn a_single_quoted_text_is_spelled_with_its_quotes_doubled()
     ensures read { (rest text after : List ℕ) → IsSingleQuoted rest text after → single_from false [] rest ≡ Ok (text, after) }
 {}
 
+/// A text is read behind a double quote exactly where it stands there as its characters and escapes, up to
+/// the first quote outside of them.
+pub fn a_double_quoted_text_is_spelled_by_its_escapes()
+    ensures found { (rest text after : List ℕ) → double_from Outside [] rest ≡ Ok (text, after) → IsDoubleQuoted rest text after }
+    ensures read { (rest text after : List ℕ) → IsDoubleQuoted rest text after → double_from Outside [] rest ≡ Ok (text, after) }
+{}
+
 /// A plain scalar is read exactly as the text up to the first place where one ends, without the spaces
 /// before it.
 pub fn a_plain_text_ends_at_the_first_place_where_one_ends()
     ensures found { (flow : Bool) (rest text after : List ℕ) → plain_scalar flow rest ≡ Ok (record { plain = true; text = text }, after) → IsPlain flow rest text after }
     ensures read { (flow : Bool) (rest text after : List ℕ) → IsPlain flow rest text after → plain_scalar flow rest ≡ Ok (record { plain = true; text = text }, after) }
+{}
+
+/// What is read between the parts of a line, behind a value and as a scalar has no fault, and a cause that
+/// is told in place of it is that of the first fault that stands there.
+pub fn a_scalar_that_is_not_read_has_its_first_fault()
+    ensures next_part { (fresh : Bool) (rest : List ℕ) → Tells (NextFault fresh rest) (next_part fresh rest) }
+    ensures line_end { (rest : List ℕ) → Tells (LineEndFault rest) (line_end rest) }
+    ensures scan { (flow : Bool) (rest : List ℕ) → Tells (ScanFault flow rest) (scan flow rest) }
+    ensures scalar { (flow : Bool) (rest : List ℕ) → Tells (ScalarFault flow rest) (scalar_from flow rest) }
 {}

@@ -1,17 +1,20 @@
 //! A plain, slow reader with no stack, with which the tests compare `read_yaml`: a block is a range of
 //! rows, and each item or entry takes the rows below it that stand deeper.
 
-ghost use Rattle.std.specs.Prelude.{◌≡◌, ◌==◌, ◌-◌, ◌+◌, ◌<◌, ◌≤◌, ◌^◌, [], ◌∷◌, map, length, true, false, IfOk};
-ghost use Rattle.yaml_subset.specs.PlainReader.{belongs, below_of, behind_of, grouped, nested_of, value_or_block, value_of, item_of, with_item, items_from, value_behind, with_pair, entries_from, block_of, document_of, row_of, with_line, rows_from, is_head, first_rows, from_first, tree_of_lines, tree_of, found, AnswersByGrammar};
+ghost use Rattle.std.specs.Prelude.{◌≡◌, is_some, take, ◌==◌, ◌-◌, ◌+◌, ◌<◌, ◌≤◌, ◌^◌, [], ◌∷◌, map, length, true, false, IfOk};
+ghost use Rattle.yaml_subset.specs.PlainReader.{belongs, below_of, behind_of, grouped, nested_of, value_or_block, value_of, item_of, with_item, items_from, value_behind, with_pair, entries_from, block_of, document_of, row_of, with_line, rows_from, is_head, first_rows, from_first, tree_of_lines, tree_of, found, AnswersByGrammar, BreaksFirst, fault_in, AnswersFault};
+ghost use Rattle.std.specs.Str.Lines.{lines};
+ghost use Rattle.yaml_subset.specs.Reading.{lines_from, read_of};
+ghost use Rattle.yaml_subset.specs.declared.blocks.State.TheVariants.{Start};
 ghost use Rattle.yaml_subset.specs.Gives.{Gives};
 
 use crate::blocks::{LEVELS, block_value};
 use crate::characters::{begins, behind_first, is_mark, next_part};
 use crate::entries::Entries;
-use crate::fault::{LineRefused, YamlCause};
+use crate::fault::{LineRefused, YamlCause, YamlFault, YamlRefused};
 use crate::flow::entry_key;
 use crate::lines::is_marker;
-use crate::reading::{MOST_BYTES, split_lines};
+use crate::reading::{MOST_BYTES, not_utf8, read_lines, split_lines, too_long};
 use crate::tree::Tree;
 use net_base::{Bytes, Items, NoMemory, TryCopy};
 use std::alloc::{AllocError, Global};
@@ -379,6 +382,81 @@ fn tree_of_lines(alloc: Global, levels: usize, lines: &[&str]) -> Result<Tree, L
         left = tail;
     }
     Ok(Tree::Null)
+}
+
+/// Whether lines are a text that has a tree.
+fn have_tree(alloc: Global, lines: &[&str]) -> Result<bool, NoMemory>
+    ensures { IfOk result (λ some. some ≡ is_some (found (tree_of_lines 32 (map (λ x. x.now) lines.now)))) }
+{
+    match tree_of_lines(alloc, LEVELS, lines) {
+        Ok(_) => Ok(true),
+        Err(LineRefused::Cause(_)) => Ok(false),
+        Err(LineRefused::Memory) => Err(AllocError),
+    }
+}
+
+/// The number of the first line, counted from 1, with which the lines of a text so far have no tree, or
+/// nothing where they always have one.
+pub(crate) fn first_broken_line(alloc: Global, text: &str) -> Result<Option<usize>, NoMemory>
+    ensures { IfOk result (λ line. BreaksFirst line (lines text.now)) }
+{
+    let lines = split_lines(alloc, text)?;
+    let all = lines.as_slice();
+    let mut count = 0;
+    while count < all.len() {
+        count += 1;
+        let (front, _) = all.split_at(count);
+        if !have_tree(alloc, front)? {
+            return Ok(Some(count));
+        }
+    }
+    Ok(None)
+}
+
+/// The fault of the first lines of a text.
+#[tactic(auto, using(crate::proofs::LineLaws::lines_at_most))]
+fn fault_up_to(alloc: Global, text: &str, line: usize) -> Result<Option<YamlFault>, NoMemory>
+    requires short { length text.now ≤ 1048576 }
+    requires there { line ≤ length (lines text.now) }
+    ensures { IfOk result (λ fault. fault ≡ fault_in (lines_from 0 Start (take line (lines text.now)))) }
+{
+    let lines = split_lines(alloc, text)?;
+    let (front, _) = lines.as_slice().split_at(line);
+    match read_lines(alloc, front) {
+        Ok(_) => Ok(None),
+        Err(YamlRefused::At(fault)) => Ok(Some(fault)),
+        Err(YamlRefused::Memory) => Err(AllocError),
+    }
+}
+
+/// The fault of a text that is UTF-8: the line is the first that breaks it, and the cause is told by reading
+/// up to its end.
+fn fault_of_lines(alloc: Global, text: &str) -> Result<Option<YamlFault>, NoMemory>
+    requires { length text.now ≤ 1048576 }
+    ensures { IfOk result (λ fault. fault ≡ fault_in (lines_from 0 Start (lines text.now))) }
+{
+    match first_broken_line(alloc, text)? {
+        None => Ok(None),
+        Some(line) => fault_up_to(alloc, text, line),
+    }
+}
+
+/// The fault of a text, or nothing where it has a tree.
+#[tactic(auto, using(crate::proofs::Text::valid_lens, crate::proofs::PlainFaultLaws::answers), unfolding(crate::specs::Reading::read_of))]
+pub(crate) fn find_fault(alloc: Global, text: &[u8]) -> Result<Option<YamlFault>, NoMemory>
+    ensures exact { IfOk result (λ fault. fault ≡ fault_in (read_of text.now)) }
+    ensures fault { IfOk result (λ fault. AnswersFault fault text.now) }
+{
+    if text.len() > MOST_BYTES {
+        return Ok(Some(too_long()));
+    }
+    match std::str::from_utf8(text) {
+        Ok(text) => fault_of_lines(alloc, text),
+        Err(e) => {
+            let (front, _) = text.split_at(e.valid_up_to());
+            Ok(Some(not_utf8(front)))
+        }
+    }
 }
 
 /// The tree of a text.

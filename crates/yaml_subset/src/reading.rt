@@ -2,9 +2,11 @@
 
 ghost use Rattle.std.specs.Prelude.{◌≡◌, ◌==◌, ◌+◌, ◌<◌, ◌≤◌, ◌^◌, map, length, IfOk, count_by};
 ghost use Rattle.std.specs.Str.Lines.{lines};
-ghost use Rattle.yaml_subset.specs.Reading.{at_line, lines_from, line_not_utf8, read_of, GivesTree};
+ghost use Rattle.yaml_subset.specs.Reading.{fault_at, at_line, lines_from, line_not_utf8, read_of, GivesTree};
 ghost use Rattle.yaml_subset.specs.Reading.{FailsText};
 ghost use Rattle.yaml_subset.specs.Grammar.{GivesByGrammar};
+ghost use Rattle.yaml_subset.specs.TextFault.{TellsFault};
+ghost use Rattle.yaml_subset.specs.declared.fault.YamlCause.TheVariants.{NotUtf8, TooLong};
 ghost use Rattle.yaml_subset.specs.declared.fault.YamlRefused.TheVariants.{Memory};
 ghost use Rattle.yaml_subset.specs.declared.blocks.State.TheVariants.{Start};
 
@@ -43,7 +45,7 @@ fn line_feeds(bytes: &[u8]) -> usize
 
 /// The lines of a text, one after the other.
 #[tactic(auto, unfolding(crate::specs::Reading::lines_from))]
-fn read_lines(alloc: Global, lines: &[&str]) -> Result<Tree, YamlRefused>
+pub(crate) fn read_lines(alloc: Global, lines: &[&str]) -> Result<Tree, YamlRefused>
     requires { length lines.now < 2 ^ 32 }
     ensures { GivesTree result (lines_from 0 Start (map (λ x. x.now) lines.now)) }
 {
@@ -74,28 +76,44 @@ fn read_text(alloc: Global, text: &str) -> Result<Tree, YamlRefused>
     read_lines(alloc, lines.as_slice())
 }
 
+/// The fault of a text that is too long.
+pub(crate) fn too_long() -> YamlFault
+    ensures { result ≡ fault_at 0 TooLong }
+{
+    YamlFault {
+        line: 0,
+        cause: YamlCause::TooLong,
+    }
+}
+
+/// The fault of a text of which only this front is UTF-8.
+pub(crate) fn not_utf8(front: &[u8]) -> YamlFault
+    requires { length front.now ≤ 1048576 }
+    ensures { result ≡ fault_at (count_by (λ b. b == 10) front.now + 1) NotUtf8 }
+{
+    YamlFault {
+        line: line_feeds(front) as u32 + 1,
+        cause: YamlCause::NotUtf8,
+    }
+}
+
 /// Reads the tree of a text. A refusal is the text's first fault: `TooLong` at line 0 for a text of
 /// over 1,048,576 bytes, else `NotUtf8` at the line in which the bytes stop being UTF-8, else the cause
 /// at the leftmost column of the first line at which no accepted text goes on so.
-#[tactic(auto, using(crate::proofs::Text::valid_lens, crate::proofs::GrammarLaws::by_grammar), unfolding(crate::specs::Reading::read_of))]
+#[tactic(auto, using(crate::proofs::Text::valid_lens, crate::proofs::GrammarLaws::by_grammar, crate::proofs::TextFaults::tells_fault), unfolding(crate::specs::Reading::read_of))]
 pub fn read_yaml(alloc: Global, text: &[u8]) -> Result<Tree, YamlRefused>
     ensures exact { GivesTree result (read_of text.now) }
     ensures grammar { GivesByGrammar result text.now }
+    ensures first { TellsFault result text.now }
 {
     if text.len() > MOST_BYTES {
-        return Err(YamlRefused::At(YamlFault {
-            line: 0,
-            cause: YamlCause::TooLong,
-        }));
+        return Err(YamlRefused::At(too_long()));
     }
     match std::str::from_utf8(text) {
         Ok(text) => read_text(alloc, text),
         Err(e) => {
             let (front, _) = text.split_at(e.valid_up_to());
-            Err(YamlRefused::At(YamlFault {
-                line: line_feeds(front) as u32 + 1,
-                cause: YamlCause::NotUtf8,
-            }))
+            Err(YamlRefused::At(not_utf8(front)))
         }
     }
 }

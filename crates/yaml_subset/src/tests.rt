@@ -1,5 +1,5 @@
 use super::*;
-use crate::plain_reader::read_plainly;
+use crate::plain_reader::{find_fault, read_plainly};
 use net_base::NoMemory;
 use std::alloc::Global;
 use std::test::*;
@@ -360,6 +360,29 @@ fn plain_answer(alloc: Global, text: &[u8]) -> Result<String, NoMemory> {
         None => out.push_str("no tree")?,
     }
     Ok(out)
+}
+
+/// What `find_fault` answers, written down.
+fn plain_fault(alloc: Global, text: &[u8]) -> Result<String, NoMemory> {
+    let mut out = String::new(alloc);
+    match find_fault(alloc, text)? {
+        Some(YamlFault { line, cause }) => write!(out, "line {line}: {cause}")?,
+        None => out.push_str("no fault")?,
+    }
+    Ok(out)
+}
+
+#[test]
+fn plain_faults(rt: HostRuntime) -> Result<(), Fail> {
+    for (text, _) in &TREES {
+        let plain = plain_fault(rt.alloc(), text.as_bytes())?;
+        assert_eq!(rt; plain.as_str(), "no fault", "{text:?}");
+    }
+    for (text, wanted) in &FAULTS {
+        let plain = plain_fault(rt.alloc(), text.as_bytes())?;
+        assert_eq!(rt; plain.as_str(), *wanted, "{text:?}");
+    }
+    Ok(())
 }
 
 #[test]
