@@ -1,4 +1,4 @@
-ghost use Rattle.std.specs.Prelude.{◌≡◌, ℕ, ◌+◌, ◌-◌, ◌^◌, ◌<◌, ◌≤◌, ◌⊎◌, List, length, take, Option, Some, None, true, false, OnOk, IfOk, IfSome, IfNone, OnErr, IsErrOf};
+ghost use Rattle.std.specs.Prelude.{◌≡◌, ℕ, ◌+◌, ◌-◌, ◌^◌, ◌<◌, ◌≤◌, ◌⊎◌, List, length, take, Option, Some, None, true, false, OnOk, IfOk, IfSome, IfNone, OnErr, IsErrOf, OnSome};
 ghost use Rattle.fg_outside.specs.Counts.{Rose};
 ghost use Rattle.fg_outside.specs.declared.files.ReadRefused.TheVariants.{Failed, Memory};
 ghost use Rattle.fg_outside.specs.Contents.{refreshed, Tells, ReadsAt};
@@ -33,13 +33,16 @@ pub trait Files {
         ensures end { IfOk result (λ got. IfSome got (λ n. from + n ≤ 2 ^ 64 - 1)) }
 
         ensures absent { IfOk result (λ got. IfNone got (Rose (absences self.old) (absences self.new))) }
-        ensures failed { OnErr result (Rose (faults self.old) (faults self.new)) };
+        ensures found { IfOk result (λ got. OnSome got (absences self.new ≡ absences self.old)) }
+        ensures untouched { OnErr result (absences self.new ≡ absences self.old) }
+        ensures failed { OnErr result (Rose (faults self.old) (faults self.new)) }
+        ensures no_fault { OnOk result (faults self.new ≡ faults self.old) };
 
     /// Goes on to what the files hold next. It alone changes what they hold.
     fn refresh(&mut self)
         ensures contents { contents self.new ≡ refreshed (contents self.old) }
-        ensures faults { faults self.old ≤ faults self.new }
-        ensures absences { absences self.old ≤ absences self.new };
+        ensures faults { faults self.new ≡ faults self.old }
+        ensures absences { absences self.new ≡ absences self.old };
 }
 
 /// Why a file wasn't read whole.
@@ -90,6 +93,8 @@ pub fn read_whole<F: Files>(
         → IsErrOf result ReadRefused.Absent → told ≡ None }
     ensures absent { IsErrOf result ReadRefused.Absent → Rose (F.absences files.old) (F.absences files.new) }
     ensures failed { IsErrOf result ReadRefused.Failed → Rose (F.faults files.old) (F.faults files.new) }
+    ensures no_absence { (IsErrOf result ReadRefused.Absent → ⊥) → F.absences files.new ≡ F.absences files.old }
+    ensures no_fault { (IsErrOf result ReadRefused.Failed → ⊥) → F.faults files.new ≡ F.faults files.old }
 
     ensures contents { F.contents files.new ≡ F.contents files.old }
     ensures faults { F.faults files.old ≤ F.faults files.new }
@@ -127,6 +132,8 @@ fn read_piece<F: Files>(
         → IsErrOf result ReadRefused.Absent → told ≡ None }
     ensures absent { IsErrOf result ReadRefused.Absent → Rose (F.absences files.old) (F.absences files.new) }
     ensures failed { IsErrOf result ReadRefused.Failed → Rose (F.faults files.old) (F.faults files.new) }
+    ensures no_absence { (IsErrOf result ReadRefused.Absent → ⊥) → F.absences files.new ≡ F.absences files.old }
+    ensures no_fault { (IsErrOf result ReadRefused.Failed → ⊥) → F.faults files.new ≡ F.faults files.old }
 
     ensures contents { F.contents files.new ≡ F.contents files.old }
     ensures faults { F.faults files.old ≤ F.faults files.new }

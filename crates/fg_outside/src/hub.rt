@@ -1,4 +1,4 @@
-ghost use Rattle.std.specs.Prelude.{◌≡◌, ◌≤◌, ℕ, Bool, true, false};
+ghost use Rattle.std.specs.Prelude.{◌≡◌, ◌≢◌, ◌≤◌, ℕ, Bool, true, false};
 ghost use Rattle.fg_outside.specs.Counts.{Rose};
 ghost use Rattle.fg_outside.specs.HubStep.{HubStep, turned, said, closed};
 
@@ -92,6 +92,7 @@ pub trait Hub {
     fn turn(&mut self) -> Turn
         ensures step { may self.old (turned result) self.new }
         ensures failed { result ≡ Turn.Failed → Rose (faults self.old) (faults self.new) }
+        ensures no_fault { result ≢ Turn.Failed → faults self.new ≡ faults self.old }
         ensures faults { faults self.old ≤ faults self.new };
 
     /// Sends a piece on a connection. Unless memory ran out, `Gone` exactly where the connection
@@ -100,11 +101,11 @@ pub trait Hub {
         ensures step { may self.old (said conn piece.now result) self.new }
         ensures gone { result ≡ Said.Gone → is_open self.new conn ≡ false }
         ensures taken { result ≡ Said.Taken → is_open self.new conn ≡ true }
-        ensures faults { faults self.old ≤ faults self.new };
+        ensures faults { faults self.new ≡ faults self.old };
 
     /// Closes a connection; nothing where it isn't open.
     fn close(&mut self, conn: u32)
         ensures step { may self.old (closed conn) self.new }
         ensures closed { is_open self.new conn ≡ false }
-        ensures faults { faults self.old ≤ faults self.new };
+        ensures faults { faults self.new ≡ faults self.old };
 }

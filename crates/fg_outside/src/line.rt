@@ -10,6 +10,7 @@ fn write_pieces<S: Sink>(sink: &mut S, pieces: &[&str]) -> Result<(), Failed>
     ensures ok { OnOk result (S.wrote sink.new ≡ appended (S.wrote sink.old) (flat_map (λ piece. piece.now) pieces.now)) }
     ensures err { OnErr result (AppendsFront (S.wrote sink.old) (S.wrote sink.new) (flat_map (λ piece. piece.now) pieces.now)) }
     ensures failed { OnErr result (Rose (S.faults sink.old) (S.faults sink.new)) }
+    ensures no_fault { OnOk result (S.faults sink.new ≡ S.faults sink.old) }
     ensures faults { S.faults sink.old ≤ S.faults sink.new }
 {
     for piece in pieces {
@@ -25,6 +26,7 @@ pub fn write_line<S: Sink>(sink: &mut S, pieces: &[&str]) -> Result<(), Failed>
     ensures ok { OnOk result (S.wrote sink.new ≡ appended (S.wrote sink.old) (line_of pieces.now)) }
     ensures err { OnErr result (AppendsFront (S.wrote sink.old) (S.wrote sink.new) (line_of pieces.now)) }
     ensures failed { OnErr result (Rose (S.faults sink.old) (S.faults sink.new)) }
+    ensures no_fault { OnOk result (S.faults sink.new ≡ S.faults sink.old) }
     ensures faults { S.faults sink.old ≤ S.faults sink.new }
 {
     write_pieces(sink, pieces)?;

@@ -1,4 +1,4 @@
-ghost use Rattle.std.specs.Prelude.{◌≡◌, ◌↔◌, ℕ, ◌+◌, ◌-◌, ◌^◌, ◌<◌, ◌≤◌, List, [], length, min, Option, Some, None, IfOk, IfSome, IfNone, OnSome, OnErr, IsErr, IsTrue};
+ghost use Rattle.std.specs.Prelude.{◌≡◌, ◌↔◌, ℕ, ◌+◌, ◌-◌, ◌^◌, ◌<◌, ◌≤◌, List, [], length, min, Option, Some, None, IfOk, IfSome, IfNone, OnSome, OnOk, OnErr, IsErr, IsTrue};
 ghost use Rattle.std.specs.Option.{option_copied, option_map};
 ghost use Rattle.fg_outside.specs.Counts.{counted, Rose};
 ghost use Rattle.fg_outside.specs.Contents.{refreshed, Tells, ReadsAt};
@@ -80,11 +80,12 @@ impl<P: FaultPlan> Files for FilesInMemory<P> {
         ensures end { IfOk result (λ got. IfSome got (λ n. from + n ≤ 2 ^ 64 - 1)) }
 
         ensures absent { IfOk result (λ got. IfNone got (Rose (absences_of self.old) (absences_of self.new))) }
-        ensures failed { OnErr result (Rose (P.faults (plan_of self.old)) (P.faults (plan_of self.new))) }
-
-        ensures missed { IfOk result (λ got. IfNone got (absences_of self.new ≡ counted (absences_of self.old))) }
         ensures found { IfOk result (λ got. OnSome got (absences_of self.new ≡ absences_of self.old)) }
         ensures untouched { OnErr result (absences_of self.new ≡ absences_of self.old) }
+        ensures failed { OnErr result (Rose (P.faults (plan_of self.old)) (P.faults (plan_of self.new))) }
+        ensures no_fault { OnOk result (P.faults (plan_of self.new) ≡ P.faults (plan_of self.old)) }
+
+        ensures missed { IfOk result (λ got. IfNone got (absences_of self.new ≡ counted (absences_of self.old))) }
 
         ensures planned { IsErr result ↔ IsTrue (P.fails (plan_of self.old)) }
         ensures plan { plan_of self.new ≡ P.after (plan_of self.old) }

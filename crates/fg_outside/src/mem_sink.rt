@@ -1,4 +1,4 @@
-ghost use Rattle.std.specs.Prelude.{◌≡◌, ◌⊎◌, ℕ, ◌+◌, ◌-◌, ◌^◌, ◌<◌, ◌≤◌, [], length, take, min, true, Some, IfOk, OnErr, IsErr, vec_len, vec_capacity};
+ghost use Rattle.std.specs.Prelude.{◌≡◌, ◌⊎◌, ℕ, ◌+◌, ◌-◌, ◌^◌, ◌<◌, ◌≤◌, [], length, take, min, true, Some, IfOk, OnOk, OnErr, IsErr, vec_len, vec_capacity};
 ghost use Rattle.fg_outside.specs.Counts.{Rose};
 ghost use Rattle.fg_outside.specs.FaultPlan.{fresh};
 ghost use Rattle.fg_outside.specs.Wrote.{appended};
@@ -95,6 +95,7 @@ impl<P: FaultPlan> Sink for SinkInMemory<P> {
             ≡ appended (Some (taken_by self.old)) (take n piece.now)) }
         ensures kept { OnErr result (Some (taken_by self.new) ≡ Some (taken_by self.old)) }
         ensures failed { OnErr result (Rose (faults_of P.faults self.old) (faults_of P.faults self.new)) }
+        ensures no_fault { OnOk result (faults_of P.faults self.new ≡ faults_of P.faults self.old) }
         ensures faults { faults_of P.faults self.old ≤ faults_of P.faults self.new }
 
         ensures count { IfOk result (λ n. n ≡ min (length piece.now) (room_of self.old - length (taken_by self.old))) }

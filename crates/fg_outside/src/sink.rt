@@ -20,6 +20,7 @@ pub trait Sink {
         ensures took { IfOk result (λ n. wrote self.new ≡ appended (wrote self.old) (take n piece.now)) }
         ensures kept { OnErr result (wrote self.new ≡ wrote self.old) }
         ensures failed { OnErr result (Rose (faults self.old) (faults self.new)) }
+        ensures no_fault { OnOk result (faults self.new ≡ faults self.old) }
         ensures faults { faults self.old ≤ faults self.new };
 }
 
@@ -28,6 +29,7 @@ pub fn write_all<S: Sink>(sink: &mut S, piece: &[u8]) -> Result<(), Failed>
     ensures ok { OnOk result (S.wrote sink.new ≡ appended (S.wrote sink.old) piece.now) }
     ensures err { OnErr result (AppendsFront (S.wrote sink.old) (S.wrote sink.new) piece.now) }
     ensures failed { OnErr result (Rose (S.faults sink.old) (S.faults sink.new)) }
+    ensures no_fault { OnOk result (S.faults sink.new ≡ S.faults sink.old) }
     ensures faults { S.faults sink.old ≤ S.faults sink.new }
 {
     let mut done = 0;

@@ -7,8 +7,8 @@ invariant-loop-bytes g l =
     (length l.bytes ≤ l.most)
     × ((file : List ℕ) → Tells (g.F.Files.contents l.initial.files) l.name (Some file) → l.bytes ≡ take (length l.bytes) file)
     × (g.F.Files.contents l.files ≡ g.F.Files.contents l.initial.files)
-    × (g.F.Files.faults l.initial.files ≤ g.F.Files.faults l.files)
-    × (g.F.Files.absences l.initial.files ≤ g.F.Files.absences l.files)
+    × (g.F.Files.faults l.files ≡ g.F.Files.faults l.initial.files)
+    × (g.F.Files.absences l.files ≡ g.F.Files.absences l.initial.files)
 
 abbrev pub decreases-loop-bytes : goal.decreases-loop-bytes
 decreases-loop-bytes g l = l.most - length l.bytes

@@ -1,4 +1,3 @@
-use Rattle.std.proofs.Common.{refl}
 use Rattle.fg_outside.proofs.LineLemmas.{front_within, on_err}
 use Rattle.fg_outside.proofs.line.write_pieces.Goals as goal
 

@@ -17,5 +17,5 @@ loop-done-preserved g c =
           ∙ ap (λ (l : List ℕ). appended (g.S.Sink.wrote c.loop-done.sink) (take n l)) rest
           ∙ ap (λ (taken : Option (List ℕ)). appended taken (take n (drop done piece))) so_far.1
           ∙ appended-take (g.S.Sink.wrote c.args.sink.now) piece done n,
-      omega (arith, so_far.2, c.write.ensures.faults),
+      c.in_ok-done.ensures.no_fault ∙ so_far.2,
     )
