@@ -1,8 +1,8 @@
 -- The messages of an opening batch are well formed, so that the batch spells them.
-use Rattle.std.proofs.Common.{◌≡◌, ℕ, suc, ◌+◌, ◌*◌, ◌^◌, ◌<◌, ◌≤◌, ◌==◌, ◌||◌, Bool, true, false, cond, true≢false, List, [], ◌∷◌, ◌++◌, map, filter, length, replicate, Some, None, refl, sym, ap, arith}
+use Rattle.std.proofs.Common.{◌≡◌, ℕ, suc, ◌+◌, ◌*◌, ◌^◌, ◌<◌, ◌≤◌, ◌==◌, ◌||◌, nat_lt, Bool, true, false, cond, true≢false, List, [], ◌∷◌, ◌++◌, map, filter, length, replicate, Some, None, refl, sym, ap, arith}
 use Rattle.std.specs.Prelude.{IsTrue}
 use Rattle.std.specs.List.{AllByRecursion, flat_map, list_any}
-use Rattle.std.proofs.lemmas.Bool.{eqb-true}
+use Rattle.std.proofs.lemmas.Bool.{eqb-true, lt-ltb}
 use Rattle.std.proofs.lemmas.List.{length-append}
 use Rattle.net_base.specs.declared.field.Field.{Field}
 use Rattle.net_base.specs.declared.field.FieldId.TheVariants.{EthDst, EthSrc, EthType}
@@ -69,6 +69,11 @@ add_of e =
       fields = e.key.fields;
       instrs = e.instrs;
     }
+
+-- an entry that can be added, in one table
+pub record IsAdded (e : Entry) : Type 0 where
+  pub written : IsWritten (add_of e)
+  pub table : nat_lt e.key.table 0xff ≡ true
 
 -- ---- lists
 
@@ -199,30 +204,33 @@ module _ (number_len : NumberLen) (fields_len : FieldsLen) (match_len : MatchLen
 
   -- ---- entries
 
-  written_entry : (e : Entry) → e.key.table < 2 ^ 8 → e.key.priority < 2 ^ 16 → IsMatch e.key.fields → length e.key.fields ≤ 2 → AreInstrs e.instrs → length (flat_map instr_bytes e.instrs) ≤ 7000
-      → IsWritten (add_of e)
+  written_entry : (e : Entry) → e.key.table < 0xff → e.key.priority < 2 ^ 16 → IsMatch e.key.fields → length e.key.fields ≤ 2 → AreInstrs e.instrs → length (flat_map instr_bytes e.instrs) ≤ 7000
+      → IsAdded e
   written_entry e table priority match_is few instrs short =
       record {
-        formed = record {
-          cookie = omega arith;
-          cookie_mask = omega arith;
-          table = table;
-          command = omega arith;
-          idle = omega arith;
-          hard = omega arith;
-          priority = priority;
-          buffer = omega arith;
-          out_port = omega arith;
-          out_group = omega arith;
-          flags = omega arith;
-          fields = match_is;
-          instrs = instrs;
+        written = record {
+          formed = record {
+            cookie = omega arith;
+            cookie_mask = omega arith;
+            table = omega (arith, table);
+            command = omega arith;
+            idle = omega arith;
+            hard = omega arith;
+            priority = priority;
+            buffer = omega arith;
+            out_port = omega arith;
+            out_group = omega arith;
+            flags = omega arith;
+            fields = match_is;
+            instrs = instrs;
+          };
+          fits = frame_fits (add_of e) few short;
         };
-        fits = frame_fits (add_of e) few short;
+        table = lt-ltb e.key.table 0xff table;
       }
 
   abbrev Written : Entry → Type 0
-  Written e = IsWritten (add_of e)
+  Written e = IsAdded e
 
   dropping : (f : Field) (priority : ℕ) → priority < 2 ^ 16 → Fits f → IsTrue (has_prerequisite f.id (f ∷ [])) → Written (entry 1 priority (f ∷ []) [] None)
   dropping f priority less fits p = written_entry (entry 1 priority (f ∷ []) [] None) (omega arith) less (one_field f fits p) (omega arith) tt (omega arith)
@@ -242,7 +250,7 @@ module _ (number_len : NumberLen) (fields_len : FieldsLen) (match_len : MatchLen
     ),
   )
 
-  passing : (table next : ℕ) → table < 2 ^ 8 → next < 2 ^ 8 → Written (entry table 0 [] [] (Some next))
+  passing : (table next : ℕ) → table < 0xff → next < 2 ^ 8 → Written (entry table 0 [] [] (Some next))
   passing table next less below = written_entry (entry table 0 [] [] (Some next)) less (omega arith) no_field (omega arith) below (goto_alone next)
 
   passes_written : AllByRecursion Written passes

@@ -1,5 +1,5 @@
 -- What a batch does that was made of a configuration's text.
-use Rattle.std.proofs.Common.{◌≡◌, ℕ, ◌^◌, ◌<◌, inl, inr, Bool, true, false, if◌then◌else◌, List, [], ◌∷◌, ◌++◌, map, Option, Some, None, Result, Ok, Err, refl, sym, ap, subst, ◌∙◌, arith}
+use Rattle.std.proofs.Common.{◌≡◌, ℕ, ◌^◌, ◌<◌, nat_lt, inl, inr, Bool, true, false, if◌then◌else◌, List, [], ◌∷◌, ◌++◌, map, Option, Some, None, Result, Ok, Err, refl, sym, ap, subst, ◌∙◌, arith}
 use Rattle.std.specs.List.{AllByRecursion}
 use Rattle.std.specs.Str.{bytes_eq}
 use Rattle.std.proofs.lemmas.Bool.Decides.{eqb_tells}
@@ -29,8 +29,8 @@ use Rattle.faucet_top.specs.declared.plan.PlanRefused.TheVariants.{Unresolved}
 use Rattle.faucet_top.specs.Answer.{batch_of, batch_of_text, planned}
 use Rattle.faucet_top.specs.Form.{conf_of}
 use Rattle.faucet_top.specs.Messages.{add, delete_all, adds, next_xid, xid_after, opening}
-use Rattle.faucet_top.specs.Opened.{Says, nothing, barrier, command, written_from, SpellAll, Opens}
-use Rattle.faucet_top.proofs.Framed.{NumberLen, FieldsLen, MatchLen, ActionsLen, IsWritten, wipe, add_of, wipe_written, cold_written}
+use Rattle.faucet_top.specs.Opened.{command_in, Says, nothing, barrier, command, written_from, SpellAll, Opens}
+use Rattle.faucet_top.proofs.Framed.{NumberLen, FieldsLen, MatchLen, ActionsLen, IsWritten, IsAdded, wipe, add_of, wipe_written, cold_written}
 use Rattle.faucet_top.proofs.Accepted.{is_conf}
 
 -- ---- the messages of an opening batch
@@ -53,12 +53,15 @@ opening_written es =
     ∙ ap (λ l. written delete_all 1 ++ written messages.BarrierRequest 2 ++ l) (adds_written 3 es)
     ∙ append_assoc (written delete_all 1) (written messages.BarrierRequest 2) (written_from 3 (adds_then_barrier es))
 
-adds_said : (es : List Entry) → Says (adds_then_barrier es) (map Add es ∷ [])
-adds_said [] = barrier [] [] nothing
-adds_said (e ∷ es) = command _ (Add e) _ _ _ refl (adds_said es)
+add_said : (e : Entry) → nat_lt e.key.table 0xff ≡ true → command_in (add_of e) ≡ Some (Add e)
+add_said e one = rw one refl
 
-opening_said : (es : List Entry) → Says (opening_messages es) ((DeleteAll ∷ []) ∷ map Add es ∷ [])
-opening_said es = command _ DeleteAll _ _ _ refl (barrier _ _ (adds_said es))
+adds_said : (es : List Entry) → AllByRecursion IsAdded es → Says (adds_then_barrier es) (map Add es ∷ [])
+adds_said [] all = barrier [] [] nothing
+adds_said (e ∷ es) all = command _ (Add e) _ _ _ (add_said e (all.0).table) (adds_said es all.1)
+
+opening_said : (es : List Entry) → AllByRecursion IsAdded es → Says (opening_messages es) ((DeleteAll ∷ []) ∷ map Add es ∷ [])
+opening_said es all = command _ DeleteAll _ _ _ refl (barrier _ _ (adds_said es all))
 
 -- ---- the messages are well formed, so the bytes spell them
 
@@ -86,11 +89,11 @@ spells_all law xid less (m ∷ more) all =
       behind = spells_all law (next_xid xid) (next_fits xid less) more all.1;
     }
 
-adds_can : (es : List Entry) → AllByRecursion (λ e. IsWritten (add_of e)) es → AllByRecursion CanBeWritten (adds_then_barrier es)
+adds_can : (es : List Entry) → AllByRecursion IsAdded es → AllByRecursion CanBeWritten (adds_then_barrier es)
 adds_can [] all = (record { formed = tt; fits = omega arith }, tt)
-adds_can (e ∷ es) all = (record { formed = (all.0).formed; fits = (all.0).fits }, adds_can es all.1)
+adds_can (e ∷ es) all = (let w = (all.0).written in record { formed = w.formed; fits = w.fits }, adds_can es all.1)
 
-opening_can : IsWritten wipe → (es : List Entry) → AllByRecursion (λ e. IsWritten (add_of e)) es → AllByRecursion CanBeWritten (opening_messages es)
+opening_can : IsWritten wipe → (es : List Entry) → AllByRecursion IsAdded es → AllByRecursion CanBeWritten (opening_messages es)
 opening_can w es all = (record { formed = w.formed; fits = w.fits }, (record { formed = tt; fits = omega arith }, adds_can es all))
 
 -- ---- a batch that was made of a text
@@ -115,6 +118,7 @@ module _ (number_len : NumberLen) (fields_len : FieldsLen) (match_len : MatchLen
   opens : (tree : Tree) (conf : Conf) → read_of text ≡ Ok tree → conf_of tree ≡ Some conf → conf.dp.name ≡ dp → opening (cold conf) ≡ batch → Opens text dp batch
   opens tree conf read accepted named made =
       let valid = is_conf tree conf accepted in
+      let added = cold_written number_len fields_len match_len actions_len conf valid in
       record {
         tree = tree;
         conf = conf;
@@ -125,8 +129,8 @@ module _ (number_len : NumberLen) (fields_len : FieldsLen) (match_len : MatchLen
         named = named;
         sent = sym made ∙ opening_written (cold conf);
         spelled = subst (SpellAll 1 (opening_messages (cold conf))) (sym (sym made ∙ opening_written (cold conf)))
-            (spells_all spelled 1 (omega arith) (opening_messages (cold conf)) (opening_can (wipe_written number_len fields_len match_len actions_len) (cold conf) (cold_written number_len fields_len match_len actions_len conf valid)));
-        said = opening_said (cold conf);
+            (spells_all spelled 1 (omega arith) (opening_messages (cold conf)) (opening_can (wipe_written number_len fields_len match_len actions_len) (cold conf) added));
+        said = opening_said (cold conf) added;
         holds = holds conf valid;
         goes = λ port p a. goes conf port p valid a;
         only = λ port p outs a way. only conf port p outs valid a way;

@@ -12,7 +12,7 @@ use Rattle.yaml_subset.specs.declared.fault.YamlCause.TheVariants.{TooLong}
 use Rattle.yaml_subset.specs.declared.tree.Tree.{Tree}
 use Rattle.faucet_top.specs.declared.plan.PlanRefused.{PlanRefused}
 use Rattle.faucet_top.specs.declared.plan.PlanRefused.TheVariants.{Unread, Refused, NotOfForm, Unresolved, Memory}
-use Rattle.faucet_top.specs.Answer.{planned, planned_file, batch_of_text, Makes}
+use Rattle.faucet_top.specs.Answer.{planned, planned_file, batch_of_text, Makes, MakesSome}
 
 -- a text that is too long is not of the form
 too_long : (text : List ℕ) → 1048576 < length text → read_of text ≡ Err (fault_at 0 TooLong)
@@ -57,3 +57,13 @@ read_as r = r
 pub no_refusal : (text : List ℕ) → IsErrOf (read_as (Ok text)) reads.Absent ⊎ IsErrOf (read_as (Ok text)) reads.Failed → ⊥
 no_refusal text (inl e) = cc
 no_refusal text (inr e) = cc
+
+-- what was made of a text is what the file with this text wants
+pub some_text : (text dp : List ℕ) (made : Result (List ℕ) PlanRefused) → Makes ⊥ made (planned text dp) → MakesSome made dp
+some_text text dp (Ok batch) h = inr (Some text, sym h)
+some_text text dp (Err Unread) (inl e) = inr (Some text, sym e)
+some_text text dp (Err Unread) (inr never) = absurd never
+some_text text dp (Err (Refused why)) h = inr (Some text, sym h)
+some_text text dp (Err NotOfForm) h = inr (Some text, sym h)
+some_text text dp (Err Unresolved) h = inr (Some text, sym h)
+some_text text dp (Err Memory) h = inl refl

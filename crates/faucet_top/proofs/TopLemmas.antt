@@ -12,9 +12,9 @@ use Rattle.faucet_top.specs.Form.{conf_of}
 use Rattle.conf_types.specs.declared.conf.Conf.{Conf}
 use Rattle.faucet_top.specs.declared.plan.PlanRefused.{PlanRefused}
 use Rattle.faucet_top.specs.declared.plan.PlanRefused.TheVariants.{Unread, Refused, NotOfForm, Unresolved, Memory}
-use Rattle.faucet_top.specs.Answer.{Answer, Delivers, Makes, planned, planned_file, batch_of, batch_of_text, plan_answer, usage, answer, job_answer}
+use Rattle.faucet_top.specs.Answer.{Answer, Delivers, Makes, MakesSome, planned, planned_file, batch_of, batch_of_text, plan_answer, usage, answer, job_answer}
 use Rattle.faucet_top.specs.Opened.{Opens, OpensBy}
-use Rattle.faucet_top.specs.Top.{PlanAnswered, IsGiven, IsRefusal, now_held}
+use Rattle.faucet_top.specs.Top.{PlanAnswered, AnswersSome, IsGiven, IsRefusal, now_held}
 use Rattle.faucet_top.specs.Words.{Job, Plan, meaning}
 
 abbrev Made : Type 0
@@ -243,3 +243,22 @@ module _ (words : List (List ℕ)) (status : ℕ) (contents : Option Contents) (
 
   pub front : (held : Contents) → contents ≡ Some held → AppendsFront o0 o1 (answer words (now_held held)).out
   front held t = front_by held t (meaning words) refl
+
+  -- one answer was given, for some content
+  has_meaning : (config dp : List ℕ) → meaning words ≡ Some (Plan config dp) → meaning words ≢ None
+  has_meaning config dp e none = cc
+
+  given_for_some : (config dp : List ℕ) → meaning words ≡ Some (Plan config dp) → (made : Made) → MakesSome made dp → Delivers (plan_answer config dp made) status o0 o1 e0 e1 wf → AnswersSome words status o0 o1 e0 e1 wf
+  given_for_some config dp e made (inl out) given = inr (has_meaning config dp e, subst (λ (m : Made). Delivers (plan_answer config dp m) status o0 o1 e0 e1 wf) out given)
+  given_for_some config dp e made (inr is) given =
+      inl (
+        (λ name. is.0),
+        subst (λ (m : Option Job). Delivers (job_answer m (λ name. is.0)) status o0 o1 e0 e1 wf) (sym e) (subst (λ (m : Made). Delivers (plan_answer config dp m) status o0 o1 e0 e1 wf) is.1 given),
+      )
+
+  delivered_by : (m : Option Job) → meaning words ≡ m → AnswersSome words status o0 o1 e0 e1 wf
+  delivered_by None e = inl ((λ name. None), subst (λ (m : Option Job). Delivers (job_answer m (λ name. None)) status o0 o1 e0 e1 wf) (sym e) (no_meaning e))
+  delivered_by (Some (Plan config dp)) e = let p = plan config dp e in given_for_some config dp e p.made p.some p.given
+
+  pub delivered_some : AnswersSome words status o0 o1 e0 e1 wf
+  delivered_some = delivered_by (meaning words) refl

@@ -51,6 +51,9 @@ line pieces = concat pieces ++ 10 ∷ []
 abbrev pub usage : Answer
 usage = record { out = []; err = line (codes "usage: faucet check, plan, replay, serve, gauge, gauge-serve or bench" ∷ []); status = 1 }
 
+abbrev pub out_of_memory : Answer
+out_of_memory = record { out = []; err = line (codes "out of memory" ∷ []); status = 8 }
+
 -- the answer to `plan`: the batch, or a line that says why there is none
 abbrev pub plan_answer : List ℕ → List ℕ → Result (List ℕ) PlanRefused → Answer
 plan_answer config dp (Ok batch) = record { out = batch; err = []; status = 0 }
@@ -58,7 +61,7 @@ plan_answer config dp (Err Unread) = record { out = []; err = line (config ∷ c
 plan_answer config dp (Err (Refused fault)) = record { out = []; err = line (config ∷ codes ": line " ∷ decimal fault.line ∷ codes ": " ∷ cause_text fault.cause ∷ []); status = 2 }
 plan_answer config dp (Err NotOfForm) = record { out = []; err = line (config ∷ codes ": not in the first form" ∷ []); status = 2 }
 plan_answer config dp (Err Unresolved) = record { out = []; err = line (config ∷ codes ": dps." ∷ dp ∷ codes ": Unresolved" ∷ []); status = 2 }
-plan_answer config dp (Err Memory) = record { out = []; err = line (codes "out of memory" ∷ []); status = 8 }
+plan_answer config dp (Err Memory) = out_of_memory
 
 abbrev pub job_answer : Option Job → (List ℕ → Option (List ℕ)) → Answer
 job_answer None held = usage
@@ -84,3 +87,7 @@ Makes fault (Err (Refused why)) wanted = wanted ≡ Err (Refused why)
 Makes fault (Err NotOfForm) wanted = wanted ≡ Err NotOfForm
 Makes fault (Err Unresolved) wanted = wanted ≡ Err Unresolved
 Makes fault (Err Memory) wanted = Unit {0}
+
+-- What was made is what some file wants, or memory ran out.
+abbrev pub MakesSome : (made : Result (List ℕ) PlanRefused) → (dp : List ℕ) → Type 0
+MakesSome made dp = (made ≡ Err Memory) ⊎ ((file : Option (List ℕ)) × (made ≡ planned_file file dp))

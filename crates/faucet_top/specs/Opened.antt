@@ -1,5 +1,5 @@
 -- What the bytes of an opening batch do to a switch that gets them.
-use Rattle.std.specs.Prelude.{◌≡◌, ℕ, ◌==◌, ◌&&◌, Bool, if◌then◌else◌, List, [], ◌∷◌, ◌++◌, length, Option, Some, None}
+use Rattle.std.specs.Prelude.{◌≡◌, ℕ, ◌==◌, ◌&&◌, nat_lt, Bool, if◌then◌else◌, List, [], ◌∷◌, ◌++◌, length, Option, Some, None}
 use Rattle.fg_outside.specs.Wrote.{appended}
 use Rattle.yaml_subset.specs.Grammar.{Reads}
 use Rattle.yaml_subset.specs.declared.tree.Tree.{Tree}
@@ -33,15 +33,19 @@ is_lasting m = m.idle == 0 && m.hard == 0 && m.flags == 0 && m.buffer == 0xfffff
 abbrev pub is_whole : FlowMod → Bool
 is_whole m = m.cookie_mask == 0 && m.out_port == 0xffffffff && m.out_group == 0xffffffff
 
+-- it names one table: 0xff stands for all of them, and of these a delete alone may speak (OFPTT_ALL)
+abbrev pub is_of_one_table : FlowMod → Bool
+is_of_one_table m = nat_lt m.table 0xff
+
 abbrev pub key_in : FlowMod → Key
 key_in m = record { table = m.table; priority = m.priority; fields = m.fields }
 
--- OFPFC_ADD, OFPFC_DELETE of everything in all tables, and OFPFC_DELETE_STRICT
+-- OFPFC_ADD, OFPFC_DELETE of everything in all tables, and OFPFC_DELETE_STRICT in one table
 abbrev pub command_in : FlowMod → Option Command
 command_in m =
-    if m.command == 0 && is_lasting m then Some (Add (record { key = key_in m; instrs = m.instrs }))
+    if m.command == 0 && is_of_one_table m && is_lasting m then Some (Add (record { key = key_in m; instrs = m.instrs }))
     else if m.command == 3 && m.table == 0xff && length m.fields == 0 && is_whole m then Some DeleteAll
-    else if m.command == 4 && is_whole m then Some (DeleteStrict (key_in m))
+    else if m.command == 4 && is_of_one_table m && is_whole m then Some (DeleteStrict (key_in m))
     else None
 
 -- Messages say these lists of commands, each with a barrier behind it (7.3.8).

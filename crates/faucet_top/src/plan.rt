@@ -2,7 +2,7 @@ ghost use Rattle.std.specs.Prelude.{◌≡◌, ◌≤◌, List, Option, ℕ, IsE
 ghost use Rattle.fg_outside.specs.Counts.{Rose};
 ghost use Rattle.fg_outside.specs.Contents.{Tells};
 ghost use Rattle.faucet_top.specs.declared.plan.PlanRefused.TheVariants.{Memory, NotOfForm, Unread};
-ghost use Rattle.faucet_top.specs.Answer.{planned, planned_file, Makes};
+ghost use Rattle.faucet_top.specs.Answer.{planned, planned_file, Makes, MakesSome};
 ghost use Rattle.faucet_top.specs.Refusals.{unread_or_memory, form_or_memory, fault_or_memory};
 
 use crate::messages::make_opening;
@@ -94,6 +94,7 @@ pub fn make_batch<F: Files>(
 ) -> Result<Bytes, PlanRefused>
     ensures made { (file : Option (List ℕ)) → Tells (F.contents files.old) config.now file
         → Makes (Rose (F.faults files.old) (F.faults files.new)) result (planned_file file dp.now) }
+    ensures some { MakesSome result dp.now }
     ensures unread { IsErrOf result PlanRefused.Unread
         → Rose (F.absences files.old) (F.absences files.new) ⊎ Rose (F.faults files.old) (F.faults files.new) }
 

@@ -5,7 +5,7 @@ ghost use Rattle.fg_outside.specs.Wrote.{appended, AppendsFront};
 ghost use Rattle.faucet_top.specs.Answer.{Delivers, usage, answer, planned};
 ghost use Rattle.faucet_top.specs.Opened.{OpensBy};
 ghost use Rattle.faucet_top.specs.Status.{number_of_status};
-ghost use Rattle.faucet_top.specs.Top.{PlanAnswered, IsGiven, IsRefusal, IsStatus, now_held};
+ghost use Rattle.faucet_top.specs.Top.{PlanAnswered, AnswersSome, IsGiven, IsRefusal, IsStatus, now_held};
 ghost use Rattle.faucet_top.specs.Words.{meaning, Plan};
 
 use crate::deliver::{Status, deliver_plan, deliver_usage};
@@ -65,6 +65,11 @@ pub fn faucet<F: Files, H: Hub, O: Sink, E: Sink>(
     ensures answer { (held : Contents) → F.contents files ≡ Some held → result.0 ≢ 8 → IsGiven (answer words.now (now_held held)) result.0
         (O.wrote out.old) (O.wrote out.new) (E.wrote err.old) (E.wrote err.new)
         ⊎ (Rose (F.faults files) (F.faults result.1) ⊎ (Rose (O.faults out.old) (O.faults out.new) ⊎ Rose (E.faults err.old) (E.faults err.new))) }
+
+    // Whatever the files hold and whatever fails, one answer was given: that for some content of the files,
+    // or that memory ran out. A failed write leaves a front of it, and nothing else is written then.
+    ensures delivered { AnswersSome words.now result.0 (O.wrote out.old) (O.wrote out.new) (E.wrote err.old) (E.wrote err.new)
+        (Rose (O.faults out.old) (O.faults out.new) ⊎ Rose (E.faults err.old) (E.faults err.new)) }
 
     // The headline: where `plan` is done, what stands on `out` opens the datapath. Whatever a switch held
     // that keeps the barrier rule, behind the last barrier it holds exactly the cold start of the

@@ -1,4 +1,4 @@
-use Rattle.faucet_top.proofs.PlanLemmas.{made_of_read, no_refusal}
+use Rattle.faucet_top.proofs.PlanLemmas.{made_of_read, no_refusal, some_text}
 use Rattle.faucet_top.proofs.plan.make_batch.Goals as goal
 
 pub returns-clause-made : goal.returns-clause-made
@@ -7,3 +7,6 @@ returns-clause-made g c =
     c.in_ok-text.ensures.present
     (λ told. no_refusal c.in_ok-text.text (c.in_ok-text.ensures.missing told))
     (rw c.as_slice.ensures at c.make_batch_of.ensures)
+
+pub returns-clause-some : goal.returns-clause-some
+returns-clause-some g c = some_text c.in_ok-text.text c.args.dp.now c.make_batch_of.result (rw c.as_slice.ensures at c.make_batch_of.ensures)

@@ -45,3 +45,8 @@ pub returns-clause-opened : goal.returns-clause-opened
 returns-clause-opened g c =
     let ran = c.answer_words-status.ensures in
     by.opened c.args.words.now c.number.result _ _ _ _ _ _ _ _ (rw (← c.number.ensures) at ran.no_meaning) (rw (← c.number.ensures) at ran.plan) c.a_planned_batch_opens_the_datapath.ensures
+
+pub returns-clause-delivered : goal.returns-clause-delivered
+returns-clause-delivered g c =
+    let ran = c.answer_words-status.ensures in
+    by.delivered_some c.args.words.now c.number.result _ _ _ _ _ _ _ _ (rw (← c.number.ensures) at ran.no_meaning) (rw (← c.number.ensures) at ran.plan)
