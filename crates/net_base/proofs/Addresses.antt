@@ -10,7 +10,7 @@ use Rattle.std.specs.Char.{digit_value, digit_char, is_ascii_digit, is_ascii_hex
 use Rattle.std.proofs.lemmas.List.{take_more}
 use Rattle.std.proofs.lemmas.Bool.Decides.{nat_tests}
 use Rattle.net_base.specs.Address.{decimal, ip4_text, net4_text, IsPair, SpellsBehind, SpellsMac, pair_text, behind_text, mac_text}
-use Rattle.net_base.specs.AddressReading.{◌>>=◌, IsMac, hex_of, digit_of, first_digit_of, pair_at, next_at, mac_of, number_of, number_up_to, cut_at, ip4_of, net4_of}
+use Rattle.net_base.specs.AddressReading.{◌>>=◌, IsMac, hex_of, digit_of, first_digit_of, pair_at, next_at, spelled_mac, number_of, number_up_to, cut_at, ip4_of, net4_of}
 use Rattle.net_base.proofs.Cut.{cut_at_mark, cut_past, equal_at}
 
 bind_ok : {A B : Type 0} (r : Option A) (f : A → Option B) (y : B) → (r >>= f) ≡ Some y → (x : A) × (r ≡ Some x) × (f x ≡ Some y)
@@ -345,8 +345,8 @@ six_ok text mac a b c d e f h1 h2 h3 h4 h5 h6 h =
       | inr p ↦ absurd (cc (p.1))
     ]
 
-pub mac_ok : (text mac : List ℕ) → mac_of text ≡ Some mac → SpellsMac text mac
-unfolding mac_of
+pub mac_ok : (text mac : List ℕ) → spelled_mac text ≡ Some mac → SpellsMac text mac
+unfolding spelled_mac
 mac_ok text mac h =
     let end : List ℕ → List ℕ → Option (List ℕ) = λ bytes rest. cond (length rest == 0) (Some bytes) None in
     let from6 : ℕ → ℕ → ℕ → ℕ → ℕ → ℕ × List ℕ → Option (List ℕ) = λ a b c d e f. end (a ∷ b ∷ c ∷ d ∷ e ∷ f.0 ∷ []) f.1 in
@@ -366,14 +366,14 @@ mac_ok text mac h =
 behind_again : (r : List ℕ) (b : ℕ) (bytes : List ℕ) → SpellsBehind r (b ∷ bytes) → (s : List ℕ) × (next_at r ≡ Some (b, s)) × SpellsBehind s bytes
 behind_again r b bytes h = (h.2, ap next_at h.3 ∙ next_again h.0 h.1 b h.2 h.4, h.5)
 
-six_read : (text r s t u v : List ℕ) (a b c d e f : ℕ) → pair_at text ≡ Some (a, r) → next_at r ≡ Some (b, s) → next_at s ≡ Some (c, t) → next_at t ≡ Some (d, u) → next_at u ≡ Some (e, v) → next_at v ≡ Some (f, []) → mac_of text ≡ Some (a ∷ b ∷ c ∷ d ∷ e ∷ f ∷ [])
-unfolding mac_of
+six_read : (text r s t u v : List ℕ) (a b c d e f : ℕ) → pair_at text ≡ Some (a, r) → next_at r ≡ Some (b, s) → next_at s ≡ Some (c, t) → next_at t ≡ Some (d, u) → next_at u ≡ Some (e, v) → next_at v ≡ Some (f, []) → spelled_mac text ≡ Some (a ∷ b ∷ c ∷ d ∷ e ∷ f ∷ [])
+unfolding spelled_mac
 six_read text r s t u v a b c d e f h1 h2 h3 h4 h5 h6 = rw (h1, h2, h3, h4, h5, h6) refl
 
 short : {A : Type 0} (n : ℕ) → n ≡ 5 → n < 5 → A
 short n e h = absurd (omega arith)
 
-pub mac_again : (text mac : List ℕ) → SpellsMac text mac → mac_of text ≡ Some mac
+pub mac_again : (text mac : List ℕ) → SpellsMac text mac → spelled_mac text ≡ Some mac
 mac_again text [] h = absurd h
 mac_again text (a ∷ []) h = short 0 h.6 (omega arith)
 mac_again text (a ∷ b ∷ []) h = short 1 h.6 (omega arith)
@@ -432,11 +432,11 @@ ip4_none text h ip k e = let r : ip4_of text ≡ Some ip = ap ip4_of e ∙ ip4_a
 pub net4_none : (text : List ℕ) → net4_of text ≡ None → (ip len : ℕ) → ip < 2 ^ 32 → len ≤ 32 → text ≡ net4_text ip len → ⊥
 net4_none text h ip len k l e = let r : net4_of text ≡ Some (ip, len) = ap net4_of e ∙ net4_again ip len k l in cc (h, r)
 
-pub mac_found : (text : List ℕ) (found : Option Mac) → IsMac found (mac_of text) → IfSome found (λ mac. SpellsMac text mac.0)
+pub mac_found : (text : List ℕ) (found : Option Mac) → IsMac found (spelled_mac text) → IfSome found (λ mac. SpellsMac text mac.0)
 mac_found text None h = tt
 mac_found text (Some mac) h = mac_ok text mac.0 h
 
-pub mac_none : (text : List ℕ) (found : Option Mac) → IsMac found (mac_of text) → IfNone found ((bytes : List ℕ) → SpellsMac text bytes → ⊥)
+pub mac_none : (text : List ℕ) (found : Option Mac) → IsMac found (spelled_mac text) → IfNone found ((bytes : List ℕ) → SpellsMac text bytes → ⊥)
 mac_none text None h = λ bytes s. cc (h, mac_again text bytes s)
 mac_none text (Some mac) h = tt
 

@@ -1,6 +1,29 @@
--- How addresses are written.
-use Rattle.std.specs.Prelude.{◌≡◌, ℕ, ◌+◌, ◌*◌, ◌/◌, ◌%◌, ◌^◌, List, [], ◌∷◌, ◌++◌, length, IsTrue, nat_lt, if◌then◌else◌}
+-- Addresses as numbers, and how they are written.
+use Rattle.std.specs.Prelude.{◌≡◌, ℕ, ◌+◌, ◌*◌, ◌/◌, ◌%◌, ◌^◌, List, [], ◌∷◌, ◌++◌, length, Bool, IsTrue, ◌==◌, nat_lt, if◌then◌else◌, slice_index, bit_and}
 use Rattle.std.specs.Char.{digit_value, digit_char, is_ascii_hexdigit}
+use Rattle.net_base.specs.declared.address.TheConstants.{GROUP_BIT}
+use Rattle.net_base.specs.declared.address.Mac.{Mac}
+
+-- ---- Ethernet addresses as numbers
+
+-- an Ethernet address as one number, its first byte the most significant one
+abbrev pub mac_value : Mac → ℕ
+mac_value m =
+    slice_index m.0 0 * 2 ^ 40 + slice_index m.0 1 * 2 ^ 32 + slice_index m.0 2 * 2 ^ 24 + slice_index m.0 3 * 2 ^ 16 + slice_index m.0 4 * 2 ^ 8 + slice_index m.0 5
+
+-- the address in the low 48 bits of a number
+abbrev pub mac_of : ℕ → Mac
+mac_of v =
+    record { 0 = v / 2 ^ 40 % 256 ∷ v / 2 ^ 32 % 256 ∷ v / 2 ^ 24 % 256 ∷ v / 2 ^ 16 % 256 ∷ v / 2 ^ 8 % 256 ∷ v % 256 ∷ [] }
+
+-- the bit of a group address (IEEE 802, 8.2.2)
+abbrev pub group_bit : ℕ
+group_bit = GROUP_BIT
+
+abbrev pub is_group : Mac → Bool
+is_group m = bit_and (mac_value m) group_bit == group_bit
+
+-- ---- how addresses are written
 
 -- the decimal digits of a number below 1000, without leading zeros
 abbrev pub decimal : ℕ → List ℕ

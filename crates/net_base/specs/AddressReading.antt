@@ -43,8 +43,8 @@ unfoldable pub next_at : List ℕ → Option (ℕ × List ℕ)
 next_at [] = None
 next_at (c ∷ rest) = if c == 58 then pair_at rest else None
 
-unfoldable pub mac_of : List ℕ → Option (List ℕ)
-mac_of text = do
+unfoldable pub spelled_mac : List ℕ → Option (List ℕ)
+spelled_mac text = do
   a ← pair_at text
   b ← next_at a.1
   c ← next_at b.1

@@ -3,4 +3,5 @@ pub mod AddressReading
 pub mod Field
 pub mod FieldId
 pub mod Numbers
+pub mod WellFormed
 pub mod formers

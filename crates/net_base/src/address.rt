@@ -1,11 +1,14 @@
 ghost use Rattle.std.specs.Prelude.{◌≡◌, ◌+◌, ◌*◌, ◌^◌, ◌<◌, ◌≤◌, ◌++◌, List, ℕ, IfSome, IfNone, MatchOption, OnOk, OnErr};
-ghost use Rattle.net_base.specs.Address.{SpellsMac, mac_text, ip4_text};
-ghost use Rattle.net_base.specs.AddressReading.{Lends, IsRead, IsMac, Cuts, hex_of, digit_of, first_digit_of, pair_at, next_at, mac_of, number_of, number_up_to, cut_at, ip4_of};
+ghost use Rattle.net_base.specs.Address.{SpellsMac, mac_text, ip4_text, mac_value, mac_of, is_group};
+ghost use Rattle.net_base.specs.AddressReading.{Lends, IsRead, IsMac, Cuts, hex_of, digit_of, first_digit_of, pair_at, next_at, spelled_mac, number_of, number_up_to, cut_at, ip4_of};
 
 use crate::ascii::{put_ip4, put_mac};
 use crate::text::Text;
 use crate::try_copy::{NoMemory, TryCopy};
 use std::alloc::Global;
+
+/// The bit of a group address, in the address as a number (IEEE 802, 8.2.2).
+pub const GROUP_BIT: u128 = 0x0100_0000_0000;
 
 /// An Ethernet address (IEEE 802, 8.1), its bytes in the order of sending.
 #[derive(Clone, Copy, Debug, PartialEq, Eq, PartialOrd, Ord, Hash)]
@@ -24,7 +27,7 @@ impl Mac {
         ensures found { IfSome result (λ mac. SpellsMac text.now mac.0) }
         ensures none { IfNone result ((bytes : List ℕ) → SpellsMac text.now bytes → ⊥) }
     {
-        mac_of(text.as_bytes())
+        spelled_mac(text.as_bytes())
     }
 
     /// Adds the address at the end of a text, in lower case. After `NoMemory` the text is as it was.
@@ -33,6 +36,42 @@ impl Mac {
         ensures err { OnErr result (out.new ≡ out.old) }
     {
         append_mac(out, self.0)
+    }
+}
+
+impl Mac {
+    /// The address as a number, its first byte the most significant one.
+    pub fn value(self) -> u128
+        ensures { result ≡ mac_value self }
+    {
+        let bytes = self.0;
+        u128::from(bytes[0]) * 0x100_0000_0000
+            + u128::from(bytes[1]) * 0x1_0000_0000
+            + u128::from(bytes[2]) * 0x100_0000
+            + u128::from(bytes[3]) * 0x1_0000
+            + u128::from(bytes[4]) * 0x100
+            + u128::from(bytes[5])
+    }
+
+    /// The address in the low 48 bits of a number.
+    pub fn of_value(value: u128) -> Mac
+        ensures { result ≡ mac_of value }
+    {
+        Mac([
+            (value / 0x100_0000_0000 % 256) as u8,
+            (value / 0x1_0000_0000 % 256) as u8,
+            (value / 0x100_0000 % 256) as u8,
+            (value / 0x1_0000 % 256) as u8,
+            (value / 0x100 % 256) as u8,
+            (value % 256) as u8,
+        ])
+    }
+
+    /// Whether it is the address of a group, the broadcast address among them.
+    pub fn is_group(self) -> bool
+        ensures { result ≡ is_group self }
+    {
+        self.value() & GROUP_BIT == GROUP_BIT
     }
 }
 
@@ -122,9 +161,9 @@ fn next_at(bytes: &[u8]) -> Option<(u8, &[u8])>
     }
 }
 
-#[tactic(auto, unfolding(crate::specs::AddressReading::mac_of))]
-fn mac_of(bytes: &[u8]) -> Option<Mac>
-    ensures { IsMac result (mac_of bytes.now) }
+#[tactic(auto, unfolding(crate::specs::AddressReading::spelled_mac))]
+fn spelled_mac(bytes: &[u8]) -> Option<Mac>
+    ensures { IsMac result (spelled_mac bytes.now) }
 {
     let (a, rest) = pair_at(bytes)?;
     let (b, rest) = next_at(rest)?;

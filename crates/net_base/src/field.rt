@@ -1,9 +1,11 @@
-ghost use Rattle.std.specs.Prelude.{◌≡◌, Some, None};
+ghost use Rattle.std.specs.Prelude.{◌≡◌, Some, None, IfSome, IfNone};
+ghost use Rattle.net_base.specs.declared.field.FieldId.{FieldId};
 ghost use Rattle.net_base.specs.declared.field.Prerequisite.TheVariants.{Exactly};
 ghost use Rattle.net_base.specs.FieldId.{row, row_of, number_of, byte_len_of, prerequisite_of, all_ones};
-ghost use Rattle.net_base.specs.Field.{exact, bits};
+ghost use Rattle.net_base.specs.Field.{exact, bits, prefix};
 
 use crate::items::Items;
+use crate::net4::Net4;
 use crate::try_copy::{NoMemory, TryCopy};
 use std::alloc::Global;
 
@@ -37,6 +39,12 @@ pub enum Prerequisite {
     Tagged,
     /// The field with just this value, no bit of it masked out.
     Exactly { id: FieldId, value: u128 },
+    /// The field with one of these two values, no bit of it masked out.
+    Either {
+        id: FieldId,
+        first: u128,
+        second: u128,
+    },
 }
 
 /// A row of the table of fields (OpenFlow 1.3, 7.2.3.7, table 12).
@@ -126,16 +134,39 @@ impl FieldId {
 }
 
 impl FieldId {
+    /// The field with this number; `None` exactly where no field has it.
+    pub fn of_number(number: u8) -> Option<FieldId>
+        ensures found { IfSome result (λ id. number_of id ≡ number) }
+        ensures none { IfNone result ((id : FieldId) → number_of id ≡ number → ⊥) }
+    {
+        match number {
+            0 => Some(FieldId::InPort),
+            3 => Some(FieldId::EthDst),
+            4 => Some(FieldId::EthSrc),
+            5 => Some(FieldId::EthType),
+            6 => Some(FieldId::VlanVid),
+            7 => Some(FieldId::VlanPcp),
+            10 => Some(FieldId::IpProto),
+            11 => Some(FieldId::Ipv4Src),
+            12 => Some(FieldId::Ipv4Dst),
+            13 => Some(FieldId::TcpSrc),
+            14 => Some(FieldId::TcpDst),
+            15 => Some(FieldId::UdpSrc),
+            16 => Some(FieldId::UdpDst),
+            19 => Some(FieldId::Icmpv4Type),
+            20 => Some(FieldId::Icmpv4Code),
+            21 => Some(FieldId::ArpOp),
+            22 => Some(FieldId::ArpSpa),
+            23 => Some(FieldId::ArpTpa),
+            _ => None,
+        }
+    }
+
     /// The mask that leaves no bit of the field out.
     pub fn all_ones(self) -> u128
         ensures { result ≡ all_ones self }
     {
-        match self.byte_len() {
-            1 => 0xff,
-            2 => 0xffff,
-            4 => 0xffff_ffff,
-            _ => 0xffff_ffff_ffff,
-        }
+        u128::MAX >> (128 - 8 * self.byte_len())
     }
 }
 
@@ -156,6 +187,19 @@ impl Field {
             id,
             value,
             mask: id.all_ones(),
+        }
+    }
+
+    /// The field that an address agrees with exactly where the network holds it: the bits of the
+    /// prefix are wanted, and no other.
+    pub fn prefix(id: FieldId, net: Net4) -> Field
+        ensures { result ≡ prefix id net.ip.0 net.len }
+    {
+        let size = 1_u128 << (32 - net.len);
+        Field {
+            id,
+            value: u128::from(net.ip.0) / size * size,
+            mask: 0x1_0000_0000 - size,
         }
     }
 

@@ -1,4 +1,4 @@
-ghost use Rattle.std.specs.Prelude.{◌≡◌, [], ◌∷◌, ◌++◌, ◌<◌, ◌≤◌, ◌↔◌, length, insert, slice_get, IsTrue, IfOk, OnOk, OnErr, OnSome};
+ghost use Rattle.std.specs.Prelude.{◌≡◌, [], ◌∷◌, ◌++◌, ◌<◌, ◌≤◌, ◌↔◌, length, insert, slice_get, take, IsTrue, IfOk, OnOk, OnErr, OnSome};
 ghost use Rattle.std.specs.Option.{option_copied};
 
 use crate::try_copy::{NoMemory, TryCopy};
@@ -88,6 +88,15 @@ impl<T: Drop> Items<T> {
     }
 }
 
+impl<T: Drop> Items<T> {
+    /// Keeps the first `len` elements, or all where there are no more. It takes no memory.
+    pub fn truncate(&mut self, len: usize)
+        ensures { self.new ≡ take len self.old }
+    {
+        self.items.truncate(len);
+    }
+}
+
 impl<T: Copy> Items<T> {
     /// A list of these elements.
     pub fn from_slice(alloc: Global, items: &[T]) -> Result<Items<T>, NoMemory>
@@ -114,4 +123,23 @@ impl<T: TryCopy + Drop> TryCopy for Items<T> {
         }
         Ok(made)
     }
+}
+
+/// Equal exactly where the elements are, one by one.
+impl<T: PartialEq> PartialEq for Items<T> {
+    ghost use Rattle.std.specs.Cmp.Lexicographic.{pointwise, lists_per};
+
+    ghost eq = { pointwise T.eq };
+
+    ghost laws = { lists_per T.laws };
+
+    fn eq(&self, other: &Items<T>) -> bool {
+        self.as_slice() == other.as_slice()
+    }
+}
+
+impl<T: Eq> Eq for Items<T> {
+    ghost use Rattle.std.proofs.lemmas.Cmp.{lists_equiv};
+
+    ghost laws = { lists_equiv T.Eq.laws };
 }

@@ -1,8 +1,13 @@
-//! What the spellings of addresses say of each other, whatever reads or prints them.
+//! Laws of the definitions: each function is empty, and its contract is the law.
 
-ghost use Rattle.std.specs.Prelude.{◌≡◌, ◌<◌, ◌≤◌, ◌^◌, List, ℕ, length};
+ghost use Rattle.std.specs.Prelude.{◌≡◌, ◌<◌, ◌≤◌, ◌^◌, ◌-◌, ◌/◌, ◌↔◌, Bool, true, List, ℕ, length, bit_and};
 ghost use Rattle.std.specs.List.{AllByRecursion};
-ghost use Rattle.net_base.specs.Address.{SpellsMac, mac_text, ip4_text, net4_text};
+ghost use Rattle.net_base.specs.declared.address.Mac.{Mac};
+ghost use Rattle.net_base.specs.declared.field.FieldId.{FieldId};
+ghost use Rattle.net_base.specs.FieldId.{number_of};
+ghost use Rattle.net_base.specs.Field.{prefix};
+ghost use Rattle.std.specs.Cmp.Lexicographic.{pointwise};
+ghost use Rattle.net_base.specs.Address.{SpellsMac, mac_text, ip4_text, net4_text, mac_value, mac_of};
 
 /// What is printed for an Ethernet address spells it.
 pub fn printed_mac()
@@ -22,4 +27,28 @@ pub fn one_ip4()
 /// A text spells one IPv4 network.
 pub fn one_net4()
     ensures { (a m b n : ℕ) → a < 2 ^ 32 → m ≤ 32 → b < 2 ^ 32 → n ≤ 32 → net4_text a m ≡ net4_text b n → (a ≡ b) × (m ≡ n) }
+{}
+
+/// An Ethernet address and its number say the same.
+pub fn a_mac_is_its_value()
+    ensures back { (mac : Mac) → length mac.0 ≡ 6 → AllByRecursion (λ byte. byte < 256) mac.0 → mac_of (mac_value mac) ≡ mac }
+    ensures there { (value : ℕ) → value < 2 ^ 48 → mac_value (mac_of value) ≡ value }
+{}
+
+/// No two fields have one number.
+pub fn a_number_has_one_field()
+    ensures { (a b : FieldId) → number_of a ≡ number_of b → a ≡ b }
+{}
+
+/// An address has the bits of a prefix exactly where it agrees with the field of the prefix.
+pub fn a_prefix_takes_what_the_network_holds()
+    ensures { (id : FieldId) (ip net len : ℕ) → ip < 2 ^ 32 → net < 2 ^ 32 → len ≤ 32
+        → (let field = prefix id net len in
+            (ip / 2 ^ (32 - len) ≡ net / 2 ^ (32 - len)) ↔ (bit_and ip field.mask ≡ bit_and field.value field.mask)) }
+{}
+
+/// Where the equality of elements is exact, that of lists is.
+pub fn equal_lists_are_one<T>()
+    ensures { (same : T → T → Bool) → ((a b : T) → (same a b ≡ true) ↔ (a ≡ b))
+        → (xs ys : List T) → (pointwise same xs ys ≡ true) ↔ (xs ≡ ys) }
 {}

@@ -12,8 +12,9 @@ mod numbers;
 mod stack;
 mod text;
 mod try_copy;
+mod well_formed;
 
-pub use address::{Ip4, Mac};
+pub use address::{GROUP_BIT, Ip4, Mac};
 pub use field::{Field, FieldId, FieldRow, Fields, Prerequisite};
 pub use items::{Bytes, Items};
 pub use net4::Net4;
@@ -21,3 +22,4 @@ pub use numbers::{DpId, Moment, PortNo, Vid};
 pub use stack::{Node, Nodes, StackLink, StackLinks};
 pub use text::{Names, Text};
 pub use try_copy::{NoMemory, TryCopy};
+pub use well_formed::{has_prerequisite, is_well_formed};

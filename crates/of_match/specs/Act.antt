@@ -1,7 +1,7 @@
 -- What actions do to a packet, and what they send (OpenFlow 1.3, 5.12 and 7.2.5).
-use Rattle.std.specs.Prelude.{ℕ, ◌-◌, ◌/◌, ◌%◌, ◌^◌, false, ◌==◌, nat_lt, if◌then◌else◌, List, [], ◌∷◌, ◌++◌, Option, Some, None, option_and_then}
+use Rattle.std.specs.Prelude.{ℕ, ◌-◌, ◌%◌, ◌^◌, false, ◌==◌, nat_lt, if◌then◌else◌, List, [], ◌∷◌, ◌++◌, Option, Some, None, option_and_then}
 use Rattle.std.specs.Option.{option_map, option_map_or}
-use Rattle.net_base.specs.declared.address.Mac.{Mac}
+use Rattle.net_base.specs.Address.{mac_of}
 use Rattle.net_base.specs.declared.field.FieldId.{FieldId}
 use Rattle.net_base.specs.declared.field.FieldId.TheVariants.{EthDst, EthSrc, EthType, VlanVid, VlanPcp, IpProto, Ipv4Src, Ipv4Dst, TcpSrc, TcpDst, UdpSrc, UdpDst, Icmpv4Type, Icmpv4Code, ArpOp, ArpSpa, ArpTpa}
 use Rattle.of_match.specs.declared.action.TheConstants.{IN_PORT}
@@ -17,11 +17,6 @@ use Rattle.of_match.specs.declared.packet.Sent.{Sent}
 use Rattle.of_match.specs.declared.packet.Acted.{Acted}
 
 -- ---- SET_FIELD: the low bits of the value, as many as the header field has
-
--- the address with a value, the most significant byte first
-abbrev pub mac_of : ℕ → Mac
-mac_of v =
-    record { 0 = v / 2 ^ 40 % 256 ∷ v / 2 ^ 32 % 256 ∷ v / 2 ^ 24 % 256 ∷ v / 2 ^ 16 % 256 ∷ v / 2 ^ 8 % 256 ∷ v % 256 ∷ [] }
 
 -- a tag, which keeps its other parts
 abbrev pub set_tag : FieldId → ℕ → Tag → Tag

@@ -1,21 +1,16 @@
 -- Which packets a match takes.
-use Rattle.std.specs.Prelude.{ℕ, ◌+◌, ◌*◌, ◌^◌, Bool, false, ◌==◌, List, [], ◌∷◌, Option, Some, None, slice_index, bit_and}
+use Rattle.std.specs.Prelude.{ℕ, ◌+◌, Bool, false, ◌==◌, List, [], ◌∷◌, Option, Some, None, bit_and}
 use Rattle.std.specs.List.{list_all}
-use Rattle.net_base.specs.declared.address.Mac.{Mac}
 use Rattle.net_base.specs.declared.field.Field.{Field}
 use Rattle.net_base.specs.declared.field.FieldId.{FieldId}
 use Rattle.net_base.specs.declared.field.FieldId.TheVariants.{InPort, EthDst, EthSrc, EthType, VlanVid, VlanPcp, IpProto, Ipv4Src, Ipv4Dst, TcpSrc, TcpDst, UdpSrc, UdpDst, Icmpv4Type, Icmpv4Code, ArpOp, ArpSpa, ArpTpa}
+use Rattle.net_base.specs.Address.{mac_value}
 use Rattle.of_match.specs.declared.packet.Tag.{Tag}
 use Rattle.of_match.specs.declared.packet.L4.{L4}
 use Rattle.of_match.specs.declared.packet.L4.TheVariants.{Tcp, Udp, Icmp}
 use Rattle.of_match.specs.declared.packet.Upper.{Upper}
 use Rattle.of_match.specs.declared.packet.Upper.TheVariants.{Arp, V4}
 use Rattle.of_match.specs.declared.packet.Packet.{Packet}
-
--- an Ethernet address as one number, its first byte the most significant one
-abbrev pub mac_value : Mac → ℕ
-mac_value m =
-    slice_index m.0 0 * 2 ^ 40 + slice_index m.0 1 * 2 ^ 32 + slice_index m.0 2 * 2 ^ 24 + slice_index m.0 3 * 2 ^ 16 + slice_index m.0 4 * 2 ^ 8 + slice_index m.0 5
 
 -- 0 without a tag, else 0x1000 and the outermost tag's identifier (OpenFlow 1.3, 7.2.3.7, VLAN_VID)
 abbrev pub vid_value : List Tag → ℕ

@@ -1,19 +1,15 @@
 -- The order of flow entries by their keys.
-use Rattle.std.specs.Prelude.{ℕ, ◌+◌, ◌-◌, ◌*◌, ◌^◌, Bool, ◌==◌, not, List, sum_by, if◌then◌else◌}
+use Rattle.std.specs.Prelude.{ℕ, ◌+◌, ◌*◌, Bool, ◌==◌, not, List, sum_by, if◌then◌else◌}
 use Rattle.std.specs.declared.cmp.Ordering.{Ordering}
 use Rattle.std.specs.Ordering.{nat_cmp, bool_cmp, on, then_cmp}
 use Rattle.std.specs.Cmp.Lexicographic.{slice_cmp}
 use Rattle.net_base.specs.declared.field.Field.{Field}
-use Rattle.net_base.specs.FieldId.{number_of, byte_len_of}
+use Rattle.net_base.specs.FieldId.{number_of, byte_len_of, all_ones}
 use Rattle.of_match.specs.declared.entry.Key.{Key}
-
--- the greatest value of so many bytes, which as a mask leaves no bit out
-abbrev pub all_ones : ℕ → ℕ
-all_ones bytes = 256 ^ bytes - 1
 
 -- whether the field goes with a mask: one of all ones isn't sent (OpenFlow 1.3, 7.2.3.5)
 abbrev pub is_masked : Field → Bool
-is_masked f = not (f.mask == all_ones (byte_len_of f.id))
+is_masked f = not (f.mask == all_ones f.id)
 
 -- the bytes of a field in a match: a header of 4, the value, and the mask if there is one (7.2.3.2)
 abbrev pub field_len : Field → ℕ

@@ -5,4 +5,3 @@ pub mod Act
 pub mod FlowTables
 pub mod Pipeline
 pub mod Settled
-pub mod WellFormed

@@ -1,21 +1,8 @@
 ghost use Rattle.std.specs.Prelude.{◌≡◌};
-ghost use Rattle.of_match.specs.Hit.{mac_value, vid_value, pcp_value, l4_value, upper_value, value_of, agrees, hits};
+ghost use Rattle.of_match.specs.Hit.{vid_value, pcp_value, l4_value, upper_value, value_of, agrees, hits};
 
 use crate::packet::{L4, Packet, Tag, Upper};
-use net_base::{Field, FieldId, Mac, PortNo};
-
-// The address as one number.
-fn mac_value(mac: Mac) -> u128
-    ensures { result ≡ mac_value mac }
-{
-    let bytes = mac.0;
-    u128::from(bytes[0]) * 0x100_0000_0000
-        + u128::from(bytes[1]) * 0x1_0000_0000
-        + u128::from(bytes[2]) * 0x100_0000
-        + u128::from(bytes[3]) * 0x1_0000
-        + u128::from(bytes[4]) * 0x100
-        + u128::from(bytes[5])
-}
+use net_base::{Field, FieldId, PortNo};
 
 // 0x1000 and the identifier of the outermost tag, or 0.
 fn vid_value(tags: &[Tag]) -> u128
@@ -85,8 +72,8 @@ pub fn value_of(id: FieldId, port: PortNo, packet: &Packet) -> Option<u128>
 {
     match id {
         FieldId::InPort => Some(u128::from(port.get())),
-        FieldId::EthDst => Some(mac_value(packet.dst)),
-        FieldId::EthSrc => Some(mac_value(packet.src)),
+        FieldId::EthDst => Some(packet.dst.value()),
+        FieldId::EthSrc => Some(packet.src.value()),
         FieldId::EthType => Some(u128::from(packet.eth_type)),
         FieldId::VlanVid => Some(vid_value(packet.tags.as_slice())),
         FieldId::VlanPcp => pcp_value(packet.tags.as_slice()),

@@ -10,17 +10,15 @@ mod packet;
 mod perform;
 mod pipeline;
 mod tables;
-mod well_formed;
 
 pub use action::{ANY_PORT, Action, Actions, CONTROLLER, IN_PORT, Instr, Instrs};
 pub use entry::{Command, Commands, Entries, Entry, Key};
 pub use hit::{hits, value_of};
-pub use order::{compare_matches, full_mask, is_masked};
+pub use order::{compare_matches, is_masked};
 pub use packet::{Acted, L4, Packet, Sent, Sents, Tag, Tags, Upper};
 pub use perform::act;
 pub use pipeline::run;
 pub use tables::{Tables, TablesIter, apply};
-pub use well_formed::{has_prerequisite, is_well_formed};
 
 #[cfg(test)]
 mod tests;

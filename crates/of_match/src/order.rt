@@ -1,35 +1,15 @@
 ghost use Rattle.std.specs.Prelude.{◌≡◌, ◌≤◌};
 ghost use Rattle.std.specs.Cmp.Lexicographic.{slice_cmp};
-ghost use Rattle.net_base.specs.FieldId.{byte_len_of};
-ghost use Rattle.of_match.specs.KeyOrder.{all_ones, is_masked, field_len, match_len, field_cmp, match_cmp};
+ghost use Rattle.of_match.specs.KeyOrder.{is_masked, field_len, match_len, field_cmp, match_cmp};
 
-use net_base::{Field, FieldId};
+use net_base::Field;
 use std::cmp::Ordering;
-
-/// The mask that leaves no bit of the field's value out.
-pub fn full_mask(id: FieldId) -> u128
-    ensures { result ≡ all_ones (byte_len_of id) }
-{
-    match id {
-        FieldId::VlanPcp | FieldId::IpProto | FieldId::Icmpv4Type | FieldId::Icmpv4Code => 0xff,
-        FieldId::EthType
-        | FieldId::VlanVid
-        | FieldId::TcpSrc
-        | FieldId::TcpDst
-        | FieldId::UdpSrc
-        | FieldId::UdpDst
-        | FieldId::ArpOp => 0xffff,
-        FieldId::InPort | FieldId::Ipv4Src | FieldId::Ipv4Dst | FieldId::ArpSpa | FieldId::ArpTpa =>
-            0xffff_ffff,
-        FieldId::EthDst | FieldId::EthSrc => 0xffff_ffff_ffff,
-    }
-}
 
 /// Whether the field goes with a mask, since it leaves some bit of the value out.
 pub fn is_masked(field: &Field) -> bool
     ensures { result ≡ is_masked field.now }
 {
-    field.mask != full_mask(field.id)
+    field.mask != field.id.all_ones()
 }
 
 // How many bytes a field takes in a match.

@@ -1,24 +1,10 @@
 ghost use Rattle.std.specs.Prelude.{◌≡◌, [], ◌∷◌, ◌++◌, ◌%◌, ◌^◌, IfOk, OnOk, Some, None};
-ghost use Rattle.of_match.specs.Act.{mac_of, set_tag, set_tags, set_l4, set_upper, set_value, pushed, popped, lowered, left_by, output, sends_of, act_left, act_sends, act};
+ghost use Rattle.of_match.specs.Act.{set_tag, set_tags, set_l4, set_upper, set_value, pushed, popped, lowered, left_by, output, sends_of, act_left, act_sends, act};
 
 use crate::action::{Action, IN_PORT};
 use crate::packet::{Acted, L4, Packet, Sent, Sents, Tag, Tags, Upper};
 use net_base::{FieldId, Ip4, Mac, NoMemory, PortNo, TryCopy};
 use std::alloc::Global;
-
-// The address with a value.
-fn mac_of(value: u128) -> Mac
-    ensures { result ≡ mac_of value }
-{
-    Mac([
-        (value / 0x100_0000_0000 % 256) as u8,
-        (value / 0x1_0000_0000 % 256) as u8,
-        (value / 0x100_0000 % 256) as u8,
-        (value / 0x1_0000 % 256) as u8,
-        (value / 0x100 % 256) as u8,
-        (value % 256) as u8,
-    ])
-}
 
 // The low 8 bits.
 fn low_8(value: u128) -> u8
@@ -242,8 +228,8 @@ fn set_value(
     ensures { IfOk result (λ left. left ≡ set_value id value packet) }
 {
     match id {
-        FieldId::EthDst => packet.dst = mac_of(value),
-        FieldId::EthSrc => packet.src = mac_of(value),
+        FieldId::EthDst => packet.dst = Mac::of_value(value),
+        FieldId::EthSrc => packet.src = Mac::of_value(value),
         FieldId::EthType => packet.eth_type = low_16(value),
         _ => {
             packet.tags = set_tags(alloc, id, value, packet.tags.as_slice())?;

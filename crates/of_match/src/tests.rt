@@ -2,7 +2,7 @@
 
 use crate::{
     Action, Actions, Command, Entry, IN_PORT, Instr, Instrs, Key, L4, Packet, Sents, Tables, Tag,
-    Upper, act, apply, full_mask, has_prerequisite, hits, is_well_formed, run,
+    Upper, act, apply, hits, run,
 };
 use net_base::{Bytes, Field, FieldId, Fields, Ip4, Items, Mac, NoMemory, PortNo, TryCopy};
 use std::alloc::Global;
@@ -112,7 +112,7 @@ fn has_values(rt: &impl Abort, packet: &Packet, rows: &[(FieldId, u128)]) -> Res
     let port = port_7()?;
     for (id, value) in rows {
         let id = *id;
-        let mask = full_mask(id);
+        let mask = id.all_ones();
         let exact = Field {
             id,
             value: *value,
@@ -548,44 +548,4 @@ fn entries_stand_in_key_order(rt: HostRuntime) -> Result<(), Fail> {
     }
     assert_eq!(rt; ports.as_slice(), [1, 2, 3, 4, 5, 6, 7, 8, 9].as_slice());
     Ok(())
-}
-
-#[test]
-fn a_match_has_what_its_fields_ask_for(rt: HostRuntime) {
-    let ip = field!(EthType, 0x0800, 0xffff);
-    let arp = field!(EthType, 0x0806, 0xffff);
-    let some_ip = field!(EthType, 0x0800, 0xff00);
-    let tcp = field!(IpProto, 6, 0xff);
-    let udp = field!(IpProto, 17, 0xff);
-    let to_80 = field!(TcpDst, 80, 0xffff);
-    let to_host = field!(Ipv4Dst, 1, 0xffff_ffff);
-    let about_host = field!(ArpTpa, 1, 0xffff_ffff);
-    let pcp = field!(VlanPcp, 3, 0xff);
-    let untagged = field!(VlanVid, 0, 0xffff);
-    for (fields, well_formed) in [
-        (&[][..], true),
-        (&[ip, tcp, to_80][..], true),
-        (&[ip, udp, to_80][..], false),
-        (&[tcp, to_80][..], false),
-        (&[ip, udp, field!(UdpDst, 80, 0xffff)][..], true),
-        (
-            &[ip, field!(IpProto, 1, 0xff), field!(Icmpv4Type, 8, 0xff)][..],
-            true,
-        ),
-        (&[to_host][..], false),
-        (&[arp, to_host][..], false),
-        (&[some_ip, to_host][..], false),
-        (&[arp, about_host][..], true),
-        (&[ip, about_host][..], false),
-        (&[field!(VlanVid, 0x1000, 0x1000), pcp][..], true),
-        (&[untagged, pcp][..], false),
-        (&[pcp][..], false),
-        (&[arp, ip][..], false),
-        (&[untagged, ip][..], false),
-        (&[field!(EthType, 0x1_0000, 0xffff)][..], false),
-    ] {
-        assert_eq!(rt; is_well_formed(fields), well_formed, "{fields:?}");
-    }
-    assert!(rt; has_prerequisite(FieldId::IpProto, &[ip]));
-    assert!(rt; !has_prerequisite(FieldId::IpProto, &[arp]));
 }

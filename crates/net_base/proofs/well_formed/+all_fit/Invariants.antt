@@ -1,5 +1,5 @@
 use Rattle.std.proofs.Common.{length}
-use Rattle.of_match.proofs.well_formed.+all_fit.Given as goal
+use Rattle.net_base.proofs.well_formed.+all_fit.Given as goal
 
 abbrev pub decreases-all_fit : goal.decreases-all_fit
 decreases-all_fit l = length l.fields.now

@@ -1,5 +1,5 @@
 use Rattle.std.proofs.Common.{length}
-use Rattle.of_match.proofs.well_formed.+are_ascending.Given as goal
+use Rattle.net_base.proofs.well_formed.+are_ascending.Given as goal
 
 abbrev pub decreases-are_ascending : goal.decreases-are_ascending
 decreases-are_ascending l = length l.fields.now

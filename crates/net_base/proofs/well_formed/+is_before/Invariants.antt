@@ -1,5 +1,5 @@
 use Rattle.std.proofs.Common.{length}
-use Rattle.of_match.proofs.well_formed.+is_before.Given as goal
+use Rattle.net_base.proofs.well_formed.+is_before.Given as goal
 
 abbrev pub decreases-is_before : goal.decreases-is_before
 decreases-is_before l = length l.others.now

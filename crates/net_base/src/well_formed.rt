@@ -1,10 +1,16 @@
 ghost use Rattle.std.specs.Prelude.{◌≡◌, ◌<◌, ◌↔◌, IsTrue};
 ghost use Rattle.std.specs.List.{AllByRecursion, list_any};
-ghost use Rattle.of_match.specs.WellFormed.{meets, has_prerequisite, Fits, AreAscending, IsWellFormed};
+ghost use Rattle.net_base.specs.WellFormed.{is_whole, meets, has_prerequisite, Fits, AreAscending, IsWellFormed};
 ghost use Rattle.net_base.specs.FieldId.{number_of};
 
-use crate::order::full_mask;
-use net_base::{Field, FieldId, Prerequisite};
+use crate::field::{Field, FieldId, Prerequisite};
+
+// Whether it is the field with this name, and no bit of it is masked out.
+fn is_whole(id: FieldId, field: &Field) -> bool
+    ensures { result ≡ is_whole id field.now }
+{
+    field.id.number() == id.number() && field.mask == id.all_ones()
+}
 
 // Whether a field is the one that is asked for.
 fn meets(asked: Prerequisite, field: &Field) -> bool
@@ -14,8 +20,9 @@ fn meets(asked: Prerequisite, field: &Field) -> bool
         Prerequisite::Tagged => {
             field.id.number() == FieldId::VlanVid.number() && field.value != 0
         }
-        Prerequisite::Exactly { id, value } => {
-            field.id.number() == id.number() && field.value == value && field.mask == full_mask(id)
+        Prerequisite::Exactly { id, value } => is_whole(id, field) && field.value == value,
+        Prerequisite::Either { id, first, second } => {
+            is_whole(id, field) && (field.value == first || field.value == second)
         }
     }
 }
@@ -41,7 +48,7 @@ pub fn has_prerequisite(id: FieldId, fields: &[Field]) -> bool
 fn fits(field: &Field) -> bool
     ensures { IsTrue result ↔ Fits field.now }
 {
-    field.value <= full_mask(field.id) && field.mask <= full_mask(field.id)
+    field.value <= field.id.all_ones() && field.mask <= field.id.all_ones()
 }
 
 // Whether a field's number is below those of others.
