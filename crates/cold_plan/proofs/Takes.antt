@@ -6,7 +6,8 @@ use Rattle.std.proofs.lemmas.Nat.{and_mask}
 use Rattle.std.proofs.Math.Nat.{mod-eq_of_lt}
 use Rattle.of_match.specs.declared.packet.Tag.{Tag}
 use Rattle.of_match.specs.declared.packet.Packet.{Packet}
-use Rattle.of_match.specs.Hit.{mac_value, vid_value}
+use Rattle.net_base.specs.Address.{mac_value}
+use Rattle.of_match.specs.Hit.{vid_value}
 use Rattle.of_match.specs.Pipeline.{takes}
 use Rattle.conf_types.specs.declared.conf.Port.{Port}
 use Rattle.conf_types.specs.declared.conf.Vlan.{Vlan}

@@ -6,7 +6,7 @@ use Rattle.net_base.specs.declared.address.Mac.{Mac}
 use Rattle.of_match.specs.declared.packet.Tag.{Tag}
 use Rattle.of_match.specs.declared.packet.Packet.{Packet}
 use Rattle.of_match.specs.declared.packet.Sent.{Sent}
-use Rattle.of_match.specs.Hit.{mac_value}
+use Rattle.net_base.specs.Address.{mac_value}
 use Rattle.conf_types.specs.declared.conf.Conf.{Conf}
 use Rattle.conf_types.specs.declared.conf.Port.{Port}
 

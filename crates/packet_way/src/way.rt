@@ -1,7 +1,8 @@
 ghost use Rattle.std.specs.Prelude.{◌≡◌, ◌==◌, ◌++◌, ◌||◌, false, IfOk, OnOk, option_copied};
 ghost use Rattle.std.specs.List.{find};
 ghost use Rattle.std.specs.Option.{option_map_or};
-ghost use Rattle.of_match.specs.Hit.{mac_value, value_of};
+ghost use Rattle.net_base.specs.Address.{mac_value};
+ghost use Rattle.of_match.specs.Hit.{value_of};
 ghost use Rattle.packet_way.specs.Way.{is_group, is_dropped, with_tag, learned, flooded, sends};
 
 use conf_types::{Conf, Port};
