@@ -11,7 +11,7 @@ use Rattle.of_match.specs.declared.action.Action.{Action}
 use Rattle.of_match.specs.declared.action.Action.TheVariants.{PushVlan, Set}
 use Rattle.of_match.specs.declared.action.Instr.TheVariants.{Goto, Apply}
 use Rattle.of_match.specs.declared.entry.Entry.{Entry}
-use Rattle.of_match.specs.WellFormed.{Fits, has_prerequisite}
+use Rattle.net_base.specs.WellFormed.{Fits, has_prerequisite}
 use Rattle.net_base.specs.FieldId.{number_of}
 use Rattle.conf_types.specs.declared.conf.Conf.{Conf}
 use Rattle.conf_types.specs.declared.conf.Port.{Port}
