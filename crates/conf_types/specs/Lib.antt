@@ -1,1 +1,2 @@
-pub mod Valid
+pub mod Count
+pub mod First

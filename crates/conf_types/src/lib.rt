@@ -1,6 +1,16 @@
-//! The accepted configuration: VLANs, and one datapath whose interfaces each have a native VLAN.
+//! The accepted configuration: datapaths with their interfaces, VLANs, ACLs and routers; the records
+//! of what a controller has learned; and the first form of a configuration, in `first`.
 #![tactic(auto)]
 
-mod conf;
+mod acl;
+mod datapath;
+pub mod first;
+mod state;
+mod tally;
+mod vlan;
 
-pub use conf::{Conf, Dp, Port, Ports, Vlan, Vlans};
+pub use acl::{Acl, Acls, PortRef, PortRefs, Rule, Rules};
+pub use datapath::{Dp, Dps, Member, Port, PortNos, Ports, StackEnd};
+pub use state::{DpIds, HostRec, HostRecs, NeighRec, NeighRecs, UpRec, UpRecs};
+pub use tally::Tally;
+pub use vlan::{Nets, Route, Router, Routers, Routes, Vids, Vlan, Vlans};

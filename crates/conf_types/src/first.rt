@@ -1,3 +1,5 @@
+//! The first form of a configuration: one datapath whose interfaces each have a native VLAN.
+
 use net_base::{DpId, Items, PortNo, Text, Vid};
 
 /// A VLAN of the configuration.

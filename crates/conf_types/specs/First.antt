@@ -1,9 +1,9 @@
 -- What holds of every accepted configuration.
 use Rattle.std.specs.Prelude.{◌≡◌, ℕ, ◌<◌, ◌≤◌, ◌==◌, true, List, [], ◌∷◌, length}
 use Rattle.std.specs.List.{AllByRecursion, list_any}
-use Rattle.conf_types.specs.declared.conf.Conf.{Conf}
-use Rattle.conf_types.specs.declared.conf.Port.{Port}
-use Rattle.conf_types.specs.declared.conf.Vlan.{Vlan}
+use Rattle.conf_types.specs.declared.first.Conf.{Conf}
+use Rattle.conf_types.specs.declared.first.Port.{Port}
+use Rattle.conf_types.specs.declared.first.Vlan.{Vlan}
 
 -- each has a lesser number than those behind it, so no two have one number
 abbrev pub Rises : {A : Type 0} → (A → ℕ) → List A → Type 0
