@@ -1,2 +1,12 @@
+pub mod Attached
+pub mod Configuration
 pub mod Count
 pub mod First
+pub mod Groups
+pub mod Lists
+pub mod Membership
+pub mod Networks
+pub mod Routing
+pub mod RuleFields
+pub mod Valid
+pub mod State

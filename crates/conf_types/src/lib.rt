@@ -3,6 +3,7 @@
 #![tactic(auto)]
 
 mod acl;
+mod conf;
 mod datapath;
 pub mod first;
 mod state;
@@ -10,6 +11,7 @@ mod tally;
 mod vlan;
 
 pub use acl::{Acl, Acls, PortRef, PortRefs, Rule, Rules};
+pub use conf::Conf;
 pub use datapath::{Dp, Dps, Member, Port, PortNos, Ports, StackEnd};
 pub use state::{DpIds, HostRec, HostRecs, NeighRec, NeighRecs, UpRec, UpRecs};
 pub use tally::Tally;
