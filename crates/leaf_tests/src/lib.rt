@@ -1,3 +1,6 @@
 //! Tests of the public calls of the crates below, a module for each crate: tables of values worked out
 //! by hand or taken from the standards.
 #![tactic(auto)]
+
+#[cfg(test)]
+mod of13_codec_tests;

@@ -5,8 +5,9 @@ ghost use Rattle.of13_codec.specs.Messages.{features_bytes};
 
 use crate::message::Message;
 use crate::sizes::exactly;
-use net_base::{Bytes, DpId, NoMemory};
+use net_base::{Bytes, DpId, NoMemory, TryCopy};
 use of_wire::{PartRefused, put_number, put_zeros, u8_at, u32_at, u64_at};
+use std::alloc::Global;
 
 /// What a switch says of itself (OpenFlow 1.3, 7.3.1).
 #[derive(Clone, Copy, Debug, PartialEq, Eq)]
@@ -16,6 +17,12 @@ pub struct FeaturesReply {
     pub n_tables: u8,
     pub auxiliary: u8,
     pub capabilities: u32,
+}
+
+impl TryCopy for FeaturesReply {
+    fn copy(&self, _alloc: Global) -> Result<FeaturesReply, NoMemory> {
+        Ok(*self)
+    }
 }
 
 /// Writes the body of a FEATURES_REPLY.

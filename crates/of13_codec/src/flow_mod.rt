@@ -5,7 +5,7 @@ ghost use Rattle.of13_codec.specs.Messages.{flow_mod_target, flow_mod_terms, flo
 
 use crate::message::Message;
 use crate::sizes::at_least;
-use net_base::{Bytes, Fields, NoMemory};
+use net_base::{Bytes, Fields, NoMemory, TryCopy};
 use of_match::Instrs;
 use of_wire::{
     PartRefused, get_instrs_at, get_match_at, put_instrs, put_match, put_number, put_zeros, u8_at,
@@ -29,6 +29,26 @@ pub struct FlowMod {
     pub flags: u16,
     pub fields: Fields,
     pub instrs: Instrs,
+}
+
+impl TryCopy for FlowMod {
+    fn copy(&self, alloc: Global) -> Result<FlowMod, NoMemory> {
+        Ok(FlowMod {
+            cookie: self.cookie,
+            cookie_mask: self.cookie_mask,
+            table: self.table,
+            command: self.command,
+            idle: self.idle,
+            hard: self.hard,
+            priority: self.priority,
+            buffer: self.buffer,
+            out_port: self.out_port,
+            out_group: self.out_group,
+            flags: self.flags,
+            fields: self.fields.copy(alloc)?,
+            instrs: self.instrs.copy(alloc)?,
+        })
+    }
 }
 
 fn put_flow_mod_target(m: &FlowMod, out: &mut Bytes) -> Result<(), NoMemory>

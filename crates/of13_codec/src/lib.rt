@@ -22,8 +22,3 @@ pub use packet_in::PacketIn;
 pub use packet_out::PacketOut;
 pub use ports::{PortDesc, PortDescs, PortStats, PortStatsList};
 pub use refused::WireRefused;
-
-#[cfg(test)]
-mod message_tests;
-#[cfg(test)]
-mod tests;

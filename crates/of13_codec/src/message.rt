@@ -6,7 +6,8 @@ use crate::flow_mod::FlowMod;
 use crate::packet_in::PacketIn;
 use crate::packet_out::PacketOut;
 use crate::ports::{PortDesc, PortDescs, PortStatsList};
-use net_base::Bytes;
+use net_base::{Bytes, NoMemory, TryCopy};
+use std::alloc::Global;
 
 /// The wire version of OpenFlow 1.3.
 pub const VERSION: u8 = 4;
@@ -102,6 +103,53 @@ impl Message {
             Message::BarrierRequest => 20,
             Message::BarrierReply => 21,
             Message::Other { kind, .. } => *kind,
+        }
+    }
+}
+
+impl TryCopy for Message {
+    fn copy(&self, alloc: Global) -> Result<Message, NoMemory> {
+        match self {
+            Message::Hello { version, bitmap } => Ok(Message::Hello {
+                version: *version,
+                bitmap: *bitmap,
+            }),
+            Message::Error {
+                kind,
+                code,
+                payload,
+            } => Ok(Message::Error {
+                kind: *kind,
+                code: *code,
+                payload: payload.copy(alloc)?,
+            }),
+            Message::EchoRequest(data) => Ok(Message::EchoRequest(data.copy(alloc)?)),
+            Message::EchoReply(data) => Ok(Message::EchoReply(data.copy(alloc)?)),
+            Message::FeaturesRequest => Ok(Message::FeaturesRequest),
+            Message::FeaturesReply(m) => Ok(Message::FeaturesReply(*m)),
+            Message::PacketIn(m) => Ok(Message::PacketIn(m.copy(alloc)?)),
+            Message::PortStatus { reason, port } => Ok(Message::PortStatus {
+                reason: *reason,
+                port: port.copy(alloc)?,
+            }),
+            Message::PacketOut(m) => Ok(Message::PacketOut(m.copy(alloc)?)),
+            Message::FlowMod(m) => Ok(Message::FlowMod(m.copy(alloc)?)),
+            Message::PortDescRequest => Ok(Message::PortDescRequest),
+            Message::PortStatsRequest { port } => Ok(Message::PortStatsRequest { port: *port }),
+            Message::PortDescReply { more, ports } => Ok(Message::PortDescReply {
+                more: *more,
+                ports: ports.copy(alloc)?,
+            }),
+            Message::PortStatsReply { more, ports } => Ok(Message::PortStatsReply {
+                more: *more,
+                ports: ports.copy(alloc)?,
+            }),
+            Message::BarrierRequest => Ok(Message::BarrierRequest),
+            Message::BarrierReply => Ok(Message::BarrierReply),
+            Message::Other { kind, body } => Ok(Message::Other {
+                kind: *kind,
+                body: body.copy(alloc)?,
+            }),
         }
     }
 }

@@ -5,7 +5,7 @@ ghost use Rattle.of13_codec.specs.Messages.{packet_in_head, packet_in_bytes};
 
 use crate::message::Message;
 use crate::sizes::{at_least, short};
-use net_base::{Bytes, Fields, NoMemory};
+use net_base::{Bytes, Fields, NoMemory, TryCopy};
 use of_wire::{
     PartRefused, get_match_seen_at, put_match, put_number, put_zeros, u8_at, u16_at, u32_at, u64_at,
 };
@@ -21,6 +21,20 @@ pub struct PacketIn {
     pub cookie: u64,
     pub fields: Fields,
     pub payload: Bytes,
+}
+
+impl TryCopy for PacketIn {
+    fn copy(&self, alloc: Global) -> Result<PacketIn, NoMemory> {
+        Ok(PacketIn {
+            buffer: self.buffer,
+            total: self.total,
+            reason: self.reason,
+            table: self.table,
+            cookie: self.cookie,
+            fields: self.fields.copy(alloc)?,
+            payload: self.payload.copy(alloc)?,
+        })
+    }
 }
 
 fn put_packet_in_head(m: &PacketIn, out: &mut Bytes) -> Result<(), NoMemory>

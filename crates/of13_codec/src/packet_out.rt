@@ -5,7 +5,7 @@ ghost use Rattle.of13_codec.specs.Messages.{packet_out_bytes};
 
 use crate::message::Message;
 use crate::sizes::{at_least, short};
-use net_base::{Bytes, NoMemory};
+use net_base::{Bytes, NoMemory, TryCopy};
 use of_match::Actions;
 use of_wire::{
     PartCause, PartFault, PartRefused, actions_len, past_end, put_actions, put_number, put_zeros,
@@ -20,6 +20,17 @@ pub struct PacketOut {
     pub in_port: u32,
     pub actions: Actions,
     pub payload: Bytes,
+}
+
+impl TryCopy for PacketOut {
+    fn copy(&self, alloc: Global) -> Result<PacketOut, NoMemory> {
+        Ok(PacketOut {
+            buffer: self.buffer,
+            in_port: self.in_port,
+            actions: self.actions.copy(alloc)?,
+            payload: self.payload.copy(alloc)?,
+        })
+    }
 }
 
 /// Writes the body of a PACKET_OUT.

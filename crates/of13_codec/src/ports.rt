@@ -7,7 +7,7 @@ ghost use Rattle.of13_codec.specs.Messages.{port_bytes, port_front, port_back, p
 
 use crate::message::Message;
 use crate::sizes::exactly;
-use net_base::{Bytes, Items, Mac, NoMemory};
+use net_base::{Bytes, Items, Mac, NoMemory, TryCopy};
 use of_wire::{PartRefused, put_number, put_zeros, u8_at, u32_at, u64_at};
 use std::alloc::Global;
 
@@ -23,6 +23,19 @@ pub struct PortDesc {
     pub rest: Bytes,
 }
 
+impl TryCopy for PortDesc {
+    fn copy(&self, alloc: Global) -> Result<PortDesc, NoMemory> {
+        Ok(PortDesc {
+            no: self.no,
+            hw: self.hw,
+            name: self.name.copy(alloc)?,
+            config: self.config,
+            state: self.state,
+            rest: self.rest.copy(alloc)?,
+        })
+    }
+}
+
 /// Ports.
 pub type PortDescs = Items<PortDesc>;
 
@@ -34,6 +47,12 @@ pub struct PortStats {
     pub counters: [u64; 12],
     pub sec: u32,
     pub nsec: u32,
+}
+
+impl TryCopy for PortStats {
+    fn copy(&self, _alloc: Global) -> Result<PortStats, NoMemory> {
+        Ok(*self)
+    }
 }
 
 /// Ports' counters.

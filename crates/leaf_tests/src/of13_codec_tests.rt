@@ -1,5 +1,10 @@
-use super::*;
-use net_base::{Bytes, DpId, Field, FieldId, Items, Mac, NoMemory};
+//! Messages: their bytes both ways, what is refused and where, headers and copies.
+
+use net_base::{Bytes, DpId, Field, FieldId, Items, Mac, NoMemory, TryCopy};
+use of13_codec::{
+    FeaturesReply, FlowMod, FrameHead, Message, PacketIn, PacketOut, PortDesc, PortStats,
+    WireRefused, decode, encode, header,
+};
 use of_match::{Action, Instr};
 use of_wire::{PartCause, PartFault, put_zeros};
 use std::alloc::Global;
@@ -581,6 +586,83 @@ fn faults_of_parts_count_from_the_first_byte_of_the_frame(rt: HostRuntime) -> Re
             Some(fault),
             "type {kind}: {tail:?}"
         );
+    }
+    Ok(())
+}
+
+fn bitmap_of(alloc: Global, frame: &[u8]) -> Option<u32> {
+    match decode(alloc, frame) {
+        Ok((Message::Hello { bitmap, .. }, _)) => bitmap,
+        _ => None,
+    }
+}
+
+#[test]
+fn hellos_are_read(rt: HostRuntime) {
+    let unknown_first = [
+        5, 0, 0, 24, 0, 0, 0, 1, 0, 2, 0, 5, 9, 0, 0, 0, 0, 1, 0, 8, 0, 0, 0, 0x12,
+    ];
+    assert_eq!(rt; bitmap_of(rt.alloc(), &unknown_first), Some(0x12));
+    let twice = [
+        4, 0, 0, 24, 0, 0, 0, 1, 0, 1, 0, 8, 0, 0, 0, 0x10, 0, 1, 0, 8, 0, 0, 0, 0x20,
+    ];
+    assert_eq!(rt; bitmap_of(rt.alloc(), &twice), Some(0x10));
+    assert_eq!(rt; bitmap_of(rt.alloc(), &[1, 0, 0, 8, 0, 0, 0, 1]), None);
+}
+
+fn refusal(alloc: Global, frame: &[u8]) -> Option<WireRefused> {
+    decode(alloc, frame).err()
+}
+
+#[test]
+fn frames_are_refused(rt: HostRuntime) {
+    let cases: [(&[u8], WireRefused); 8] = [
+        (&[4, 20, 0, 8, 0, 0, 0], WireRefused::Length),
+        (&[5, 20, 0, 9, 0, 0, 0, 1], WireRefused::Version),
+        (&[0, 0, 0, 8, 0, 0, 0, 1], WireRefused::Version),
+        (&[4, 20, 0, 7, 0, 0, 0, 1], WireRefused::Length),
+        (&[4, 20, 0, 9, 0, 0, 0, 1], WireRefused::Length),
+        (&[4, 20, 0, 9, 0, 0, 0, 1, 0], body(8, PartCause::BadLength)),
+        (
+            &[4, 1, 0, 11, 0, 0, 0, 1, 0, 0, 0],
+            body(11, PartCause::Short),
+        ),
+        (
+            &[4, 0, 0, 12, 0, 0, 0, 1, 0, 1, 0, 4],
+            body(10, PartCause::BadLength),
+        ),
+    ];
+    for (frame, refused) in cases {
+        assert_eq!(rt; refusal(rt.alloc(), frame), Some(refused));
+    }
+}
+
+fn body(at: u32, cause: PartCause) -> WireRefused {
+    WireRefused::Body(PartFault { at, cause })
+}
+
+#[test]
+fn header_is_read(rt: HostRuntime) -> Result<(), Fail> {
+    let head = header(&FLOW_MOD).ok_or("a header")?;
+    let want = FrameHead {
+        version: 4,
+        kind: 14,
+        length: 104,
+        xid: XID,
+    };
+    assert_eq!(rt; head, want);
+    assert_eq!(rt; header(&[4, 0, 0, 8, 0, 0, 0]), None);
+    Ok(())
+}
+
+#[test]
+fn copies_are_equal(rt: HostRuntime) -> Result<(), Fail> {
+    let alloc = rt.alloc();
+    let messages = messages(alloc)?;
+    for message in messages.as_slice() {
+        let copy = message.copy(alloc)?;
+        let wanted = format!(in alloc; "{message:?}")?;
+        assert_eq!(rt; format!(in alloc; "{copy:?}")?, wanted);
     }
     Ok(())
 }
