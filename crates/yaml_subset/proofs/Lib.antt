@@ -37,10 +37,6 @@ pub mod NestedLevels
 pub mod BlockLevels
 pub mod QuoteLaws
 pub mod PlainLaws
-pub mod RowGroups
-pub mod RowsSound
-pub mod RowsRead
-pub mod RowsLines
 pub mod FaultsBehind
 pub mod FlowFaults
 pub mod BracketFaults
@@ -54,5 +50,3 @@ pub mod SingleFaults
 pub mod PlainFaults
 pub mod DoubleQuotes
 pub mod DoubleFaults
-pub mod BrokenLine
-pub mod PlainFaultLaws

@@ -15,7 +15,6 @@ ghost use Rattle.yaml_subset.specs.ReadBack.{is_sound, IsSpelled};
 ghost use Rattle.yaml_subset.specs.Grammar.{Reads, ReadsWithin, HasTreeOrFault};
 ghost use Rattle.yaml_subset.specs.declared.fault.YamlFault.{YamlFault};
 ghost use Rattle.yaml_subset.specs.TextFault.{IsFault, HasTreeOrItsFault};
-ghost use Rattle.yaml_subset.specs.PlainReader.{tree_within};
 ghost use Rattle.yaml_subset.specs.Levels.{levels};
 ghost use Rattle.yaml_subset.specs.Quoted.{single_from};
 ghost use Rattle.yaml_subset.specs.SingleQuoted.{IsSingleQuoted};
@@ -83,13 +82,6 @@ pub fn what_is_of_the_grammar_is_read()
 /// A text has at most one tree by the grammar.
 pub fn a_text_has_at_most_one_tree()
     ensures { (text : List ℕ) (t u : Tree) → Reads text t → Reads text u → t ≡ u }
-{}
-
-/// A text has a tree by the grammar exactly where it is read so by rows, each block as a range of them and
-/// with no stack, within so many levels.
-pub fn a_text_is_read_by_rows_exactly_where_it_has_a_tree()
-    ensures found { (n : ℕ) (text : List ℕ) (t : Tree) → tree_within n text ≡ Ok t → ReadsWithin n text t }
-    ensures read { (n : ℕ) (text : List ℕ) (t : Tree) → ReadsWithin n text t → tree_within n text ≡ Ok t }
 {}
 
 /// The levels of the grammar bound how many lists and maps a tree nests, and nothing else: a text's tree

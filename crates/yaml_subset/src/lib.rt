@@ -11,7 +11,6 @@ pub mod laws;
 mod lines;
 mod numbers;
 mod plain;
-mod plain_reader;
 mod print;
 mod quoted;
 mod reading;
@@ -23,6 +22,3 @@ pub use fault::{YamlCause, YamlFault, YamlForm, YamlRefused};
 pub use print::print_yaml;
 pub use reading::read_yaml;
 pub use tree::{Key, Pair, Pairs, Tree, Trees};
-
-#[cfg(test)]
-mod tests;

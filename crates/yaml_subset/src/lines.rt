@@ -175,7 +175,7 @@ fn in_blocks(
 }
 
 /// Three of these at the start of a line, and then a space or the line's end.
-pub(crate) fn is_marker(byte: u8, line: &[u8]) -> bool
+fn is_marker(byte: u8, line: &[u8]) -> bool
     ensures { result ≡ is_marker byte line.now }
 {
     match line {

@@ -18,7 +18,7 @@ use net_base::NoMemory;
 use std::alloc::{AllocError, Global};
 
 /// The most bytes that a text may have.
-pub(crate) const MOST_BYTES: usize = 1_048_576;
+const MOST_BYTES: usize = 1_048_576;
 
 impl From<AllocError> for YamlRefused {
     ghost from_gives = { λ _ e. e ≡ Memory };
@@ -29,7 +29,7 @@ impl From<AllocError> for YamlRefused {
 }
 
 /// The lines of a text, without their ends.
-pub(crate) fn split_lines<'a>(alloc: Global, text: &'a str) -> Result<Vec<&'a str>, NoMemory>
+fn split_lines<'a>(alloc: Global, text: &'a str) -> Result<Vec<&'a str>, NoMemory>
     ensures { IfOk result (λ v. map (λ x. x.now) v.items ≡ lines text.now) }
 {
     text.lines().collect(alloc)
@@ -45,7 +45,7 @@ fn line_feeds(bytes: &[u8]) -> usize
 
 /// The lines of a text, one after the other.
 #[tactic(auto, unfolding(crate::specs::Reading::lines_from))]
-pub(crate) fn read_lines(alloc: Global, lines: &[&str]) -> Result<Tree, YamlRefused>
+fn read_lines(alloc: Global, lines: &[&str]) -> Result<Tree, YamlRefused>
     requires { length lines.now < 2 ^ 32 }
     ensures { GivesTree result (lines_from 0 Start (map (λ x. x.now) lines.now)) }
 {
@@ -77,7 +77,7 @@ fn read_text(alloc: Global, text: &str) -> Result<Tree, YamlRefused>
 }
 
 /// The fault of a text that is too long.
-pub(crate) fn too_long() -> YamlFault
+fn too_long() -> YamlFault
     ensures { result ≡ fault_at 0 TooLong }
 {
     YamlFault {
@@ -87,7 +87,7 @@ pub(crate) fn too_long() -> YamlFault
 }
 
 /// The fault of a text of which only this front is UTF-8.
-pub(crate) fn not_utf8(front: &[u8]) -> YamlFault
+fn not_utf8(front: &[u8]) -> YamlFault
     requires { length front.now ≤ 1048576 }
     ensures { result ≡ fault_at (count_by (λ b. b == 10) front.now + 1) NotUtf8 }
 {
