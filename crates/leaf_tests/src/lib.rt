@@ -4,3 +4,5 @@
 
 #[cfg(test)]
 mod of13_codec_tests;
+#[cfg(test)]
+mod of_wire_tests;
