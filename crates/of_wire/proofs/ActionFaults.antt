@@ -1,5 +1,5 @@
 -- What reading an action answers is the first fault that stands in its bytes.
-use Rattle.std.proofs.Common.{◌≡◌, ◌≢◌, ℕ, ◌+◌, ◌/◌, ◌%◌, ◌≤◌, ◌<◌, not, ◌||◌, cond, eqb, ltb, List, [], ◌∷◌, ◌++◌, length, drop, get_or, Option, Some, None, Result, Ok, Err, refl, sym, ap, ◌∙◌, arith, inl, inr}
+use Rattle.std.proofs.Common.{subst, ◌≡◌, ◌≢◌, ℕ, ◌+◌, ◌/◌, ◌%◌, ◌≤◌, ◌<◌, not, ◌||◌, cond, eqb, ltb, List, [], ◌∷◌, ◌++◌, length, drop, get_or, Option, Some, None, Result, Ok, Err, refl, sym, ap, ◌∙◌, arith, inl, inr}
 use Rattle.std.proofs.lemmas.Bool.{eqb-true, eqb-false, not-true, not-false, or_parts, or_cases}
 use Rattle.std.proofs.lemmas.List.{drop-drop}
 use Rattle.byteorder.specs.Endian.{big_from}
@@ -16,14 +16,14 @@ use Rattle.of_wire.specs.Causes.{cause_number}
 use Rattle.of_wire.specs.Numbers.{number_in}
 use Rattle.of_wire.specs.Parts.{up_to_8}
 use Rattle.of_wire.specs.Reading.{◌>>=◌, Gives, fault_at, padding_at, field_named, has_mask, payload_len, field_value, sized_at, set_named, set_at, output_at, push_at, bare_at, action_of, action_at, action_step, actions_at}
-use Rattle.of_wire.specs.Faults.{ComesFirst, EndsEarly, type_of, IsSized, NamesNone, Names, SetFault, no_room, set_length, set_unknown, set_mask, set_value, set_padding, ActionFault, unknown_action, action_length, in_set, EachAction, WrongAction, ActionsFault, FaultInActions, Behind, EndsIn, CutsOff, TellsFirst, SpelledOrFaulty}
+use Rattle.of_wire.specs.Faults.{ComesFirst, EndsEarly, type_of, IsSized, NamesNone, Names, SetFault, no_room, set_length, set_unknown, set_mask, set_value, set_padding, ActionFault, unknown_action, action_length, in_set, EachAction, WrongAction, ActionsFault, FaultInActions, FaultInActionsAt, OrShort, Behind, EndsIn, CutsOff, TellsFirst, SpelledOrFaulty}
 use Rattle.of_wire.proofs.Grammars.{AreBytes}
 use Rattle.of_wire.proofs.FieldNames.{named, unnamed, same_id}
 use Rattle.of_wire.specs.Spelling.{SpellsAction, SpellsActions}
 use Rattle.of_wire.proofs.Chosen.{one_answer}
 use Rattle.of_wire.proofs.SetLaws.{action_complete, step_sound, step_complete, actions_sound}
 use Rattle.of_wire.proofs.Verdicts.{Verdict, Steps, many_verdict, cut_ends}
-use Rattle.of_wire.proofs.Told.{by_equal, by_other, by_less, by_test, Told, told_ok, told_fault, told_end, told_map, told_as, first_of_cause, padding_told, tells_first, spelled_or_faulty}
+use Rattle.of_wire.proofs.Told.{by_equal, by_other, by_less, by_test, Told, told_ok, told_fault, told_end, told_map, told_as, first_of_cause, padding_told, told_from_start, tells_first, tells_cut, spelled_or_faulty}
 
 -- a number behind some bytes
 pub number_behind : (b a n : ℕ) (xs : List ℕ) → number_in a n (drop b xs) ≡ number_in (b + a) n xs
@@ -315,11 +315,21 @@ actions_told past at bytes h = many_verdict EachAction (λ l. l) (action_step pa
 pub actions_tell_first : (bytes : List ℕ) (r : Result (List Action) PartRefused) → ((i : ℕ) → get_or bytes i 0 < 256) → Gives (λ x. x) r (actions_at (fault_at (length bytes) Short) 0 bytes)
     → TellsFirst (FaultInActions bytes) r
 actions_tell_first bytes r h e =
-    tells_first (ActionsFault bytes) (Behind EachAction (CutsOff EndsEarly WrongAction) [] bytes) (Behind EachAction (EndsIn EndsEarly) [] bytes) bytes r
-    (actions_at (fault_at (length bytes) Short) 0 bytes) (cut_ends EachAction EndsEarly WrongAction [] bytes) e (actions_told (fault_at (length bytes) Short) 0 bytes (record { small = h }))
+    let own = ActionsFault bytes in
+    let cut = Behind EachAction (CutsOff EndsEarly WrongAction) [] bytes in
+    let ends = Behind EachAction (EndsIn EndsEarly) [] bytes in
+    let end : length bytes ≡ 0 + length bytes = omega arith in
+    told_from_start (OrShort own ends bytes) r (tells_first own cut ends 0 bytes r (actions_at (fault_at (length bytes) Short) 0 bytes) (cut_ends EachAction EndsEarly WrongAction [] bytes) e
+    (subst (λ n. Verdict (fault_at n Short) 0 (length bytes) own cut ends (actions_at (fault_at (length bytes) Short) 0 bytes)) end (actions_told (fault_at (length bytes) Short) 0 bytes (record { small = h }))))
+
+pub actions_tell_cut : (past : PartFault) (at : ℕ) (bytes : List ℕ) (r : Result (List Action) PartRefused) → ((i : ℕ) → get_or bytes i 0 < 256) → Gives (λ x. x) r (actions_at past at bytes)
+    → TellsFirst (FaultInActionsAt at past bytes) r
+actions_tell_cut past at bytes r h e =
+    tells_cut past (ActionsFault bytes) (Behind EachAction (CutsOff EndsEarly WrongAction) [] bytes) (Behind EachAction (EndsIn EndsEarly) [] bytes) at (length bytes) r
+    (actions_at past at bytes) (cut_ends EachAction EndsEarly WrongAction [] bytes) e (actions_told past at bytes (record { small = h }))
 
 pub actions_spelled_or_faulty : (bytes : List ℕ) → ((i : ℕ) → get_or bytes i 0 < 256) → SpelledOrFaulty ((actions : List Action) × SpellsActions actions bytes) (FaultInActions bytes)
 actions_spelled_or_faulty bytes h =
-    let past = fault_at (length bytes) Short in
+    let past = fault_at (0 + length bytes) Short in
     spelled_or_faulty ((actions : List Action) × SpellsActions actions bytes) (ActionsFault bytes) (Behind EachAction (CutsOff EndsEarly WrongAction) [] bytes) (Behind EachAction (EndsIn EndsEarly) [] bytes) bytes
     (actions_at past 0 bytes) (cut_ends EachAction EndsEarly WrongAction [] bytes) (λ x is. (x, actions_sound past 0 bytes x (record { small = h }) is)) (actions_told past 0 bytes (record { small = h }))

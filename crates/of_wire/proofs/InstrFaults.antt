@@ -11,7 +11,7 @@ use Rattle.of_wire.specs.declared.fault.PartCause.TheVariants.{Short, BadLength,
 use Rattle.of_wire.specs.declared.fault.PartRefused.{PartRefused}
 use Rattle.of_wire.specs.Numbers.{number_in}
 use Rattle.of_wire.specs.Reading.{◌>>=◌, Gives, fault_at, past_end, actions_at, has_goto, has_apply, goto_at, applied_at, apply_at, instr_of, instr_at, instr_step, instrs_at}
-use Rattle.of_wire.specs.Faults.{ComesFirst, Behind, EndsIn, CutsOff, EndsEarly, TellsFirst, SpelledOrFaulty, EachAction, WrongAction, ActionsFault, applied, GotoFault, goto_again, goto_length, ApplyFault, apply_again, apply_late, apply_empty, apply_cut, in_action, InstrFault, unknown_instr, in_goto, in_apply, EachInstr, InstrsFault, FaultInInstrs}
+use Rattle.of_wire.specs.Faults.{ComesFirst, Behind, EndsIn, CutsOff, EndsEarly, TellsFirst, From, SpelledOrFaulty, EachAction, WrongAction, ActionsFault, applied, GotoFault, goto_again, goto_length, ApplyFault, apply_again, apply_late, apply_empty, apply_cut, in_action, InstrFault, unknown_instr, in_goto, in_apply, EachInstr, InstrsFault, FaultInInstrs}
 use Rattle.of_wire.proofs.Grammars.{AreBytes, bytes_take, bytes_drop}
 use Rattle.of_wire.proofs.Chosen.{one_answer}
 use Rattle.of_wire.proofs.InstrLaws.{instr_complete, step_sound, step_complete, instrs_sound}
@@ -260,21 +260,12 @@ instrs_told at bytes h =
     let past = fault_at (at + length bytes) Short in
     many_verdict EachInstr (λ l. l) (instr_step past) past EndsEarly InstrFault (instr_steps past) (length bytes) [] at bytes h (omega arith)
 
-pub instrs_tell_first : (bytes : List ℕ) (r : Result (List Instr) PartRefused) → ((i : ℕ) → get_or bytes i 0 < 256) → Gives (λ x. x) r (instrs_at 0 bytes) → TellsFirst (FaultInInstrs bytes) r
-instrs_tell_first bytes r h e =
-    let own = InstrsFault bytes in
-    let cut = Behind EachInstr (CutsOff EndsEarly InstrFault) [] bytes in
-    let ends = Behind EachInstr (EndsIn EndsEarly) [] bytes in
-    let end : 0 + length bytes ≡ length bytes = omega arith in
-    tells_first own cut ends bytes r (instrs_at 0 bytes) (cut_ends EachInstr EndsEarly InstrFault [] bytes) e
-    (subst (λ n. Verdict (fault_at n Short) 0 (length bytes) own cut ends (instrs_at 0 bytes)) end (instrs_told 0 bytes (record { small = h })))
+pub instrs_tell_first : (at : ℕ) (bytes : List ℕ) (r : Result (List Instr) PartRefused) → ((i : ℕ) → get_or bytes i 0 < 256) → Gives (λ x. x) r (instrs_at at bytes) → TellsFirst (From at (FaultInInstrs bytes)) r
+instrs_tell_first at bytes r h e =
+    tells_first (InstrsFault bytes) (Behind EachInstr (CutsOff EndsEarly InstrFault) [] bytes) (Behind EachInstr (EndsIn EndsEarly) [] bytes) at bytes r (instrs_at at bytes)
+    (cut_ends EachInstr EndsEarly InstrFault [] bytes) e (instrs_told at bytes (record { small = h }))
 
 pub instrs_spelled_or_faulty : (bytes : List ℕ) → ((i : ℕ) → get_or bytes i 0 < 256) → SpelledOrFaulty ((instrs : List Instr) × SpellsInstrs instrs bytes) (FaultInInstrs bytes)
 instrs_spelled_or_faulty bytes h =
-    let own = InstrsFault bytes in
-    let cut = Behind EachInstr (CutsOff EndsEarly InstrFault) [] bytes in
-    let ends = Behind EachInstr (EndsIn EndsEarly) [] bytes in
-    let end : 0 + length bytes ≡ length bytes = omega arith in
-    spelled_or_faulty ((instrs : List Instr) × SpellsInstrs instrs bytes) own cut ends bytes (instrs_at 0 bytes) (cut_ends EachInstr EndsEarly InstrFault [] bytes)
-    (λ x is. (x, instrs_sound 0 bytes x (record { small = h }) is))
-    (subst (λ n. Verdict (fault_at n Short) 0 (length bytes) own cut ends (instrs_at 0 bytes)) end (instrs_told 0 bytes (record { small = h })))
+    spelled_or_faulty ((instrs : List Instr) × SpellsInstrs instrs bytes) (InstrsFault bytes) (Behind EachInstr (CutsOff EndsEarly InstrFault) [] bytes) (Behind EachInstr (EndsIn EndsEarly) [] bytes) bytes
+    (instrs_at 0 bytes) (cut_ends EachInstr EndsEarly InstrFault [] bytes) (λ x is. (x, instrs_sound 0 bytes x (record { small = h }) is)) (instrs_told 0 bytes (record { small = h }))

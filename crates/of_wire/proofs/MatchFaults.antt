@@ -11,7 +11,7 @@ use Rattle.of_wire.specs.Parts.{up_to_8}
 use Rattle.of_wire.specs.Reading.{◌>>=◌, Gives, fault_at, many, past_end, padding_at, field_step, fields_at, sized_match_at, match_at}
 use Rattle.of_wire.specs.Spelling.{SpellsItem, SpellsAnyMatch}
 use Rattle.of_wire.proofs.MatchLaws.{match_sound}
-use Rattle.of_wire.specs.Faults.{ComesFirst, Behind, EndsIn, CutsOff, TellsFirst, SpelledOrFaulty, FieldEndsEarly, FieldFault, FieldsFault, fields_of, MatchFault, match_type, match_length, match_cut, in_field, match_padding, PaddedEndsEarly, FaultInMatch}
+use Rattle.of_wire.specs.Faults.{ComesFirst, Behind, EndsIn, CutsOff, TellsFirst, From, SpelledOrFaulty, FieldEndsEarly, FieldFault, FieldsFault, fields_of, MatchFault, match_type, match_length, match_cut, in_field, match_padding, PaddedEndsEarly, FaultInMatch}
 use Rattle.of_wire.proofs.Grammars.{AreBytes, bytes_take, bytes_drop}
 use Rattle.of_wire.proofs.FieldOrder.{view}
 use Rattle.of_wire.proofs.FieldFaults.{some_header, field_steps}
@@ -177,23 +177,19 @@ match_told strict at bytes h =
     (λ lt. loose small (told_fault (short at bytes) at own early bytes small 2 BadLength refl (omega arith) (match_length head lt) (length_first strict bytes kind)))
     (λ least. loose sized (sized_told strict at bytes h head kind least))))
 
-pub match_tells_first : (strict : Bool) (bytes : List ℕ) (r : Result (List Field × ℕ) PartRefused) → ((i : ℕ) → get_or bytes i 0 < 256) → Gives (λ x. x) r (match_at strict 0 bytes)
-    → TellsFirst (FaultInMatch strict bytes) r
-match_tells_first strict bytes r h e =
+pub match_tells_first : (strict : Bool) (at : ℕ) (bytes : List ℕ) (r : Result (List Field × ℕ) PartRefused) → ((i : ℕ) → get_or bytes i 0 < 256) → Gives (λ x. x) r (match_at strict at bytes)
+    → TellsFirst (From at (FaultInMatch strict bytes)) r
+match_tells_first strict at bytes r h e =
     let own = MatchFault strict bytes in
     let ends = PaddedEndsEarly bytes in
-    let cut = ends × ((q : ℕ) (d : PartCause) → own q d → ⊥) in
-    let end : 0 + length bytes ≡ length bytes = omega arith in
-    tells_first own cut ends bytes r (match_at strict 0 bytes) (λ c. c.0) e
-    (subst (λ n. Verdict (fault_at n Short) 0 (length bytes) own cut ends (match_at strict 0 bytes)) end (match_told strict 0 bytes (record { small = h })))
+    tells_first own (ends × ((q : ℕ) (d : PartCause) → own q d → ⊥)) ends at bytes r (match_at strict at bytes) (λ c. c.0) e (match_told strict at bytes (record { small = h }))
 
 pub match_spelled_or_faulty : (strict : Bool) (bytes : List ℕ) → ((i : ℕ) → get_or bytes i 0 < 256)
     → SpelledOrFaulty ((fields : List Field) × (spelling : List ℕ) × (rest : List ℕ) × SpellsAnyMatch strict fields spelling × (bytes ≡ spelling ++ rest)) (FaultInMatch strict bytes)
 match_spelled_or_faulty strict bytes h =
     let own = MatchFault strict bytes in
     let ends = PaddedEndsEarly bytes in
-    let cut = ends × ((q : ℕ) (d : PartCause) → own q d → ⊥) in
-    let end : 0 + length bytes ≡ length bytes = omega arith in
-    spelled_or_faulty ((fields : List Field) × (spelling : List ℕ) × (rest : List ℕ) × SpellsAnyMatch strict fields spelling × (bytes ≡ spelling ++ rest)) own cut ends bytes (match_at strict 0 bytes) (λ c. c.0)
+    spelled_or_faulty ((fields : List Field) × (spelling : List ℕ) × (rest : List ℕ) × SpellsAnyMatch strict fields spelling × (bytes ≡ spelling ++ rest)) own
+    (ends × ((q : ℕ) (d : PartCause) → own q d → ⊥)) ends bytes (match_at strict 0 bytes) (λ c. c.0)
     (λ x is. (let f = match_sound strict 0 bytes x (record { small = h }) is in (x.0, take x.1 bytes, drop x.1 bytes, f.spelled, sym (take-append-drop x.1 bytes))))
-    (subst (λ n. Verdict (fault_at n Short) 0 (length bytes) own cut ends (match_at strict 0 bytes)) end (match_told strict 0 bytes (record { small = h })))
+    (match_told strict 0 bytes (record { small = h }))

@@ -19,31 +19,31 @@ pub if_ok : {X : Type 0} (r : Result X PartRefused) (read : Result X PartFault) 
 if_ok (Ok x) read P e h = h x e
 if_ok (Err e) read P g h = tt
 
-pub match_spelled : (strict : Bool) (bytes : List ℕ) (r : Result (List Field × ℕ) PartRefused) → ((i : ℕ) → get_or bytes i 0 < 256) → Gives (λ x. x) r (match_at strict 0 bytes)
+pub match_spelled : (strict : Bool) (at : ℕ) (bytes : List ℕ) (r : Result (List Field × ℕ) PartRefused) → ((i : ℕ) → get_or bytes i 0 < 256) → Gives (λ x. x) r (match_at strict at bytes)
     → IfOk r (λ x. SpellsAnyMatch strict x.0 (take x.1 bytes))
-match_spelled strict bytes r h e = if_ok r (match_at strict 0 bytes) (λ x. SpellsAnyMatch strict x.0 (take x.1 bytes)) e
-    (λ x is. (let f = match_sound strict 0 bytes x (record { small = h }) is in f.spelled))
+match_spelled strict at bytes r h e = if_ok r (match_at strict at bytes) (λ x. SpellsAnyMatch strict x.0 (take x.1 bytes)) e
+    (λ x is. (let f = match_sound strict at bytes x (record { small = h }) is in f.spelled))
 
-pub match_read : (strict : Bool) (bytes : List ℕ) (r : Result (List Field × ℕ) PartRefused) → Gives (λ x. x) r (match_at strict 0 bytes)
+pub match_read : (strict : Bool) (at : ℕ) (bytes : List ℕ) (r : Result (List Field × ℕ) PartRefused) → Gives (λ x. x) r (match_at strict at bytes)
     → (fields : List Field) (spelling rest : List ℕ) → SpellsAnyMatch strict fields spelling → bytes ≡ spelling ++ rest → Gives (λ x. x) r (Ok (fields, length spelling))
-match_read strict bytes r e fields spelling rest p is =
-    subst (λ (q : Result (List Field × ℕ) PartFault). Gives (λ x. x) r q) (ap (match_at strict 0) is ∙ match_complete strict 0 fields spelling rest p) e
+match_read strict at bytes r e fields spelling rest p is =
+    subst (λ (q : Result (List Field × ℕ) PartFault). Gives (λ x. x) r q) (ap (match_at strict at) is ∙ match_complete strict at fields spelling rest p) e
 
-pub actions_spelled : (past : PartFault) (bytes : List ℕ) (r : Result (List Action) PartRefused) → ((i : ℕ) → get_or bytes i 0 < 256) → Gives (λ x. x) r (actions_at past 0 bytes)
+pub actions_spelled : (past : PartFault) (at : ℕ) (bytes : List ℕ) (r : Result (List Action) PartRefused) → ((i : ℕ) → get_or bytes i 0 < 256) → Gives (λ x. x) r (actions_at past at bytes)
     → IfOk r (λ x. SpellsActions x bytes)
-actions_spelled past bytes r h e = if_ok r (actions_at past 0 bytes) (λ x. SpellsActions x bytes) e (λ x is. actions_sound past 0 bytes x (record { small = h }) is)
+actions_spelled past at bytes r h e = if_ok r (actions_at past at bytes) (λ x. SpellsActions x bytes) e (λ x is. actions_sound past at bytes x (record { small = h }) is)
 
-pub actions_read : (past : PartFault) (bytes : List ℕ) (r : Result (List Action) PartRefused) → Gives (λ x. x) r (actions_at past 0 bytes)
+pub actions_read : (past : PartFault) (at : ℕ) (bytes : List ℕ) (r : Result (List Action) PartRefused) → Gives (λ x. x) r (actions_at past at bytes)
     → (actions : List Action) → SpellsActions actions bytes → Gives (λ x. x) r (Ok actions)
-actions_read past bytes r e actions p = subst (λ (q : Result (List Action) PartFault). Gives (λ x. x) r q) (actions_complete past 0 actions bytes p) e
+actions_read past at bytes r e actions p = subst (λ (q : Result (List Action) PartFault). Gives (λ x. x) r q) (actions_complete past at actions bytes p) e
 
-pub instrs_spelled : (bytes : List ℕ) (r : Result (List Instr) PartRefused) → ((i : ℕ) → get_or bytes i 0 < 256) → Gives (λ x. x) r (instrs_at 0 bytes)
+pub instrs_spelled : (at : ℕ) (bytes : List ℕ) (r : Result (List Instr) PartRefused) → ((i : ℕ) → get_or bytes i 0 < 256) → Gives (λ x. x) r (instrs_at at bytes)
     → IfOk r (λ x. SpellsInstrs x bytes)
-instrs_spelled bytes r h e = if_ok r (instrs_at 0 bytes) (λ x. SpellsInstrs x bytes) e (λ x is. instrs_sound 0 bytes x (record { small = h }) is)
+instrs_spelled at bytes r h e = if_ok r (instrs_at at bytes) (λ x. SpellsInstrs x bytes) e (λ x is. instrs_sound at bytes x (record { small = h }) is)
 
-pub instrs_read : (bytes : List ℕ) (r : Result (List Instr) PartRefused) → Gives (λ x. x) r (instrs_at 0 bytes)
+pub instrs_read : (at : ℕ) (bytes : List ℕ) (r : Result (List Instr) PartRefused) → Gives (λ x. x) r (instrs_at at bytes)
     → (instrs : List Instr) → SpellsInstrs instrs bytes → Gives (λ x. x) r (Ok instrs)
-instrs_read bytes r e instrs p = subst (λ (q : Result (List Instr) PartFault). Gives (λ x. x) r q) (instrs_complete 0 instrs bytes p) e
+instrs_read at bytes r e instrs p = subst (λ (q : Result (List Instr) PartFault). Gives (λ x. x) r q) (instrs_complete at instrs bytes p) e
 
 -- ---- one spelling
 

@@ -12,8 +12,8 @@ use Rattle.of_wire.specs.declared.fault.PartRefused.{PartRefused}
 use Rattle.of_wire.specs.declared.fault.PartRefused.TheVariants.{At, Memory}
 use Rattle.of_wire.specs.Causes.{cause_number}
 use Rattle.of_wire.specs.Reading.{◌>>=◌, Gives, fault_at, padded_to, padding_at, first_nonzero}
-use Rattle.of_wire.specs.Faults.{ComesFirst, IsFirst, TellsFirst, SpelledOrFaulty, OrShort}
-use Rattle.of_wire.proofs.Verdicts.{Verdict}
+use Rattle.of_wire.specs.Faults.{ComesFirst, IsFirst, TellsFirst, SpelledOrFaulty, OrShort, From, OrCut}
+use Rattle.of_wire.proofs.Verdicts.{Verdict, comes_first_after}
 
 -- ---- tests
 
@@ -102,26 +102,43 @@ not_both r x e p q = cc
 one_fault : {X : Type 0} (r : Result X PartFault) (e f : PartFault) → r ≡ Err e → r ≡ Err f → e ≡ f
 one_fault r e f p q = cc
 
-first_told : {X : Type 0} (own : ℕ → PartCause → Type 0) (cut ends : Type 0) (bytes : List ℕ) (r : Result X PartFault) (f : PartFault) → (cut → ends)
-    → r ≡ Err f → Verdict (fault_at (length bytes) Short) 0 (length bytes) own cut ends r → IsFirst (OrShort own ends bytes) f
-first_told own cut ends bytes r f weaker is v = elim v [
-  | inl p ↦ absurd (not_both r p.value f p.is is)
-  | inr (inl e) ↦
-      let place : 0 + e.place ≡ e.place = omega arith in
-      let same : fault_at e.place e.cause ≡ f = one_fault r _ f (e.is ∙ ap (λ n. Err (fault_at n e.cause)) place) is in
-      let first : IsFirst (OrShort own ends bytes) (fault_at e.place e.cause) = record {
-        there = inl e.there;
-        least = λ q d s. elim s [ inl o ↦ e.least q d o | inr t ↦ inl (omega (arith, e.inside, t.0)) ];
-      } in
-      subst (λ g. IsFirst (OrShort own ends bytes) g) same first
-  | inr (inr e) ↦
-      let same : fault_at (length bytes) Short ≡ f = one_fault r _ f e.is is in
-      let first : IsFirst (OrShort own ends bytes) (fault_at (length bytes) Short) = record {
-        there = inr (refl, refl, weaker e.early);
-        least = λ q d s. elim s [ inl o ↦ absurd (e.none q d o) | inr t ↦ inr (sym t.0, omega (arith, ap cause_number t.1)) ];
-      } in
-      subst (λ g. IsFirst (OrShort own ends bytes) g) same first
-]
+-- the faults at their places from the first byte of what the part stands in
+from : (Stands : ℕ → PartCause → Type 0) (at place : ℕ) (cause : PartCause) → Stands place cause → From at Stands (at + place) cause
+from Stands at place cause s = record { inside = place; is_at = refl; fault = s }
+
+from_start : (Stands : ℕ → PartCause → Type 0) (place : ℕ) (cause : PartCause) → From 0 Stands place cause → Stands place cause
+from_start Stands place cause f = let e : f.inside ≡ place = omega (arith, f.is_at) in subst (λ n. Stands n cause) e f.fault
+
+pub first_from_start : (Stands : ℕ → PartCause → Type 0) (fault : PartFault) → IsFirst (From 0 Stands) fault → IsFirst Stands fault
+first_from_start Stands fault f = record {
+  there = from_start Stands fault.at fault.cause f.there;
+  least = λ q d s. f.least q d (record { inside = q; is_at = omega arith; fault = s });
+}
+
+pub told_from_start : {X : Type 0} (Stands : ℕ → PartCause → Type 0) (r : Result X PartRefused) → TellsFirst (From 0 Stands) r → TellsFirst Stands r
+told_from_start Stands (Ok x) t = λ q d s. t q d (record { inside = q; is_at = omega arith; fault = s })
+told_from_start Stands (Err Memory) t = tt
+told_from_start Stands (Err (At f)) t = first_from_start Stands f t
+
+first_told : {X : Type 0} (own : ℕ → PartCause → Type 0) (cut ends : Type 0) (at : ℕ) (bytes : List ℕ) (r : Result X PartFault) (f : PartFault) → (cut → ends)
+    → r ≡ Err f → Verdict (fault_at (at + length bytes) Short) at (length bytes) own cut ends r → IsFirst (From at (OrShort own ends bytes)) f
+first_told own cut ends at bytes r f weaker is v =
+    let S = OrShort own ends bytes in
+    elim v [
+      | inl p ↦ absurd (not_both r p.value f p.is is)
+      | inr (inl e) ↦
+          let first : IsFirst (From at S) (fault_at (at + e.place) e.cause) = record {
+            there = from S at e.place e.cause (inl e.there);
+            least = λ q d s. comes_first_after at e.place q s.inside e.cause d s.is_at (elim s.fault [ inl o ↦ e.least s.inside d o | inr t ↦ inl (omega (arith, e.inside, t.0)) ]);
+          } in
+          subst (λ g. IsFirst (From at S) g) (one_fault r _ f e.is is) first
+      | inr (inr e) ↦
+          let first : IsFirst (From at S) (fault_at (at + length bytes) Short) = record {
+            there = from S at (length bytes) Short (inr (refl, refl, weaker e.early));
+            least = λ q d s. elim s.fault [ inl o ↦ absurd (e.none s.inside d o) | inr t ↦ inr (omega (arith, s.is_at, t.0), omega (arith, ap cause_number t.1)) ];
+          } in
+          subst (λ g. IsFirst (From at S) g) (one_fault r _ f e.is is) first
+    ]
 
 none_told : {X : Type 0} (past : PartFault) (at size : ℕ) (own : ℕ → PartCause → Type 0) (cut ends : Type 0) (bytes : List ℕ) (r : Result X PartFault) (x : X)
     → r ≡ Ok x → Verdict past at size own cut ends r → (place : ℕ) (cause : PartCause) → OrShort own ends bytes place cause → ⊥
@@ -131,19 +148,49 @@ none_told past at size own cut ends bytes r x is v place cause s = elim v [
   | inr (inr e) ↦ absurd (not_both r x _ is e.is)
 ]
 
-pub tells_first : {X : Type 0} (own : ℕ → PartCause → Type 0) (cut ends : Type 0) (bytes : List ℕ) (r : Result X PartRefused) (read : Result X PartFault) → (cut → ends)
-    → Gives (λ x. x) r read → Verdict (fault_at (length bytes) Short) 0 (length bytes) own cut ends read → TellsFirst (OrShort own ends bytes) r
-tells_first own cut ends bytes (Ok x) read weaker e v = none_told (fault_at (length bytes) Short) 0 (length bytes) own cut ends bytes read x e v
-tells_first own cut ends bytes (Err Memory) read weaker e v = tt
-tells_first own cut ends bytes (Err (At f)) read weaker e v = first_told own cut ends bytes read f weaker e v
+pub tells_first : {X : Type 0} (own : ℕ → PartCause → Type 0) (cut ends : Type 0) (at : ℕ) (bytes : List ℕ) (r : Result X PartRefused) (read : Result X PartFault) → (cut → ends)
+    → Gives (λ x. x) r read → Verdict (fault_at (at + length bytes) Short) at (length bytes) own cut ends read → TellsFirst (From at (OrShort own ends bytes)) r
+tells_first own cut ends at bytes (Ok x) read weaker e v = λ q d s. none_told (fault_at (at + length bytes) Short) at (length bytes) own cut ends bytes read x e v s.inside d s.fault
+tells_first own cut ends at bytes (Err Memory) read weaker e v = tt
+tells_first own cut ends at bytes (Err (At f)) read weaker e v = first_told own cut ends at bytes read f weaker e v
 
 pub spelled_or_faulty : {X : Type 0} (Spelled : Type 0) (own : ℕ → PartCause → Type 0) (cut ends : Type 0) (bytes : List ℕ) (r : Result X PartFault) → (cut → ends)
-    → ((x : X) → r ≡ Ok x → Spelled) → Verdict (fault_at (length bytes) Short) 0 (length bytes) own cut ends r → SpelledOrFaulty Spelled (OrShort own ends bytes)
-spelled_or_faulty Spelled own cut ends bytes r weaker spelled v = elim v [
-  | inl p ↦ inl (spelled p.value p.is, none_told (fault_at (length bytes) Short) 0 (length bytes) own cut ends bytes r p.value p.is (inl p))
-  | inr (inl f) ↦ inr (fault_at (0 + f.place) f.cause, first_told own cut ends bytes r (fault_at (0 + f.place) f.cause) weaker f.is (inr (inl f)))
-  | inr (inr f) ↦ inr (fault_at (length bytes) Short, first_told own cut ends bytes r (fault_at (length bytes) Short) weaker f.is (inr (inr f)))
+    → ((x : X) → r ≡ Ok x → Spelled) → Verdict (fault_at (0 + length bytes) Short) 0 (length bytes) own cut ends r → SpelledOrFaulty Spelled (OrShort own ends bytes)
+spelled_or_faulty Spelled own cut ends bytes r weaker spelled v =
+    let first : (f : PartFault) → r ≡ Err f → IsFirst (OrShort own ends bytes) f = λ f is. first_from_start (OrShort own ends bytes) f (first_told own cut ends 0 bytes r f weaker is v) in
+    elim v [
+      | inl p ↦ inl (spelled p.value p.is, none_told (fault_at (0 + length bytes) Short) 0 (length bytes) own cut ends bytes r p.value p.is (inl p))
+      | inr (inl f) ↦ inr (fault_at (0 + f.place) f.cause, first (fault_at (0 + f.place) f.cause) f.is)
+      | inr (inr f) ↦ inr (fault_at (0 + length bytes) Short, first (fault_at (0 + length bytes) Short) f.is)
+    ]
+
+-- ---- the verdict on bytes that are cut off
+
+pub tells_cut : {X : Type 0} (past : PartFault) (own : ℕ → PartCause → Type 0) (cut ends : Type 0) (at size : ℕ) (r : Result X PartRefused) (read : Result X PartFault) → (cut → ends)
+    → Gives (λ x. x) r read → Verdict past at size own cut ends read → TellsFirst (OrCut (From at own) cut past) r
+tells_cut past own cut ends at size (Ok x) read weaker e v = λ q d s. elim v [
+  | inl p ↦ elim s [ inl o ↦ p.none o.inside d o.fault | inr t ↦ p.whole (weaker t.2) ]
+  | inr (inl f) ↦ absurd (not_both read x _ e f.is)
+  | inr (inr f) ↦ absurd (not_both read x _ e f.is)
 ]
+tells_cut past own cut ends at size (Err Memory) read weaker e v = tt
+tells_cut past own cut ends at size (Err (At fault)) read weaker e v =
+    let S = OrCut (From at own) cut past in
+    elim v [
+      | inl p ↦ absurd (not_both read p.value fault p.is e)
+      | inr (inl f) ↦
+          let first : IsFirst S (fault_at (at + f.place) f.cause) = record {
+            there = inl (from own at f.place f.cause f.there);
+            least = λ q d s. elim s [ inl o ↦ comes_first_after at f.place q o.inside f.cause d o.is_at (f.least o.inside d o.fault) | inr t ↦ absurd (f.uncut t.2) ];
+          } in
+          subst (λ g. IsFirst S g) (one_fault read _ fault f.is e) first
+      | inr (inr f) ↦
+          let first : IsFirst S past = record {
+            there = inr (refl, refl, f.early);
+            least = λ q d s. elim s [ inl o ↦ absurd (f.none o.inside d o.fault) | inr t ↦ inr (sym t.0, omega (arith, ap cause_number t.1)) ];
+          } in
+          subst (λ g. IsFirst S g) (one_fault read _ fault f.is e) first
+    ]
 
 -- ---- one fault is the first
 

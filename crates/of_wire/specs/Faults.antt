@@ -76,6 +76,18 @@ OrShort Stands ends bytes place cause = Stands place cause ⊎ ((place ≡ lengt
 abbrev pub EndsEarly : List ℕ → Type 0
 EndsEarly bytes = (length bytes < 4) ⊎ (length bytes < number_in 2 2 bytes)
 
+-- ---- parts inside others
+
+-- a fault of bytes that begin at a place: its own place counts from there
+pub record From (at : ℕ) (Stands : ℕ → PartCause → Type 0) (place : ℕ) (cause : PartCause) : Type 0 where
+  pub inside : ℕ
+  pub is_at : place ≡ at + inside
+  pub fault : Stands inside cause
+
+-- faults, and this one where the bytes are cut off
+abbrev pub OrCut : (ℕ → PartCause → Type 0) → (cut : Type 0) → PartFault → ℕ → PartCause → Type 0
+OrCut Stands cut fault place cause = Stands place cause ⊎ ((place ≡ fault.at) × (cause ≡ fault.cause) × cut)
+
 -- ---- actions (7.2.5)
 
 abbrev pub type_of : Action → ℕ
@@ -127,6 +139,11 @@ ActionsFault bytes place cause = Behind EachAction (FaultOf WrongAction place ca
 -- what is wrong with actions up to the end of the bytes
 abbrev pub FaultInActions : List ℕ → ℕ → PartCause → Type 0
 FaultInActions bytes place cause = OrShort (ActionsFault bytes) (Behind EachAction (EndsIn EndsEarly) [] bytes) bytes place cause
+
+-- what is wrong with actions that begin at a place, whose end a length sets: this fault is told where
+-- that cuts off an action in which nothing else is wrong
+abbrev pub FaultInActionsAt : (at : ℕ) → PartFault → List ℕ → ℕ → PartCause → Type 0
+FaultInActionsAt at past bytes = OrCut (From at (ActionsFault bytes)) (Behind EachAction (CutsOff EndsEarly WrongAction) [] bytes) past
 
 -- ---- instructions (7.2.4)
 

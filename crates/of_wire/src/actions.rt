@@ -3,7 +3,7 @@ ghost use Rattle.std.specs.List.{flat_map};
 ghost use Rattle.of_wire.specs.Parts.{bare_action, set_bytes, action_bytes};
 ghost use Rattle.of_match.specs.declared.action.Action.{Action};
 ghost use Rattle.of_wire.specs.Spelling.{SpellsActions};
-ghost use Rattle.of_wire.specs.Faults.{TellsFirst, FaultInActions};
+ghost use Rattle.of_wire.specs.Faults.{TellsFirst, FaultInActions, FaultInActionsAt};
 ghost use Rattle.of_wire.specs.Reading.{Gives, fault_at, payload_len, set_named, set_at, sized_at, output_at, push_at, bare_at, action_of, action_at, action_step, actions_at};
 
 use crate::fault::{PartCause, PartFault, PartRefused};
@@ -296,9 +296,9 @@ fn take_action(
     Ok(taken)
 }
 
-/// Reads actions up to the end of the bytes. What runs past it is refused as `past` says.
+/// Reads one action behind the other, up to the end of the bytes.
 #[tactic(auto, unfolding(crate::specs::Reading::actions_at))]
-pub fn read_actions(
+pub fn read_each_action(
     alloc: Global,
     past: PartFault,
     at: u32,
@@ -319,10 +319,26 @@ pub fn read_actions(
     Ok(actions)
 }
 
+/// Reads actions up to the end of the bytes, the first of which stands at `at`. What runs past that
+/// end is refused as `past` says.
+pub fn read_actions(
+    alloc: Global,
+    past: PartFault,
+    at: u32,
+    bytes: &[u8],
+) -> Result<Actions, PartRefused>
+    requires { at + length bytes.now < 2 ^ 32 }
+    ensures exact { Gives (λ a. a) result (actions_at past at bytes.now) }
+    ensures spelled { IfOk result (λ actions. SpellsActions actions bytes.now) }
+    ensures complete { (actions : List Action) → SpellsActions actions bytes.now → Gives (λ a. a) result (Ok actions) }
+    ensures first { TellsFirst (FaultInActionsAt at past bytes.now) result }
+{
+    read_each_action(alloc, past, at, bytes)
+}
+
 /// Reads the actions that all of the bytes spell (OpenFlow 1.3, 7.2.5).
 pub fn get_actions(alloc: Global, bytes: &[u8]) -> Result<Actions, PartRefused>
     requires { length bytes.now < 2 ^ 32 }
-    ensures exact { Gives (λ a. a) result (actions_at (fault_at (length bytes.now) PartCause.Short) 0 bytes.now) }
     ensures spelled { IfOk result (λ actions. SpellsActions actions bytes.now) }
     ensures complete { (actions : List Action) → SpellsActions actions bytes.now → Gives (λ a. a) result (Ok actions) }
     ensures first { TellsFirst (FaultInActions bytes.now) result }
@@ -331,5 +347,5 @@ pub fn get_actions(alloc: Global, bytes: &[u8]) -> Result<Actions, PartRefused>
         at: bytes.len() as u32,
         cause: PartCause::Short,
     };
-    read_actions(alloc, past, 0, bytes)
+    read_each_action(alloc, past, 0, bytes)
 }

@@ -5,9 +5,9 @@ ghost use Rattle.of_wire.specs.Numbers.{number_in};
 ghost use Rattle.of_match.specs.declared.action.Instr.{Instr};
 ghost use Rattle.of_wire.specs.Spelling.{SpellsInstrs};
 ghost use Rattle.of_wire.specs.Reading.{Gives, is_goto, has_goto, is_apply, has_apply, goto_at, applied_at, apply_at, instr_of, instr_at, instr_step, instrs_at};
-ghost use Rattle.of_wire.specs.Faults.{TellsFirst, FaultInInstrs};
+ghost use Rattle.of_wire.specs.Faults.{TellsFirst, From, FaultInInstrs};
 
-use crate::actions::{actions_len, put_actions, read_actions};
+use crate::actions::{actions_len, put_actions, read_each_action};
 use crate::fault::{PartCause, PartFault, PartRefused};
 use crate::number::{put_number, put_zeros, u8_at, u16_at};
 use crate::reading::{past_end, refused};
@@ -128,7 +128,7 @@ fn read_applied(
     let inner_past = past_end(len, bytes.len(), wrong, past);
     let (_, behind) = bytes.split_at(8);
     let (region, _) = behind.split_at((len - 8).min(behind.len()));
-    let actions = read_actions(alloc, inner_past, at + 8, region)?;
+    let actions = read_each_action(alloc, inner_past, at + 8, region)?;
     if bytes.len() < len {
         return Err(PartRefused::At(past));
     }
@@ -210,10 +210,9 @@ fn take_instr(
     Ok(taken)
 }
 
-/// `get_instrs` for instructions inside a message: the places of faults count from the message's
-/// first byte, and the first byte given here stands at `at`.
+/// Reads one instruction behind the other, up to the end of the bytes.
 #[tactic(auto, unfolding(crate::specs::Reading::instrs_at))]
-pub fn get_instrs_at(alloc: Global, at: u32, bytes: &[u8]) -> Result<Instrs, PartRefused>
+fn read_each_instr(alloc: Global, at: u32, bytes: &[u8]) -> Result<Instrs, PartRefused>
     requires { at + length bytes.now < 2 ^ 32 }
     ensures { Gives (λ i. i) result (instrs_at at bytes.now) }
 {
@@ -233,10 +232,21 @@ pub fn get_instrs_at(alloc: Global, at: u32, bytes: &[u8]) -> Result<Instrs, Par
     Ok(instrs)
 }
 
+/// `get_instrs` for instructions inside a message: the places of faults count from the message's
+/// first byte, and the first byte given here stands at `at`.
+pub fn get_instrs_at(alloc: Global, at: u32, bytes: &[u8]) -> Result<Instrs, PartRefused>
+    requires { at + length bytes.now < 2 ^ 32 }
+    ensures exact { Gives (λ i. i) result (instrs_at at bytes.now) }
+    ensures spelled { IfOk result (λ instrs. SpellsInstrs instrs bytes.now) }
+    ensures complete { (instrs : List Instr) → SpellsInstrs instrs bytes.now → Gives (λ i. i) result (Ok instrs) }
+    ensures first { TellsFirst (From at (FaultInInstrs bytes.now)) result }
+{
+    read_each_instr(alloc, at, bytes)
+}
+
 /// Reads the instructions that all of the bytes spell (OpenFlow 1.3, 7.2.4).
 pub fn get_instrs(alloc: Global, bytes: &[u8]) -> Result<Instrs, PartRefused>
     requires { length bytes.now < 2 ^ 32 }
-    ensures exact { Gives (λ i. i) result (instrs_at 0 bytes.now) }
     ensures spelled { IfOk result (λ instrs. SpellsInstrs instrs bytes.now) }
     ensures complete { (instrs : List Instr) → SpellsInstrs instrs bytes.now → Gives (λ i. i) result (Ok instrs) }
     ensures first { TellsFirst (FaultInInstrs bytes.now) result }

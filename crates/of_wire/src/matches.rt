@@ -2,7 +2,7 @@ ghost use Rattle.std.specs.Prelude.{◌≡◌, ◌≤◌, ◌<◌, ◌+◌, ◌+
 ghost use Rattle.std.specs.List.{flat_map};
 ghost use Rattle.of_wire.specs.Parts.{field_bytes, match_bytes};
 ghost use Rattle.of_wire.specs.Spelling.{SpellsMatch, SpellsMatchSeen};
-ghost use Rattle.of_wire.specs.Faults.{TellsFirst, FaultInMatch};
+ghost use Rattle.of_wire.specs.Faults.{TellsFirst, From, FaultInMatch};
 ghost use Rattle.net_base.specs.declared.field.Field.{Field};
 ghost use Rattle.of_wire.specs.Reading.{Gives, fault_at, first_fields, last_fields, field_numbered, field_named, has_mask, payload_len, wanted_len, field_value, stands, first_above, has_prerequisites, placed, known_field, known_step, unknown_step, field_step, many, fields_at, sized_match_at, match_at};
 
@@ -401,28 +401,26 @@ fn read_match(
 /// known, fields that stand twice and fields without their prerequisites are refused.
 pub fn get_match(alloc: Global, bytes: &[u8]) -> Result<(Fields, usize), PartRefused>
     requires { length bytes.now < 2 ^ 32 }
-    ensures exact { Gives (λ x. x) result (match_at true 0 bytes.now) }
     ensures taken { IfOk result (λ x. x.1 ≤ length bytes.now) }
     ensures spelled { IfOk result (λ x. SpellsMatch x.0 (take x.1 bytes.now)) }
     ensures complete { (fields : List Field) (spelling rest : List ℕ) → SpellsMatch fields spelling → bytes.now ≡ spelling ++ rest
         → Gives (λ x. x) result (Ok (fields, length spelling)) }
     ensures first { TellsFirst (FaultInMatch true bytes.now) result }
 {
-    read_match(alloc, true, 0, bytes)
+    get_match_at(alloc, 0, bytes)
 }
 
 /// Reads the match at the front of the bytes as one that a switch reports: fields that aren't
 /// known are passed over, and no field needs a prerequisite.
 pub fn get_match_seen(alloc: Global, bytes: &[u8]) -> Result<(Fields, usize), PartRefused>
     requires { length bytes.now < 2 ^ 32 }
-    ensures exact { Gives (λ x. x) result (match_at false 0 bytes.now) }
     ensures taken { IfOk result (λ x. x.1 ≤ length bytes.now) }
     ensures spelled { IfOk result (λ x. SpellsMatchSeen x.0 (take x.1 bytes.now)) }
     ensures complete { (fields : List Field) (spelling rest : List ℕ) → SpellsMatchSeen fields spelling → bytes.now ≡ spelling ++ rest
         → Gives (λ x. x) result (Ok (fields, length spelling)) }
     ensures first { TellsFirst (FaultInMatch false bytes.now) result }
 {
-    read_match(alloc, false, 0, bytes)
+    get_match_seen_at(alloc, 0, bytes)
 }
 
 /// `get_match` for a match inside a message: the places of faults count from the message's first
@@ -431,6 +429,10 @@ pub fn get_match_at(alloc: Global, at: u32, bytes: &[u8]) -> Result<(Fields, usi
     requires { at + length bytes.now < 2 ^ 32 }
     ensures exact { Gives (λ x. x) result (match_at true at bytes.now) }
     ensures taken { IfOk result (λ x. x.1 ≤ length bytes.now) }
+    ensures spelled { IfOk result (λ x. SpellsMatch x.0 (take x.1 bytes.now)) }
+    ensures complete { (fields : List Field) (spelling rest : List ℕ) → SpellsMatch fields spelling → bytes.now ≡ spelling ++ rest
+        → Gives (λ x. x) result (Ok (fields, length spelling)) }
+    ensures first { TellsFirst (From at (FaultInMatch true bytes.now)) result }
 {
     read_match(alloc, true, at, bytes)
 }
@@ -444,6 +446,10 @@ pub fn get_match_seen_at(
     requires { at + length bytes.now < 2 ^ 32 }
     ensures exact { Gives (λ x. x) result (match_at false at bytes.now) }
     ensures taken { IfOk result (λ x. x.1 ≤ length bytes.now) }
+    ensures spelled { IfOk result (λ x. SpellsMatchSeen x.0 (take x.1 bytes.now)) }
+    ensures complete { (fields : List Field) (spelling rest : List ℕ) → SpellsMatchSeen fields spelling → bytes.now ≡ spelling ++ rest
+        → Gives (λ x. x) result (Ok (fields, length spelling)) }
+    ensures first { TellsFirst (From at (FaultInMatch false bytes.now)) result }
 {
     read_match(alloc, false, at, bytes)
 }

@@ -2,7 +2,7 @@ use Rattle.std.proofs.Common.{[], refl, arith}
 use Rattle.std.proofs.lemmas.Result.{err_from_is_err_and}
 use Rattle.of_wire.specs.Reading.{action_step, actions_at}
 use Rattle.of_wire.proofs.Many.{starts, goes, ends, is_done, is_some, is_none}
-use Rattle.of_wire.proofs.actions.read_actions.Goals as goal
+use Rattle.of_wire.proofs.actions.read_each_action.Goals as goal
 
 pub loop-rest-init : goal.loop-rest-init
 unfolding actions_at

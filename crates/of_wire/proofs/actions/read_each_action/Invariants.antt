@@ -1,7 +1,7 @@
 use Rattle.std.proofs.Common.{◌≡◌, ◌+◌, length}
 use Rattle.of_wire.specs.Reading.{action_step, actions_at}
 use Rattle.of_wire.proofs.Many.{Left}
-use Rattle.of_wire.proofs.actions.read_actions.Given as goal
+use Rattle.of_wire.proofs.actions.read_each_action.Given as goal
 
 abbrev pub invariant-loop-rest : goal.invariant-loop-rest
 invariant-loop-rest l = record {

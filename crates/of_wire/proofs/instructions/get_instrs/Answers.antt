@@ -1,13 +1,6 @@
-use Rattle.std.proofs.Common.{arith}
-use Rattle.of_wire.proofs.Spelled.{instrs_spelled, instrs_read}
-use Rattle.of_wire.proofs.InstrFaults.{instrs_tell_first}
+use Rattle.of_wire.specs.Faults.{FaultInInstrs}
+use Rattle.of_wire.proofs.Told.{told_from_start}
 use Rattle.of_wire.proofs.instructions.get_instrs.Goals as goal
 
-pub returns-clause-spelled : goal.returns-clause-spelled
-returns-clause-spelled c = instrs_spelled c.args.bytes.now c.get_instrs_at.result (λ i. omega (arith, c.type_inv.bytes i)) c.get_instrs_at.ensures
-
-pub returns-clause-complete : goal.returns-clause-complete
-returns-clause-complete c = instrs_read c.args.bytes.now c.get_instrs_at.result c.get_instrs_at.ensures
-
 pub returns-clause-first : goal.returns-clause-first
-returns-clause-first c = instrs_tell_first c.args.bytes.now c.get_instrs_at.result (λ i. omega (arith, c.type_inv.bytes i)) c.get_instrs_at.ensures
+returns-clause-first c = told_from_start (FaultInInstrs c.args.bytes.now) c.get_instrs_at.result c.get_instrs_at.ensures.first

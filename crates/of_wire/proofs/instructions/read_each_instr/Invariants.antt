@@ -2,7 +2,7 @@ use Rattle.std.proofs.Common.{◌≡◌, ◌+◌, length}
 use Rattle.of_wire.specs.Reading.{instr_step, instrs_at, fault_at}
 use Rattle.of_wire.specs.declared.fault.PartCause.TheVariants.{Short}
 use Rattle.of_wire.proofs.Many.{Left}
-use Rattle.of_wire.proofs.instructions.get_instrs_at.Given as goal
+use Rattle.of_wire.proofs.instructions.read_each_instr.Given as goal
 
 abbrev pub invariant-loop-rest : goal.invariant-loop-rest
 invariant-loop-rest l = record {

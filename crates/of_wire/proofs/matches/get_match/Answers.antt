@@ -1,13 +1,7 @@
-use Rattle.std.proofs.Common.{true, arith}
-use Rattle.of_wire.proofs.Spelled.{match_spelled, match_read}
-use Rattle.of_wire.proofs.MatchFaults.{match_tells_first}
+use Rattle.std.proofs.Common.{true}
+use Rattle.of_wire.specs.Faults.{FaultInMatch}
+use Rattle.of_wire.proofs.Told.{told_from_start}
 use Rattle.of_wire.proofs.matches.get_match.Goals as goal
 
-pub returns-clause-spelled : goal.returns-clause-spelled
-returns-clause-spelled c = match_spelled true c.args.bytes.now c.read_match.result (λ i. omega (arith, c.type_inv.bytes i)) c.read_match.ensures.exact
-
-pub returns-clause-complete : goal.returns-clause-complete
-returns-clause-complete c = match_read true c.args.bytes.now c.read_match.result c.read_match.ensures.exact
-
 pub returns-clause-first : goal.returns-clause-first
-returns-clause-first c = match_tells_first true c.args.bytes.now c.read_match.result (λ i. omega (arith, c.type_inv.bytes i)) c.read_match.ensures.exact
+returns-clause-first c = told_from_start (FaultInMatch true c.args.bytes.now) c.get_match_at.result c.get_match_at.ensures.first
