@@ -1,3 +1,4 @@
 pub mod Addresses
 pub mod Cut
+pub mod Macs
 pub mod Prefixes

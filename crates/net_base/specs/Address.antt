@@ -1,10 +1,16 @@
 -- Addresses as numbers, and how they are written.
-use Rattle.std.specs.Prelude.{◌≡◌, ℕ, ◌+◌, ◌*◌, ◌/◌, ◌%◌, ◌^◌, List, [], ◌∷◌, ◌++◌, length, Bool, IsTrue, ◌==◌, nat_lt, if◌then◌else◌, slice_index, bit_and}
+use Rattle.std.specs.Prelude.{◌≡◌, ℕ, ◌+◌, ◌*◌, ◌/◌, ◌%◌, ◌^◌, ◌<◌, List, [], ◌∷◌, ◌++◌, length, Bool, IsTrue, ◌==◌, nat_lt, if◌then◌else◌, slice_index, bit_and}
+use Rattle.std.specs.List.{AllByRecursion}
 use Rattle.std.specs.Char.{digit_value, digit_char, is_ascii_hexdigit}
 use Rattle.net_base.specs.declared.address.TheConstants.{GROUP_BIT}
 use Rattle.net_base.specs.declared.address.Mac.{Mac}
 
 -- ---- Ethernet addresses as numbers
+
+-- the bytes of an Ethernet address (IEEE 802, 8.1)
+pub record IsSixBytes (bytes : List ℕ) : Type 0 where
+  pub count : length bytes ≡ 6
+  pub each : AllByRecursion (λ byte. byte < 256) bytes
 
 -- an Ethernet address as one number, its first byte the most significant one
 abbrev pub mac_value : Mac → ℕ

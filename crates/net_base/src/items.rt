@@ -1,4 +1,4 @@
-ghost use Rattle.std.specs.Prelude.{◌≡◌, [], ◌∷◌, ◌++◌, ◌<◌, ◌≤◌, ◌↔◌, length, insert, slice_get, take, IsTrue, IfOk, OnOk, OnErr, OnSome};
+ghost use Rattle.std.specs.Prelude.{◌≡◌, [], ◌∷◌, ◌++◌, ◌<◌, ◌≤◌, ◌↔◌, length, insert, slice_get, slice_set, take, remove, Some, IsTrue, IfOk, OnOk, OnErr, OnSome};
 ghost use Rattle.std.specs.Option.{option_copied};
 
 use crate::try_copy::{NoMemory, TryCopy};
@@ -89,6 +89,23 @@ impl<T: Drop> Items<T> {
 }
 
 impl<T: Drop> Items<T> {
+    /// Puts an element in the place of the one at `at`.
+    pub fn set(&mut self, at: usize, item: T)
+        requires { at < length self.old }
+        ensures { self.new ≡ slice_set self.old at item }
+    {
+        self.items[at] = item;
+    }
+
+    /// Takes out the element at a place; what stood behind it moves up.
+    pub fn remove(&mut self, at: usize) -> T
+        requires { at < length self.old }
+        ensures taken { slice_get self.old at ≡ Some result }
+        ensures left { self.new ≡ remove self.old at }
+    {
+        self.items.remove(at)
+    }
+
     /// Keeps the first `len` elements, or all where there are no more. It takes no memory.
     pub fn truncate(&mut self, len: usize)
         ensures { self.new ≡ take len self.old }

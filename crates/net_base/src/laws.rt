@@ -1,17 +1,16 @@
 //! Laws of the definitions: each function is empty, and its contract is the law.
 
 ghost use Rattle.std.specs.Prelude.{◌≡◌, ◌<◌, ◌≤◌, ◌^◌, ◌-◌, ◌/◌, ◌↔◌, Bool, true, List, ℕ, length, bit_and};
-ghost use Rattle.std.specs.List.{AllByRecursion};
 ghost use Rattle.net_base.specs.declared.address.Mac.{Mac};
 ghost use Rattle.net_base.specs.declared.field.FieldId.{FieldId};
 ghost use Rattle.net_base.specs.FieldId.{number_of};
 ghost use Rattle.net_base.specs.Field.{prefix};
 ghost use Rattle.std.specs.Cmp.Lexicographic.{pointwise};
-ghost use Rattle.net_base.specs.Address.{SpellsMac, mac_text, ip4_text, net4_text, mac_value, mac_of};
+ghost use Rattle.net_base.specs.Address.{SpellsMac, mac_text, ip4_text, net4_text, IsSixBytes, mac_value, mac_of};
 
 /// What is printed for an Ethernet address spells it.
 pub fn printed_mac()
-    ensures { (mac : List ℕ) → length mac ≡ 6 → AllByRecursion (λ byte. byte < 256) mac → SpellsMac (mac_text mac) mac }
+    ensures { (mac : List ℕ) → IsSixBytes mac → SpellsMac (mac_text mac) mac }
 {}
 
 /// A text spells one Ethernet address.
@@ -30,8 +29,10 @@ pub fn one_net4()
 {}
 
 /// An Ethernet address and its number say the same.
+#[tactic(auto, using(crate::proofs::Macs::mac_below))]
 pub fn a_mac_is_its_value()
-    ensures back { (mac : Mac) → length mac.0 ≡ 6 → AllByRecursion (λ byte. byte < 256) mac.0 → mac_of (mac_value mac) ≡ mac }
+    ensures back { (mac : Mac) → IsSixBytes mac.0 → mac_of (mac_value mac) ≡ mac }
+    ensures below { (mac : Mac) → IsSixBytes mac.0 → mac_value mac < 2 ^ 48 }
     ensures there { (value : ℕ) → value < 2 ^ 48 → mac_value (mac_of value) ≡ value }
 {}
 

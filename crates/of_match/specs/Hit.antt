@@ -1,6 +1,7 @@
 -- Which packets a match takes.
 use Rattle.std.specs.Prelude.{ℕ, ◌+◌, Bool, false, ◌==◌, List, [], ◌∷◌, Option, Some, None, bit_and}
 use Rattle.std.specs.List.{list_all}
+use Rattle.std.specs.Option.{option_map, option_map_or}
 use Rattle.net_base.specs.declared.field.Field.{Field}
 use Rattle.net_base.specs.declared.field.FieldId.{FieldId}
 use Rattle.net_base.specs.declared.field.FieldId.TheVariants.{InPort, EthDst, EthSrc, EthType, VlanVid, VlanPcp, IpProto, Ipv4Src, Ipv4Dst, TcpSrc, TcpDst, UdpSrc, UdpDst, Icmpv4Type, Icmpv4Code, ArpOp, ArpSpa, ArpTpa}
@@ -12,15 +13,18 @@ use Rattle.of_match.specs.declared.packet.Upper.{Upper}
 use Rattle.of_match.specs.declared.packet.Upper.TheVariants.{Arp, V4}
 use Rattle.of_match.specs.declared.packet.Packet.{Packet}
 
+-- the first tag of a packet, if there is one (IEEE 802.1Q, 9.3)
+abbrev pub outermost : List Tag → Option Tag
+outermost [] = None
+outermost (tag ∷ tags) = Some tag
+
 -- 0 without a tag, else 0x1000 and the outermost tag's identifier (OpenFlow 1.3, 7.2.3.7, VLAN_VID)
 abbrev pub vid_value : List Tag → ℕ
-vid_value [] = 0
-vid_value (tag ∷ tags) = 0x1000 + tag.vid
+vid_value tags = option_map_or (λ tag. 0x1000 + tag.vid) (outermost tags) 0
 
 -- the outermost tag's priority
 abbrev pub pcp_value : List Tag → Option ℕ
-pcp_value [] = None
-pcp_value (tag ∷ tags) = Some tag.pcp
+pcp_value tags = option_map (λ tag. tag.pcp) (outermost tags)
 
 -- what the transport header has of a field
 abbrev pub l4_value : FieldId → L4 → Option ℕ

@@ -5,3 +5,6 @@ pub mod Act
 pub mod FlowTables
 pub mod Pipeline
 pub mod Settled
+pub mod Same
+pub mod Shaped
+pub mod WellFormed

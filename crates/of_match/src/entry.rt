@@ -90,6 +90,25 @@ pub struct Entry {
     pub instrs: Instrs,
 }
 
+/// Equal exactly where the keys are and the instructions are.
+impl PartialEq for Entry {
+    ghost use Rattle.of_match.specs.Same.{entry_same, entry_partial_equivalence};
+
+    ghost eq = { entry_same };
+
+    ghost laws = { entry_partial_equivalence };
+
+    fn eq(&self, other: &Entry) -> bool {
+        self.key == other.key && self.instrs == other.instrs
+    }
+}
+
+impl Eq for Entry {
+    ghost use Rattle.of_match.specs.Same.{entry_equivalence};
+
+    ghost laws = { entry_equivalence };
+}
+
 /// Flow entries.
 pub type Entries = Items<Entry>;
 

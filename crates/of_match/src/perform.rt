@@ -1,4 +1,4 @@
-ghost use Rattle.std.specs.Prelude.{◌≡◌, [], ◌∷◌, ◌++◌, ◌%◌, ◌^◌, IfOk, OnOk, Some, None};
+ghost use Rattle.std.specs.Prelude.{◌≡◌, [], ◌∷◌, ◌++◌, ◌%◌, ◌^◌, IfOk, OnOk, Some, None, if◌then◌else◌};
 ghost use Rattle.of_match.specs.Act.{set_tag, set_tags, set_l4, set_upper, set_value, pushed, popped, lowered, left_by, output, sends_of, act_left, act_sends, act};
 
 use crate::action::{Action, IN_PORT};
@@ -27,153 +27,79 @@ fn low_32(value: u128) -> u32
     (value % 0x1_0000_0000) as u32
 }
 
-// The transport header with a field set, if it has the field.
-fn set_l4(id: FieldId, value: u128, l4: L4) -> L4
-    ensures { result ≡ set_l4 id value l4 }
+// Sets a field of the transport header, if it has the field.
+fn set_l4(id: FieldId, value: u128, l4: &mut L4)
+    ensures { l4.new ≡ set_l4 id value l4.old }
 {
-    match l4 {
-        L4::None => L4::None,
-        L4::Tcp { src, dst } => match id {
-            FieldId::TcpSrc => L4::Tcp {
-                src: low_16(value),
-                dst,
-            },
-            FieldId::TcpDst => L4::Tcp {
-                src,
-                dst: low_16(value),
-            },
-            _ => l4,
-        },
-        L4::Udp { src, dst } => match id {
-            FieldId::UdpSrc => L4::Udp {
-                src: low_16(value),
-                dst,
-            },
-            FieldId::UdpDst => L4::Udp {
-                src,
-                dst: low_16(value),
-            },
-            _ => l4,
-        },
-        L4::Icmp { kind, code } => match id {
-            FieldId::Icmpv4Type => L4::Icmp {
-                kind: low_8(value),
-                code,
-            },
-            FieldId::Icmpv4Code => L4::Icmp {
-                kind,
-                code: low_8(value),
-            },
-            _ => l4,
-        },
+    match (id, l4) {
+        (FieldId::TcpSrc, L4::Tcp { src, .. }) => *src = low_16(value),
+        (FieldId::TcpDst, L4::Tcp { dst, .. }) => *dst = low_16(value),
+        (FieldId::UdpSrc, L4::Udp { src, .. }) => *src = low_16(value),
+        (FieldId::UdpDst, L4::Udp { dst, .. }) => *dst = low_16(value),
+        (FieldId::Icmpv4Type, L4::Icmp { kind, .. }) => *kind = low_8(value),
+        (FieldId::Icmpv4Code, L4::Icmp { code, .. }) => *code = low_8(value),
+        _ => {}
     }
 }
 
-// The headers behind the EtherType with a field set, if they have the field.
-fn set_upper(id: FieldId, value: u128, upper: Upper) -> Upper
-    ensures { result ≡ set_upper id value upper }
+// Sets a field of the headers behind the EtherType, if they have the field.
+fn set_upper(id: FieldId, value: u128, upper: &mut Upper)
+    ensures { upper.new ≡ set_upper id value upper.old }
 {
-    match upper {
-        Upper::None => Upper::None,
-        Upper::Arp { op, spa, tpa } => match id {
-            FieldId::ArpOp => Upper::Arp {
-                op: low_16(value),
-                spa,
-                tpa,
-            },
-            FieldId::ArpSpa => Upper::Arp {
-                op,
-                spa: Ip4(low_32(value)),
-                tpa,
-            },
-            FieldId::ArpTpa => Upper::Arp {
-                op,
-                spa,
-                tpa: Ip4(low_32(value)),
-            },
-            _ => Upper::Arp { op, spa, tpa },
-        },
-        Upper::V4 {
-            src,
-            dst,
-            proto,
-            ttl,
-            l4,
-        } => match id {
-            FieldId::IpProto => Upper::V4 {
-                src,
-                dst,
-                proto: low_8(value),
-                ttl,
-                l4,
-            },
-            FieldId::Ipv4Src => Upper::V4 {
-                src: Ip4(low_32(value)),
-                dst,
-                proto,
-                ttl,
-                l4,
-            },
-            FieldId::Ipv4Dst => Upper::V4 {
-                src,
-                dst: Ip4(low_32(value)),
-                proto,
-                ttl,
-                l4,
-            },
-            _ => Upper::V4 {
-                src,
-                dst,
-                proto,
-                ttl,
-                l4: set_l4(id, value, l4),
-            },
-        },
+    match (id, upper) {
+        (FieldId::ArpOp, Upper::Arp { op, .. }) => *op = low_16(value),
+        (FieldId::ArpSpa, Upper::Arp { spa, .. }) => *spa = Ip4(low_32(value)),
+        (FieldId::ArpTpa, Upper::Arp { tpa, .. }) => *tpa = Ip4(low_32(value)),
+        (FieldId::IpProto, Upper::V4 { proto, .. }) => *proto = low_8(value),
+        (FieldId::Ipv4Src, Upper::V4 { src, .. }) => *src = Ip4(low_32(value)),
+        (FieldId::Ipv4Dst, Upper::V4 { dst, .. }) => *dst = Ip4(low_32(value)),
+        (_, Upper::V4 { l4, .. }) => set_l4(id, value, l4),
+        _ => {}
     }
 }
 
-// A tag with a field set.
-fn set_tag(id: FieldId, value: u128, tag: Tag) -> Tag
-    ensures { result ≡ set_tag id value tag }
+// Sets a field of a tag, if it is one of a tag's.
+fn set_tag(id: FieldId, value: u128, tag: &mut Tag)
+    ensures { tag.new ≡ set_tag id value tag.old }
 {
     match id {
-        FieldId::VlanVid => Tag {
-            vid: (value % 0x1000) as u16,
-            ..tag
-        },
-        FieldId::VlanPcp => Tag {
-            pcp: (value % 8) as u8,
-            ..tag
-        },
-        _ => tag,
+        FieldId::VlanVid => tag.vid = (value % 0x1000) as u16,
+        FieldId::VlanPcp => tag.pcp = (value % 8) as u8,
+        _ => {}
     }
 }
 
-// A tag in front of others.
-fn in_front(alloc: Global, tag: Tag, tags: &[Tag]) -> Result<Tags, NoMemory>
-    ensures { IfOk result (λ made. made ≡ tag ∷ tags.now) }
+// Sets a field of the outermost tag, if there is one.
+fn set_tags(id: FieldId, value: u128, tags: &mut Tags)
+    ensures { tags.new ≡ set_tags id value tags.old }
 {
-    let mut made = Tags::new(alloc);
-    made.push(tag)?;
-    made.append(tags)?;
-    Ok(made)
-}
-
-// The tags with a field of the outermost set, if there is one.
-fn set_tags(alloc: Global, id: FieldId, value: u128, tags: &[Tag]) -> Result<Tags, NoMemory>
-    ensures { IfOk result (λ made. made ≡ set_tags id value tags.now) }
-{
-    match tags {
-        [] => Ok(Tags::new(alloc)),
-        [tag, rest @ ..] => in_front(alloc, set_tag(id, value, *tag), rest),
+    if let [tag, ..] = tags.as_slice() {
+        let mut tag = *tag;
+        set_tag(id, value, &mut tag);
+        tags.set(0, tag);
     }
 }
 
-// The tags behind a new outermost one.
-fn pushed(alloc: Global, tpid: u16, tags: &[Tag]) -> Result<Tags, NoMemory>
-    ensures { IfOk result (λ made. made ≡ pushed tpid tags.now) }
+// Sets a field of the packet, if it has the field.
+fn set_value(id: FieldId, value: u128, packet: &mut Packet)
+    ensures { packet.new ≡ set_value id value packet.old }
 {
-    let (pcp, vid) = match tags {
+    match id {
+        FieldId::EthDst => packet.dst = Mac::of_value(value),
+        FieldId::EthSrc => packet.src = Mac::of_value(value),
+        FieldId::EthType => packet.eth_type = low_16(value),
+        _ => {
+            set_tags(id, value, &mut packet.tags);
+            set_upper(id, value, &mut packet.upper);
+        }
+    }
+}
+
+// Puts a new outermost tag in front.
+fn push_tag(tpid: u16, tags: &mut Tags) -> Result<(), NoMemory>
+    ensures { OnOk result (tags.new ≡ pushed tpid tags.old) }
+{
+    let (pcp, vid) = match tags.as_slice() {
         [] => (0, 0),
         [tag, ..] => (tag.pcp, tag.vid),
     };
@@ -183,85 +109,47 @@ fn pushed(alloc: Global, tpid: u16, tags: &[Tag]) -> Result<Tags, NoMemory>
         dei: false,
         vid,
     };
-    in_front(alloc, tag, tags)
+    tags.insert(0, tag)
 }
 
-// The tags without the outermost one.
-fn popped(alloc: Global, tags: &[Tag]) -> Result<Tags, NoMemory>
-    ensures { IfOk result (λ made. made ≡ popped tags.now) }
+// Takes the outermost tag off, if there is one.
+fn pop_tag(tags: &mut Tags)
+    ensures { tags.new ≡ popped tags.old }
 {
-    match tags {
-        [] => Ok(Tags::new(alloc)),
-        [_, rest @ ..] => Tags::from_slice(alloc, rest),
+    if !tags.is_empty() {
+        tags.remove(0);
     }
 }
 
-// The headers with a TTL that is one less; `None` where there is none, or it is 0 or 1.
-fn lowered(upper: Upper) -> Option<Upper>
-    ensures { result ≡ lowered upper }
+// Lowers the TTL by one; `false` where there is none, or it is 0 or 1.
+fn lower_ttl(upper: &mut Upper) -> bool
+    ensures { lowered upper.old ≡ (if result then Some upper.new else None) }
 {
     match upper {
-        Upper::V4 {
-            src,
-            dst,
-            proto,
-            ttl,
-            l4,
-        } if ttl >= 2 => Some(Upper::V4 {
-            src,
-            dst,
-            proto,
-            ttl: ttl - 1,
-            l4,
-        }),
-        _ => None,
-    }
-}
-
-// The packet with a field set, if it has the field.
-fn set_value(
-    alloc: Global,
-    id: FieldId,
-    value: u128,
-    mut packet: Packet,
-) -> Result<Packet, NoMemory>
-    ensures { IfOk result (λ left. left ≡ set_value id value packet) }
-{
-    match id {
-        FieldId::EthDst => packet.dst = Mac::of_value(value),
-        FieldId::EthSrc => packet.src = Mac::of_value(value),
-        FieldId::EthType => packet.eth_type = low_16(value),
-        _ => {
-            packet.tags = set_tags(alloc, id, value, packet.tags.as_slice())?;
-            packet.upper = set_upper(id, value, packet.upper);
+        Upper::V4 { ttl, .. } if *ttl >= 2 => {
+            *ttl -= 1;
+            true
         }
+        _ => false,
     }
-    Ok(packet)
 }
 
 // The packet that an action leaves; `None` where the packet ends.
-fn left_by(alloc: Global, action: &Action, mut packet: Packet) -> Result<Option<Packet>, NoMemory>
+fn left_by(action: &Action, mut packet: Packet) -> Result<Option<Packet>, NoMemory>
     ensures { IfOk result (λ left. left ≡ left_by action.now packet) }
 {
     match action {
-        Action::Output { .. } => Ok(Some(packet)),
-        Action::PushVlan(tpid) => {
-            packet.tags = pushed(alloc, *tpid, packet.tags.as_slice())?;
-            Ok(Some(packet))
-        }
-        Action::PopVlan => {
-            packet.tags = popped(alloc, packet.tags.as_slice())?;
-            Ok(Some(packet))
-        }
-        Action::DecTtl => match lowered(packet.upper) {
-            Some(upper) => {
-                packet.upper = upper;
-                Ok(Some(packet))
+        Action::Output { .. } => {}
+        Action::PushVlan(tpid) => push_tag(*tpid, &mut packet.tags)?,
+        Action::PopVlan => pop_tag(&mut packet.tags),
+        Action::DecTtl => {
+            if !lower_ttl(&mut packet.upper) {
+                return Ok(None);
             }
-            None => Ok(None),
-        },
-        Action::Set(field) => Ok(Some(set_value(alloc, field.id, field.value, packet)?)),
+        }
+        Action::Set(field) => set_value(field.id, field.value, &mut packet),
     }
+    Ok(Some(packet))
 }
 
 // Adds what an action sends of a packet to what was sent.
@@ -301,7 +189,7 @@ pub(crate) fn act_into(
 {
     for action in actions {
         send(alloc, action, port, &packet, outs)?;
-        packet = match left_by(alloc, action, packet)? {
+        packet = match left_by(action, packet)? {
             Some(left) => left,
             None => return Ok(None),
         };

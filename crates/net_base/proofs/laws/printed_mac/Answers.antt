@@ -2,4 +2,4 @@ use Rattle.net_base.proofs.Addresses.{mac_spelled}
 use Rattle.net_base.proofs.laws.printed_mac.Goals as goal
 
 pub returns : goal.returns
-returns c = mac_spelled
+returns c = λ mac six. mac_spelled mac six.count six.each

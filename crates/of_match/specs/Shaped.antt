@@ -1,0 +1,54 @@
+-- Packets whose parts fit their headers and agree with one another.
+use Rattle.std.specs.Prelude.{◌≡◌, ℕ, ◌<◌, ◌^◌, ◌⊎◌}
+use Rattle.std.specs.List.{AllByRecursion}
+use Rattle.net_base.specs.declared.address.Ip4.{Ip4}
+use Rattle.net_base.specs.Address.{IsSixBytes}
+use Rattle.of_match.specs.declared.packet.Tag.{Tag}
+use Rattle.of_match.specs.declared.packet.L4.{L4}
+use Rattle.of_match.specs.declared.packet.L4.TheVariants.{None as NoL4, Tcp, Udp, Icmp}
+use Rattle.of_match.specs.declared.packet.Upper.{Upper}
+use Rattle.of_match.specs.declared.packet.Upper.TheVariants.{None as NoUpper, Arp, V4}
+use Rattle.of_match.specs.declared.packet.Packet.{Packet}
+
+-- a tag's type is one that shows a tag, and its numbers fit their bits (IEEE 802.1Q, 9.5 and 9.6)
+pub record IsTag (tag : Tag) : Type 0 where
+  pub tpid : (tag.tpid ≡ 0x8100) ⊎ (tag.tpid ≡ 0x88a8)
+  pub pcp : tag.pcp < 2 ^ 3
+  pub vid : tag.vid < 2 ^ 12
+
+-- what is there of a transport header is that of the protocol
+abbrev pub AgreesWithProto : ℕ → L4 → Type 0
+AgreesWithProto proto NoL4 = Unit {0}
+AgreesWithProto proto (Tcp src dst) = proto ≡ 6
+AgreesWithProto proto (Udp src dst) = proto ≡ 17
+AgreesWithProto proto (Icmp kind code) = proto ≡ 1
+
+-- what is there behind the EtherType is what it announces
+abbrev pub AgreesWithType : ℕ → Upper → Type 0
+AgreesWithType eth_type NoUpper = Unit {0}
+AgreesWithType eth_type (Arp op spa tpa) = eth_type ≡ 0x0806
+AgreesWithType eth_type (V4 src dst proto ttl l4) = (eth_type ≡ 0x0800) × AgreesWithProto proto l4
+
+-- the numbers of a transport header fit (RFC 9293, 3.1; RFC 768; RFC 792)
+abbrev pub FitsL4 : L4 → Type 0
+FitsL4 NoL4 = Unit {0}
+FitsL4 (Tcp src dst) = (src < 2 ^ 16) × (dst < 2 ^ 16)
+FitsL4 (Udp src dst) = (src < 2 ^ 16) × (dst < 2 ^ 16)
+FitsL4 (Icmp kind code) = (kind < 2 ^ 8) × (code < 2 ^ 8)
+
+abbrev pub IsIp4 : Ip4 → Type 0
+IsIp4 address = address.0 < 2 ^ 32
+
+-- the numbers behind the EtherType fit (RFC 826; RFC 791, 3.1)
+abbrev pub FitsUpper : Upper → Type 0
+FitsUpper NoUpper = Unit {0}
+FitsUpper (Arp op spa tpa) = (op < 2 ^ 16) × IsIp4 spa × IsIp4 tpa
+FitsUpper (V4 src dst proto ttl l4) = IsIp4 src × IsIp4 dst × (proto < 2 ^ 8) × (ttl < 2 ^ 8) × FitsL4 l4
+
+pub record IsShaped (p : Packet) : Type 0 where
+  pub dst : IsSixBytes p.dst.0
+  pub src : IsSixBytes p.src.0
+  pub tags : AllByRecursion IsTag p.tags
+  pub eth_type : p.eth_type < 2 ^ 16
+  pub upper : AgreesWithType p.eth_type p.upper
+  pub numbers : FitsUpper p.upper
