@@ -1,4 +1,3 @@
-pub mod Frames
 pub mod Bodies
 pub mod PortLaws
 pub mod StatsLaws

@@ -1,5 +1,6 @@
--- Reading a message from its bytes, with the fault that is met. Places count from the first byte
--- of the frame, so the body, which is what stands behind the header, begins at 8.
+-- How the private readers go: a message from its bytes, with the fault that is met. No public clause
+-- rests on it. Places count from the first byte of the frame, so the body, which is what stands
+-- behind the header, begins at 8.
 use Rattle.std.specs.Prelude.{◌≡◌, ℕ, ◌+◌, ◌%◌, Bool, true, false, not, ◌&&◌, ◌||◌, ◌==◌, nat_lt, if◌then◌else◌, List, [], ◌∷◌, ◌++◌, length, take, drop, slice_index, slice_range, Option, Some, None, Result, Ok, Err}
 use Rattle.of_wire.specs.declared.fault.PartFault.{PartFault}
 use Rattle.of_wire.specs.declared.fault.PartCause.TheVariants.{Short, BadLength}
@@ -13,7 +14,6 @@ use Rattle.of13_codec.specs.declared.message.Message.TheVariants.{Hello, Error, 
 use Rattle.of13_codec.specs.declared.flow_mod.FlowMod.{FlowMod}
 use Rattle.of13_codec.specs.declared.ports.PortDesc.{PortDesc}
 use Rattle.of13_codec.specs.declared.ports.PortStats.{PortStats}
-use Rattle.of13_codec.specs.declared.codec.FrameHead.{FrameHead}
 use Rattle.of13_codec.specs.declared.refused.WireRefused.{WireRefused}
 use Rattle.of13_codec.specs.declared.refused.WireRefused.TheVariants.{Version, Length, Body, Memory}
 
@@ -227,9 +227,6 @@ high_at kind body =
 
 unfoldable pub body_at : (version kind : ℕ) → List ℕ → Result Message PartFault
 body_at version kind body = if nat_lt kind 10 then low_at version kind body else high_at kind body
-
-abbrev pub head_of : List ℕ → FrameHead
-head_of bytes = record { version = number_in 0 1 bytes; kind = number_in 1 1 bytes; length = number_in 2 2 bytes; xid = number_in 4 4 bytes }
 
 -- HELLO has any version from 1 on, every other message version 4
 abbrev pub is_version : (version kind : ℕ) → Bool

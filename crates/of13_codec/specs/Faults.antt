@@ -117,3 +117,11 @@ TellsFrame frame (Err Length) = (length frame < 8) ⊎ (IsVersionOf (number_in 1
 TellsFrame frame (Err Version) = (8 ≤ length frame) × (IsVersionOf (number_in 1 1 frame) (number_in 0 1 frame) → ⊥)
 TellsFrame frame (Err (Body fault)) = (8 ≤ length frame) × IsVersionOf (number_in 1 1 frame) (number_in 0 1 frame) × (number_in 2 2 frame ≡ length frame) × IsFirst (FaultInBody (number_in 1 1 frame) (drop 8 frame)) fault
 TellsFrame frame (Err Memory) = Unit {0}
+
+-- this was answered, unless memory ran out
+abbrev pub Answers : {X : Type 0} → X → Result X WireRefused → Type 0
+Answers x (Ok y) = y ≡ x
+Answers x (Err Memory) = Unit {0}
+Answers x (Err Version) = ⊥
+Answers x (Err Length) = ⊥
+Answers x (Err (Body fault)) = ⊥

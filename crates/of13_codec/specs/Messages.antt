@@ -1,9 +1,11 @@
 -- How messages are spelled (OpenFlow 1.3, 7), with zeros in all padding.
 use Rattle.std.specs.Prelude.{ℕ, ◌+◌, Bool, List, [], ◌++◌, length, Option, Some, None, if◌then◌else◌}
 use Rattle.std.specs.List.{flat_map}
+use Rattle.of_wire.specs.Numbers.{number_in}
 use Rattle.of_wire.specs.Parts.{number, zeros, match_bytes, action_bytes, instr_bytes}
 use Rattle.of13_codec.specs.declared.message.Message.{Message}
 use Rattle.of13_codec.specs.declared.message.Message.TheVariants.{Hello, Error, EchoRequest, EchoReply, FeaturesRequest, FeaturesReply as Features, PacketIn as Packet, PortStatus, PacketOut as Send, FlowMod as Change, PortDescRequest, PortStatsRequest, PortDescReply, PortStatsReply, BarrierRequest, BarrierReply, Other}
+use Rattle.of13_codec.specs.declared.codec.FrameHead.{FrameHead}
 use Rattle.of13_codec.specs.declared.features.FeaturesReply.{FeaturesReply}
 use Rattle.of13_codec.specs.declared.packet_in.PacketIn.{PacketIn}
 use Rattle.of13_codec.specs.declared.packet_out.PacketOut.{PacketOut}
@@ -134,3 +136,7 @@ framed version kind xid body = number 1 version ++ number 1 kind ++ number 2 (8 
 -- the one spelling that is sent
 unfoldable pub written : Message → ℕ → List ℕ
 written m xid = framed (version_of m) (kind_of m) xid (body_of m)
+
+-- what the front of a frame says
+abbrev pub head_of : List ℕ → FrameHead
+head_of bytes = record { version = number_in 0 1 bytes; kind = number_in 1 1 bytes; length = number_in 2 2 bytes; xid = number_in 4 4 bytes }

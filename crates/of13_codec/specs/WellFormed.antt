@@ -1,8 +1,7 @@
 -- Messages that can be written: each number fits its bytes, each list its length, and matches,
 -- actions and instructions are well formed.
 use Rattle.std.specs.Prelude.{◌≡◌, ◌+◌, ◌^◌, ◌<◌, length, IfSome}
-use Rattle.std.specs.List.{AllByRecursion, flat_map}
-use Rattle.of_wire.specs.Parts.{action_bytes}
+use Rattle.std.specs.List.{AllByRecursion}
 use Rattle.of_wire.specs.WellFormed.{IsMatch, IsMatchSeen, IsAction, AreInstrs}
 use Rattle.of13_codec.specs.declared.message.Message.{Message}
 use Rattle.of13_codec.specs.declared.message.Message.TheVariants.{Hello, Error, EchoRequest, EchoReply, FeaturesRequest, FeaturesReply as Features, PacketIn as Packet, PortStatus, PacketOut as Send, FlowMod as Change, PortDescRequest, PortStatsRequest, PortDescReply, PortStatsReply, BarrierRequest, BarrierReply, Other}
@@ -34,7 +33,6 @@ pub record IsPacketOut (m : PacketOut) : Type 0 where
   pub buffer : m.buffer < 2 ^ 32
   pub in_port : m.in_port < 2 ^ 32
   pub actions : AllByRecursion IsAction m.actions
-  pub room : length (flat_map action_bytes m.actions) < 2 ^ 16
 
 pub record IsFlowMod (m : FlowMod) : Type 0 where
   pub cookie : m.cookie < 2 ^ 64

@@ -1,11 +1,11 @@
 ghost use Rattle.std.specs.Prelude.{◌≡◌, ◌≤◌, ◌<◌, ◌++◌, ◌+◌, ◌^◌, ℕ, List, length, Ok, OnOk, OnErr, IfOk, MatchOption};
 ghost use Rattle.of_wire.specs.Reading.{Gives};
 ghost use Rattle.of_wire.specs.Numbers.{number_in};
-ghost use Rattle.of13_codec.specs.Decoding.{error_at, other_at, bare_at, echo_request_at, echo_reply_at, low_at, high_at, body_at, is_version, decoded, Decodes, head_of};
+ghost use Rattle.of13_codec.specs.Decoding.{error_at, other_at, bare_at, echo_request_at, echo_reply_at, low_at, high_at, body_at, is_version, decoded, Decodes};
 ghost use Rattle.of13_codec.specs.declared.message.Message.{Message};
-ghost use Rattle.of13_codec.specs.Messages.{body_of, error_bytes, framed, written};
+ghost use Rattle.of13_codec.specs.Messages.{body_of, error_bytes, framed, written, head_of};
 ghost use Rattle.of13_codec.specs.Spelling.{Spells};
-ghost use Rattle.of13_codec.specs.Faults.{TellsFrame};
+ghost use Rattle.of13_codec.specs.Faults.{TellsFrame, Answers};
 ghost use Rattle.of13_codec.specs.WellFormed.{IsWellFormed, FitsFrame};
 
 use crate::features::{put_features, read_features};
@@ -134,7 +134,9 @@ fn read_error(alloc: Global, body: &[u8]) -> Result<Message, PartRefused>
     requires { length body.now < 2 ^ 16 }
     ensures { Gives (λ m. m) result (error_at body.now) }
 {
-    at_least(4, body)?;
+    if let Err(fault) = at_least(4, body) {
+        return Err(PartRefused::At(fault));
+    }
     let (_, data) = body.split_at(4);
     let payload = Bytes::from_slice(alloc, data)?;
     Ok(Message::Error {
@@ -161,7 +163,9 @@ fn read_bare(message: Message, body: &[u8]) -> Result<Message, PartRefused>
     requires { length body.now < 2 ^ 16 }
     ensures { Gives (λ m. m) result (bare_at message body.now) }
 {
-    exactly(0, body)?;
+    if let Err(fault) = exactly(0, body) {
+        return Err(PartRefused::At(fault));
+    }
     Ok(message)
 }
 
@@ -252,9 +256,8 @@ fn read_frame(alloc: Global, frame: &[u8]) -> Result<(Message, u32), WireRefused
 /// header is `Length`, then come a wrong version, a length that isn't the frame's, and the first
 /// fault of the body, whose place counts from the frame's first byte.
 pub fn decode(alloc: Global, frame: &[u8]) -> Result<(Message, u32), WireRefused>
-    ensures exact { Decodes result (decoded frame.now) }
     ensures spelled { IfOk result (λ x. Spells x.0 x.1 frame.now) }
-    ensures complete { (m : Message) (xid : ℕ) → Spells m xid frame.now → Decodes result (Ok (m, xid)) }
+    ensures complete { (m : Message) (xid : ℕ) → Spells m xid frame.now → Answers (m, xid) result }
     ensures first { TellsFrame frame.now result }
 {
     read_frame(alloc, frame)

@@ -44,7 +44,9 @@ pub fn read_features(body: &[u8]) -> Result<Message, PartRefused>
     requires { length body.now < 2 ^ 16 }
     ensures { Gives (λ m. m) result (features_at body.now) }
 {
-    exactly(24, body)?;
+    if let Err(fault) = exactly(24, body) {
+        return Err(PartRefused::At(fault));
+    }
     Ok(Message::FeaturesReply(FeaturesReply {
         dp: DpId(u64_at(body, 0)),
         n_buffers: u32_at(body, 8),

@@ -118,7 +118,9 @@ pub fn read_flow_mod(alloc: Global, body: &[u8]) -> Result<Message, PartRefused>
     requires { length body.now < 2 ^ 16 }
     ensures { Gives (λ m. m) result (flow_mod_at body.now) }
 {
-    at_least(40, body)?;
+    if let Err(fault) = at_least(40, body) {
+        return Err(PartRefused::At(fault));
+    }
     let (_, behind) = body.split_at(40);
     let (fields, taken) = get_match_at(alloc, 48, behind)?;
     let (_, rest) = behind.split_at(taken);

@@ -1,33 +1,20 @@
 //! Laws of the definitions: each function is empty, and its contract is the law.
 
-ghost use Rattle.std.specs.Prelude.{◌≡◌, ◌<◌, ◌≤◌, ◌+◌, ◌++◌, ◌^◌, ℕ, List, [], length, drop, slice_index, true, Ok};
+ghost use Rattle.std.specs.Prelude.{◌≡◌, ◌<◌, ◌≤◌, ◌+◌, ◌++◌, ◌^◌, ℕ, List, [], length, drop, slice_index};
 ghost use Rattle.of_wire.specs.declared.fault.PartFault.{PartFault};
 ghost use Rattle.of_wire.specs.Numbers.{number_in};
 ghost use Rattle.of_wire.specs.Faults.{IsFirst, SpelledOrFaulty};
 ghost use Rattle.of13_codec.specs.Faults.{IsVersionOf, FaultInBody};
 ghost use Rattle.of13_codec.specs.declared.message.Message.{Message};
-ghost use Rattle.of13_codec.specs.Messages.{version_of, kind_of, body_of, framed, written};
+ghost use Rattle.of13_codec.specs.Messages.{written};
 ghost use Rattle.of13_codec.specs.Spelling.{Spells};
 ghost use Rattle.of13_codec.specs.WellFormed.{IsWellFormed, FitsFrame};
-ghost use Rattle.of13_codec.specs.Decoding.{is_version, with_xid, body_at, decoded};
 
-/// No frame that spells a message is the front of another that does.
-pub fn no_frame_begins_another()
-    ensures { (frame rest : List ℕ) (x y : Message × ℕ) → decoded frame ≡ Ok x → decoded (frame ++ rest) ≡ Ok y → rest ≡ [] }
-{}
-
-/// The header that is written is read again, so that a message is read from what is written of it
-/// exactly where its body is.
-pub fn header_is_read_again()
-    ensures { (m : Message) (xid : ℕ) → is_version (version_of m) (kind_of m) ≡ true → version_of m < 256 → kind_of m < 256
-        → 8 + length (body_of m) < 2 ^ 16 → xid < 2 ^ 32
-        → decoded (written m xid) ≡ with_xid xid (body_at (version_of m) (kind_of m) (body_of m)) }
-{}
-
-/// What is written of a well-formed message that fits spells it, so that it is read again.
+/// What is written of a well-formed message that fits spells it and no other, so that it is decoded
+/// again.
 pub fn written_message_is_spelled()
     ensures spelled { (m : Message) (xid : ℕ) → IsWellFormed m → FitsFrame m → xid < 2 ^ 32 → Spells m xid (written m xid) }
-    ensures read { (m : Message) (xid : ℕ) → IsWellFormed m → FitsFrame m → xid < 2 ^ 32 → decoded (written m xid) ≡ Ok (m, xid) }
+    ensures alone { (m n : Message) (xid id : ℕ) → IsWellFormed m → FitsFrame m → xid < 2 ^ 32 → Spells n id (written m xid) → (n ≡ m) × (id ≡ xid) }
 {}
 
 /// Bytes spell one message, with one transaction id.

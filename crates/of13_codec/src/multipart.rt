@@ -78,7 +78,9 @@ fn read_port_desc_request(body: &[u8]) -> Result<Message, PartRefused>
     requires { length body.now < 2 ^ 16 }
     ensures { Gives (λ m. m) result (port_desc_request_at body.now) }
 {
-    exactly(8, body)?;
+    if let Err(fault) = exactly(8, body) {
+        return Err(PartRefused::At(fault));
+    }
     Ok(Message::PortDescRequest)
 }
 
@@ -86,7 +88,9 @@ fn read_port_stats_request(body: &[u8]) -> Result<Message, PartRefused>
     requires { length body.now < 2 ^ 16 }
     ensures { Gives (λ m. m) result (port_stats_request_at body.now) }
 {
-    exactly(16, body)?;
+    if let Err(fault) = exactly(16, body) {
+        return Err(PartRefused::At(fault));
+    }
     Ok(Message::PortStatsRequest {
         port: u32_at(body, 8),
     })
@@ -105,7 +109,9 @@ pub fn read_request(alloc: Global, body: &[u8]) -> Result<Message, PartRefused>
     requires { length body.now < 2 ^ 16 }
     ensures { Gives (λ m. m) result (request_at body.now) }
 {
-    at_least(8, body)?;
+    if let Err(fault) = at_least(8, body) {
+        return Err(PartRefused::At(fault));
+    }
     match u128::from(u16_at(body, 0)) {
         PORT_DESC => read_port_desc_request(body),
         PORT_STATS => read_port_stats_request(body),
@@ -219,7 +225,9 @@ pub fn read_reply(alloc: Global, body: &[u8]) -> Result<Message, PartRefused>
     requires { length body.now < 2 ^ 16 }
     ensures { Gives (λ m. m) result (reply_at body.now) }
 {
-    at_least(8, body)?;
+    if let Err(fault) = at_least(8, body) {
+        return Err(PartRefused::At(fault));
+    }
     match u128::from(u16_at(body, 0)) {
         PORT_DESC => read_port_desc_reply(alloc, body),
         PORT_STATS => read_port_stats_reply(alloc, body),

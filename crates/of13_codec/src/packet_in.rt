@@ -91,7 +91,9 @@ pub fn read_packet_in(alloc: Global, body: &[u8]) -> Result<Message, PartRefused
     requires { length body.now < 2 ^ 16 }
     ensures { Gives (λ m. m) result (packet_in_at body.now) }
 {
-    at_least(16, body)?;
+    if let Err(fault) = at_least(16, body) {
+        return Err(PartRefused::At(fault));
+    }
     let (_, behind) = body.split_at(16);
     let (fields, taken) = get_match_seen_at(alloc, 24, behind)?;
     let (_, rest) = behind.split_at(taken);

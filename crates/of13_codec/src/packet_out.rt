@@ -78,6 +78,8 @@ pub fn read_packet_out(alloc: Global, body: &[u8]) -> Result<Message, PartRefuse
     requires { length body.now < 2 ^ 16 }
     ensures { Gives (λ m. m) result (packet_out_at body.now) }
 {
-    at_least(16, body)?;
+    if let Err(fault) = at_least(16, body) {
+        return Err(PartRefused::At(fault));
+    }
     read_packet_out_with(alloc, usize::from(u16_at(body, 8)), body)
 }

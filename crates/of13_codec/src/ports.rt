@@ -142,7 +142,9 @@ pub fn read_port_status(alloc: Global, body: &[u8]) -> Result<Message, PartRefus
     requires { length body.now < 2 ^ 16 }
     ensures { Gives (λ m. m) result (port_status_at body.now) }
 {
-    exactly(72, body)?;
+    if let Err(fault) = exactly(72, body) {
+        return Err(PartRefused::At(fault));
+    }
     let (_, bytes) = body.split_at(8);
     let port = port_of(alloc, bytes)?;
     Ok(Message::PortStatus {

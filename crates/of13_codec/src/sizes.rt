@@ -1,8 +1,7 @@
 ghost use Rattle.std.specs.Prelude.{◌≡◌, ◌≤◌, ◌<◌, ◌^◌, length, IfOk};
-ghost use Rattle.of_wire.specs.Reading.{Gives};
 ghost use Rattle.of13_codec.specs.Decoding.{short, at_least, exactly};
 
-use of_wire::{PartCause, PartFault, PartRefused, refused};
+use of_wire::{PartCause, PartFault};
 
 /// The fault of a body that ends too early. Bodies begin at byte 8 of their frame.
 pub fn short(body: &[u8]) -> PartFault
@@ -17,29 +16,32 @@ pub fn short(body: &[u8]) -> PartFault
 
 /// Wants a body of at least so many bytes.
 #[tactic(auto, unfolding(crate::specs::Decoding::at_least))]
-pub fn at_least(size: usize, body: &[u8]) -> Result<usize, PartRefused>
+pub fn at_least(size: usize, body: &[u8]) -> Result<usize, PartFault>
     requires { length body.now < 2 ^ 16 }
-    ensures exact { Gives (λ n. n) result (at_least size body.now) }
+    ensures exact { result ≡ at_least size body.now }
     ensures there { IfOk result (λ n. size ≤ length body.now) }
 {
     if body.len() < size {
-        return Err(PartRefused::At(short(body)));
+        return Err(short(body));
     }
     Ok(size)
 }
 
 /// Wants a body of exactly so many bytes.
 #[tactic(auto, unfolding(crate::specs::Decoding::exactly))]
-pub fn exactly(size: usize, body: &[u8]) -> Result<usize, PartRefused>
+pub fn exactly(size: usize, body: &[u8]) -> Result<usize, PartFault>
     requires { length body.now < 2 ^ 16 }
-    ensures exact { Gives (λ n. n) result (exactly size body.now) }
+    ensures exact { result ≡ exactly size body.now }
     ensures there { IfOk result (λ n. length body.now ≡ size) }
 {
     if body.len() < size {
-        return Err(PartRefused::At(short(body)));
+        return Err(short(body));
     }
     if size < body.len() {
-        return Err(refused(8 + size as u32, PartCause::BadLength));
+        return Err(PartFault {
+            at: 8 + size as u32,
+            cause: PartCause::BadLength,
+        });
     }
     Ok(size)
 }
