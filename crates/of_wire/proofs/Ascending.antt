@@ -8,8 +8,8 @@ use Rattle.net_base.specs.declared.field.FieldId.{FieldId}
 use Rattle.net_base.specs.declared.field.FieldId.TheVariants.{InPort, EthDst, EthSrc, EthType, VlanVid, VlanPcp, IpProto, Ipv4Src, Ipv4Dst, TcpSrc, TcpDst, UdpSrc, UdpDst, Icmpv4Type, Icmpv4Code, ArpOp, ArpSpa, ArpTpa}
 use Rattle.net_base.specs.FieldId.{number_of}
 use Rattle.net_base.specs.declared.field.Prerequisite.{Prerequisite}
-use Rattle.net_base.specs.declared.field.Prerequisite.TheVariants.{Tagged, Exactly}
-use Rattle.of_match.specs.WellFormed.{meets, has_prerequisite}
+use Rattle.net_base.specs.declared.field.Prerequisite.TheVariants.{Tagged, Exactly, Either}
+use Rattle.net_base.specs.WellFormed.{is_whole, meets, has_prerequisite}
 use Rattle.of_wire.specs.Reading.{placed, placed_at, first_above, stands}
 
 abbrev pub AreBelow : ℕ → List Field → Type 0
@@ -29,6 +29,10 @@ below_more m n (g ∷ fields) h k = (omega (arith, h.0), below_more m n fields h
 pub from_above : (n : ℕ) (fields : List Field) → AllByRecursion (λ g. n < number_of g.id) fields → AreFrom n fields
 from_above n [] h = tt
 from_above n (g ∷ fields) h = (omega (arith, h.0), from_above n fields h.1)
+
+pub from_below : (n : ℕ) (fields : List Field) → AllByRecursion (λ g. n < number_of g.id) fields → AreFrom (suc n) fields
+from_below n [] h = tt
+from_below n (g ∷ fields) h = (omega (arith, h.0), from_below n fields h.1)
 
 none_above : (n : ℕ) (fields : List Field) → AreBelow n fields → length fields ≤ position_or_len (λ (g : Field). ltb n (number_of g.id)) fields
 none_above n [] h = omega arith
@@ -55,14 +59,15 @@ stands_not id (g ∷ fields) h = or_from _ _ (ne_eqb _ _ (λ e. omega (arith, e,
 abbrev asked : Prerequisite → ℕ
 asked Tagged = number_of VlanVid
 asked (Exactly id value) = number_of id
+asked (Either id first second) = number_of id
+
+not_whole : (id : FieldId) (f : Field) → number_of id < number_of f.id → is_whole id f ≡ false
+not_whole id f h = and_left (eqb (number_of f.id) (number_of id)) _ (ne_eqb _ _ (λ e. omega (arith, e, h)))
 
 meets_not : (p : Prerequisite) (f : Field) → asked p < number_of f.id → meets p f ≡ false
-meets_not Tagged f h =
-    let ne : number_of f.id ≡ number_of VlanVid → ⊥ = λ e. omega (arith, e, h) in
-    and_left (eqb (number_of f.id) (number_of VlanVid)) _ (ne_eqb _ _ ne)
-meets_not (Exactly id value) f h =
-    let ne : number_of f.id ≡ number_of id → ⊥ = λ e. omega (arith, e, h) in
-    and_left (eqb (number_of f.id) (number_of id)) _ (ne_eqb _ _ ne)
+meets_not Tagged f h = and_left (eqb (number_of f.id) (number_of VlanVid)) _ (ne_eqb _ _ (λ e. omega (arith, e, h)))
+meets_not (Exactly id value) f h = and_left (is_whole id f) _ (not_whole id f h)
+meets_not (Either id first second) f h = and_left (is_whole id f) _ (not_whole id f h)
 
 none_meets : (p : Prerequisite) (n : ℕ) (fields : List Field) → asked p < n → AreFrom n fields → list_any (meets p) fields ≡ false
 none_meets p n [] k h = refl

@@ -1,47 +1,40 @@
 -- The most bytes that parts take.
-use Rattle.std.proofs.Common.{ℕ, ◌+◌, ◌-◌, ◌*◌, ◌%◌, ◌≤◌, inl, inr, List, [], ◌∷◌, ◌++◌, length, replicate, arith}
+use Rattle.std.proofs.Common.{ℕ, suc, ◌+◌, ◌<◌, ◌^◌, ◌-◌, ◌*◌, ◌%◌, ◌≤◌, inl, inr, List, [], ◌∷◌, ◌++◌, length, replicate, arith}
 use Rattle.std.specs.List.{flat_map}
 use Rattle.std.proofs.lemmas.Bool.Decides.{eqb_tells}
 use Rattle.std.proofs.lemmas.List.{length-append, length-replicate}
 use Rattle.net_base.specs.declared.field.Field.{Field}
-use Rattle.net_base.specs.declared.field.FieldId.{FieldId}
-use Rattle.net_base.specs.declared.field.FieldId.TheVariants.{InPort, EthDst, EthSrc, EthType, VlanVid, VlanPcp, IpProto, Ipv4Src, Ipv4Dst, TcpSrc, TcpDst, UdpSrc, UdpDst, Icmpv4Type, Icmpv4Code, ArpOp, ArpSpa, ArpTpa}
-use Rattle.net_base.specs.FieldId.{byte_len_of, all_ones}
+use Rattle.net_base.specs.FieldId.{number_of, all_ones}
 use Rattle.of_match.specs.declared.action.Action.{Action}
 use Rattle.of_match.specs.declared.action.Action.TheVariants.{Output, PushVlan, PopVlan, DecTtl, Set}
 use Rattle.of_wire.specs.Parts.{number, field_bytes, match_bytes, action_bytes}
+use Rattle.net_base.specs.WellFormed.{AreAscending}
+use Rattle.of_wire.proofs.Ascending.{AreFrom, from_below}
+use Rattle.of_wire.proofs.FieldNames.{most_bytes, low_number}
 use Rattle.of_wire.proofs.Lengths.{number_length, set_length, field_plain, field_masked, output_length, push_length, bare_length}
-
-six : (id : FieldId) → byte_len_of id ≤ 6
-six InPort = omega arith
-six EthDst = omega arith
-six EthSrc = omega arith
-six EthType = omega arith
-six VlanVid = omega arith
-six VlanPcp = omega arith
-six IpProto = omega arith
-six Ipv4Src = omega arith
-six Ipv4Dst = omega arith
-six TcpSrc = omega arith
-six TcpDst = omega arith
-six UdpSrc = omega arith
-six UdpDst = omega arith
-six Icmpv4Type = omega arith
-six Icmpv4Code = omega arith
-six ArpOp = omega arith
-six ArpSpa = omega arith
-six ArpTpa = omega arith
 
 field_most : (f : Field) → length (field_bytes f) ≤ 16
 field_most f =
     elim (eqb_tells f.mask (all_ones f.id)) [
-      | inl same ↦ omega (arith, field_plain f same.1, six f.id)
-      | inr other ↦ omega (arith, field_masked f other.1, six f.id)
+      | inl same ↦ omega (arith, field_plain f same.1, most_bytes f.id)
+      | inr other ↦ omega (arith, field_masked f other.1, most_bytes f.id)
     ]
 
 pub fields_most : (fields : List Field) → length (flat_map field_bytes fields) ≤ 16 * length fields
 fields_most [] = omega arith
 fields_most (f ∷ more) = omega (arith, length-append (field_bytes f) (flat_map field_bytes more), field_most f, fields_most more)
+
+-- fields that ascend are few, since each has a number of its own below 24
+few : (n : ℕ) (fields : List Field) → n ≤ 24 → AreAscending fields → AreFrom n fields → n + length fields ≤ 24
+few n [] least a from = omega (arith, least)
+few n (f ∷ more) least a from = omega (arith, few (suc (number_of f.id)) more (omega (arith, low_number f.id)) a.1 (from_below (number_of f.id) more a.0), from.0)
+
+from_zero : (fields : List Field) → AreFrom 0 fields
+from_zero [] = tt
+from_zero (f ∷ more) = (omega arith, from_zero more)
+
+pub ascending_fit : (fields : List Field) → AreAscending fields → 4 + length (flat_map field_bytes fields) < 2 ^ 16
+ascending_fit fields a = omega (arith, fields_most fields, few 0 fields (omega arith) a (from_zero fields))
 
 pub match_most : (fields : List Field) → length (match_bytes fields) ≤ 11 + 16 * length fields
 match_most fields =

@@ -5,7 +5,7 @@ use Rattle.std.proofs.lemmas.List.{append-nil}
 use Rattle.net_base.specs.declared.field.Field.{Field}
 use Rattle.net_base.specs.declared.field.FieldId.{FieldId}
 use Rattle.net_base.specs.FieldId.{byte_len_of}
-use Rattle.of_match.specs.WellFormed.{has_prerequisite}
+use Rattle.net_base.specs.WellFormed.{has_prerequisite}
 use Rattle.of_wire.specs.declared.fault.PartFault.{PartFault}
 use Rattle.of_wire.specs.declared.fault.PartCause.{PartCause}
 use Rattle.of_wire.specs.declared.fault.PartCause.TheVariants.{BadClass, BadLength, Repeated, Prerequisite}

@@ -8,7 +8,7 @@ use Rattle.net_base.specs.declared.field.Field.{Field}
 use Rattle.net_base.specs.declared.field.FieldId.{FieldId}
 use Rattle.net_base.specs.FieldId.{number_of, prerequisite_of}
 use Rattle.net_base.specs.declared.field.Prerequisite.{Prerequisite}
-use Rattle.of_match.specs.WellFormed.{meets, has_prerequisite}
+use Rattle.net_base.specs.WellFormed.{meets, has_prerequisite}
 use Rattle.of_wire.specs.Reading.{has_prerequisites, placed, placed_at, first_above, stands}
 use Rattle.of_wire.specs.Spelling.{known, in_order, in_order_onto}
 

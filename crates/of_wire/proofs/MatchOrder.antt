@@ -7,7 +7,7 @@ use Rattle.std.specs.declared.cmp.Ordering.{Ordering}
 use Rattle.std.specs.declared.cmp.Ordering.TheVariants.{Less, Equal, Greater}
 use Rattle.std.specs.Ordering.{nat_cmp, bool_cmp, ordering_then}
 use Rattle.std.specs.Cmp.Lexicographic.{slice_cmp}
-use Rattle.std.proofs.lemmas.Bool.{eqb-true, eqb-false}
+use Rattle.std.proofs.lemmas.Bool.{eqb-true, eqb-false, not-true, not-false}
 use Rattle.std.proofs.lemmas.Bool.Decides.{nat_tests}
 use Rattle.std.proofs.lemmas.Cmp.{ranked, by_ranked, tied_itself, nat_list_cmp_total}
 use Rattle.std.proofs.lemmas.List.{length-append}
@@ -16,12 +16,13 @@ use Rattle.std.proofs.lemmas.Nat.{mod-pow-add, row_fits, pow_pos, mod_below}
 use Rattle.byteorder.proofs.Bytes.{pow256}
 use Rattle.net_base.specs.declared.field.Field.{Field}
 use Rattle.net_base.specs.declared.field.FieldId.{FieldId}
-use Rattle.net_base.specs.declared.field.FieldId.TheVariants.{InPort, EthDst, EthSrc, EthType, VlanVid, VlanPcp, IpProto, Ipv4Src, Ipv4Dst, TcpSrc, TcpDst, UdpSrc, UdpDst, Icmpv4Type, Icmpv4Code, ArpOp, ArpSpa, ArpTpa}
 use Rattle.net_base.specs.FieldId.{number_of, byte_len_of, all_ones}
-use Rattle.of_match.specs.KeyOrder.{all_ones as ones_of, is_masked, field_len, field_cmp, match_cmp}
+use Rattle.of_match.specs.KeyOrder.{is_masked, field_len, field_cmp, match_cmp}
 use Rattle.of_match.specs.KeyLaws.{exact_numbers}
-use Rattle.of_match.specs.WellFormed.{Fits, AreAscending, IsWellFormed}
+use Rattle.net_base.specs.WellFormed.{Fits, AreAscending, IsWellFormed}
 use Rattle.of_wire.specs.Parts.{number, field_bytes, match_bytes}
+use Rattle.of_wire.proofs.Bounds.{ascending_fit}
+use Rattle.of_wire.proofs.FieldNames.{low_number}
 use Rattle.of_wire.proofs.Lengths.{number_length, field_plain, field_masked}
 
 abbrev lex : List ℕ → List ℕ → Ordering
@@ -114,9 +115,6 @@ number_same n v xs ys = lex_append (number n v) (number n v) xs ys refl ∙ ap (
 
 -- ---- a field
 
-ones_same : (id : FieldId) → ones_of (byte_len_of id) ≡ all_ones id
-ones_same id = ap (λ m. m - 1) (pow256 (byte_len_of id))
-
 -- number and mask flag
 abbrev head_of : Bool → ℕ → ℕ
 head_of false n = 2 * n
@@ -128,18 +126,10 @@ tail_of false len value mask = number 1 len ++ number len value
 tail_of true len value mask = number 1 (2 * len) ++ (number len value ++ number len mask)
 
 full : (f : Field) → is_masked f ≡ false → eqb f.mask (all_ones f.id) ≡ true
-full f e = eq-eqb f.mask (all_ones f.id) (eqb-true f.mask (ones_of (byte_len_of f.id)) (not_false (eqb f.mask (ones_of (byte_len_of f.id))) e) ∙ ones_same f.id)
-  where
-    not_false : (b : Bool) → not b ≡ false → b ≡ true
-    not_false true e = refl
-    not_false false e = absurd cc
+full f e = not-false (eqb f.mask (all_ones f.id)) e
 
 part : (f : Field) → is_masked f ≡ true → eqb f.mask (all_ones f.id) ≡ false
-part f e = ap (eqb f.mask) (sym (ones_same f.id)) ∙ not_true (eqb f.mask (ones_of (byte_len_of f.id))) e
-  where
-    not_true : (b : Bool) → not b ≡ true → b ≡ false
-    not_true true e = absurd cc
-    not_true false e = refl
+part f e = not-true (eqb f.mask (all_ones f.id)) e
 
 parts_of : (f : Field) (m : Bool) → is_masked f ≡ m → field_bytes f ≡ (number 2 0x8000 ++ number 1 (head_of m (number_of f.id))) ++ tail_of m (byte_len_of f.id) f.value f.mask
 parts_of f false e = rw (full f e) (simp append_assoc)
@@ -201,54 +191,11 @@ tail_lex true len v k w l p q hv hk hw hl same =
     ∙ ap (λ o. ordering_then o (lex p q)) (number_same 1 (2 * len) (number len v ++ number len k) (number len w ++ number len l)
     ∙ lex_append (number len v) (number len w) (number len k) (number len l) (number_length len v ∙ sym (number_length len w)) ∙ (λ i. ordering_then (number_lex len v w hv hw i) (number_lex len k l hk hl i)))
 
-number_below : (id : FieldId) → number_of id < 24
-number_below InPort = omega arith
-number_below EthDst = omega arith
-number_below EthSrc = omega arith
-number_below EthType = omega arith
-number_below VlanVid = omega arith
-number_below VlanPcp = omega arith
-number_below IpProto = omega arith
-number_below Ipv4Src = omega arith
-number_below Ipv4Dst = omega arith
-number_below TcpSrc = omega arith
-number_below TcpDst = omega arith
-number_below UdpSrc = omega arith
-number_below UdpDst = omega arith
-number_below Icmpv4Type = omega arith
-number_below Icmpv4Code = omega arith
-number_below ArpOp = omega arith
-number_below ArpSpa = omega arith
-number_below ArpTpa = omega arith
-
 small : (id : FieldId) (m : Bool) → head_of m (number_of id) < 256
-small id false = omega (arith, number_below id)
-small id true = omega (arith, number_below id)
-
-len_below : (id : FieldId) → byte_len_of id ≤ 6
-len_below InPort = omega arith
-len_below EthDst = omega arith
-len_below EthSrc = omega arith
-len_below EthType = omega arith
-len_below VlanVid = omega arith
-len_below VlanPcp = omega arith
-len_below IpProto = omega arith
-len_below Ipv4Src = omega arith
-len_below Ipv4Dst = omega arith
-len_below TcpSrc = omega arith
-len_below TcpDst = omega arith
-len_below UdpSrc = omega arith
-len_below UdpDst = omega arith
-len_below Icmpv4Type = omega arith
-len_below Icmpv4Code = omega arith
-len_below ArpOp = omega arith
-len_below ArpSpa = omega arith
-len_below ArpTpa = omega arith
+small id false = omega (arith, low_number id)
+small id true = omega (arith, low_number id)
 
 module _ (f g : Field) (fits_f : Fits f) (fits_g : Fits g) (p q : List ℕ) where
-  fits : (x : ℕ) (id : FieldId) → x ≤ ones_of (byte_len_of id) → x ≤ 2 ^ (8 * byte_len_of id) - 1
-  fits x id le = subst (λ m. x ≤ m) (ones_same id) le
-
   field_at : (m n : Bool) → is_masked f ≡ m → is_masked g ≡ n → lex (field_bytes f ++ p) (field_bytes g ++ q) ≡ ordering_then (field_cmp f g) (lex p q)
   field_at m n e d =
       let values = ordering_then (nat_cmp f.value g.value) (nat_cmp f.mask g.mask) in
@@ -283,9 +230,9 @@ module _ (f g : Field) (fits_f : Fits f) (fits_g : Fits g) (p q : List ℕ) wher
           let both = equal_parts (nat_cmp (number_of f.id) (number_of g.id)) (bool_cmp m n) same in
           let id : f.id ≡ g.id = exact_numbers f.id g.id (cmp_same (number_of f.id) (number_of g.id) both.0) in
           let flag : m ≡ n = bools m n both.1 in
-          let fit : (x : ℕ) → x ≤ ones_of (byte_len_of g.id) → x ≤ 2 ^ (8 * byte_len_of f.id) - 1 = λ x le. subst (λ (i : FieldId). x ≤ 2 ^ (8 * byte_len_of i) - 1) (sym id) (fits x g.id le) in
+          let fit : (x : ℕ) → x ≤ all_ones g.id → x ≤ 2 ^ (8 * byte_len_of f.id) - 1 = λ x le. subst (λ (i : FieldId). x ≤ 2 ^ (8 * byte_len_of i) - 1) (sym id) le in
           (λ i. lex (tail_of m (byte_len_of f.id) f.value f.mask ++ p) (tail_of (sym flag i) (byte_len_of (sym id i)) g.value g.mask ++ q))
-          ∙ tail_lex m (byte_len_of f.id) f.value f.mask g.value g.mask p q (fits f.value f.id fits_f.value) (fits f.mask f.id fits_f.mask) (fit g.value fits_g.value) (fit g.mask fits_g.mask) (masks g.id id refl flag)
+          ∙ tail_lex m (byte_len_of f.id) f.value f.mask g.value g.mask p q fits_f.value fits_f.mask (fit g.value fits_g.value) (fit g.mask fits_g.mask) (masks g.id id refl flag)
 
   field_lex : lex (field_bytes f ++ p) (field_bytes g ++ q) ≡ ordering_then (field_cmp f g) (lex p q)
   field_lex = field_at (is_masked f) (is_masked g) refl refl
@@ -310,30 +257,8 @@ fields_length [] = refl
 fields_length (f ∷ a) =
     sum_by-cons field_len f a ∙ (λ i. field_length f (is_masked f) refl i + fields_length a i) ∙ sym (length-append (field_bytes f) (flat_map field_bytes a))
 
-field_most : (f : Field) (m : Bool) → is_masked f ≡ m → field_len f ≤ 16
-field_most f false e = rw e (omega (arith, len_below f.id))
-field_most f true e = rw e (omega (arith, len_below f.id))
-
-fields_most : (a : List Field) → sum_by field_len a ≤ 16 * length a
-fields_most [] = omega arith
-fields_most (f ∷ a) = omega (arith, sum_by-cons field_len f a, field_most f (is_masked f) refl, fields_most a)
-
--- fields of rising numbers are no more than there are numbers
-few : (n : ℕ) (a : List Field) → n ≤ 24 → AreAscending a → AllByRecursion (λ f. n ≤ number_of f.id) a → length a + n ≤ 24
-few n [] le up from = omega arith
-few n (f ∷ a) le up from =
-    omega (arith, from.0, few (suc (number_of f.id)) a (omega (arith, number_below f.id)) up.1 (raised a up.0))
-  where
-    raised : (b : List Field) → AllByRecursion (λ g. number_of f.id < number_of g.id) b → AllByRecursion (λ g. suc (number_of f.id) ≤ number_of g.id) b
-    raised [] all = tt
-    raised (g ∷ b) all = (omega (arith, all.0), raised b all.1)
-
 short : (a : List Field) → AreAscending a → 4 + length (flat_map field_bytes a) ≤ 2 ^ (8 * 2) - 1
-short a up = omega (arith, fields_length a, fields_most a, few 0 a (omega arith) up (from_0 a))
-  where
-    from_0 : (b : List Field) → AllByRecursion (λ f. 0 ≤ number_of f.id) b
-    from_0 [] = tt
-    from_0 (f ∷ b) = (omega arith, from_0 b)
+short a up = omega (arith, ascending_fit a up)
 
 -- ---- matches
 

@@ -5,7 +5,7 @@ use Rattle.std.proofs.lemmas.Bool.{le-ltb, lt-ltb, eqb-false, or_parts, cond-fal
 use Rattle.std.proofs.lemmas.List.{append-nil}
 use Rattle.net_base.specs.declared.field.Field.{Field}
 use Rattle.net_base.specs.FieldId.{number_of}
-use Rattle.of_match.specs.WellFormed.{AreAscending}
+use Rattle.net_base.specs.WellFormed.{AreAscending}
 use Rattle.of_wire.specs.Grammar.{Joined}
 use Rattle.of_wire.specs.Reading.{placed, placed_at, first_above, stands}
 use Rattle.of_wire.specs.Spelling.{SpellsItem, SpellsAnyMatch, known}

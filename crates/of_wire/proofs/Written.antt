@@ -1,20 +1,23 @@
 -- What is written of a well-formed match, and of well-formed actions and instructions, spells them.
 use Rattle.std.proofs.Common.{◌≡◌, ℕ, ◌+◌, ◌-◌, ◌*◌, ◌%◌, ◌^◌, ◌≤◌, ◌<◌, Bool, true, false, eqb, List, [], ◌∷◌, ◌++◌, length, replicate, Option, Some, None, refl, sym, ap, ◌∙◌, subst, arith, append_assoc, inl, inr}
 use Rattle.std.specs.List.{AllByRecursion, flat_map}
-use Rattle.std.proofs.Math.Nat.{one-le-pow}
 use Rattle.std.proofs.lemmas.Bool.{cases_eq, eq-eqb, ne_eqb}
 use Rattle.std.proofs.lemmas.List.{length-append, length-replicate, append-nil}
+use Rattle.std.proofs.lemmas.Nat.{pow_pos}
+use Rattle.byteorder.proofs.Bytes.{pow256}
 use Rattle.net_base.specs.declared.field.Field.{Field}
+use Rattle.net_base.specs.declared.field.FieldId.{FieldId}
 use Rattle.net_base.specs.FieldId.{number_of, byte_len_of, all_ones}
 use Rattle.of_match.specs.declared.action.Action.{Action}
 use Rattle.of_match.specs.declared.action.Action.TheVariants.{Output, PushVlan, PopVlan, DecTtl, Set}
 use Rattle.of_match.specs.declared.action.Instr.{Instr}
 use Rattle.of_match.specs.declared.action.Instr.TheVariants.{Goto, Apply}
-use Rattle.of_match.specs.WellFormed.{Fits, AreAscending, has_prerequisite}
+use Rattle.net_base.specs.WellFormed.{Fits, AreAscending, has_prerequisite}
 use Rattle.of_wire.specs.Parts.{number, zeros, up_to_8, field_bytes, match_bytes, set_bytes, action_bytes, instr_bytes}
 use Rattle.of_wire.specs.Grammar.{Then, ◌▷◌, Number, Ignored, Zeros, Joined}
 use Rattle.of_wire.specs.Spelling.{SpellsPlain, SpellsMasked, SpellsField, SpellsItem, SpellsAnyMatch, SpellsSet, SpellsAction, SpellsActions, SpellsInstr, SpellsInstrs, MayStand, known, in_order, in_order_onto}
-use Rattle.of_wire.specs.WellFormed.{FitsLength, IsMatch, IsMatchSeen, IsAction, AreApplied, AreInstrs}
+use Rattle.of_wire.specs.WellFormed.{IsMatch, IsMatchSeen, IsAction, AreApplied, AreInstrs}
+use Rattle.of_wire.proofs.Bounds.{ascending_fit}
 use Rattle.of_wire.proofs.Lengths.{number_length}
 use Rattle.of_wire.proofs.FieldNames.{most_bytes, low_number}
 use Rattle.of_wire.proofs.Ascending.{AreBelow, AreFrom, below_push, from_above, placed_last, stands_not, prerequisite_before}
@@ -25,8 +28,8 @@ then_append front back xs ys p q = record { first = xs; rest = ys; whole = refl;
 pub is_number : (n v : ℕ) → v < 256 ^ n → Number n v (number n v)
 is_number n v h = record { fits = h; spelled = refl }
 
-value_fits : (n v : ℕ) → v ≤ 256 ^ n - 1 → v < 256 ^ n
-value_fits n v h = let one = one-le-pow n 256 (omega arith) in omega arith
+value_fits : (id : FieldId) (v : ℕ) → v ≤ all_ones id → v < 256 ^ byte_len_of id
+value_fits id v h = omega (arith, pow256 (byte_len_of id), pow_pos (8 * byte_len_of id), h)
 
 -- ---- fields
 
@@ -38,7 +41,7 @@ plain_written f h e =
     let regroup : a ++ (b ++ (l ++ v)) ≡ ((a ++ b) ++ l) ++ v = sym (append_assoc (a ++ b) l v ∙ append_assoc a b (l ++ v)) in
     let parts : (Number 2 0x8000 ▷ Number 1 (2 * number_of f.id) ▷ Number 1 n ▷ Number n f.value) (a ++ (b ++ (l ++ v))) =
     then_append _ _ a (b ++ (l ++ v)) (is_number 2 0x8000 (omega arith)) (then_append _ _ b (l ++ v) (is_number 1 _ (omega (arith, low_number f.id))) (
-    then_append _ _ l v (is_number 1 n (omega (arith, most_bytes f.id))) (is_number n f.value (value_fits n f.value h.value)))) in
+    then_append _ _ l v (is_number 1 n (omega (arith, most_bytes f.id))) (is_number n f.value (value_fits f.id f.value h.value)))) in
     record { parts = subst (λ bs. (Number 2 0x8000 ▷ Number 1 (2 * number_of f.id) ▷ Number 1 n ▷ Number n f.value) bs) regroup parts; whole_mask = e }
 
 masked_written : (f : Field) → Fits f
@@ -49,8 +52,8 @@ masked_written f h =
     let regroup : a ++ (b ++ (l ++ (v ++ m))) ≡ (((a ++ b) ++ l) ++ v) ++ m = sym (append_assoc ((a ++ b) ++ l) v m ∙ append_assoc (a ++ b) l (v ++ m) ∙ append_assoc a b (l ++ (v ++ m))) in
     let parts : SpellsMasked f (a ++ (b ++ (l ++ (v ++ m)))) =
     then_append _ _ a (b ++ (l ++ (v ++ m))) (is_number 2 0x8000 (omega arith)) (then_append _ _ b (l ++ (v ++ m)) (is_number 1 _ (omega (arith, low_number f.id))) (
-    then_append _ _ l (v ++ m) (is_number 1 (2 * n) (omega (arith, most_bytes f.id))) (then_append _ _ v m (is_number n f.value (value_fits n f.value h.value)) (
-    is_number n f.mask (value_fits n f.mask h.mask))))) in
+    then_append _ _ l (v ++ m) (is_number 1 (2 * n) (omega (arith, most_bytes f.id))) (then_append _ _ v m (is_number n f.value (value_fits f.id f.value h.value)) (
+    is_number n f.mask (value_fits f.id f.mask h.mask))))) in
     subst (λ bs. SpellsMasked f bs) regroup parts
 
 pub field_written : (f : Field) → Fits f → SpellsField f (field_bytes f)
@@ -124,9 +127,9 @@ joined_written strict before (f ∷ fields) g fits met =
           (λ t. (let m = met t in subst (λ l. AllByRecursion (λ f. has_prerequisite f.id l ≡ true) fields) (sym whole) m.1));
     }
 
-any_match_written : (strict : Bool) (fields : List Field) → AreAscending fields → AllByRecursion Fits fields → FitsLength fields
+any_match_written : (strict : Bool) (fields : List Field) → AreAscending fields → AllByRecursion Fits fields
     → (strict ≡ true → AllByRecursion (λ f. has_prerequisite f.id fields ≡ true) fields) → SpellsAnyMatch strict fields (match_bytes fields)
-any_match_written strict fields ascending fits room met =
+any_match_written strict fields ascending fits met =
     let body = flat_map field_bytes fields in
     let len = 4 + length body in
     let a = number 2 1 in let b = number 2 len in
@@ -140,16 +143,16 @@ any_match_written strict fields ascending fits room met =
       items = items fields;
       len = len;
       parts = subst (λ bs. (Number 2 1 ▷ Number 2 len ▷ (λ body. (4 + length body ≡ len) × Joined (SpellsItem strict) [] (items fields) body) ▷ Zeros (up_to_8 len - len)) bs) regroup (
-          then_append _ _ a (b ++ (body ++ z)) (is_number 2 1 (omega arith)) (then_append _ _ b (body ++ z) (is_number 2 len room) (
+          then_append _ _ a (b ++ (body ++ z)) (is_number 2 1 (omega arith)) (then_append _ _ b (body ++ z) (is_number 2 len (ascending_fit fields ascending)) (
           then_append _ _ body z (refl, joined_written strict [] fields (record { ascending = ascending; above = none_below fields }) fits met) refl)));
       sorted = sym (in_order_is fields ascending) ∙ ap in_order (sym is);
     }
 
 pub match_written : (fields : List Field) → IsMatch fields → SpellsAnyMatch true fields (match_bytes fields)
-match_written fields h = let w = h.well_formed in any_match_written true fields w.ascending w.fitting h.room (λ t. w.prerequisites)
+match_written fields h = any_match_written true fields h.ascending h.fitting (λ t. h.prerequisites)
 
 pub match_seen_written : (fields : List Field) → IsMatchSeen fields → SpellsAnyMatch false fields (match_bytes fields)
-match_seen_written fields h = any_match_written false fields h.ascending h.fitting h.room (λ t. absurd (cc))
+match_seen_written fields h = any_match_written false fields h.ascending h.fitting (λ t. absurd (cc))
 
 -- ---- actions
 
@@ -241,16 +244,23 @@ goto_written table h =
     then_append _ _ a (b ++ (c ++ d)) (is_number 2 1 (omega arith)) (then_append _ _ b (c ++ d) (is_number 2 8 (omega arith)) (
     then_append _ _ c d (is_number 1 table (omega arith)) refl)))
 
-apply_written : (actions : List Action) → AreApplied actions → SpellsInstr (Apply actions) (instr_bytes (Apply actions))
-apply_written actions h =
+-- how many bytes an APPLY_ACTIONS takes
+apply_size : (actions : List Action) → length (instr_bytes (Apply actions)) ≡ 8 + length (flat_map action_bytes actions)
+apply_size actions =
+    let body = flat_map action_bytes actions in
+    let a = number 2 4 in let b = number 2 (8 + length body) in let z = zeros 4 in
+    omega (arith, length-append ((a ++ b) ++ z) body, length-append (a ++ b) z, length-append a b, number_length 2 4, number_length 2 (8 + length body), length-replicate {A = ℕ} 4 0)
+
+apply_written : (actions : List Action) → AreApplied actions → 8 + length (flat_map action_bytes actions) < 2 ^ 16 → SpellsInstr (Apply actions) (instr_bytes (Apply actions))
+apply_written actions h room =
     let body = flat_map action_bytes actions in
     let len = 8 + length body in
     let a = number 2 4 in let b = number 2 len in let z = zeros 4 in
     let four : length z ≡ 4 = length-replicate {A = ℕ} 4 0 in
-    let size : len ≡ length (((a ++ b) ++ z) ++ body) = omega (arith, length-append ((a ++ b) ++ z) body, length-append (a ++ b) z, length-append a b, number_length 2 4, number_length 2 len, four) in
+    let size : len ≡ length (((a ++ b) ++ z) ++ body) = sym (apply_size actions) in
     let parts : (Number 2 4 ▷ Number 2 len ▷ Ignored 4 ▷ SpellsActions actions) (((a ++ b) ++ z) ++ body) =
     subst (λ bs. (Number 2 4 ▷ Number 2 len ▷ Ignored 4 ▷ SpellsActions actions) bs) (regroup4 a b z body) (
-    then_append _ _ a (b ++ (z ++ body)) (is_number 2 4 (omega arith)) (then_append _ _ b (z ++ body) (is_number 2 len h.room) (
+    then_append _ _ a (b ++ (z ++ body)) (is_number 2 4 (omega arith)) (then_append _ _ b (z ++ body) (is_number 2 len room) (
     then_append _ _ z body four (actions_written actions h.each)))) in
     (subst (λ k. (Number 2 4 ▷ Number 2 k ▷ Ignored 4 ▷ SpellsActions actions) (((a ++ b) ++ z) ++ body)) size parts, h.some)
 
@@ -258,12 +268,12 @@ pub instrs_written : (instrs : List Instr) → AreInstrs instrs → SpellsInstrs
 instrs_written [] h = refl
 instrs_written (Goto table ∷ []) h = record { first = instr_bytes (Goto table); rest = []; whole = refl; in_front = (goto_written table h, refl); behind = refl }
 instrs_written (Goto table ∷ i ∷ more) h = absurd h
-instrs_written (Apply actions ∷ []) h = record { first = instr_bytes (Apply actions); rest = []; whole = refl; in_front = (apply_written actions h, (refl, refl)); behind = refl }
+instrs_written (Apply actions ∷ []) h = record { first = instr_bytes (Apply actions); rest = []; whole = refl; in_front = (apply_written actions h h.room, (refl, refl)); behind = refl }
 instrs_written (Apply actions ∷ Goto table ∷ []) h = record {
   first = instr_bytes (Apply actions);
   rest = instr_bytes (Goto table) ++ [];
   whole = refl;
-  in_front = (apply_written actions h.0, (refl, refl));
+  in_front = (apply_written actions h.0 h.0.room, (refl, refl));
   behind = record { first = instr_bytes (Goto table); rest = []; whole = refl; in_front = (goto_written table h.1, refl); behind = refl };
 }
 instrs_written (Apply actions ∷ Goto table ∷ i ∷ more) h = absurd h

@@ -10,7 +10,7 @@ use Rattle.of_match.specs.declared.action.Action.{Action}
 use Rattle.of_match.specs.declared.action.Action.TheVariants.{Output, PushVlan, PopVlan, DecTtl, Set}
 use Rattle.of_match.specs.declared.action.Instr.{Instr}
 use Rattle.of_match.specs.declared.action.Instr.TheVariants.{Goto, Apply}
-use Rattle.of_match.specs.WellFormed.{has_prerequisite}
+use Rattle.net_base.specs.WellFormed.{has_prerequisite}
 use Rattle.of_wire.specs.declared.fault.PartFault.{PartFault}
 use Rattle.of_wire.specs.declared.fault.PartCause.{PartCause}
 use Rattle.of_wire.specs.declared.fault.PartCause.TheVariants.{Short, BadClass, BadLength, BadPad, Repeated, Prerequisite, UnknownAction, UnknownInstr}
@@ -65,21 +65,17 @@ padding_at past at from to bytes =
 
 -- ---- matches (7.2.3)
 
--- the field with a number (7.2.3.7)
-abbrev pub first_fields : ℕ → Option FieldId
-first_fields n =
-    if n == 0 then Some InPort else (if n == 3 then Some EthDst else (if n == 4 then Some EthSrc else (
-    if n == 5 then Some EthType else (if n == 6 then Some VlanVid else (if n == 7 then Some VlanPcp else (
-    if n == 10 then Some IpProto else (if n == 11 then Some Ipv4Src else (if n == 12 then Some Ipv4Dst else None))))))))
+-- the fields that are known (7.2.3.7), and the one with a number
+abbrev pub all_fields : List FieldId
+all_fields =
+    InPort ∷ EthDst ∷ EthSrc ∷ EthType ∷ VlanVid ∷ VlanPcp ∷ IpProto ∷ Ipv4Src ∷ Ipv4Dst ∷ TcpSrc ∷ TcpDst ∷ UdpSrc ∷ UdpDst ∷ Icmpv4Type ∷ Icmpv4Code ∷ ArpOp ∷ ArpSpa ∷ ArpTpa ∷ []
 
-abbrev pub last_fields : ℕ → Option FieldId
-last_fields n =
-    if n == 13 then Some TcpSrc else (if n == 14 then Some TcpDst else (if n == 15 then Some UdpSrc else (
-    if n == 16 then Some UdpDst else (if n == 19 then Some Icmpv4Type else (if n == 20 then Some Icmpv4Code else (
-    if n == 21 then Some ArpOp else (if n == 22 then Some ArpSpa else (if n == 23 then Some ArpTpa else None))))))))
+abbrev pub numbered_among : ℕ → List FieldId → Option FieldId
+numbered_among n [] = None
+numbered_among n (id ∷ more) = if number_of id == n then Some id else numbered_among n more
 
 unfoldable pub field_numbered : ℕ → Option FieldId
-field_numbered n = if nat_lt n 13 then first_fields n else last_fields n
+field_numbered n = numbered_among n all_fields
 
 -- the field that a header names (7.2.3.2): of the class of basic fields, by its number
 unfoldable pub field_named : List ℕ → Option FieldId

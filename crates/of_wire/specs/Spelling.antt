@@ -7,7 +7,7 @@ use Rattle.of_match.specs.declared.action.Action.{Action}
 use Rattle.of_match.specs.declared.action.Action.TheVariants.{Output, PushVlan, PopVlan, DecTtl, Set}
 use Rattle.of_match.specs.declared.action.Instr.{Instr}
 use Rattle.of_match.specs.declared.action.Instr.TheVariants.{Goto, Apply}
-use Rattle.of_match.specs.WellFormed.{has_prerequisite}
+use Rattle.net_base.specs.WellFormed.{has_prerequisite}
 use Rattle.of_wire.specs.Parts.{up_to_8}
 use Rattle.of_wire.specs.Reading.{stands, has_goto, has_apply, placed}
 use Rattle.of_wire.specs.Grammar.{◌▷◌, Number, Ignored, Zeros, Joined}

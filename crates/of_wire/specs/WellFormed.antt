@@ -1,4 +1,4 @@
--- Matches, actions and instructions that can be written: each number fits its bytes, and each length its field.
+-- Matches, actions and instructions that can be written: each number fits its bytes.
 use Rattle.std.specs.Prelude.{◌≡◌, ◌+◌, ◌^◌, ◌<◌, List, [], ◌∷◌, length}
 use Rattle.std.specs.List.{AllByRecursion, flat_map}
 use Rattle.net_base.specs.declared.field.Field.{Field}
@@ -7,22 +7,16 @@ use Rattle.of_match.specs.declared.action.Action.{Action}
 use Rattle.of_match.specs.declared.action.Action.TheVariants.{Output, PushVlan, PopVlan, DecTtl, Set}
 use Rattle.of_match.specs.declared.action.Instr.{Instr}
 use Rattle.of_match.specs.declared.action.Instr.TheVariants.{Goto, Apply}
-use Rattle.of_match.specs.WellFormed.{Fits, AreAscending, IsWellFormed}
-use Rattle.of_wire.specs.Parts.{field_bytes, action_bytes}
-
--- the length of a match fits its 2 bytes
-abbrev pub FitsLength : List Field → Type 0
-FitsLength fields = 4 + length (flat_map field_bytes fields) < 2 ^ 16
+use Rattle.net_base.specs.WellFormed.{Fits, AreAscending, IsWellFormed}
+use Rattle.of_wire.specs.Parts.{action_bytes}
 
 -- a match that is sent to a switch, and one that a switch reports, whose fields need no prerequisites
-pub record IsMatch (fields : List Field) : Type 0 where
-  pub well_formed : IsWellFormed fields
-  pub room : FitsLength fields
+abbrev pub IsMatch : List Field → Type 0
+IsMatch fields = IsWellFormed fields
 
 pub record IsMatchSeen (fields : List Field) : Type 0 where
   pub ascending : AreAscending fields
   pub fitting : AllByRecursion Fits fields
-  pub room : FitsLength fields
 
 -- the field that is set has no mask
 abbrev pub IsAction : Action → Type 0

@@ -5,7 +5,7 @@ ghost use Rattle.std.specs.List.{AllByRecursion, flat_map, list_any};
 ghost use Rattle.net_base.specs.declared.field.Field.{Field};
 ghost use Rattle.of_match.specs.declared.action.Action.{Action};
 ghost use Rattle.of_match.specs.declared.action.Instr.{Instr};
-ghost use Rattle.of_match.specs.WellFormed.{AreAscending};
+ghost use Rattle.net_base.specs.WellFormed.{AreAscending};
 ghost use Rattle.of_wire.specs.Parts.{number, field_bytes, match_bytes, action_bytes, instr_bytes};
 ghost use Rattle.of_wire.specs.declared.fault.PartFault.{PartFault};
 ghost use Rattle.of_wire.specs.Faults.{IsFirst, SpelledOrFaulty, FaultInActions, FaultInInstrs, FaultInMatch};

@@ -4,7 +4,7 @@ ghost use Rattle.of_wire.specs.Parts.{field_bytes, match_bytes};
 ghost use Rattle.of_wire.specs.Spelling.{SpellsMatch, SpellsMatchSeen};
 ghost use Rattle.of_wire.specs.Faults.{TellsFirst, From, FaultInMatch};
 ghost use Rattle.net_base.specs.declared.field.Field.{Field};
-ghost use Rattle.of_wire.specs.Reading.{Gives, fault_at, first_fields, last_fields, field_numbered, field_named, has_mask, payload_len, wanted_len, field_value, stands, first_above, has_prerequisites, placed, known_field, known_step, unknown_step, field_step, many, fields_at, sized_match_at, match_at};
+ghost use Rattle.of_wire.specs.Reading.{Gives, fault_at, field_numbered, field_named, has_mask, payload_len, wanted_len, field_value, stands, first_above, has_prerequisites, placed, known_field, known_step, unknown_step, field_step, many, fields_at, sized_match_at, match_at};
 
 use crate::fault::{PartCause, PartFault, PartRefused};
 use crate::number::{number_at, put_number, put_zeros, u8_at, u16_at};
@@ -84,52 +84,11 @@ pub fn put_match(fields: &[Field], out: &mut Bytes) -> Result<(), NoMemory>
     put_zeros(out, ((8 - len % 8) % 8) as usize)
 }
 
-/// The fields of the numbers below 13 (OpenFlow 1.3, 7.2.3.7).
-fn first_fields(number: u8) -> Option<FieldId>
-    ensures { result ≡ first_fields number }
-{
-    match number {
-        0 => Some(FieldId::InPort),
-        3 => Some(FieldId::EthDst),
-        4 => Some(FieldId::EthSrc),
-        5 => Some(FieldId::EthType),
-        6 => Some(FieldId::VlanVid),
-        7 => Some(FieldId::VlanPcp),
-        10 => Some(FieldId::IpProto),
-        11 => Some(FieldId::Ipv4Src),
-        12 => Some(FieldId::Ipv4Dst),
-        _ => None,
-    }
-}
-
-/// The fields of the numbers from 13 on.
-fn last_fields(number: u8) -> Option<FieldId>
-    ensures { result ≡ last_fields number }
-{
-    match number {
-        13 => Some(FieldId::TcpSrc),
-        14 => Some(FieldId::TcpDst),
-        15 => Some(FieldId::UdpSrc),
-        16 => Some(FieldId::UdpDst),
-        19 => Some(FieldId::Icmpv4Type),
-        20 => Some(FieldId::Icmpv4Code),
-        21 => Some(FieldId::ArpOp),
-        22 => Some(FieldId::ArpSpa),
-        23 => Some(FieldId::ArpTpa),
-        _ => None,
-    }
-}
-
 /// The field with a number.
-#[tactic(auto, unfolding(crate::specs::Reading::field_numbered))]
 fn field_numbered(number: u8) -> Option<FieldId>
     ensures { result ≡ field_numbered number }
 {
-    if number < 13 {
-        first_fields(number)
-    } else {
-        last_fields(number)
-    }
+    FieldId::of_number(number)
 }
 
 /// The field that a header names: one of the basic class, by its number (OpenFlow 1.3, 7.2.3.2).
@@ -190,7 +149,7 @@ fn stands(id: FieldId, fields: &[Field]) -> bool
 fn has_prerequisites(id: FieldId, fields: &[Field]) -> bool
     ensures { result ≡ has_prerequisites id fields.now }
 {
-    of_match::has_prerequisite(id, fields)
+    net_base::has_prerequisite(id, fields)
 }
 
 fn first_above(number: u8, fields: &[Field]) -> Option<usize>

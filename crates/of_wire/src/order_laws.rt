@@ -5,7 +5,7 @@ ghost use Rattle.std.specs.Ordering.{nat_cmp};
 ghost use Rattle.std.specs.Cmp.Lexicographic.{slice_cmp};
 ghost use Rattle.net_base.specs.declared.field.Field.{Field};
 ghost use Rattle.of_match.specs.KeyOrder.{match_cmp};
-ghost use Rattle.of_match.specs.WellFormed.{IsWellFormed};
+ghost use Rattle.net_base.specs.WellFormed.{IsWellFormed};
 ghost use Rattle.of_wire.specs.Parts.{match_bytes};
 
 /// Well-formed matches stand in the order of the bytes that are written of them, compared byte by
