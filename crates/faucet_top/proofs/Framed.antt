@@ -113,14 +113,14 @@ tag_fits vid most = record { value = omega (arith, most); mask = omega arith }
 
 module _ (number_len : NumberLen) (fields_len : FieldsLen) (match_len : MatchLen) (actions_len : ActionsLen) where
   one_field : (f : Field) → Fits f → IsTrue (has_prerequisite f.id (f ∷ [])) → IsMatch (f ∷ [])
-  one_field f fits p = record { well_formed = record { ascending = (tt, tt); fitting = (fits, tt); prerequisites = (p, tt) }; room = (let n = fields_len (f ∷ []) in omega (arith, n)) }
+  one_field f fits p = record { ascending = (tt, tt); fitting = (fits, tt); prerequisites = (p, tt) }
 
   no_field : IsMatch []
-  no_field = record { well_formed = record { ascending = tt; fitting = tt; prerequisites = tt }; room = omega arith }
+  no_field = record { ascending = tt; fitting = tt; prerequisites = tt }
 
   two_fields : (f g : Field) → number_of f.id < number_of g.id → Fits f → Fits g → IsTrue (has_prerequisite f.id (f ∷ g ∷ [])) → IsTrue (has_prerequisite g.id (f ∷ g ∷ [])) → IsMatch (f ∷ g ∷ [])
   two_fields f g less a b p q =
-      record { well_formed = record { ascending = ((less, tt), (tt, tt)); fitting = (a, (b, tt)); prerequisites = (p, (q, tt)) }; room = (let n = fields_len (f ∷ g ∷ []) in omega (arith, n)) }
+      record { ascending = ((less, tt), (tt, tt)); fitting = (a, (b, tt)); prerequisites = (p, (q, tt)) }
 
   -- ---- lengths
 
