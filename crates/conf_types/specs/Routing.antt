@@ -1,15 +1,20 @@
 -- Which VLANs packets are routed between.
-use Rattle.std.specs.Prelude.{ℕ, List, [], ◌∷◌}
+use Rattle.std.specs.Prelude.{ℕ, Option, List, [], ◌∷◌}
 use Rattle.std.specs.List.{find, flat_map}
 use Rattle.std.specs.Option.{option_map_or}
 use Rattle.net_base.specs.declared.net4.Net4.{Net4}
 use Rattle.conf_types.specs.declared.vlan.Route.{Route}
+use Rattle.conf_types.specs.declared.vlan.Router.{Router}
 use Rattle.conf_types.specs.Configuration.{Configuration, vlan_with}
 use Rattle.conf_types.specs.Lists.{is_among}
 
+-- the router of a VLAN
+abbrev pub router_with : List Router → ℕ → Option Router
+router_with routers vid = find (λ router. is_among router.vlans vid) routers
+
 -- the routing set of a VLAN: the VLANs of its router, or itself alone
 abbrev pub routing_set : Configuration → ℕ → List ℕ
-routing_set conf vid = option_map_or (λ router. router.vlans) (find (λ router. is_among router.vlans vid) conf.routers) (vid ∷ [])
+routing_set conf vid = option_map_or (λ router. router.vlans) (router_with conf.routers vid) (vid ∷ [])
 
 -- the VIPs of a VLAN; of VLANs
 abbrev pub vips_of : Configuration → ℕ → List Net4

@@ -1,14 +1,10 @@
 -- What the fields of a rule may ask: values as in a match (OpenFlow 1.3, 7.2.3.7), with a mask only
 -- where one can be written.
-use Rattle.std.specs.Prelude.{◌≡◌, ◌+◌, ◌-◌, ◌%◌, ◌^◌, ◌<◌, ◌≤◌, ◌==◌, ◌&&◌, Bool, true, not, ℕ, List, [], ◌∷◌, bit_and}
-use Rattle.std.specs.List.{AllByRecursion, list_any}
-use Rattle.std.specs.Option.{option_map_or}
+use Rattle.std.specs.Prelude.{◌≡◌, ◌+◌, ◌-◌, ◌%◌, ◌^◌, ◌<◌, ◌≤◌, ℕ, bit_and}
 use Rattle.net_base.specs.declared.field.Field.{Field}
 use Rattle.net_base.specs.declared.field.FieldId.{FieldId}
 use Rattle.net_base.specs.declared.field.FieldId.TheVariants.{InPort, EthDst, EthSrc, EthType, VlanVid, VlanPcp, IpProto, Ipv4Src, Ipv4Dst, TcpSrc, TcpDst, UdpSrc, UdpDst, Icmpv4Type, Icmpv4Code, ArpOp, ArpSpa, ArpTpa}
-use Rattle.net_base.specs.FieldId.{all_ones, number_of, prerequisite_of}
-use Rattle.net_base.specs.declared.field.Prerequisite.{Prerequisite}
-use Rattle.net_base.specs.declared.field.Prerequisite.TheVariants.{Tagged, Exactly}
+use Rattle.net_base.specs.FieldId.{all_ones}
 
 -- a whole number in a range, no bit of it masked out
 pub record IsNumber (least most : ℕ) (f : Field) : Type 0 where
@@ -50,19 +46,3 @@ MayAsk Icmpv4Code f = IsNumber 0 255 f
 MayAsk ArpOp f = IsNumber 0 65535 f
 MayAsk ArpSpa f = IsPrefix f
 MayAsk ArpTpa f = IsPrefix f
-
--- ---- what a field asks of its match (OpenFlow 1.3, 7.2.3.8)
-
--- the field is the one that is asked for: a VLAN identifier that isn't 0, or just this value
-abbrev pub meets : Prerequisite → Field → Bool
-meets Tagged f = number_of f.id == number_of VlanVid && not (f.value == 0)
-meets (Exactly id value) f = number_of f.id == number_of id && (f.value == value && f.mask == all_ones id)
-
--- the match has what the field asks for
-abbrev pub has_prerequisite : FieldId → List Field → Bool
-has_prerequisite id fields = option_map_or (λ p. list_any (meets p) fields) (prerequisite_of id) true
-
--- each number is below those of the fields behind it
-abbrev pub AreAscending : List Field → Type 0
-AreAscending [] = Unit {0}
-AreAscending (f ∷ more) = AllByRecursion (λ g. number_of f.id < number_of g.id) more × AreAscending more

@@ -4,6 +4,7 @@ use Rattle.std.specs.List.{AllByRecursion, list_any}
 use Rattle.std.specs.Option.{option_map_or}
 use Rattle.net_base.specs.declared.net4.Net4.{Net4}
 use Rattle.net_base.specs.declared.numbers.DpId.{DpId}
+use Rattle.net_base.specs.WellFormed.{IsWellFormed}
 use Rattle.net_base.specs.Numbers.{IsVid, IsPortNo}
 use Rattle.conf_types.specs.declared.acl.Rule.{Rule}
 use Rattle.conf_types.specs.declared.datapath.Dp.{Dp}
@@ -18,7 +19,7 @@ use Rattle.conf_types.specs.Lists.{EachBefore, AreDistinct, IsTextBefore, IsLabe
 use Rattle.conf_types.specs.Membership.{is_edge, is_stack, is_edge_member, has_edge_member, is_mirror_of, is_mirrored}
 use Rattle.conf_types.specs.Networks.{AreApart, LiesIn, AreSame, HasNoHostBits, is_neighbour_address}
 use Rattle.conf_types.specs.Routing.{routing_set, vips_in, routes_in}
-use Rattle.conf_types.specs.RuleFields.{MayAsk, AreAscending, has_prerequisite}
+use Rattle.conf_types.specs.RuleFields.{MayAsk}
 
 -- ---- VLANs
 
@@ -99,11 +100,9 @@ pub record DatapathsAreValid (conf : Configuration) : Type 0 where
 -- ---- ACLs
 
 pub record IsRule (rule : Rule) : Type 0 where
-  -- by number, no two with one
-  pub in_order : AreAscending rule.fields
+  -- by number, no two with one; each with what it asks of the others (OpenFlow 1.3, 7.2.3.8)
+  pub fields : IsWellFormed rule.fields
   pub each : AllByRecursion (λ f. MayAsk f.id f) rule.fields
-  -- what a field asks for is there (OpenFlow 1.3, 7.2.3.8)
-  pub prerequisites : AllByRecursion (λ f. IsTrue (has_prerequisite f.id rule.fields)) rule.fields
 
 -- the ports that the rules name are interfaces of the datapath, and no ends of stack links
 abbrev pub NamePortsOf : Dp → List Rule → Type 0

@@ -1,15 +1,15 @@
-ghost use Rattle.std.specs.Prelude.{◌≡◌};
+ghost use Rattle.std.specs.Prelude.{◌≡◌, ◌<◌, IfSome, IfOk};
 ghost use Rattle.std.specs.Option.{option_copied};
-ghost use Rattle.conf_types.specs.declared.datapath.Dp.{Dp};
-ghost use Rattle.conf_types.specs.declared.datapath.Port.{Port};
-ghost use Rattle.conf_types.specs.declared.vlan.Vlan.{Vlan};
-ghost use Rattle.conf_types.specs.Configuration.{dp_with, port_at, vlan_with};
-ghost use Rattle.conf_types.specs.Valid.{IsValid};
+ghost use Rattle.conf_types.specs.Configuration.{dp_with, port_with, port_at, vlan_with};
+ghost use Rattle.conf_types.specs.Lists.{EachBefore};
+ghost use Rattle.conf_types.specs.Membership.{member};
+ghost use Rattle.conf_types.specs.Routing.{router_with, routing_set};
+ghost use Rattle.conf_types.specs.Valid.{IsValid, IsDatapath};
 
 use crate::acl::Acls;
-use crate::datapath::{Dp, Dps};
-use crate::vlan::{Routers, Vlans};
-use net_base::{DpId, NoMemory, TryCopy};
+use crate::datapath::{Dp, Dps, Member, Port};
+use crate::vlan::{Router, Routers, Vids, Vlan, Vlans};
+use net_base::{DpId, Items, NoMemory, PortNo, TryCopy, Vid};
 use std::alloc::Global;
 use std::marker::Model;
 
@@ -31,6 +31,32 @@ impl Model for Conf {
     ghost view = { λ c. record { dps = c.dps; vlans = c.vlans; acls = c.acls; routers = c.routers } };
 
     ghost invariant = { λ c. IsValid (record { dps = c.dps; vlans = c.vlans; acls = c.acls; routers = c.routers }) };
+}
+
+fn find_port(ports: &[Port], no: PortNo) -> Option<&Port>
+    requires { EachBefore (λ p q. p.no < q.no) ports.now }
+    ensures { option_copied result ≡ port_with ports.now no }
+{
+    match ports.binary_search_by_key(&no.get(), |port| port.no.get()) {
+        Ok(at) => Some(&ports[at]),
+        Err(_) => None,
+    }
+}
+
+fn find_vlan(vlans: &[Vlan], vid: Vid) -> Option<&Vlan>
+    requires { EachBefore (λ v w. v.vid < w.vid) vlans.now }
+    ensures { option_copied result ≡ vlan_with vlans.now vid }
+{
+    match vlans.binary_search_by_key(&vid.get(), |vlan| vlan.vid.get()) {
+        Ok(at) => Some(&vlans[at]),
+        Err(_) => None,
+    }
+}
+
+fn find_router(routers: &[Router], vid: Vid) -> Option<&Router>
+    ensures { option_copied result ≡ router_with routers.now vid }
+{
+    routers.iter().find(|router| router.has(vid))
 }
 
 impl Conf {
@@ -81,9 +107,46 @@ impl Conf {
 
     /// The datapath with this identifier; `None` exactly where there is none.
     pub fn dp(&self, id: DpId) -> Option<&Dp>
-        ensures { option_copied result ≡ dp_with self.now.dps id }
+        ensures found { option_copied result ≡ dp_with self.now.dps id }
+        ensures valid { IfSome result (λ dp. IsDatapath self.now dp.now) }
     {
         self.dps.as_slice().iter().find(|dp| dp.id == id)
+    }
+
+    /// The interface of a datapath with this number; `None` exactly where there is none.
+    pub fn port(&self, dp: DpId, no: PortNo) -> Option<&Port>
+        ensures { option_copied result ≡ port_at self.now dp no }
+    {
+        find_port(self.dp(dp)?.ports.as_slice(), no)
+    }
+
+    /// The VLAN with this identifier; `None` exactly where there is none.
+    pub fn vlan(&self, vid: Vid) -> Option<&Vlan>
+        ensures { option_copied result ≡ vlan_with self.now.vlans vid }
+    {
+        find_vlan(self.vlans.as_slice(), vid)
+    }
+
+    /// How an interface of a datapath belongs to a VLAN; `Member::None` where there is no such
+    /// datapath, interface or VLAN.
+    pub fn member(&self, dp: DpId, port: PortNo, vid: Vid) -> Member
+        ensures { result ≡ member self.now dp port vid }
+    {
+        match (self.vlan(vid), self.port(dp, port)) {
+            (Some(_), Some(port)) => port.member_of(vid),
+            _ => Member::None,
+        }
+    }
+
+    /// The VLANs that packets of a VLAN are routed between: those of its router, as they are
+    /// written, or itself alone.
+    pub fn routing_set(&self, alloc: Global, vid: Vid) -> Result<Vids, NoMemory>
+        ensures { IfOk result (λ vids. vids ≡ routing_set self.now vid) }
+    {
+        match find_router(self.routers.as_slice(), vid) {
+            Some(router) => router.vlans.copy(alloc),
+            None => Items::from_slice(alloc, &[vid]),
+        }
     }
 }
 

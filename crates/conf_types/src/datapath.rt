@@ -1,3 +1,6 @@
+ghost use Rattle.std.specs.Prelude.{◌≡◌};
+ghost use Rattle.conf_types.specs.Membership.{is_edge, is_stack, is_accepting, is_native_in, is_tagged_in, member_of};
+
 use crate::vlan::Vids;
 use net_base::{DpId, Items, Names, NoMemory, PortNo, Text, TryCopy, Vid};
 use std::alloc::Global;
@@ -84,6 +87,65 @@ pub struct Dp {
 
 /// Datapaths, ascending by the bytes of their names.
 pub type Dps = Items<Dp>;
+
+impl Port {
+    /// Whether it is an edge port: an enabled interface that is no end of a stack link and mirrors
+    /// no port.
+    pub fn is_edge(&self) -> bool
+        ensures { result ≡ is_edge self.now }
+    {
+        self.enabled && self.stack.is_none() && self.mirror.is_empty()
+    }
+
+    /// Whether it is an enabled end of a stack link.
+    pub fn is_stack(&self) -> bool
+        ensures { result ≡ is_stack self.now }
+    {
+        self.enabled && self.stack.is_some()
+    }
+
+    /// Whether it is an edge port that takes packets in.
+    pub fn is_accepting(&self) -> bool
+        ensures { result ≡ is_accepting self.now }
+    {
+        self.is_edge() && !self.output_only
+    }
+
+    /// How it belongs to a VLAN of its configuration.
+    pub fn member_of(&self, vid: Vid) -> Member
+        ensures { result ≡ member_of self.now vid }
+    {
+        if self.is_stack() {
+            Member::Stack
+        } else if !self.is_edge() {
+            Member::None
+        } else if self.is_native_in(vid) {
+            Member::Native
+        } else if self.is_tagged_in(vid) {
+            Member::Tagged
+        } else {
+            Member::None
+        }
+    }
+
+    fn is_native_in(&self, vid: Vid) -> bool
+        ensures { result ≡ is_native_in self.now vid }
+    {
+        match self.native {
+            Some(native) => native.get() == vid.get(),
+            None => false,
+        }
+    }
+
+    fn is_tagged_in(&self, vid: Vid) -> bool
+        ensures { result ≡ is_tagged_in self.now vid }
+    {
+        self.tagged
+            .as_slice()
+            .iter()
+            .any(|tagged| tagged.get() == vid.get())
+    }
+}
 
 impl TryCopy for StackEnd {
     fn copy(&self, _alloc: Global) -> Result<StackEnd, NoMemory> {

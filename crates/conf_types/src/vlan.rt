@@ -1,3 +1,6 @@
+ghost use Rattle.std.specs.Prelude.{◌≡◌};
+ghost use Rattle.conf_types.specs.Lists.{is_among};
+
 use net_base::{Ip4, Items, Mac, Names, Net4, NoMemory, Text, TryCopy, Vid};
 use std::alloc::Global;
 
@@ -51,6 +54,18 @@ pub struct Router {
 
 /// Routers, ascending by the bytes of their names.
 pub type Routers = Items<Router>;
+
+impl Router {
+    /// Whether it routes a VLAN.
+    pub fn has(&self, vid: Vid) -> bool
+        ensures { result ≡ is_among self.now.vlans vid }
+    {
+        self.vlans
+            .as_slice()
+            .iter()
+            .any(|vlan| vlan.get() == vid.get())
+    }
+}
 
 impl TryCopy for Route {
     fn copy(&self, _alloc: Global) -> Result<Route, NoMemory> {

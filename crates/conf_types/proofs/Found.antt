@@ -1,0 +1,85 @@
+-- What is found in lists: by halving where numbers rise, and what holds of it.
+use Rattle.std.proofs.Common.{◌≡◌, ℕ, zero, suc, ◌+◌, ◌<◌, ◌==◌, Bool, true, false, cond, Some, None, List, [], ◌∷◌, length, get_or, Result, Ok, Err, refl, inl, inr, sym, ap, ◌∙◌, arith, eq-eqb, subst, MatchResult}
+use Rattle.std.specs.List.{AllByRecursion, find}
+use Rattle.std.specs.Ordering.{nat_cmp, ordering_index, is_lt}
+use Rattle.std.specs.declared.cmp.Ordering.TheVariants.{Less, Equal, Greater}
+use Rattle.std.specs.List.Sorted.{IsSearchInRange, IsBinarySearchResult, IsNonDecreasingBy}
+use Rattle.std.proofs.lemmas.Bool.{cases_lt}
+use Rattle.std.proofs.lemmas.Bool.Decides.{nat_tests}
+use Rattle.std.proofs.lemmas.Cmp.{ranked, nat_cmp_total}
+use Rattle.std.proofs.lemmas.List.Sorted.{searchable_from_sorted}
+use Rattle.conf_types.specs.Lists.{EachBefore}
+
+-- what holds of each holds of the one that is found
+pub all_found : {X : Type 0} (P : X → Type 0) (p : X → Bool) (xs : List X) (x : X) → AllByRecursion P xs → find p xs ≡ Some x → P x
+all_found P p [] x all is = absurd (cc)
+all_found P p (y ∷ ys) x all is =
+    elim (p y) as (λ b. cond b (Some y) (find p ys) ≡ Some x → P x) [
+      | true ↦ λ e. let same : y ≡ x = cc in subst P same all.0
+      | false ↦ λ e. all_found P p ys x all.1 e
+    ] is
+
+-- ---- comparisons of numbers
+
+unequal : (a b : ℕ) → (a ≡ b → ⊥) → (a == b) ≡ false
+unequal a b ne = grind (arith, nat_tests)
+
+differs : (a b : ℕ) → a < b → (a == b) ≡ false
+differs a b lt = grind (arith, nat_tests)
+
+not_less : (a b : ℕ) → a < b → is_lt (nat_cmp b a) ≡ false
+not_less a b lt = grind (arith, nat_tests)
+
+is_equal : (a b : ℕ) → nat_cmp a b ≡ Equal → a ≡ b
+is_equal a b is = ranked a b Equal (sym is)
+
+not_equal_less : (a b : ℕ) → a ≡ b → nat_cmp a b ≡ Less → ⊥
+not_equal_less a b same less = let below : a < b = ranked a b Less (sym less) in omega arith
+
+not_equal_greater : (a b : ℕ) → a ≡ b → nat_cmp a b ≡ Greater → ⊥
+not_equal_greater a b same greater = let above : b < a = ranked a b Greater (sym greater) in omega arith
+
+-- ---- numbers that rise
+
+module _ {X : Type 0} (key : X → ℕ) where
+  abbrev Rises : List X → Type 0
+  Rises = EachBefore (λ x y. key x < key y)
+
+  -- the first comes before each behind it
+  above_first : (n : ℕ) (xs : List X) → AllByRecursion (λ y. n < key y) xs → (i : ℕ) (d : X) → i < length xs → n < key (get_or xs i d)
+  above_first n [] all i d lt = absurd (omega arith)
+  above_first n (x ∷ xs) all zero d lt = all.0
+  above_first n (x ∷ xs) all (suc i) d lt = above_first n xs all.1 i d (omega arith)
+
+  rises_at : (xs : List X) → Rises xs → (i j : ℕ) (d : X) → i < j → j < length xs → key (get_or xs i d) < key (get_or xs j d)
+  rises_at [] r i j d lt within = absurd (omega arith)
+  rises_at (x ∷ xs) r i zero d lt within = absurd (omega arith)
+  rises_at (x ∷ xs) r zero (suc j) d lt within = above_first (key x) xs r.0 j d (omega arith)
+  rises_at (x ∷ xs) r (suc i) (suc j) d lt within = rises_at xs r.1 i j d (omega arith) (omega arith)
+
+  -- where a number that rises is met, it is the first with it
+  found_here : (n : ℕ) (xs : List X) → Rises xs → (i : ℕ) (d : X) → i < length xs → key (get_or xs i d) ≡ n → find (λ x. key x == n) xs ≡ Some (get_or xs i d)
+  found_here n [] r i d lt is = absurd (omega arith)
+  found_here n (x ∷ xs) r zero d lt is = ap (λ b. cond b (Some x) (find (λ x. key x == n) xs)) (eq-eqb (key x) n is)
+  found_here n (x ∷ xs) r (suc i) d lt is =
+      let below : key x < key (get_or xs i d) = above_first (key x) xs r.0 i d (omega arith) in
+      ap (λ b. cond b (Some x) (find (λ x. key x == n) xs)) (differs (key x) n (omega arith)) ∙ found_here n xs r.1 i d (omega arith) is
+
+  not_found : (n : ℕ) (xs : List X) → ((i : ℕ) (d : X) → i < length xs → key (get_or xs i d) ≡ n → ⊥) → find (λ x. key x == n) xs ≡ None
+  not_found n [] none = refl
+  not_found n (x ∷ xs) none =
+      ap (λ b. cond b (Some x) (find (λ x. key x == n) xs)) (unequal (key x) n (none 0 x (omega arith))) ∙ not_found n xs (λ i d lt. none (suc i) d (omega arith))
+
+  -- the comparisons with a number rise, as a binary search asks
+  comparisons_rise : (n : ℕ) (xs : List X) → Rises xs → IsNonDecreasingBy (λ x. ordering_index (nat_cmp (key x) n)) xs
+  comparisons_rise n xs r = searchable_from_sorted nat_cmp_total key xs n (λ k d low high. not_less _ _ (rises_at xs r k (k + 1) d (omega arith) high))
+
+  -- what a binary search for a number answers
+  abbrev IsFound : ℕ → List X → Result ℕ ℕ → Type 0
+  IsFound n xs r = MatchResult r (λ i. (d : X) → find (λ x. key x == n) xs ≡ Some (get_or xs i d)) (λ i. find (λ x. key x == n) xs ≡ None)
+
+  pub searched : (n : ℕ) (xs : List X) → Rises xs → (r : Result ℕ ℕ) → IsSearchInRange r (length xs) → IsBinarySearchResult (λ x. nat_cmp (key x) n) xs r → IsFound n xs r
+  searched n xs r (Ok i) within equal = λ d. found_here n xs r i d within (is_equal _ _ (equal d))
+  searched n xs r (Err i) within parted =
+      let p = parted (comparisons_rise n xs r) in
+      not_found n xs (λ j d lt is. elim (cases_lt j i) [ inl l ↦ not_equal_less _ _ is (p.0 j d (omega arith) l) | inr l ↦ not_equal_greater _ _ is (p.1 j d l lt) ])
