@@ -6,3 +6,5 @@
 mod of13_codec_tests;
 #[cfg(test)]
 mod of_wire_tests;
+#[cfg(test)]
+mod yaml_tests;

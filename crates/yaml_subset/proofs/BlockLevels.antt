@@ -6,57 +6,8 @@ use Rattle.yaml_subset.specs.declared.tree.Tree.{Tree}
 use Rattle.yaml_subset.specs.declared.tree.Pair.{Pair}
 use Rattle.yaml_subset.specs.Grammar.{Line, Form, of_list, of_map, ItemValue, item_nothing, item_below, item_value, item_block, IsItem, AreItems, EntryValue, entry_nothing, entry_below, entry_list, entry_value, IsEntry, AreEntries, IsBlock, IsDocument, document_nothing, document_value, document_block, IsHead, IsNoHead, ReadsLines, ReadsWithin}
 use Rattle.yaml_subset.specs.Levels.{most, levels, pair_levels}
-use Rattle.yaml_subset.proofs.NestedLevels.{levels_pair, levels_of_list, levels_of_map, levels_null, line_deep, line_within}
-
-abbrev BlocksDeep : ℕ → Type 0
-BlocksDeep n = (form : Form) (at : ℕ) (block : List Line) (t : Tree) → IsBlock n form at block t → levels t ≤ n
-
-item_deep : (n : ℕ) → BlocksDeep n → (indent column : ℕ) (part : List ℕ) (below : List Line) (v : Tree) → ItemValue n (IsBlock n) indent column part below v → levels v ≤ n
-item_deep n deep indent column part below v (item_nothing p b e) = omega (arith, levels_null v e)
-item_deep n deep indent column part below v (item_below form at p l b) = deep form at below v b
-item_deep n deep indent column part below v (item_value p b is) = line_deep n part v is
-item_deep n deep indent column part below v (item_block form p b) = deep form column ((column, part) ∷ below) v b
-
-items_deep : (n : ℕ) → BlocksDeep n → (indent : ℕ) (vs : List Tree) (block : List Line) → AreItems n (IsBlock n) indent block vs → most (map levels vs) ≤ n
-items_deep n deep indent [] block are = omega arith
-items_deep n deep indent (v ∷ vs) block are =
-    let i = are.1 in
-    omega (arith, item_deep n deep indent (indent + (length i.rest - length i.part)) i.part i.below v i.value, items_deep n deep indent vs are.0 are.2)
-
-entry_deep : (n : ℕ) → BlocksDeep n → (indent : ℕ) (part : List ℕ) (below : List Line) (v : Tree) → EntryValue n (IsBlock n) indent part below v → levels v ≤ n
-entry_deep n deep indent part below v (entry_nothing p b e) = omega (arith, levels_null v e)
-entry_deep n deep indent part below v (entry_below form at p l b) = deep form at below v b
-entry_deep n deep indent part below v (entry_list p b) = deep of_list indent below v b
-entry_deep n deep indent part below v (entry_value p b is) = line_deep n part v is
-
-entries_deep : (n : ℕ) → BlocksDeep n → (indent : ℕ) (ps before : List Pair) (block : List Line) → AreEntries n (IsBlock n) indent before block ps → most (map pair_levels ps) ≤ n
-entries_deep n deep indent [] before block are = omega arith
-entries_deep n deep indent (p ∷ ps) before block are =
-    let e = are.1 in
-    omega (arith, levels_pair p, entry_deep n deep indent e.part e.below p.value e.value, entries_deep n deep indent ps (before ++ p ∷ []) are.0 are.2)
-
-block_deep : (n : ℕ) → BlocksDeep n
-block_deep zero form at block t b = absurd b
-block_deep (suc n) of_list at block t b = omega (arith, levels_of_list t (b.item ∷ b.items) b.is, items_deep n (block_deep n) at (b.item ∷ b.items) block b.are)
-block_deep (suc n) of_map at block t b = omega (arith, levels_of_map t (b.pair ∷ b.pairs) b.is, entries_deep n (block_deep n) at (b.pair ∷ b.pairs) [] block b.are)
-
-document_deep : (n : ℕ) (block : List Line) (t : Tree) → IsDocument n block t → levels t ≤ n
-document_deep n block t (document_nothing b e) = omega (arith, levels_null t e)
-document_deep n block t (document_value line b is) = line_deep n line.1 t is
-document_deep n block t (document_block form indent b) = block_deep n form indent block t b
-
-lines_deep : (n : ℕ) (ls : List (List ℕ)) (t : Tree) → ReadsLines n ls t → levels t ≤ n
-lines_deep n [] t e = omega (arith, levels_null t e)
-lines_deep n (line ∷ more) t (inl r) = lines_deep n more t r.1
-lines_deep n (line ∷ more) t (inr r) = by_head r.4
-  where
-    by_head : (IsHead line × IsDocument n r.1 t) ⊎ (IsNoHead line × IsDocument n (r.0 ∷ r.1) t) → levels t ≤ n
-    by_head (inl d) = document_deep n r.1 t d.1
-    by_head (inr d) = document_deep n (r.0 ∷ r.1) t d.1
-
--- what is of the grammar within n levels nests at most n lists and maps
-pub text_deep : (n : ℕ) (text : List ℕ) (t : Tree) → ReadsWithin n text t → levels t ≤ n
-text_deep n text t r = lines_deep n (lines text) t r.reads
+use Rattle.yaml_subset.proofs.TreeLevels.{levels_pair}
+use Rattle.yaml_subset.proofs.NestedLevels.{levels_of_list, levels_of_map, line_within}
 
 abbrev BlocksWithin : ℕ → ℕ → Type 0
 BlocksWithin m n = (form : Form) (at : ℕ) (block : List Line) (t : Tree) → levels t ≤ n → IsBlock m form at block t → IsBlock n form at block t

@@ -1,7 +1,7 @@
 -- Reading tells the first fault of a key, of a flow list or map, and of a value on one line.
 use Rattle.std.proofs.Common.{◌≡◌, ◌⊎◌, inl, inr, ℕ, ◌+◌, ◌-◌, ◌==◌, Bool, true, false, cond, not, ◌||◌, ◌&&◌, List, [], ◌∷◌, length, drop, Result, Ok, Err, refl, sym, ap, subst, arith}
 use Rattle.std.specs.List.{list_all}
-use Rattle.yaml_subset.specs.declared.fault.YamlForm.TheVariants.{LongFlow}
+use Rattle.yaml_subset.specs.declared.fault.YamlForm.TheVariants.{LongFlow, Wide}
 use Rattle.yaml_subset.specs.declared.fault.YamlCause.{YamlCause}
 use Rattle.yaml_subset.specs.declared.fault.YamlCause.TheVariants.{Tab, LeftOut, DuplicateKey, Syntax}
 use Rattle.yaml_subset.specs.declared.scalars.Scanned.{Scanned}
@@ -9,16 +9,16 @@ use Rattle.yaml_subset.specs.declared.tree.Tree.{Tree}
 use Rattle.yaml_subset.specs.declared.tree.Key.{Key}
 use Rattle.yaml_subset.specs.declared.tree.Pair.{Pair}
 use Rattle.yaml_subset.specs.Characters.{is_empty, begins, skip, is_kept, marks, next_part}
-use Rattle.yaml_subset.specs.Scalars.{scan, key_of}
+use Rattle.yaml_subset.specs.Scalars.{is_wide, scan, key_of}
 use Rattle.yaml_subset.specs.Entries.{has_key}
-use Rattle.yaml_subset.specs.Flow.{at_opening, behind_item, parted, key_fault, entry_key}
+use Rattle.yaml_subset.specs.Flow.{at_opening, behind_item, parted, colon_fault, key_fault, entry_key}
 use Rattle.yaml_subset.specs.Gives.{◌>>=◌}
 use Rattle.yaml_subset.specs.FirstFault.{cause_number, Tells}
 use Rattle.yaml_subset.specs.ScalarFaults.{NextFault, ScanFault}
-use Rattle.yaml_subset.specs.FlowFaults.{InPart, BehindValue, line_ends, colon_and_tab, ColonFault, colon_past_end, tab_for_colon, tab_behind_colon, no_colon, NoNewKey, no_key, key_again, KeyFault, in_key, behind_key, at_key, IsNewKey, SeparatorFault, separator_open, tab_for_separator, no_separator, StartFault, start_open, in_start, PartedFault}
+use Rattle.yaml_subset.specs.FlowFaults.{InPart, BehindValue, line_ends, colon_and_tab, ColonFault, colon_past_end, tab_for_colon, tab_behind_colon, no_colon, NoNewKey, no_key, key_again, KeyFault, in_key, wide_alone, behind_key, at_key, IsNewKey, SeparatorFault, separator_open, tab_for_separator, no_separator, StartFault, start_open, in_start, PartedFault}
 use Rattle.yaml_subset.proofs.ScalarFaults.{next_tells, scan_tells}
 use Rattle.yaml_subset.proofs.FirstFaults.{tells_map}
-use Rattle.yaml_subset.proofs.FaultsBehind.{tells_as, tells_then, tells_shift, Later, first_same}
+use Rattle.yaml_subset.proofs.FaultsBehind.{tells_as, tells_then, tells_shift, tells_one, Later, first_same}
 use Rattle.yaml_subset.proofs.LineValues.{same, key_parts}
 
 -- a part behind spaces
@@ -70,8 +70,8 @@ none_and true = refl
 none_and false = refl
 
 -- what follows where a colon has to stand
-pub colon_tells : (X : Type 0) (flow : Bool) (s : Scanned) (after : List ℕ) → Tells {X = X} (ColonFault flow s after) (Err (key_fault flow s after))
-unfolding key_fault
+pub colon_tells : (X : Type 0) (flow : Bool) (s : Scanned) (after : List ℕ) → Tells {X = X} (ColonFault flow s after) (Err (colon_fault flow s after))
+unfolding colon_fault
 colon_tells X flow s [] = at_end flow refl
   where
     at_end : (b : Bool) → flow ≡ b → Tells {X = X} (ColonFault flow s []) (Err (cond b (LeftOut LongFlow) Syntax))
@@ -235,7 +235,8 @@ key_tells flow before rest =
     (λ at c w. elim w [ inl h ↦ in_key h | inr l ↦ to at c l.0 l.1 l.2 l.3 l.4 ])
     (λ at c w. elim w [
       | in_key h ↦ inl h
-      | behind_key b ↦ inr ((b.value, b.after), b.is, at, omega arith, inl (b.fault.0, (b.inside, b.place, b.fault.1)))
+      | wide_alone s after e m g p d ↦ inr ((s, after), e, at, omega arith, inl (m, inl (g, p, d)))
+      | behind_key b ↦ inr ((b.value, b.after), b.is, at, omega arith, inl (b.fault.0, inr (b.fault.1, (b.inside, b.place, b.fault.2))))
       | at_key s after e m p n ↦ inr ((s, after), e, at, omega arith, inr (m, (p, n)))
     ])
     (tells_then (ScanFault flow rest) (scan flow rest) none Then (λ s. cond (marks 58 s.1) (key_of s.0 >>= λ k. cond (has_key before k) (Err DuplicateKey) (Ok (k, drop 1 s.1))) (Err (key_fault flow s.0 s.1))) (scan_tells flow rest) (λ s e. by_mark s (marks 58 s.1) refl))
@@ -243,14 +244,40 @@ key_tells flow before rest =
     none : Scanned × List ℕ → ℕ
     none s = 0
 
+    Behind_ : Scanned × List ℕ → ℕ → YamlCause → Type 0
+    Behind_ s at c = (i : ℕ) × (at ≡ (length rest - length s.1) + i) × ColonFault flow s.0 s.1 i c
+
+    -- no colon follows
+    NoColon : Scanned × List ℕ → ℕ → YamlCause → Type 0
+    NoColon s at c = ((is_wide s.0 ≡ true) × (at ≡ 0) × (c ≡ LeftOut Wide)) ⊎ ((is_wide s.0 ≡ false) × Behind_ s at c)
+
     Then : Scanned × List ℕ → ℕ → YamlCause → Type 0
-    Then s at c = ((marks 58 s.1 ≡ false) × ((i : ℕ) × (at ≡ (length rest - length s.1) + i) × ColonFault flow s.0 s.1 i c)) ⊎ ((marks 58 s.1 ≡ true) × AtKey before s.0 at c)
+    Then s at c = ((marks 58 s.1 ≡ false) × NoColon s at c) ⊎ ((marks 58 s.1 ≡ true) × AtKey before s.0 at c)
+
+    wide : Result (Key × List ℕ) YamlCause
+    wide = Err (LeftOut Wide)
+
+    other : Scanned × List ℕ → Result (Key × List ℕ) YamlCause
+    other s = Err (colon_fault flow s.0 s.1)
 
     refused : Scanned × List ℕ → Result (Key × List ℕ) YamlCause
     refused s = Err (key_fault flow s.0 s.1)
 
+    refused_tells : (s : Scanned × List ℕ) (b : Bool) → is_wide s.0 ≡ b → Tells {X = Key × List ℕ} (NoColon s) (Err (cond b (LeftOut Wide) (colon_fault flow s.0 s.1)))
+    refused_tells s true g =
+        tells_as (λ at c. (at ≡ 0) × (c ≡ LeftOut Wide)) (NoColon s) wide (λ at c w. inl (g, w.0, w.1))
+        (λ at c w. elim w [ inl v ↦ (v.1, v.2) | inr v ↦ absurd (clash (is_wide s.0) g v.0) ])
+        (tells_one (Key × List ℕ) 0 (LeftOut Wide))
+    refused_tells s false g =
+        tells_as (Behind_ s) (NoColon s) (other s) (λ at c w. inr (g, w))
+        (λ at c w. elim w [ inl v ↦ absurd (clash (is_wide s.0) v.0 g) | inr v ↦ v.1 ])
+        (tells_shift (length rest - length s.1) (ColonFault flow s.0 s.1) (other s) (colon_tells (Key × List ℕ) flow s.0 s.1))
+
     to : (at : ℕ) (c : YamlCause) (s : Scanned × List ℕ) → scan flow rest ≡ Ok s → (i : ℕ) → at ≡ 0 + i → Then s i c → KeyFault flow before rest at c
-    to at c s e i p (inl w) = behind_key (record { value = s.0; after = s.1; is = e; inside = w.1.0; place = omega (arith, p, w.1.1); fault = (w.0, w.1.2) })
+    to at c s e i p (inl w) = elim w.1 [
+      | inl v ↦ wide_alone s.0 s.1 e w.0 v.0 (omega (arith, p, v.1)) v.2
+      | inr v ↦ behind_key (record { value = s.0; after = s.1; is = e; inside = v.1.0; place = omega (arith, p, v.1.1); fault = (w.0, v.0, v.1.2) })
+    ]
     to at c s e i p (inr w) = at_key s.0 s.1 e w.0 (omega (arith, p, w.1.0)) w.1.1
 
     by_mark : (s : Scanned × List ℕ) (b : Bool) → marks 58 s.1 ≡ b → Tells {X = Key × List ℕ} (Then s) (cond b (key_of s.0 >>= λ k. cond (has_key before k) (Err DuplicateKey) (Ok (k, drop 1 s.1))) (Err (key_fault flow s.0 s.1)))
@@ -259,9 +286,9 @@ key_tells flow before rest =
         (λ at c w. inr (m, w)) (λ at c w. elim w [ inl v ↦ absurd (clash (marks 58 s.1) m v.0) | inr v ↦ v.1 ])
         (new_key_tells before s.0 (λ k. (k, drop 1 s.1)))
     by_mark s false m =
-        tells_as (λ at c. (i : ℕ) × (at ≡ (length rest - length s.1) + i) × ColonFault flow s.0 s.1 i c) (Then s) (refused s)
+        tells_as (NoColon s) (Then s) (refused s)
         (λ at c w. inl (m, w)) (λ at c w. elim w [ inl v ↦ v.1 | inr v ↦ absurd (clash (marks 58 s.1) v.0 m) ])
-        (tells_shift (length rest - length s.1) (ColonFault flow s.0 s.1) (refused s) (colon_tells (Key × List ℕ) flow s.0 s.1))
+        (refused_tells s (is_wide s.0) refl)
 
 pub key_reads : (flow : Bool) (before : List Pair) (rest : List ℕ) (k : Key) (after : List ℕ) → IsNewKey flow before rest k after → entry_key flow before rest ≡ Ok (k, after)
 unfolding entry_key

@@ -1,11 +1,11 @@
 -- What reading gives is what the text has by the grammar.
-use Rattle.std.proofs.Common.{◌≡◌, inl, inr, ℕ, List, Result, Ok, Err, refl}
+use Rattle.std.proofs.Common.{◌≡◌, ℕ, List, Result, Ok, Err}
 use Rattle.yaml_subset.specs.declared.fault.YamlFault.{YamlFault}
 use Rattle.yaml_subset.specs.declared.fault.YamlRefused.{YamlRefused}
 use Rattle.yaml_subset.specs.declared.fault.YamlRefused.TheVariants as refused
 use Rattle.yaml_subset.specs.declared.tree.Tree.{Tree}
 use Rattle.yaml_subset.specs.Reading.{read_of, GivesTree}
-use Rattle.yaml_subset.specs.Grammar.{Reads, GivesByGrammar, HasTreeOrFault}
+use Rattle.yaml_subset.specs.Grammar.{Reads, GivesByGrammar}
 use Rattle.yaml_subset.proofs.GrammarTexts.{text_read}
 use Rattle.yaml_subset.proofs.GrammarLines.{text_split}
 
@@ -22,10 +22,3 @@ same_tree t u r e h = cc
 
 pub one_tree : (text : List ℕ) (t u : Tree) → Reads text t → Reads text u → t ≡ u
 one_tree text t u r s = same_tree t u (read_of text) (text_read text t r) (text_read text u s)
-
-pub tree_or_fault : (text : List ℕ) → HasTreeOrFault text
-tree_or_fault text = by_read (read_of text) refl
-  where
-    by_read : (r : Result Tree YamlFault) → read_of text ≡ r → HasTreeOrFault text
-    by_read (Ok t) e = inl (t, text_split text t e)
-    by_read (Err fault) e = inr (fault, e, λ t r. never_both (read_of text) t fault e (text_read text t r))

@@ -18,10 +18,10 @@ use Rattle.yaml_subset.specs.declared.blocks.State.TheVariants.{Start, Headed, A
 use Rattle.yaml_subset.specs.declared.tree.Tree.{Tree}
 use Rattle.yaml_subset.specs.declared.tree.Tree.TheVariants as tree
 use Rattle.yaml_subset.specs.declared.tree.Key.{Key}
-use Rattle.yaml_subset.specs.Characters.{next_part, is_empty, begins, marks, misplaced}
+use Rattle.yaml_subset.specs.Characters.{next_part, is_empty, begins, marks}
 use Rattle.yaml_subset.specs.Scalars.{scan, key_of}
 use Rattle.yaml_subset.specs.Flow.{opens, flow_value}
-use Rattle.yaml_subset.specs.Blocks.{map_frame, levels_in, line_value, scalar_alone, content, block_value, settle, go_on, next_entry, behind_colon, value_alone, first_key, key_or_value, in_blocks, is_marker, is_start, at_start, by_state, counted_line, step, finish}
+use Rattle.yaml_subset.specs.Blocks.{misplaced, map_frame, levels_in, line_value, scalar_alone, content, block_value, settle, go_on, next_entry, behind_colon, value_alone, first_key, key_or_value, in_blocks, is_marker, is_start, at_start, by_state, counted_line, step, finish}
 use Rattle.yaml_subset.specs.Gives.{◌>>=◌}
 use Rattle.yaml_subset.specs.Reading.{fault_at, line_not_utf8, at_line, lines_from, read_of}
 use Rattle.yaml_subset.specs.Grammar.{Line, IsBlock, IsDocument, document_nothing, document_value, document_block, IsPassed, Counts, AreLater, IsHead, IsNoHead, ReadsLines, Reads}

@@ -14,9 +14,9 @@ use Rattle.yaml_subset.specs.declared.tree.Tree.{Tree}
 use Rattle.yaml_subset.specs.declared.tree.Tree.TheVariants as tree
 use Rattle.yaml_subset.specs.declared.tree.Key.{Key}
 use Rattle.yaml_subset.specs.declared.tree.Pair.{Pair}
-use Rattle.yaml_subset.specs.Characters.{is_empty, marks, next_part, misplaced}
+use Rattle.yaml_subset.specs.Characters.{is_empty, marks, next_part}
 use Rattle.yaml_subset.specs.Flow.{entry_key}
-use Rattle.yaml_subset.specs.Blocks.{list_frame, map_frame, is_list, levels_in, takes_block, top_is, in_blocks, go_on, next_entry, behind_dash, behind_colon, block_value, content}
+use Rattle.yaml_subset.specs.Blocks.{misplaced, list_frame, map_frame, is_list, levels_in, takes_block, top_is, in_blocks, go_on, next_entry, behind_dash, behind_colon, block_value, content}
 use Rattle.yaml_subset.specs.Gives.{◌>>=◌}
 use Rattle.yaml_subset.specs.Grammar.{Line, Form, of_list, of_map, ItemValue, item_nothing, item_below, item_value, item_block, EntryValue, entry_nothing, entry_below, entry_list, entry_value, IsBlock}
 use Rattle.yaml_subset.proofs.FlowGrammar.{line_value_found}

@@ -18,18 +18,18 @@ use Rattle.yaml_subset.specs.declared.tree.Tree.{Tree}
 use Rattle.yaml_subset.specs.declared.tree.Tree.TheVariants as tree
 use Rattle.yaml_subset.specs.declared.tree.Key.{Key}
 use Rattle.yaml_subset.specs.declared.tree.Pair.{Pair}
-use Rattle.yaml_subset.specs.Characters.{is_empty, begins, marks, next_part, stray, line_end, left_out, form_or, misplaced}
-use Rattle.yaml_subset.specs.Scalars.{scan, scalar_value, key_of}
+use Rattle.yaml_subset.specs.Characters.{is_empty, begins, at_gap, marks, next_part, stray, line_end, left_out, form_or}
+use Rattle.yaml_subset.specs.Scalars.{is_wide, is_merge, left_scalar, scan, scalar_value, key_of}
 use Rattle.yaml_subset.specs.Entries.{key_eq, has_key}
 use Rattle.yaml_subset.specs.Flow.{entry_key, with_entry, opens, flow_value}
-use Rattle.yaml_subset.specs.Blocks.{list_frame, map_frame, closed, top_is, ends_block, settle, levels_in, line_value, block_value, behind_colon, value_alone, scalar_alone, first_key, key_or_value, behind_dash, content, no_item, next_entry, go_on, begins_block, in_blocks, is_marker, at_start, by_state, counted_line, step}
+use Rattle.yaml_subset.specs.Blocks.{list_frame, map_frame, closed, top_is, ends_block, settle, levels_in, line_value, block_value, behind_colon, value_alone, scalar_alone, first_key, key_or_value, behind_dash, content, misplaced, no_item, next_entry, go_on, begins_block, in_blocks, is_marker, at_start, by_state, counted_line, step}
 use Rattle.yaml_subset.specs.Gives.{◌>>=◌}
 use Rattle.yaml_subset.specs.FirstFault.{form_number, cause_number, Tells}
 use Rattle.yaml_subset.specs.LineValue.{IsLineValue}
 use Rattle.yaml_subset.specs.Grammar.{IsNoHead}
 use Rattle.yaml_subset.specs.ScalarFaults.{NextFault, LineEndFault, ScanFault}
-use Rattle.yaml_subset.specs.FlowFaults.{colon_and_tab, no_key, key_again, KeyFault, in_key, behind_key, at_key, IsNewKey, LineValueFault}
-use Rattle.yaml_subset.specs.LineFaults.{InSome, AloneFault, alone_tab, alone_value, alone_end, FirstKeyFault, NoKey, merge_key, wide_key, other_key, map_too_deep, first_no_key, first_no_utf8, behind_first_key, HeadFault, head_flow, head_scalar, head_key, head_alone, head_below, DashFault, ContentFault, MisplacedFault, misplaced_tab, misplaced_form, misplaced_line, ItemLineFault, no_dash, dash_and_tab, dash_alone, in_item, EntryLineFault, OpenLineFault, StayOpen, BlocksFault, in_deeper, in_open, in_none, FirstLineFault, head_comment, no_head, StateFault, ends_document, CountedFault, directive, documents, in_line, LineFault}
+use Rattle.yaml_subset.specs.FlowFaults.{colon_and_tab, no_key, key_again, KeyFault, in_key, wide_alone, behind_key, at_key, IsNewKey, LineValueFault}
+use Rattle.yaml_subset.specs.LineFaults.{InSome, AloneFault, alone_tab, alone_value, alone_end, FirstKeyFault, NoKey, merge_key, wide_key, other_key, map_too_deep, first_no_key, first_no_utf8, behind_first_key, HeadFault, head_flow, head_scalar, head_key, head_alone, head_below, DashFault, ContentFault, MisplacedFault, misplaced_tab, misplaced_form, misplaced_scalar, misplaced_line, ItemLineFault, no_dash, dash_scalar, dash_and_tab, dash_alone, in_item, EntryLineFault, OpenLineFault, StayOpen, BlocksFault, in_deeper, in_open, in_none, FirstLineFault, head_comment, no_head, StateFault, ends_document, CountedFault, directive, documents, in_line, LineFault}
 use Rattle.yaml_subset.proofs.ScalarFaults.{next_tells, line_end_tells, scan_tells}
 use Rattle.yaml_subset.proofs.FirstFaults.{tells_map, tells_if}
 use Rattle.yaml_subset.proofs.FaultsBehind.{tells_as, tells_then, tells_shift, tells_result, tells_one, Later, first_same, bind_assoc}
@@ -348,22 +348,66 @@ same_form o f g p q = cc
 no_form : (o : Option YamlForm) (f : YamlForm) → o ≡ None → o ≡ some f → ⊥
 no_form o f p q = cc
 
+-- what is left out by its first character comes before what is left out as a scalar
+mark_small : (rest : List ℕ) (f : YamlForm) → left_out rest ≡ some f → form_number f ≤ 6
+mark_small [] f e = absurd cc
+mark_small (x ∷ xs) f e = by_tests (x == 38) (x == 42) (x == 33) (x == 124 || x == 62) (x == 63 && at_gap xs) e
+  where
+    number : (g : YamlForm) → some g ≡ some f → form_number g ≤ 6 → form_number f ≤ 6
+    number g h l = let s : g ≡ f = cc in subst (λ k. form_number k ≤ 6) s l
+
+    by_tests : (a b c d e : Bool) → cond a (some Anchor) (cond b (some Alias) (cond c (some Tag) (cond d (some BlockScalar) (cond e (some ComplexKey) None)))) ≡ some f → form_number f ≤ 6
+    by_tests true b c d e h = number Anchor h (omega arith)
+    by_tests false true c d e h = number Alias h (omega arith)
+    by_tests false false true d e h = number Tag h (omega arith)
+    by_tests false false false true e h = number BlockScalar h (omega arith)
+    by_tests false false false false true h = number ComplexKey h (omega arith)
+    by_tests false false false false false h = absurd cc
+
+scalar_large : (r : Result (Scanned × List ℕ) YamlCause) (f : YamlForm) → left_scalar r ≡ some f → 7 ≤ form_number f
+scalar_large (Err c) f e = absurd cc
+scalar_large (Ok s) f e = by_tests (is_wide s.0) (is_merge s.0 && marks 58 s.1) e
+  where
+    number : (g : YamlForm) → some g ≡ some f → 7 ≤ form_number g → 7 ≤ form_number f
+    number g h l = let s : g ≡ f = cc in subst (λ k. 7 ≤ form_number k) s l
+
+    by_tests : (a b : Bool) → cond a (some Wide) (cond b (some MergeKey) None) ≡ some f → 7 ≤ form_number f
+    by_tests true b h = number Wide h (omega arith)
+    by_tests false true h = number MergeKey h (omega arith)
+    by_tests false false h = absurd cc
+
 misplaced_tells : (X : Type 0) (otherwise : YamlCause) (rest : List ℕ) → 16 ≤ cause_number otherwise → Tells {X = X} (MisplacedFault otherwise rest) (Err (misplaced otherwise rest))
 unfolding misplaced
 misplaced_tells X otherwise rest late = by_tab (begins 9 rest) refl
   where
-    by_form : (o : Option YamlForm) → begins 9 rest ≡ false → left_out rest ≡ o → Tells {X = X} (MisplacedFault otherwise rest) (Err (form_or otherwise o))
-    by_form None b e = (
+    by_scalar : (o : Option YamlForm) → begins 9 rest ≡ false → left_out rest ≡ None → left_scalar (scan false rest) ≡ o → Tells {X = X} (MisplacedFault otherwise rest) (Err (form_or otherwise o))
+    by_scalar None b n e = (
       0,
       record {
         there = misplaced_line refl refl;
         least = λ at c w. elim w [
           | misplaced_tab t p d ↦ absurd (clash (begins 9 rest) t b)
-          | misplaced_form f l p d ↦ absurd (no_form (left_out rest) f e l)
+          | misplaced_form f l p d ↦ absurd (no_form (left_out rest) f n l)
+          | misplaced_scalar f l p d ↦ absurd (no_form (left_scalar (scan false rest)) f e l)
           | misplaced_line p d ↦ first_same 0 at otherwise c p d
         ];
       },
     )
+    by_scalar (Some g) b n e = (
+      0,
+      record {
+        there = misplaced_scalar g e refl refl;
+        least = λ at c w. elim w [
+          | misplaced_tab t p d ↦ absurd (clash (begins 9 rest) t b)
+          | misplaced_form f l p d ↦ absurd (no_form (left_out rest) f n l)
+          | misplaced_scalar f l p d ↦ first_same 0 at (LeftOut g) c p (d ∙ ap LeftOut (same_form (left_scalar (scan false rest)) g f e l))
+          | misplaced_line p d ↦ inr (sym p, let n : cause_number c ≡ cause_number otherwise = ap cause_number d in omega (arith, n, late, form_small g))
+        ];
+      },
+    )
+
+    by_form : (o : Option YamlForm) → begins 9 rest ≡ false → left_out rest ≡ o → Tells {X = X} (MisplacedFault otherwise rest) (Err (form_or (form_or otherwise (left_scalar (scan false rest))) o))
+    by_form None b e = by_scalar (left_scalar (scan false rest)) b e refl
     by_form (Some g) b e = (
       0,
       record {
@@ -371,12 +415,13 @@ misplaced_tells X otherwise rest late = by_tab (begins 9 rest) refl
         least = λ at c w. elim w [
           | misplaced_tab t p d ↦ absurd (clash (begins 9 rest) t b)
           | misplaced_form f l p d ↦ first_same 0 at (LeftOut g) c p (d ∙ ap LeftOut (same_form (left_out rest) g f e l))
+          | misplaced_scalar f l p d ↦ inr (sym p, let n : cause_number c ≡ 4 + form_number f = ap cause_number d in omega (arith, n, mark_small rest g e, scalar_large (scan false rest) f l))
           | misplaced_line p d ↦ inr (sym p, let n : cause_number c ≡ cause_number otherwise = ap cause_number d in omega (arith, n, late, form_small g))
         ];
       },
     )
 
-    by_tab : (b : Bool) → begins 9 rest ≡ b → Tells {X = X} (MisplacedFault otherwise rest) (Err (cond b Tab (form_or otherwise (left_out rest))))
+    by_tab : (b : Bool) → begins 9 rest ≡ b → Tells {X = X} (MisplacedFault otherwise rest) (Err (cond b Tab (form_or (form_or otherwise (left_scalar (scan false rest))) (left_out rest))))
     by_tab true b = (
       0,
       record {
@@ -384,6 +429,7 @@ misplaced_tells X otherwise rest late = by_tab (begins 9 rest) refl
         least = λ at c w. elim w [
           | misplaced_tab t p d ↦ first_same 0 at Tab c p d
           | misplaced_form f l p d ↦ inr (sym p, let n : cause_number c ≡ 4 + form_number f = ap cause_number d in omega (arith, n))
+          | misplaced_scalar f l p d ↦ inr (sym p, let n : cause_number c ≡ 4 + form_number f = ap cause_number d in omega (arith, n))
           | misplaced_line p d ↦ inr (sym p, let n : cause_number c ≡ cause_number otherwise = ap cause_number d in omega (arith, n, late))
         ];
       },
@@ -394,25 +440,27 @@ misplaced_tells X otherwise rest late = by_tab (begins 9 rest) refl
 no_item_tells : (X : Type 0) (levels : ℕ) (rest : List ℕ) → marks 45 rest ≡ false → Tells {X = X} (ItemLineFault levels rest) (Err (no_item rest))
 no_item_tells X levels rest m = by_dash (begins 45 rest) refl
   where
-    by_tab : (t : Bool) → begins 45 rest ≡ true → begins 9 (drop 1 rest) ≡ t → Tells {X = X} (ItemLineFault levels rest) (Err (cond t Tab Syntax))
-    by_tab true b t = (
+    by_tab : (t : Bool) → begins 45 rest ≡ true → left_scalar (scan false rest) ≡ None → begins 9 (drop 1 rest) ≡ t → Tells {X = X} (ItemLineFault levels rest) (Err (cond t Tab Syntax))
+    by_tab true b e t = (
       1,
       record {
         there = dash_and_tab b m t refl refl;
         least = λ at c w. elim w [
           | no_dash f g ↦ absurd (clash (begins 45 rest) b f)
+          | dash_scalar f g l h p d ↦ absurd (no_form (left_scalar (scan false rest)) l e h)
           | dash_and_tab f g h p d ↦ first_same 1 at Tab c p d
           | dash_alone f g p d ↦ inr (sym p, let n : cause_number c ≡ 18 = ap cause_number d in omega (arith, n))
           | in_item f g ↦ absurd (clash (marks 45 rest) f m)
         ];
       },
     )
-    by_tab false b t = (
+    by_tab false b e t = (
       1,
       record {
         there = dash_alone b m refl refl;
         least = λ at c w. elim w [
           | no_dash f g ↦ absurd (clash (begins 45 rest) b f)
+          | dash_scalar f g l h p d ↦ absurd (no_form (left_scalar (scan false rest)) l e h)
           | dash_and_tab f g h p d ↦ absurd (clash (begins 9 (drop 1 rest)) h t)
           | dash_alone f g p d ↦ first_same 1 at Syntax c p d
           | in_item f g ↦ absurd (clash (marks 45 rest) f m)
@@ -420,15 +468,32 @@ no_item_tells X levels rest m = by_dash (begins 45 rest) refl
       },
     )
 
+    by_scalar : (o : Option YamlForm) → begins 45 rest ≡ true → left_scalar (scan false rest) ≡ o → Tells {X = X} (ItemLineFault levels rest) (Err (form_or (stray (drop 1 rest)) o))
+    by_scalar (Some k) b e = (
+      0,
+      record {
+        there = dash_scalar b m k e refl refl;
+        least = λ at c w. elim w [
+          | no_dash f g ↦ absurd (clash (begins 45 rest) b f)
+          | dash_scalar f g l h p d ↦ first_same 0 at (LeftOut k) c p (d ∙ ap LeftOut (same_form (left_scalar (scan false rest)) k l e h))
+          | dash_and_tab f g h p d ↦ inl (omega (arith, p))
+          | dash_alone f g p d ↦ inl (omega (arith, p))
+          | in_item f g ↦ absurd (clash (marks 45 rest) f m)
+        ];
+      },
+    )
+    by_scalar None b e = by_tab (begins 9 (drop 1 rest)) b e refl
+
     misplaced_result : Result X YamlCause
     misplaced_result = Err (misplaced Syntax rest)
 
-    by_dash : (b : Bool) → begins 45 rest ≡ b → Tells {X = X} (ItemLineFault levels rest) (Err (cond b (stray (drop 1 rest)) (misplaced Syntax rest)))
-    by_dash true b = by_tab (begins 9 (drop 1 rest)) b refl
+    by_dash : (b : Bool) → begins 45 rest ≡ b → Tells {X = X} (ItemLineFault levels rest) (Err (cond b (form_or (stray (drop 1 rest)) (left_scalar (scan false rest))) (misplaced Syntax rest)))
+    by_dash true b = by_scalar (left_scalar (scan false rest)) b refl
     by_dash false b =
         tells_as (MisplacedFault Syntax rest) (ItemLineFault levels rest) misplaced_result (λ at c f. no_dash b f)
         (λ at c w. elim w [
           | no_dash f g ↦ g
+          | dash_scalar f g l h p d ↦ absurd (clash (begins 45 rest) f b)
           | dash_and_tab f g h p d ↦ absurd (clash (begins 45 rest) f b)
           | dash_alone f g p d ↦ absurd (clash (begins 45 rest) f b)
           | in_item f g ↦ absurd (clash (marks 45 rest) f m)
@@ -443,6 +508,7 @@ same_keys (p ∷ ps) k v w key = ap (λ b. key_eq p.key key || b) (same_keys ps 
 
 other_value : (levels : ℕ) (pairs : List Pair) (k : Key) (v w : Tree) (rest : List ℕ) (at : ℕ) (c : YamlCause) → EntryLineFault levels (with_entry pairs k v) rest at c → EntryLineFault levels (with_entry pairs k w) rest at c
 other_value levels pairs k v w rest at c (inl (in_key f)) = inl (in_key f)
+other_value levels pairs k v w rest at c (inl (wide_alone s after e m g p d)) = inl (wide_alone s after e m g p d)
 other_value levels pairs k v w rest at c (inl (behind_key b)) = inl (behind_key b)
 other_value levels pairs k v w rest at c (inl (at_key s after e m p (no_key q))) = inl (at_key s after e m p (no_key q))
 other_value levels pairs k v w rest at c (inl (at_key s after e m p (key_again key q h d))) = inl (at_key s after e m p (key_again key q (sym (same_keys pairs k v w key) ∙ h) d))
@@ -462,6 +528,7 @@ open_tells (open_.List items) f around indent v rest =
     (λ m. tells_as (DashFault (ContentFault levels Item) rest) (ItemLineFault levels rest) item (λ at c g. in_item m g)
     (λ at c w. elim w [
       | no_dash b g ↦ absurd (clash (marks 45 rest) m (marks_begins 45 rest b))
+      | dash_scalar b g l h p d ↦ absurd (clash (marks 45 rest) m g)
       | dash_and_tab b g h p d ↦ absurd (clash (marks 45 rest) m g)
       | dash_alone b g p d ↦ absurd (clash (marks 45 rest) m g)
       | in_item b g ↦ g

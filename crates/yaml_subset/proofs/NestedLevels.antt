@@ -1,41 +1,12 @@
 -- The levels in the grammar say no more than how deep the tree is.
-use Rattle.std.proofs.Common.{◌≡◌, ◌⊎◌, inl, inr, ℕ, ℤ, zero, suc, ◌+◌, ◌≤◌, Bool, true, false, cond, List, [], ◌∷◌, ◌++◌, Result, Ok, Err, sym, ◌∙◌, ap, subst, arith}
+use Rattle.std.proofs.Common.{◌≡◌, ◌⊎◌, inl, inr, ℕ, zero, suc, ◌+◌, ◌≤◌, false, List, [], ◌∷◌, ◌++◌, ◌∙◌, ap, arith}
 use Rattle.std.specs.Prelude.{map}
-use Rattle.yaml_subset.specs.declared.fault.YamlCause.{YamlCause}
-use Rattle.yaml_subset.specs.declared.numbers.Number.{Number}
-use Rattle.yaml_subset.specs.declared.numbers.Number.TheVariants.{Not, Whole, Wide}
-use Rattle.yaml_subset.specs.declared.scalars.Scanned.{Scanned}
 use Rattle.yaml_subset.specs.declared.tree.Tree.{Tree}
 use Rattle.yaml_subset.specs.declared.tree.Tree.TheVariants as tree
 use Rattle.yaml_subset.specs.declared.tree.Pair.{Pair}
-use Rattle.yaml_subset.specs.declared.tree.Tree.TheOpen as open_tree
-use Rattle.yaml_subset.specs.declared.tree.Tree.TheFolds.{fold-roll-Tree, fold_out-Pair}
-use Rattle.yaml_subset.specs.Scalars.{text_of, is_null, is_true_word, is_false_word, text_tree, number_or_text, plain_value, scalar_value}
-use Rattle.yaml_subset.specs.Numbers.{number_of}
-use Rattle.yaml_subset.specs.Gives.{◌>>=◌}
 use Rattle.yaml_subset.specs.LineValue.{IsScalar, IsFlowItem, AreFlowItems, IsFlowValue, IsFlowEntry, AreFlowEntries, IsNested, IsFlow, IsLineValue}
-use Rattle.yaml_subset.specs.Levels.{most, levels_step, pair_levels_step, levels, pair_levels}
-
-levels_list : (items : List Tree) → levels (tree.List items) ≡ 1 + most (map levels items)
-levels_list items = ap levels (sym (tree.rolls-List items)) ∙ fold-roll-Tree ℕ ℕ levels_step pair_levels_step (open_tree.List items)
-
-null_levels : levels tree.Null ≡ 0
-null_levels = ap levels (sym tree.rolls-Null) ∙ fold-roll-Tree ℕ ℕ levels_step pair_levels_step open_tree.Null
-
-bool_levels : (b : Bool) → levels (tree.Bool b) ≡ 0
-bool_levels b = ap levels (sym (tree.rolls-Bool b)) ∙ fold-roll-Tree ℕ ℕ levels_step pair_levels_step (open_tree.Bool b)
-
-int_levels : (n : ℤ) → levels (tree.Int n) ≡ 0
-int_levels n = ap levels (sym (tree.rolls-Int n)) ∙ fold-roll-Tree ℕ ℕ levels_step pair_levels_step (open_tree.Int n)
-
-text_levels : (text : List ℕ) → levels (tree.Text text) ≡ 0
-text_levels text = ap levels (sym (tree.rolls-Text text)) ∙ fold-roll-Tree ℕ ℕ levels_step pair_levels_step (open_tree.Text text)
-
-levels_map : (pairs : List Pair) → levels (tree.Map pairs) ≡ 1 + most (map pair_levels pairs)
-levels_map pairs = ap levels (sym (tree.rolls-Map pairs)) ∙ fold-roll-Tree ℕ ℕ levels_step pair_levels_step (open_tree.Map pairs)
-
-pub levels_pair : (pair : Pair) → pair_levels pair ≡ levels pair.value
-levels_pair pair = fold_out-Pair ℕ ℕ levels_step pair_levels_step pair
+use Rattle.yaml_subset.specs.Levels.{most, levels, pair_levels}
+use Rattle.yaml_subset.proofs.TreeLevels.{levels_list, levels_map, levels_pair}
 
 pub levels_of_list : (v : Tree) (items : List Tree) → v ≡ tree.List items → levels v ≡ 1 + most (map levels items)
 levels_of_list v items e = ap levels e ∙ levels_list items
@@ -43,85 +14,9 @@ levels_of_list v items e = ap levels e ∙ levels_list items
 pub levels_of_map : (v : Tree) (pairs : List Pair) → v ≡ tree.Map pairs → levels v ≡ 1 + most (map pair_levels pairs)
 levels_of_map v pairs e = ap levels e ∙ levels_map pairs
 
-pub levels_null : (v : Tree) → v ≡ tree.Null → levels v ≡ 0
-levels_null v e = ap levels e ∙ null_levels
-
--- a scalar has no levels
-abbrev Flat : Result Tree YamlCause → Type 0
-Flat (Ok v) = levels v ≡ 0
-Flat (Err c) = Unit {0}
-
-cond_flat : (b : Bool) (x y : Result Tree YamlCause) → Flat x → Flat y → Flat (cond b x y)
-cond_flat true x y h g = h
-cond_flat false x y h g = g
-
-text_flat : (bytes : List ℕ) → Flat (text_tree bytes)
-text_flat bytes = by_text (text_of bytes)
-  where
-    by_text : (r : Result (List ℕ) YamlCause) → Flat (r >>= λ text. Ok (tree.Text text))
-    by_text (Ok text) = text_levels text
-    by_text (Err c) = tt
-
-number_flat : (n : Number) (text : List ℕ) → Flat (number_or_text n text)
-number_flat Not text = text_flat text
-number_flat (Whole n) text = int_levels n
-number_flat Wide text = tt
-
-value_flat : (s : Scanned) → Flat (scalar_value s)
-unfolding scalar_value plain_value
-value_flat s =
-    cond_flat s.plain _ _
-    (cond_flat (is_null s.text) (Ok tree.Null) _ null_levels
-    (cond_flat (is_true_word s.text) (Ok (tree.Bool true)) _ (bool_levels true)
-    (cond_flat (is_false_word s.text) (Ok (tree.Bool false)) _ (bool_levels false) (number_flat (number_of s.text) s.text))))
-    (text_flat s.text)
-
-pub scalar_levels : (flow : Bool) (rest : List ℕ) (v : Tree) (after : List ℕ) → IsScalar flow rest v after → levels v ≡ 0
-scalar_levels flow rest v after s = subst Flat s.2 (value_flat s.0)
-
 -- a value of one relation that nests at most n levels is one of the other
 abbrev pub Within : ℕ → (List ℕ → Tree → List ℕ → Type 0) → (List ℕ → Tree → List ℕ → Type 0) → Type 0
 Within n Value Value' = (start : List ℕ) (v : Tree) (after : List ℕ) → levels v ≤ n → Value start v after → Value' start v after
-
-abbrev pub Deep : ℕ → (List ℕ → Tree → List ℕ → Type 0) → Type 0
-Deep n Value = (start : List ℕ) (v : Tree) (after : List ℕ) → Value start v after → levels v ≤ n
-
-items_deep : (n : ℕ) (Value : List ℕ → Tree → List ℕ → Type 0) → Deep n Value → (vs : List Tree) (inside after : List ℕ) → AreFlowItems Value inside vs after → most (map levels vs) ≤ n
-items_deep n Value deep [] inside after are = omega arith
-items_deep n Value deep (v ∷ vs) inside after are = by_end are.2 (λ next a. items_deep n Value deep vs next after a)
-  where
-    one : levels v ≤ n
-    one = deep are.1.start v are.1.after are.1.value
-
-    by_end : ((are.0 ≡ 93 ∷ after) × (vs ≡ [])) ⊎ ((next : List ℕ) × (are.0 ≡ 44 ∷ next) × AreFlowItems Value next vs after)
-        → ((next : List ℕ) → AreFlowItems Value next vs after → most (map levels vs) ≤ n) → most (map levels (v ∷ vs)) ≤ n
-    by_end (inl w) rec = let e : most (map levels vs) ≡ 0 = ap (λ us. most (map levels us)) w.1 in omega (arith, one)
-    by_end (inr w) rec = omega (arith, one, rec w.0 w.2)
-
-value_deep : (n : ℕ) (Value : List ℕ → Tree → List ℕ → Type 0) → Deep n Value → (part : List ℕ) (v : Tree) (after : List ℕ) → IsFlowValue Value part v after → levels v ≤ n
-value_deep n Value deep part v after (inl w) = omega (arith, levels_null v w.1)
-value_deep n Value deep part v after (inr w) = deep part v after w.1
-
-entries_deep : (n : ℕ) (Value : List ℕ → Tree → List ℕ → Type 0) → Deep n Value → (ps before : List Pair) (inside after : List ℕ) → AreFlowEntries Value before inside ps after → most (map pair_levels ps) ≤ n
-entries_deep n Value deep [] before inside after are = omega arith
-entries_deep n Value deep (p ∷ ps) before inside after are = by_end are.2 (λ next a. entries_deep n Value deep ps (before ++ p ∷ []) next after a)
-  where
-    one : pair_levels p ≤ n
-    one = omega (arith, levels_pair p, value_deep n Value deep are.1.part p.value are.1.after are.1.value)
-
-    by_end : ((are.0 ≡ 125 ∷ after) × (ps ≡ [])) ⊎ ((next : List ℕ) × (are.0 ≡ 44 ∷ next) × AreFlowEntries Value (before ++ p ∷ []) next ps after)
-        → ((next : List ℕ) → AreFlowEntries Value (before ++ p ∷ []) next ps after → most (map pair_levels ps) ≤ n) → most (map pair_levels (p ∷ ps)) ≤ n
-    by_end (inl w) rec = let e : most (map pair_levels ps) ≡ 0 = ap (λ us. most (map pair_levels us)) w.1 in omega (arith, one)
-    by_end (inr w) rec = omega (arith, one, rec w.0 w.2)
-
-nested_deep : (n : ℕ) → Deep n (IsFlow n) → Deep n (IsNested (IsFlow n))
-nested_deep n deep start v after (inl s) = omega (arith, scalar_levels true start v after s)
-nested_deep n deep start v after (inr f) = deep start v after f
-
-pub flow_deep : (n : ℕ) → Deep n (IsFlow n)
-flow_deep zero start v after f = absurd f
-flow_deep (suc n) start v after (inl l) = omega (arith, levels_of_list v l.items l.is, items_deep n (IsNested (IsFlow n)) (nested_deep n (flow_deep n)) l.items l.inside after l.are)
-flow_deep (suc n) start v after (inr m) = omega (arith, levels_of_map v m.pairs m.is, entries_deep n (IsNested (IsFlow n)) (nested_deep n (flow_deep n)) m.pairs [] m.inside after m.are)
 
 items_within : (n : ℕ) (Value Value' : List ℕ → Tree → List ℕ → Type 0) → Within n Value Value' → (vs : List Tree) (inside after : List ℕ) → most (map levels vs) ≤ n → AreFlowItems Value inside vs after → AreFlowItems Value' inside vs after
 items_within n Value Value' w [] inside after l are = are
@@ -192,13 +87,6 @@ flow_within (suc m) (suc n) start v after l (inr f) = inr (record {
   is = f.is;
   are = entries_within n (IsNested (IsFlow m)) (IsNested (IsFlow n)) (nested_within m n (flow_within m n)) f.pairs [] f.inside after (omega (arith, l, levels_of_map v f.pairs f.is)) f.are;
 })
-
-pub line_deep : (n : ℕ) (part : List ℕ) (v : Tree) → IsLineValue n part v → levels v ≤ n
-line_deep n part v w = by_form w.1
-  where
-    by_form : IsScalar false part v w.0 ⊎ IsFlow n part v w.0 → levels v ≤ n
-    by_form (inl s) = omega (arith, scalar_levels false part v w.0 s)
-    by_form (inr f) = flow_deep n part v w.0 f
 
 pub line_within : (m n : ℕ) (part : List ℕ) (v : Tree) → levels v ≤ n → IsLineValue m part v → IsLineValue n part v
 line_within m n part v l w = (w.0, by_form w.1, w.2)

@@ -11,10 +11,12 @@ use Rattle.yaml_subset.specs.declared.tree.Tree.TheVariants as tree
 use Rattle.yaml_subset.specs.declared.tree.Key.{Key}
 use Rattle.yaml_subset.specs.declared.tree.Pair.{Pair}
 use Rattle.yaml_subset.specs.Blocks.{close_all, content, is_marker, step}
+use Rattle.yaml_subset.specs.Grammar.{Reads}
 use Rattle.yaml_subset.specs.Reading.{read_of}
 use Rattle.yaml_subset.specs.Printed.{Piece, behind, scalar_or_lines, item_lines, pair_lines, key_scalar, piece_of, pair_piece, document, printed}
 use Rattle.yaml_subset.specs.Levels.{most, levels, pair_levels}
 use Rattle.yaml_subset.specs.ReadBack.{is_sound, entry_sound, all_sound, entries_sound, IsSpelled}
+use Rattle.yaml_subset.proofs.GrammarLines.{text_split}
 use Rattle.yaml_subset.proofs.BlockLaws.{content_value}
 use Rattle.yaml_subset.proofs.Pieces.{piece_pair, lines_of_list, lines_of_map}
 use Rattle.yaml_subset.proofs.TreeLevels.{levels_list, levels_map, levels_pair}
@@ -121,9 +123,12 @@ printed_utf8 t (inl i) h l =
 printed_utf8 t (inr b) h l =
     subst (λ o. IsUtf8 (document (piece_of t) o)) (sym b) ((all_below 33 t (omega arith) h b).utf8 [] refl)
 
-pub read_back : (t : Tree) → IsSpelled t → read_of (printed t) ≡ Ok t
+read_back : (t : Tree) → IsSpelled t → read_of (printed t) ≡ Ok t
 unfolding read_of
 read_back t s =
     let sh = shape t s.sound in
     rw (le-ltb 1048576 (length (printed t)) s.short, is_utf8-from_IsUtf8 (printed t) (printed_utf8 t sh s.sound s.nested))
     ((printed_leads t sh s.sound s.nested).leads 0)
+
+pub reads_back : (t : Tree) → IsSpelled t → Reads (printed t) t
+reads_back t s = text_split (printed t) t (read_back t s)

@@ -1,12 +1,10 @@
--- Scalars, keys and flow lists and maps that are read are sound, and nest no more than they may.
-use Rattle.std.proofs.Common.{◌≡◌, ℕ, zero, suc, ◌<◌, ◌==◌, nat_lt, pos, ◌-ℤ◌, true, false, Bool, cond, ◌&&◌, ◌||◌, List, [], ◌∷◌, ◌++◌, length, drop, Option, Some, None, Result, Ok, Err, refl, sym, ◌∙◌, arith, ltb-true, lt-ltb}
+-- Scalars, keys and values on one line are sound, and nest no more than they may.
+use Rattle.std.proofs.Common.{◌≡◌, ◌⊎◌, inl, inr, ℕ, zero, suc, ◌<◌, ◌==◌, nat_lt, pos, ◌-ℤ◌, true, false, Bool, cond, ◌&&◌, List, [], ◌∷◌, ◌++◌, drop, Option, Some, None, Ok, Err, refl, sym, ◌∙◌, subst, arith, ltb-true, lt-ltb}
 use Rattle.std.specs.Option.{option_and_then}
-use Rattle.std.specs.Prelude.{codes}
-use Rattle.std.specs.Str.{is_utf8, bytes_eq}
+use Rattle.std.specs.Str.{is_utf8}
 use Rattle.yaml_subset.specs.declared.fault.YamlForm.TheVariants as form
-use Rattle.yaml_subset.specs.declared.fault.YamlForm.TheVariants.{MergeKey, LongFlow}
-use Rattle.yaml_subset.specs.declared.fault.YamlCause.{YamlCause}
-use Rattle.yaml_subset.specs.declared.fault.YamlCause.TheVariants.{NotUtf8, TooDeep, LeftOut, DuplicateKey, Syntax}
+use Rattle.yaml_subset.specs.declared.fault.YamlForm.TheVariants.{MergeKey}
+use Rattle.yaml_subset.specs.declared.fault.YamlCause.TheVariants.{NotUtf8, LeftOut, Syntax}
 use Rattle.yaml_subset.specs.declared.numbers.Number.{Number}
 use Rattle.yaml_subset.specs.declared.numbers.Number.TheVariants.{Not, Whole, Wide}
 use Rattle.yaml_subset.specs.declared.scalars.Scanned.{Scanned}
@@ -15,16 +13,15 @@ use Rattle.yaml_subset.specs.declared.tree.Tree.TheVariants as tree
 use Rattle.yaml_subset.specs.declared.tree.Key.{Key}
 use Rattle.yaml_subset.specs.declared.tree.Key.TheVariants as keys
 use Rattle.yaml_subset.specs.declared.tree.Pair.{Pair}
-use Rattle.yaml_subset.specs.Characters.{is_empty, begins, marks, next_part}
+use Rattle.yaml_subset.specs.Characters.{begins}
 use Rattle.yaml_subset.specs.Numbers.{greatest, magnitude, signed, whole_or, number_in, decimal, number_of}
-use Rattle.yaml_subset.specs.Scalars.{text_of, scan, is_null, is_true_word, is_false_word, text_tree, number_or_text, plain_value, scalar_value, as_key, key_of}
-use Rattle.yaml_subset.specs.Entries.{has_key}
-use Rattle.yaml_subset.specs.Flow.{opened, parted, key_fault, entry_key, flow_scalar, entry_value, with_entry, list_step, list_from, map_step, map_from, opens, flow_value}
+use Rattle.yaml_subset.specs.Scalars.{text_of, is_null, is_true_word, is_false_word, is_merge, text_tree, number_or_text, plain_value, scalar_value, as_key, key_of}
+use Rattle.yaml_subset.specs.LineValue.{IsScalar, AreFlowItems, IsFlowValue, AreFlowEntries, IsNested, IsFlow, IsLineValue}
 use Rattle.yaml_subset.specs.ReadBack.{is_i128, is_key, is_sound}
-use Rattle.yaml_subset.proofs.Holding.{Holds, Anything, holds_any, holds_ok, holds_err, holds_bind, holds_if}
+use Rattle.yaml_subset.proofs.Holding.{Holds, holds_ok, holds_err, holds_bind, holds_if}
 use Rattle.yaml_subset.proofs.PrintedNumbers.{minus_is}
 use Rattle.yaml_subset.proofs.PrintedTrees.{at_kind, sound_int, sound_text}
-use Rattle.yaml_subset.proofs.SoundTrees.{IsWithin, within_more, null_within, bool_within, int_within, text_within, ItemsWithin, no_items, items_push, list_within, PairsWithin, no_pairs, pairs_push, map_within}
+use Rattle.yaml_subset.proofs.SoundTrees.{IsWithin, within_more, null_within, bool_within, int_within, text_within, ItemsWithin, no_items, items_more, list_within, PairsWithin, no_pairs, pairs_more, map_within}
 
 -- a number is an i128
 abbrev NumberSound : Number → Type 0
@@ -82,16 +79,16 @@ number_or_text_within Wide text h = holds_err (IsWithin 0) (LeftOut form.Wide)
 plain_within : (text : List ℕ) → Holds (IsWithin 0) (plain_value text)
 unfolding plain_value
 plain_within text =
-    holds_if (is_null text) _ _ (IsWithin 0) (λ e. holds_ok (IsWithin 0) tree.Null null_within)
+    holds_if (is_null text) _ _ (IsWithin 0) (λ e. holds_ok (IsWithin 0) tree.Null (null_within 0))
     (λ e. holds_if (is_true_word text) _ _ (IsWithin 0) (λ e. holds_ok (IsWithin 0) (tree.Bool true) (bool_within true))
     (λ e. holds_if (is_false_word text) _ _ (IsWithin 0) (λ e. holds_ok (IsWithin 0) (tree.Bool false) (bool_within false))
     (λ e. number_or_text_within (number_of text) text (number_sound text))))
 
-pub scalar_within : (s : Scanned) → Holds (IsWithin 0) (scalar_value s)
+scalar_within : (s : Scanned) → Holds (IsWithin 0) (scalar_value s)
 unfolding scalar_value
 scalar_within s = holds_if (s.plain) _ _ (IsWithin 0) (λ e. plain_within s.text) (λ e. text_tree_within s.text)
 
-abbrev pub KeySound : Key → Type 0
+abbrev KeySound : Key → Type 0
 KeySound k = is_key k ≡ true
 
 as_key_sound : (v : Tree) → is_sound v ≡ true → Holds KeySound (as_key v)
@@ -107,90 +104,54 @@ as_key_sound = at_kind (λ v. is_sound v ≡ true → Holds KeySound (as_key v))
 pub key_sound : (s : Scanned) → Holds KeySound (key_of s)
 unfolding key_of
 key_sound s =
-    holds_if (s.plain && bytes_eq s.text (codes "<<")) _ _ KeySound (λ e. holds_err KeySound (LeftOut MergeKey))
+    holds_if (is_merge s) _ _ KeySound (λ e. holds_err KeySound (LeftOut MergeKey))
     (λ e. holds_bind _ _ (IsWithin 0) KeySound (scalar_within s) (λ v w. as_key_sound v w.sound))
 
--- a key that is read behind these entries is new
-abbrev pub EntryKeySound : List Pair → Key × List ℕ → Type 0
-EntryKeySound pairs entry = (is_key entry.0 ≡ true) × (has_key pairs entry.0 ≡ false)
+-- ---- flow lists and maps
 
-pub entry_key_sound : (flow : Bool) (pairs : List Pair) (rest : List ℕ) → Holds (EntryKeySound pairs) (entry_key flow pairs rest)
-unfolding entry_key
-entry_key_sound flow pairs rest =
-    let P : Key × List ℕ → Type 0 = EntryKeySound pairs in
-    holds_bind _ _ Anything P (holds_any (scan flow rest)) (λ s u.
-    holds_if (marks 58 s.1) _ _ P
-    (λ e. holds_bind _ _ KeySound P (key_sound s.0) (λ k h.
-    holds_if (has_key pairs k) _ _ P (λ e. holds_err P DuplicateKey) (λ e. holds_ok P (k, drop 1 s.1) (h, e))))
-    (λ e. holds_err P (key_fault flow s.0 s.1)))
+abbrev AreSound : ℕ → (List ℕ → Tree → List ℕ → Type 0) → Type 0
+AreSound n Value = (start : List ℕ) (v : Tree) (after : List ℕ) → Value start v after → IsWithin n v
 
--- the value of what is read
-abbrev pub ValueWithin : ℕ → Tree × List ℕ → Type 0
-ValueWithin n read = IsWithin n read.0
+scalar_sound : (n : ℕ) (flow : Bool) (rest : List ℕ) (v : Tree) (after : List ℕ) → IsScalar flow rest v after → IsWithin n v
+scalar_sound n flow rest v after s = within_more 0 n v (omega arith) ((scalar_within s.0).at v s.2)
 
-flow_scalar_within : (n : ℕ) (rest : List ℕ) → Holds (ValueWithin n) (flow_scalar rest)
-unfolding flow_scalar
-flow_scalar_within n rest =
-    holds_bind _ _ Anything (ValueWithin n) (holds_any (scan true rest)) (λ s u.
-    holds_bind _ _ (IsWithin 0) (ValueWithin n) (scalar_within s.0) (λ v w. holds_ok (ValueWithin n) (v, s.1) (within_more 0 n v (omega arith) w)))
+items_sound : (n : ℕ) (Value : List ℕ → Tree → List ℕ → Type 0) → AreSound n Value → (vs : List Tree) (inside after : List ℕ) → AreFlowItems Value inside vs after → ItemsWithin n vs
+items_sound n Value sound [] inside after are = no_items n
+items_sound n Value sound (v ∷ vs) inside after are =
+    items_more n v vs (sound are.1.start v are.1.after are.1.value) (by_end are.2 (λ next a. items_sound n Value sound vs next after a))
+  where
+    by_end : ((are.0 ≡ 93 ∷ after) × (vs ≡ [])) ⊎ ((next : List ℕ) × (are.0 ≡ 44 ∷ next) × AreFlowItems Value next vs after)
+        → ((next : List ℕ) → AreFlowItems Value next vs after → ItemsWithin n vs) → ItemsWithin n vs
+    by_end (inl w) rec = subst (ItemsWithin n) (sym w.1) (no_items n)
+    by_end (inr w) rec = rec w.0 w.2
 
-abbrev ReadsWithin : ℕ → (List ℕ → Result (Tree × List ℕ) YamlCause) → Type 0
-ReadsWithin n value = (rest : List ℕ) → Holds (ValueWithin n) (value rest)
+flow_value_sound : (n : ℕ) (Value : List ℕ → Tree → List ℕ → Type 0) → AreSound n Value → AreSound n (IsFlowValue Value)
+flow_value_sound n Value sound part v after (inl w) = subst (IsWithin n) (sym w.1) (null_within n)
+flow_value_sound n Value sound part v after (inr w) = sound part v after w.1
 
-entry_value_within : (n : ℕ) (value : List ℕ → Result (Tree × List ℕ) YamlCause) → ReadsWithin n value → (rest : List ℕ) → Holds (ValueWithin n) (entry_value value rest)
-unfolding entry_value
-entry_value_within n value reads rest =
-    holds_bind _ _ Anything (ValueWithin n) (holds_any (next_part false rest)) (λ next u.
-    holds_if (is_empty next) _ _ (ValueWithin n) (λ e. holds_err (ValueWithin n) (LeftOut LongFlow))
-    (λ e. holds_if (begins 44 next || begins 125 next) _ _ (ValueWithin n) (λ e. holds_ok (ValueWithin n) (tree.Null, next) (within_more 0 n tree.Null (omega arith) null_within)) (λ e. reads next)))
+entries_sound : (n : ℕ) (Value : List ℕ → Tree → List ℕ → Type 0) → AreSound n Value → (ps before : List Pair) (inside after : List ℕ) → AreFlowEntries Value before inside ps after → PairsWithin n before ps
+entries_sound n Value sound [] before inside after are = no_pairs n before
+entries_sound n Value sound (p ∷ ps) before inside after are =
+    let e = are.1 in
+    pairs_more n before p ps ((key_sound e.scanned).at p.key e.key) e.first (flow_value_sound n Value sound e.part p.value e.after e.value)
+    (by_end are.2 (λ next a. entries_sound n Value sound ps (before ++ p ∷ []) next after a))
+  where
+    by_end : ((are.0 ≡ 125 ∷ after) × (ps ≡ [])) ⊎ ((next : List ℕ) × (are.0 ≡ 44 ∷ next) × AreFlowEntries Value (before ++ p ∷ []) next ps after)
+        → ((next : List ℕ) → AreFlowEntries Value (before ++ p ∷ []) next ps after → PairsWithin n (before ++ p ∷ []) ps) → PairsWithin n (before ++ p ∷ []) ps
+    by_end (inl w) rec = subst (PairsWithin n (before ++ p ∷ [])) (sym w.1) (no_pairs n (before ++ p ∷ []))
+    by_end (inr w) rec = rec w.0 w.2
 
-abbrev ListStep : ℕ → Bool × List Tree × List ℕ → Type 0
-ListStep n step = ItemsWithin n step.1
+nested_sound : (n : ℕ) → AreSound n (IsFlow n) → AreSound n (IsNested (IsFlow n))
+nested_sound n sound start v after (inl s) = scalar_sound n true start v after s
+nested_sound n sound start v after (inr f) = sound start v after f
 
-list_step_within : (n : ℕ) (value : List ℕ → Result (Tree × List ℕ) YamlCause) → ReadsWithin n value → (items : List Tree) (rest : List ℕ) → ItemsWithin n items → Holds (ListStep n) (list_step value items rest)
-unfolding list_step
-list_step_within n value reads items rest all =
-    holds_bind _ _ Anything (ListStep n) (holds_any (opened 93 rest)) (λ opening u.
-    holds_if (opening.0) _ _ (ListStep n) (λ e. holds_ok (ListStep n) (true, items, opening.1) all)
-    (λ e. holds_bind _ _ (ValueWithin n) (ListStep n) (reads opening.1) (λ item w.
-    holds_bind _ _ Anything (ListStep n) (holds_any (parted 93 item.1)) (λ part u.
-    holds_ok (ListStep n) (part.0, items ++ item.0 ∷ [], part.1) (items_push n items item.0 all w)))))
+flow_sound : (n : ℕ) → AreSound n (IsFlow n)
+flow_sound zero start v after f = absurd f
+flow_sound (suc n) start v after (inl l) =
+    subst (IsWithin (suc n)) (sym l.is) (list_within n l.items (items_sound n (IsNested (IsFlow n)) (nested_sound n (flow_sound n)) l.items l.inside after l.are))
+flow_sound (suc n) start v after (inr m) =
+    subst (IsWithin (suc n)) (sym m.is) (map_within n m.pairs (entries_sound n (IsNested (IsFlow n)) (nested_sound n (flow_sound n)) m.pairs [] m.inside after m.are))
 
-list_from_within : (n : ℕ) (value : List ℕ → Result (Tree × List ℕ) YamlCause) → ReadsWithin n value → (steps : ℕ) (items : List Tree) (rest : List ℕ) → ItemsWithin n items → Holds (ValueWithin (suc n)) (list_from value steps items rest)
-unfolding list_from
-list_from_within n value reads zero items rest all = holds_err (ValueWithin (suc n)) (LeftOut LongFlow)
-list_from_within n value reads (suc m) items rest all =
-    holds_bind _ _ (ListStep n) (ValueWithin (suc n)) (list_step_within n value reads items rest all) (λ step more.
-    holds_if (step.0) _ _ (ValueWithin (suc n)) (λ e. holds_ok (ValueWithin (suc n)) (tree.List step.1, step.2) (list_within n step.1 more))
-    (λ e. list_from_within n value reads m step.1 step.2 more))
-
-abbrev MapStep : ℕ → Bool × List Pair × List ℕ → Type 0
-MapStep n step = PairsWithin n step.1
-
-map_step_within : (n : ℕ) (value : List ℕ → Result (Tree × List ℕ) YamlCause) → ReadsWithin n value → (pairs : List Pair) (rest : List ℕ) → PairsWithin n pairs → Holds (MapStep n) (map_step value pairs rest)
-unfolding map_step
-map_step_within n value reads pairs rest all =
-    holds_bind _ _ Anything (MapStep n) (holds_any (opened 125 rest)) (λ opening u.
-    holds_if (opening.0) _ _ (MapStep n) (λ e. holds_ok (MapStep n) (true, pairs, opening.1) all)
-    (λ e. holds_bind _ _ (EntryKeySound pairs) (MapStep n) (entry_key_sound true pairs opening.1) (λ k s.
-    holds_bind _ _ (ValueWithin n) (MapStep n) (entry_value_within n value reads k.1) (λ v w.
-    holds_bind _ _ Anything (MapStep n) (holds_any (parted 125 v.1)) (λ part u.
-    holds_ok (MapStep n) (part.0, with_entry pairs k.0 v.0, part.1) (pairs_push n pairs k.0 v.0 all s.0 s.1 w))))))
-
-map_from_within : (n : ℕ) (value : List ℕ → Result (Tree × List ℕ) YamlCause) → ReadsWithin n value → (steps : ℕ) (pairs : List Pair) (rest : List ℕ) → PairsWithin n pairs → Holds (ValueWithin (suc n)) (map_from value steps pairs rest)
-unfolding map_from
-map_from_within n value reads zero pairs rest all = holds_err (ValueWithin (suc n)) (LeftOut LongFlow)
-map_from_within n value reads (suc m) pairs rest all =
-    holds_bind _ _ (MapStep n) (ValueWithin (suc n)) (map_step_within n value reads pairs rest all) (λ step more.
-    holds_if (step.0) _ _ (ValueWithin (suc n)) (λ e. holds_ok (ValueWithin (suc n)) (tree.Map step.1, step.2) (map_within n step.1 more))
-    (λ e. map_from_within n value reads m step.1 step.2 more))
-
-pub flow_within : (n : ℕ) (rest : List ℕ) → Holds (ValueWithin n) (flow_value n rest)
-unfolding flow_value
-flow_within zero rest = holds_if (opens rest) _ _ (ValueWithin zero) (λ e. holds_err (ValueWithin zero) TooDeep) (λ e. flow_scalar_within zero rest)
-flow_within (suc n) rest =
-    holds_if (opens rest) _ _ (ValueWithin (suc n))
-    (λ e. holds_if (begins 91 rest) _ _ (ValueWithin (suc n))
-    (λ e. list_from_within n (flow_value n) (flow_within n) (length (drop 1 rest)) [] (drop 1 rest) (no_items n))
-    (λ e. map_from_within n (flow_value n) (flow_within n) (length (drop 1 rest)) [] (drop 1 rest) (no_pairs n)))
-    (λ e. flow_scalar_within (suc n) rest)
+pub line_sound : (n : ℕ) (part : List ℕ) (v : Tree) → IsLineValue n part v → IsWithin n v
+line_sound n part v (after, inl s, end) = scalar_sound n false part v after s
+line_sound n part v (after, inr f, end) = flow_sound n part v after f

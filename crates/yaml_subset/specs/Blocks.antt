@@ -15,8 +15,8 @@ use Rattle.yaml_subset.specs.declared.tree.Tree.{Tree}
 use Rattle.yaml_subset.specs.declared.tree.Tree.TheVariants as tree
 use Rattle.yaml_subset.specs.declared.tree.Key.{Key}
 use Rattle.yaml_subset.specs.declared.tree.Pair.{Pair}
-use Rattle.yaml_subset.specs.Characters.{is_empty, begins, at_gap, marks, next_part, stray, line_end, misplaced}
-use Rattle.yaml_subset.specs.Scalars.{scan, scalar_value, key_of}
+use Rattle.yaml_subset.specs.Characters.{is_empty, begins, at_gap, marks, next_part, stray, line_end, left_out, form_or}
+use Rattle.yaml_subset.specs.Scalars.{scan, left_scalar, scalar_value, key_of}
 use Rattle.yaml_subset.specs.Flow.{entry_key, with_entry, opens, flow_value}
 use Rattle.yaml_subset.specs.Gives.{◌>>=◌}
 
@@ -121,9 +121,14 @@ content (suc n) place frames column rest = if marks 45 rest
     then behind_dash (content n Item) (list_frame column [] ∷ frames) column rest
     else key_or_value place frames column rest
 
+-- The cause at a line's first character, where nothing may begin: a tab, and what is left out where a value
+-- or a key may begin, come first.
+unfoldable pub misplaced : YamlCause → List ℕ → YamlCause
+misplaced cause rest = if begins 9 rest then Tab else form_or (form_or cause (left_scalar (scan false rest))) (left_out rest)
+
 -- what is wrong with a line of a list that is no item
 abbrev pub no_item : List ℕ → YamlCause
-no_item rest = if begins 45 rest then stray (drop 1 rest) else misplaced Syntax rest
+no_item rest = if begins 45 rest then form_or (stray (drop 1 rest)) (left_scalar (scan false rest)) else misplaced Syntax rest
 
 -- the next entry of an open block, behind its last value
 abbrev pub next_entry : Open → List Frame → ℕ → Tree → List ℕ → Result State YamlCause

@@ -70,7 +70,3 @@ left_out (c ∷ cs) = if c == 38 then Some Anchor
 abbrev pub form_or : YamlCause → Option YamlForm → YamlCause
 form_or cause None = cause
 form_or cause (Some form) = LeftOut form
-
--- the cause at a line's first character, where nothing may begin: a tab and what is left out come first
-unfoldable pub misplaced : YamlCause → List ℕ → YamlCause
-misplaced cause rest = if begins 9 rest then Tab else form_or cause (left_out rest)

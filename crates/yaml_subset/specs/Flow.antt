@@ -2,6 +2,7 @@
 use Rattle.std.specs.Prelude.{ℕ, zero, suc, Bool, true, false, ◌||◌, ◌&&◌, ◌==◌, if◌then◌else◌, List, [], ◌∷◌, ◌++◌, length, drop, Result, Ok, Err}
 use Rattle.std.specs.List.{list_all}
 use Rattle.yaml_subset.specs.declared.fault.YamlForm.TheVariants.{LongFlow}
+use Rattle.yaml_subset.specs.declared.fault.YamlForm.TheVariants as form
 use Rattle.yaml_subset.specs.declared.fault.YamlCause.{YamlCause}
 use Rattle.yaml_subset.specs.declared.fault.YamlCause.TheVariants.{TooDeep, Tab, LeftOut, DuplicateKey, Syntax}
 use Rattle.yaml_subset.specs.declared.scalars.Scanned.{Scanned}
@@ -10,7 +11,7 @@ use Rattle.yaml_subset.specs.declared.tree.Tree.TheVariants as tree
 use Rattle.yaml_subset.specs.declared.tree.Key.{Key}
 use Rattle.yaml_subset.specs.declared.tree.Pair.{Pair}
 use Rattle.yaml_subset.specs.Characters.{is_empty, begins, skip, is_kept, marks, next_part, stray}
-use Rattle.yaml_subset.specs.Scalars.{scan, scalar_value, key_of}
+use Rattle.yaml_subset.specs.Scalars.{is_wide, scan, scalar_value, key_of}
 use Rattle.yaml_subset.specs.Entries.{has_key}
 use Rattle.yaml_subset.specs.Gives.{◌>>=◌}
 
@@ -30,12 +31,16 @@ behind_item closing (c ∷ cs) = if c == closing then Ok (true, cs) else if c ==
 unfoldable pub parted : ℕ → List ℕ → Result (Bool × List ℕ) YamlCause
 parted closing rest = next_part false rest >>= λ next. behind_item closing next
 
--- what is wrong where no colon follows a key
-unfoldable pub key_fault : Bool → Scanned → List ℕ → YamlCause
-key_fault flow s after = if is_empty after then (if flow then LeftOut LongFlow else Syntax)
+-- what is wrong where a colon has to stand
+unfoldable pub colon_fault : Bool → Scanned → List ℕ → YamlCause
+colon_fault flow s after = if is_empty after then (if flow then LeftOut LongFlow else Syntax)
     else if s.plain then (if flow && begins 35 (skip after) && list_all is_kept (skip after) then LeftOut LongFlow else Syntax)
     else if begins 9 after || begins 58 after && begins 9 (drop 1 after) then Tab
     else Syntax
+
+-- what is wrong with a scalar that has to be a key, where no colon follows
+abbrev pub key_fault : Bool → Scanned → List ℕ → YamlCause
+key_fault flow s after = if is_wide s then LeftOut form.Wide else colon_fault flow s after
 
 -- a key behind these entries, and what follows its colon
 unfoldable pub entry_key : Bool → List Pair → List ℕ → Result (Key × List ℕ) YamlCause

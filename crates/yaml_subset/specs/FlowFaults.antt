@@ -2,7 +2,7 @@
 -- faults may stand in the same bytes. Columns count from the first byte of the part.
 use Rattle.std.specs.Prelude.{◌≡◌, ◌⊎◌, ℕ, zero, suc, Bool, true, false, ◌||◌, ◌&&◌, not, ◌+◌, ◌-◌, List, [], ◌∷◌, ◌++◌, length, drop, Ok, Err}
 use Rattle.std.specs.List.{list_all}
-use Rattle.yaml_subset.specs.declared.fault.YamlForm.TheVariants.{LongFlow}
+use Rattle.yaml_subset.specs.declared.fault.YamlForm.TheVariants.{LongFlow, Wide}
 use Rattle.yaml_subset.specs.declared.fault.YamlCause.{YamlCause}
 use Rattle.yaml_subset.specs.declared.fault.YamlCause.TheVariants.{TooDeep, Tab, LeftOut, DuplicateKey, Syntax}
 use Rattle.yaml_subset.specs.declared.scalars.Scanned.{Scanned}
@@ -10,7 +10,7 @@ use Rattle.yaml_subset.specs.declared.tree.Tree.{Tree}
 use Rattle.yaml_subset.specs.declared.tree.Key.{Key}
 use Rattle.yaml_subset.specs.declared.tree.Pair.{Pair}
 use Rattle.yaml_subset.specs.Characters.{is_empty, begins, skip, is_kept, marks, next_part}
-use Rattle.yaml_subset.specs.Scalars.{scan, key_of}
+use Rattle.yaml_subset.specs.Scalars.{is_wide, scan, key_of}
 use Rattle.yaml_subset.specs.Entries.{has_key}
 use Rattle.yaml_subset.specs.Flow.{opens}
 use Rattle.yaml_subset.specs.FirstFault.{Behind}
@@ -63,10 +63,11 @@ pub data NoNewKey (before : List Pair) (s : Scanned) (cause : YamlCause) : Type 
   no_key : key_of s ≡ Err cause → NoNewKey before s cause
   key_again : (k : Key) → key_of s ≡ Ok k → has_key before k ≡ true → cause ≡ DuplicateKey → NoNewKey before s cause
 
--- what is wrong with a key behind these entries
+-- what is wrong with a key behind these entries; behind a whole number outside i128 nothing more is
 pub data KeyFault (flow : Bool) (before : List Pair) (rest : List ℕ) (at : ℕ) (cause : YamlCause) : Type 0 where
   in_key : ScanFault flow rest at cause → KeyFault flow before rest at cause
-  behind_key : Behind rest (scan flow rest) (λ s after inside c. (marks 58 after ≡ false) × ColonFault flow s after inside c) at cause → KeyFault flow before rest at cause
+  wide_alone : (s : Scanned) (after : List ℕ) → scan flow rest ≡ Ok (s, after) → marks 58 after ≡ false → is_wide s ≡ true → at ≡ 0 → cause ≡ LeftOut Wide → KeyFault flow before rest at cause
+  behind_key : Behind rest (scan flow rest) (λ s after inside c. (marks 58 after ≡ false) × (is_wide s ≡ false) × ColonFault flow s after inside c) at cause → KeyFault flow before rest at cause
   at_key : (s : Scanned) (after : List ℕ) → scan flow rest ≡ Ok (s, after) → marks 58 after ≡ true → at ≡ 0 → NoNewKey before s cause → KeyFault flow before rest at cause
 
 -- a key that none of these entries has, and what follows its colon

@@ -2,7 +2,6 @@
 use Rattle.std.specs.Prelude.{◌≡◌, ◌⊎◌, ◌<◌, ℕ, zero, suc, true, false, ◌+◌, ◌-◌, ◌≤◌, List, [], ◌∷◌, ◌++◌, length, drop, Result, Ok, Err}
 use Rattle.std.specs.Str.{is_utf8}
 use Rattle.std.specs.Str.Lines.{lines}
-use Rattle.yaml_subset.specs.declared.fault.YamlFault.{YamlFault}
 use Rattle.yaml_subset.specs.declared.fault.YamlRefused.{YamlRefused}
 use Rattle.yaml_subset.specs.declared.fault.YamlRefused.TheVariants as refused
 use Rattle.yaml_subset.specs.declared.scalars.Scanned.{Scanned}
@@ -13,7 +12,6 @@ use Rattle.yaml_subset.specs.Characters.{is_empty, begins, marks, next_part}
 use Rattle.yaml_subset.specs.Scalars.{scan, key_of}
 use Rattle.yaml_subset.specs.Entries.{has_key}
 use Rattle.yaml_subset.specs.Blocks.{is_marker}
-use Rattle.yaml_subset.specs.Reading.{read_of}
 use Rattle.yaml_subset.specs.LineValue.{IsLineValue}
 
 -- A line from its first character that is no space, with that character's column. What stands behind a dash
@@ -153,7 +151,3 @@ abbrev pub GivesByGrammar : Result Tree YamlRefused → List ℕ → Type 0
 GivesByGrammar (Ok t) text = Reads text t
 GivesByGrammar (Err refused.Memory) text = Unit {0}
 GivesByGrammar (Err (refused.At fault)) text = (t : Tree) → Reads text t → ⊥
-
--- the text has a tree by the grammar, or reading it gives a fault, and never both
-abbrev pub HasTreeOrFault : List ℕ → Type 0
-HasTreeOrFault text = ((t : Tree) × Reads text t) ⊎ ((fault : YamlFault) × (read_of text ≡ Err fault) × ((t : Tree) → Reads text t → ⊥))

@@ -17,7 +17,6 @@ pub mod DoubleQuoted
 pub mod PlainText
 pub mod LineValue
 pub mod Grammar
-pub mod Accepted
 pub mod DigitLaws
 pub mod Printed
 pub mod ReadBack

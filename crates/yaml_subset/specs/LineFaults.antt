@@ -17,7 +17,7 @@ use Rattle.yaml_subset.specs.declared.tree.Tree.{Tree}
 use Rattle.yaml_subset.specs.declared.tree.Key.{Key}
 use Rattle.yaml_subset.specs.declared.tree.Pair.{Pair}
 use Rattle.yaml_subset.specs.Characters.{is_empty, begins, marks, left_out}
-use Rattle.yaml_subset.specs.Scalars.{scan, scalar_value, key_of}
+use Rattle.yaml_subset.specs.Scalars.{scan, left_scalar, scalar_value, key_of}
 use Rattle.yaml_subset.specs.Flow.{with_entry, opens}
 use Rattle.yaml_subset.specs.Blocks.{top_is, ends_block, levels_in, begins_block, is_marker, is_start}
 use Rattle.yaml_subset.specs.LineValue.{IsLineValue}
@@ -79,16 +79,18 @@ ContentFault (suc levels) place rest at cause = ((marks 45 rest ≡ true) × Das
 
 -- ---- lines of open blocks
 
--- what is wrong with a line's first character where nothing may begin: a tab and what is left out are
--- wrong there too
+-- what is wrong with a line's first character where nothing may begin: a tab, and what is left out where a
+-- value or a key may begin, are wrong there too
 pub data MisplacedFault (otherwise : YamlCause) (rest : List ℕ) (at : ℕ) (cause : YamlCause) : Type 0 where
   misplaced_tab : begins 9 rest ≡ true → at ≡ 0 → cause ≡ Tab → MisplacedFault otherwise rest at cause
   misplaced_form : (form : YamlForm) → left_out rest ≡ Some form → at ≡ 0 → cause ≡ LeftOut form → MisplacedFault otherwise rest at cause
+  misplaced_scalar : (form : YamlForm) → left_scalar (scan false rest) ≡ Some form → at ≡ 0 → cause ≡ LeftOut form → MisplacedFault otherwise rest at cause
   misplaced_line : at ≡ 0 → cause ≡ otherwise → MisplacedFault otherwise rest at cause
 
 -- what is wrong with a line of a list
 pub data ItemLineFault (levels : ℕ) (rest : List ℕ) (at : ℕ) (cause : YamlCause) : Type 0 where
   no_dash : begins 45 rest ≡ false → MisplacedFault Syntax rest at cause → ItemLineFault levels rest at cause
+  dash_scalar : begins 45 rest ≡ true → marks 45 rest ≡ false → (form : YamlForm) → left_scalar (scan false rest) ≡ Some form → at ≡ 0 → cause ≡ LeftOut form → ItemLineFault levels rest at cause
   dash_and_tab : begins 45 rest ≡ true → marks 45 rest ≡ false → begins 9 (drop 1 rest) ≡ true → at ≡ 1 → cause ≡ Tab → ItemLineFault levels rest at cause
   dash_alone : begins 45 rest ≡ true → marks 45 rest ≡ false → at ≡ 1 → cause ≡ Syntax → ItemLineFault levels rest at cause
   in_item : marks 45 rest ≡ true → DashFault (ContentFault levels Item) rest at cause → ItemLineFault levels rest at cause

@@ -1,6 +1,7 @@
 -- Scalars, and what they stand for as values and as keys.
 use Rattle.std.specs.Prelude.{ℕ, Bool, true, false, ◌||◌, ◌&&◌, ◌-◌, if◌then◌else◌, List, [], length, take, drop, codes, Option, Some, None, Result, Ok, Err}
 use Rattle.std.specs.Str.{bytes_eq, is_utf8}
+use Rattle.yaml_subset.specs.declared.fault.YamlForm.{YamlForm}
 use Rattle.yaml_subset.specs.declared.fault.YamlForm.TheVariants.{MergeKey}
 use Rattle.yaml_subset.specs.declared.fault.YamlForm.TheVariants as form
 use Rattle.yaml_subset.specs.declared.fault.YamlCause.{YamlCause}
@@ -13,7 +14,7 @@ use Rattle.yaml_subset.specs.declared.tree.Tree.{Tree}
 use Rattle.yaml_subset.specs.declared.tree.Tree.TheVariants as tree
 use Rattle.yaml_subset.specs.declared.tree.Key.{Key}
 use Rattle.yaml_subset.specs.declared.tree.Key.TheVariants as key
-use Rattle.yaml_subset.specs.Characters.{begins}
+use Rattle.yaml_subset.specs.Characters.{begins, marks}
 use Rattle.yaml_subset.specs.Quoted.{single_from, double_from}
 use Rattle.yaml_subset.specs.Plain.{plain_fault, plain_from}
 use Rattle.yaml_subset.specs.Numbers.{number_of}
@@ -75,7 +76,25 @@ as_key (tree.Int n) = Ok (key.Int n)
 as_key (tree.Text text) = Ok (key.Text text)
 as_key _ = Err Syntax
 
+-- the plain `<<`
+abbrev pub is_merge : Scanned → Bool
+is_merge s = s.plain && bytes_eq s.text (codes "<<")
+
+abbrev pub are_wide : Number → Bool
+are_wide Wide = true
+are_wide _ = false
+
+-- a whole number outside i128
+abbrev pub is_wide : Scanned → Bool
+is_wide s = s.plain && are_wide (number_of s.text)
+
 -- a key is an Int or a text; the plain `<<` is left out
 unfoldable pub key_of : Scanned → Result Key YamlCause
-key_of s = if s.plain && bytes_eq s.text (codes "<<") then Err (LeftOut MergeKey)
+key_of s = if is_merge s then Err (LeftOut MergeKey)
     else scalar_value s >>= as_key
+
+-- the scalar from which a line begins is left out wherever a scalar stands: a whole number outside i128, or
+-- the plain `<<` with its colon
+abbrev pub left_scalar : Result (Scanned × List ℕ) YamlCause → Option YamlForm
+left_scalar (Ok s) = if is_wide s.0 then Some form.Wide else if is_merge s.0 && marks 58 s.1 then Some MergeKey else None
+left_scalar (Err c) = None

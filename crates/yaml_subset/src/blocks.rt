@@ -7,9 +7,7 @@ ghost use Rattle.yaml_subset.specs.declared.blocks.Place.TheVariants.{Item};
 ghost use Rattle.yaml_subset.specs.Flow.{opens};
 ghost use Rattle.yaml_subset.specs.Gives.{Gives};
 
-use crate::characters::{
-    begins, behind_first, is_at_gap, is_mark, line_end, misplaced, next_part, stray,
-};
+use crate::characters::{begins, behind_first, is_mark, line_end, next_part};
 use crate::entries::Entries;
 use crate::fault::{LineRefused, YamlCause, YamlForm};
 use crate::flow::{entry_key, flow_value};

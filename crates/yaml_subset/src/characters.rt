@@ -1,7 +1,7 @@
 //! The bytes of one line, and what may stand between its parts.
 
 ghost use Rattle.std.specs.Prelude.{◌≡◌, ◌≤◌, length, drop, IfOk};
-ghost use Rattle.yaml_subset.specs.Characters.{is_empty, begins, skip, is_control, is_kept, at_gap, marks, next_part, stray, line_end, left_out, misplaced};
+ghost use Rattle.yaml_subset.specs.Characters.{is_empty, begins, skip, is_control, is_kept, at_gap, marks, next_part, stray, line_end, left_out};
 ghost use Rattle.std.specs.List.{list_all};
 ghost use Rattle.yaml_subset.specs.Gives.{Gives};
 
@@ -98,13 +98,13 @@ pub(crate) fn next_part(fresh: bool, rest: &[u8]) -> Result<&[u8], LineRefused>
 }
 
 /// What is wrong with a character that stands where none may.
-pub(crate) fn stray(rest: &[u8]) -> LineRefused
-    ensures { result ≡ LineRefused.Cause (stray rest.now) }
+pub(crate) fn stray(rest: &[u8]) -> YamlCause
+    ensures { result ≡ stray rest.now }
 {
     if begins(b'\t', rest) {
-        LineRefused::Cause(YamlCause::Tab)
+        YamlCause::Tab
     } else {
-        LineRefused::Cause(YamlCause::Syntax)
+        YamlCause::Syntax
     }
 }
 
@@ -116,7 +116,7 @@ pub(crate) fn line_end(rest: &[u8]) -> Result<(), LineRefused>
     let next = next_part(false, rest)?;
     match next {
         [] => Ok(()),
-        [_, ..] => Err(stray(next)),
+        [_, ..] => Err(LineRefused::Cause(stray(next))),
     }
 }
 
@@ -131,19 +131,5 @@ pub(crate) fn left_out(rest: &[u8]) -> Option<YamlForm>
         [b'|', ..] | [b'>', ..] => Some(YamlForm::BlockScalar),
         [b'?', tail @ ..] if is_at_gap(tail) => Some(YamlForm::ComplexKey),
         _ => None,
-    }
-}
-
-/// The cause at a line's first character, where nothing may begin.
-#[tactic(auto, unfolding(crate::specs::Characters::misplaced))]
-pub(crate) fn misplaced(cause: YamlCause, rest: &[u8]) -> LineRefused
-    ensures { result ≡ LineRefused.Cause (misplaced cause rest.now) }
-{
-    if begins(b'\t', rest) {
-        return LineRefused::Cause(YamlCause::Tab);
-    }
-    match left_out(rest) {
-        None => LineRefused::Cause(cause),
-        Some(form) => LineRefused::Cause(YamlCause::LeftOut(form)),
     }
 }

@@ -1,10 +1,9 @@
 //! Why a text is refused.
 
-ghost use Rattle.std.specs.Prelude.{◌≡◌, Some};
+ghost use Rattle.std.specs.Prelude.{◌≡◌};
 ghost use Rattle.yaml_subset.specs.declared.fault.LineRefused.TheVariants.{Memory};
 
 use std::alloc::{AllocError, AllocFailed};
-use std::fmt;
 
 /// What YAML has and this subset leaves out.
 #[derive(Clone, Copy, Debug, PartialEq, Eq)]
@@ -90,48 +89,5 @@ impl<T: Drop> From<AllocFailed<T>> for LineRefused {
 
     fn from(_e: AllocFailed<T>) -> LineRefused {
         LineRefused::Memory
-    }
-}
-
-impl fmt::Display for YamlForm {
-    ghost use Rattle.std.specs.Prelude.{Some};
-    ghost use Rattle.yaml_subset.specs.Fault.{form_text};
-
-    ghost output = { λ form. Some (form_text form) };
-
-    fn fmt<W: fmt::Write>(&self, f: &mut fmt::Formatter<W>) -> fmt::Result {
-        match self {
-            YamlForm::Anchor => write!(f, "Anchor"),
-            YamlForm::Alias => write!(f, "Alias"),
-            YamlForm::Tag => write!(f, "Tag"),
-            YamlForm::BlockScalar => write!(f, "BlockScalar"),
-            YamlForm::Directive => write!(f, "Directive"),
-            YamlForm::ComplexKey => write!(f, "ComplexKey"),
-            YamlForm::MergeKey => write!(f, "MergeKey"),
-            YamlForm::Documents => write!(f, "Documents"),
-            YamlForm::LongFlow => write!(f, "LongFlow"),
-            YamlForm::LongQuote => write!(f, "LongQuote"),
-            YamlForm::Wide => write!(f, "Wide"),
-        }
-    }
-}
-
-impl fmt::Display for YamlCause {
-    ghost use Rattle.std.specs.Prelude.{Some};
-    ghost use Rattle.yaml_subset.specs.Fault.{cause_text};
-
-    ghost output = { λ cause. Some (cause_text cause) };
-
-    fn fmt<W: fmt::Write>(&self, f: &mut fmt::Formatter<W>) -> fmt::Result {
-        match self {
-            YamlCause::NotUtf8 => write!(f, "NotUtf8"),
-            YamlCause::TooLong => write!(f, "TooLong"),
-            YamlCause::TooDeep => write!(f, "TooDeep"),
-            YamlCause::Tab => write!(f, "Tab"),
-            YamlCause::LeftOut(form) => write!(f, "LeftOut {form}"),
-            YamlCause::Indent => write!(f, "Indent"),
-            YamlCause::DuplicateKey => write!(f, "DuplicateKey"),
-            YamlCause::Syntax => write!(f, "Syntax"),
-        }
     }
 }

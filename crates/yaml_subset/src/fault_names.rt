@@ -7,7 +7,7 @@ use crate::fault::{YamlCause, YamlForm};
 
 impl YamlForm {
     /// The name of a form that the subset leaves out.
-    pub fn name(self) -> &'static str
+    fn name(self) -> &'static str
         ensures { result.now ≡ form_text self }
     {
         match self {

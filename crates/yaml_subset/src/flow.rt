@@ -1,13 +1,13 @@
 //! Flow lists and flow maps, which stand on one line.
 
 ghost use Rattle.std.specs.Prelude.{◌≡◌, ◌≤◌, [], length};
-ghost use Rattle.yaml_subset.specs.Flow.{opened, parted, key_fault, entry_key, flow_scalar, entry_value, list_step, list_from, map_step, map_from, flow_value};
+ghost use Rattle.yaml_subset.specs.Flow.{opened, parted, colon_fault, key_fault, entry_key, flow_scalar, entry_value, list_step, list_from, map_step, map_from, flow_value};
 ghost use Rattle.yaml_subset.specs.Gives.{Gives};
 
 use crate::characters::{are_kept, begins, behind_first, is_mark, next_part, skip_spaces, stray};
 use crate::entries::Entries;
 use crate::fault::{LineRefused, YamlCause, YamlForm};
-use crate::scalars::{Scanned, key_of, scalar_value, scan};
+use crate::scalars::{Scanned, is_wide, key_of, scalar_value, scan};
 use crate::tree::{Key, Tree};
 use net_base::Items;
 use std::alloc::Global;
@@ -35,14 +35,14 @@ fn parted(closing: u8, rest: &[u8]) -> Result<(bool, &[u8]), LineRefused>
         [] => Err(LineRefused::Cause(YamlCause::LeftOut(YamlForm::LongFlow))),
         [first, tail @ ..] if *first == closing => Ok((true, tail)),
         [b',', tail @ ..] => Ok((false, tail)),
-        [_, ..] => Err(stray(next)),
+        [_, ..] => Err(LineRefused::Cause(stray(next))),
     }
 }
 
-/// What is wrong where no colon follows a key.
-#[tactic(auto, unfolding(crate::specs::Flow::key_fault))]
-pub(crate) fn key_fault(flow: bool, scanned: &Scanned, after: &[u8]) -> LineRefused
-    ensures { result ≡ LineRefused.Cause (key_fault flow scanned.now after.now) }
+/// What is wrong where a colon has to stand.
+#[tactic(auto, unfolding(crate::specs::Flow::colon_fault))]
+fn colon_fault(flow: bool, scanned: &Scanned, after: &[u8]) -> LineRefused
+    ensures { result ≡ LineRefused.Cause (colon_fault flow scanned.now after.now) }
 {
     let [_, tail @ ..] = after else {
         if flow {
@@ -61,6 +61,17 @@ pub(crate) fn key_fault(flow: bool, scanned: &Scanned, after: &[u8]) -> LineRefu
         LineRefused::Cause(YamlCause::Tab)
     } else {
         LineRefused::Cause(YamlCause::Syntax)
+    }
+}
+
+/// What is wrong with a scalar that has to be a key, where no colon follows.
+fn key_fault(flow: bool, scanned: &Scanned, after: &[u8]) -> LineRefused
+    ensures { result ≡ LineRefused.Cause (key_fault flow scanned.now after.now) }
+{
+    if is_wide(scanned) {
+        LineRefused::Cause(YamlCause::LeftOut(YamlForm::Wide))
+    } else {
+        colon_fault(flow, scanned, after)
     }
 }
 

@@ -1,48 +1,24 @@
 //! Laws of the definitions alone, which say nothing of the code.
 
-ghost use Rattle.std.specs.Prelude.{◌≡◌, ℕ, Bool, List, [], ◌∷◌, ◌++◌, ◌<◌, ◌≤◌, true, false, length, Ok, Err};
-ghost use Rattle.std.specs.Str.{is_utf8};
-ghost use Rattle.std.specs.Str.Lines.{lines};
-ghost use Rattle.yaml_subset.specs.declared.fault.YamlCause.{YamlCause};
-ghost use Rattle.yaml_subset.specs.declared.blocks.State.TheVariants.{Start};
-ghost use Rattle.yaml_subset.specs.Reading.{fault_at, lines_from, read_of};
+ghost use Rattle.std.specs.Prelude.{◌≡◌, ℕ, Bool, List, [], ◌∷◌, ◌++◌, ◌<◌, ◌≤◌, true, false, Ok};
 ghost use Rattle.yaml_subset.specs.Numbers.{magnitude};
 ghost use Rattle.yaml_subset.specs.DigitLaws.{digits_value, IsMagnitude};
-ghost use Rattle.yaml_subset.specs.Accepted.{first_lines, HasTree, BreaksAt};
 ghost use Rattle.yaml_subset.specs.declared.tree.Tree.{Tree};
-ghost use Rattle.yaml_subset.specs.Printed.{printed};
-ghost use Rattle.yaml_subset.specs.ReadBack.{is_sound, IsSpelled};
-ghost use Rattle.yaml_subset.specs.Grammar.{Reads, ReadsWithin, HasTreeOrFault};
+ghost use Rattle.yaml_subset.specs.ReadBack.{is_sound};
+ghost use Rattle.yaml_subset.specs.Grammar.{Reads, ReadsWithin};
 ghost use Rattle.yaml_subset.specs.declared.fault.YamlFault.{YamlFault};
 ghost use Rattle.yaml_subset.specs.TextFault.{IsFault, HasTreeOrItsFault};
 ghost use Rattle.yaml_subset.specs.Levels.{levels};
-ghost use Rattle.yaml_subset.specs.Quoted.{single_from};
+ghost use Rattle.yaml_subset.specs.Quoted.{single_from, double_from};
 ghost use Rattle.yaml_subset.specs.SingleQuoted.{IsSingleQuoted};
-ghost use Rattle.yaml_subset.specs.Quoted.{double_from};
 ghost use Rattle.yaml_subset.specs.declared.quoted.Escape.TheVariants.{Outside};
 ghost use Rattle.yaml_subset.specs.DoubleQuoted.{IsDoubleQuoted};
 ghost use Rattle.yaml_subset.specs.Scalars.{plain_scalar};
 ghost use Rattle.yaml_subset.specs.PlainText.{IsPlain};
-ghost use Rattle.yaml_subset.specs.Characters.{next_part, line_end};
-ghost use Rattle.yaml_subset.specs.Scalars.{scan};
-ghost use Rattle.yaml_subset.specs.FirstFault.{Tells};
-ghost use Rattle.yaml_subset.specs.ScalarFaults.{NextFault, LineEndFault, ScanFault, ScalarFault, scalar_from};
 
-/// A fault stands in the first line that breaks the text: any fewer lines alone are an accepted text,
-/// and with that line they are none, for the same cause, whatever lines follow.
-pub fn a_fault_stands_in_the_first_line_that_breaks_the_text()
-    ensures { (text : List ℕ) (n : ℕ) (cause : YamlCause) → is_utf8 text ≡ true → 0 < n → read_of text ≡ Err (fault_at n cause)
-        → BreaksAt (λ m. first_lines m text) (length (lines text)) n cause }
-{}
-
-/// The first lines of a text whose lines are accepted are accepted alone.
-pub fn first_lines_of_an_accepted_text_are_accepted()
-    ensures { (text : List ℕ) (m : ℕ) → HasTree (lines_from 0 Start (lines text)) → HasTree (first_lines m text) }
-{}
-
-/// A text is accepted up to the end of each line of an accepted text.
+/// A text has a tree up to the end of each line of a text that has one.
 pub fn a_front_of_whole_lines_of_an_accepted_text_is_accepted()
-    ensures { (front back : List ℕ) → HasTree (read_of (front ++ 10 ∷ back)) → HasTree (read_of (front ++ 10 ∷ [])) }
+    ensures { (front back : List ℕ) (t : Tree) → Reads (front ++ 10 ∷ back) t → (u : Tree) × Reads (front ++ 10 ∷ []) u }
 {}
 
 /// Digits stand for the number that their places give, and they are found too wide exactly where it
@@ -51,32 +27,9 @@ pub fn digits_are_wide_exactly_where_their_number_is()
     ensures { (digits : List ℕ) (base : ℕ) → 0 < base → IsMagnitude (magnitude base 0 digits) (digits_value base 0 digits) }
 {}
 
-/// What is printed of a tree is read back as the tree, where its keys differ, it nests at most 32 lists
-/// and maps, and the text is no longer than what is read.
-pub fn a_printed_tree_is_read_back()
-    ensures read { (t : Tree) → IsSpelled t → read_of (printed t) ≡ Ok t }
-    ensures grammar { (t : Tree) → IsSpelled t → Reads (printed t) t }
-{}
-
-/// A tree that is read has maps whose keys differ, and nests at most 32 lists and maps.
+/// A tree that a text has has maps whose keys differ, and nests at most 32 lists and maps.
 pub fn a_tree_that_is_read_is_sound()
-    ensures { (text : List ℕ) (t : Tree) → read_of text ≡ Ok t → (is_sound t ≡ true) × (levels t ≤ 32) }
-{}
-
-/// What is printed of a tree that was read is read back as the tree, unless it is longer than what is
-/// read.
-pub fn a_tree_that_is_read_is_read_back()
-    ensures { (text : List ℕ) (t : Tree) → read_of text ≡ Ok t → length (printed t) ≤ 1048576 → read_of (printed t) ≡ Ok t }
-{}
-
-/// What is read is of the grammar: where the reader gives a tree, the text has it by the grammar.
-pub fn what_is_read_is_of_the_grammar()
-    ensures { (text : List ℕ) (t : Tree) → read_of text ≡ Ok t → Reads text t }
-{}
-
-/// What is of the grammar is read: where a text has a tree by the grammar, the reader gives it.
-pub fn what_is_of_the_grammar_is_read()
-    ensures { (text : List ℕ) (t : Tree) → Reads text t → read_of text ≡ Ok t }
+    ensures { (text : List ℕ) (t : Tree) → Reads text t → (is_sound t ≡ true) × (levels t ≤ 32) }
 {}
 
 /// A text has at most one tree by the grammar.
@@ -91,15 +44,8 @@ pub fn levels_bound_how_deep_a_tree_is()
     ensures within { (m n : ℕ) (text : List ℕ) (t : Tree) → levels t ≤ n → ReadsWithin m text t → ReadsWithin n text t }
 {}
 
-/// A text has a tree by the grammar, or reading it gives a fault, and never both.
-pub fn a_text_has_a_tree_or_a_fault()
-    ensures { (text : List ℕ) → HasTreeOrFault text }
-{}
-
-/// A text that is refused is refused with the first fault in the first line that breaks it, by the column
-/// and then by the cause's number. A text has one fault at most, and a tree or a fault.
-pub fn a_text_is_refused_with_its_first_fault()
-    ensures told { (text : List ℕ) (fault : YamlFault) → read_of text ≡ Err fault → IsFault text fault }
+/// A text has a tree by the grammar or a fault, and never both; it has one fault at most.
+pub fn a_text_has_a_tree_or_one_fault()
     ensures one { (text : List ℕ) (f g : YamlFault) → IsFault text f → IsFault text g → f ≡ g }
     ensures either { (text : List ℕ) → HasTreeOrItsFault text }
 {}
@@ -123,13 +69,4 @@ pub fn a_double_quoted_text_is_spelled_by_its_escapes()
 pub fn a_plain_text_ends_at_the_first_place_where_one_ends()
     ensures found { (flow : Bool) (rest text after : List ℕ) → plain_scalar flow rest ≡ Ok (record { plain = true; text = text }, after) → IsPlain flow rest text after }
     ensures read { (flow : Bool) (rest text after : List ℕ) → IsPlain flow rest text after → plain_scalar flow rest ≡ Ok (record { plain = true; text = text }, after) }
-{}
-
-/// What is read between the parts of a line, behind a value and as a scalar has no fault, and a cause that
-/// is told in place of it is that of the first fault that stands there.
-pub fn a_scalar_that_is_not_read_has_its_first_fault()
-    ensures next_part { (fresh : Bool) (rest : List ℕ) → Tells (NextFault fresh rest) (next_part fresh rest) }
-    ensures line_end { (rest : List ℕ) → Tells (LineEndFault rest) (line_end rest) }
-    ensures scan { (flow : Bool) (rest : List ℕ) → Tells (ScanFault flow rest) (scan flow rest) }
-    ensures scalar { (flow : Bool) (rest : List ℕ) → Tells (ScalarFault flow rest) (scalar_from flow rest) }
 {}

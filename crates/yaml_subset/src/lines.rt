@@ -1,26 +1,51 @@
 //! What a line adds to the open blocks.
 
 ghost use Rattle.std.specs.Prelude.{◌≡◌, ◌-◌, ◌==◌, ◌^◌, ◌<◌, ◌+◌, [], length, IfOk};
-ghost use Rattle.yaml_subset.specs.Blocks.{is_list, begins_block, ends_block, closed, settle, close_all, no_item, next_entry, go_on, in_blocks, is_marker, at_start, is_start, by_state, counted_line, step, finish};
+ghost use Rattle.yaml_subset.specs.Blocks.{is_list, begins_block, ends_block, closed, settle, close_all, misplaced, no_item, next_entry, go_on, in_blocks, is_marker, at_start, is_start, by_state, counted_line, step, finish};
+ghost use Rattle.yaml_subset.specs.Characters.{form_or};
 ghost use Rattle.yaml_subset.specs.Gives.{Gives};
 
 use crate::blocks::{LEVELS, Place, State, behind_colon, behind_dash, content, levels_in};
-use crate::characters::{begins, behind_first, is_at_gap, is_mark, misplaced, next_part, stray};
+use crate::characters::{begins, behind_first, is_at_gap, is_mark, left_out, next_part, stray};
 use crate::fault::{LineRefused, YamlCause, YamlForm};
 use crate::flow::entry_key;
+use crate::scalars::left_scalar;
 use crate::stack::{Frame, Open, Stack};
 use crate::tree::Tree;
 use net_base::NoMemory;
 use std::alloc::Global;
 
+/// A cause, which yields to a form that is left out.
+fn form_or(cause: YamlCause, form: Option<YamlForm>) -> YamlCause
+    ensures { result ≡ form_or cause form }
+{
+    match form {
+        None => cause,
+        Some(form) => YamlCause::LeftOut(form),
+    }
+}
+
+/// The cause at a line's first character, where nothing may begin.
+#[tactic(auto, unfolding(crate::specs::Blocks::misplaced))]
+fn misplaced(alloc: Global, cause: YamlCause, rest: &[u8]) -> Result<YamlCause, NoMemory>
+    ensures { IfOk result (λ c. c ≡ misplaced cause rest.now) }
+{
+    if begins(b'\t', rest) {
+        return Ok(YamlCause::Tab);
+    }
+    let cause = form_or(cause, left_scalar(alloc, rest)?);
+    Ok(form_or(cause, left_out(rest)))
+}
+
 /// What is wrong with a line of a list that is no item.
-fn no_item(rest: &[u8]) -> LineRefused
-    ensures { result ≡ LineRefused.Cause (no_item rest.now) }
+fn no_item(alloc: Global, rest: &[u8]) -> Result<YamlCause, NoMemory>
+    ensures { IfOk result (λ c. c ≡ no_item rest.now) }
 {
     if begins(b'-', rest) {
-        stray(behind_first(rest))
+        let cause = stray(behind_first(rest));
+        Ok(form_or(cause, left_scalar(alloc, rest)?))
     } else {
-        misplaced(YamlCause::Syntax, rest)
+        misplaced(alloc, YamlCause::Syntax, rest)
     }
 }
 
@@ -102,7 +127,7 @@ fn next_entry(
     match block {
         Open::List(mut items) => {
             if !is_mark(b'-', rest) {
-                return Err(no_item(rest));
+                return Err(LineRefused::Cause(no_item(alloc, rest)?));
             }
             items.push(value)?;
             let open_block = Open::List(items);
@@ -133,12 +158,12 @@ fn go_on(
     ensures { Gives (λ x. x) result (go_on (stack, value) indent rest.now) }
 {
     let Some(frame) = stack.pop() else {
-        return Err(misplaced(YamlCause::Indent, rest));
+        return Err(LineRefused::Cause(misplaced(alloc, YamlCause::Indent, rest)?));
     };
     if frame.indent == indent {
         next_entry(alloc, frame.open_block, stack, indent, value, rest)
     } else {
-        Err(misplaced(YamlCause::Indent, rest))
+        Err(LineRefused::Cause(misplaced(alloc, YamlCause::Indent, rest)?))
     }
 }
 
@@ -224,11 +249,12 @@ fn by_state(
             content(alloc, LEVELS, Place::Document, stack, indent, rest)
         }
         State::Alone(at, _) => {
-            if at == indent {
-                Err(misplaced(YamlCause::Syntax, rest))
+            let cause = if at == indent {
+                YamlCause::Syntax
             } else {
-                Err(misplaced(YamlCause::Indent, rest))
-            }
+                YamlCause::Indent
+            };
+            Err(LineRefused::Cause(misplaced(alloc, cause, rest)?))
         }
         State::Blocks(stack, slot) => in_blocks(alloc, stack, slot, indent, rest),
     }

@@ -5,7 +5,7 @@ ghost use Rattle.std.specs.List.{list_all};
 ghost use Rattle.std.specs.Fmt.{signed_decimal};
 ghost use Rattle.yaml_subset.specs.Printed.{escaped, all_escaped, is_plain_byte, begins_with_letter, is_word_of_its_own, is_bool_word, stays_plain, text_scalar, key_scalar, scalar_or_lines, behind, item_lines, pair_lines, piece_of, pair_piece, printed};
 ghost use Rattle.yaml_subset.specs.ReadBack.{IsSpelled};
-ghost use Rattle.yaml_subset.specs.Reading.{read_of};
+ghost use Rattle.yaml_subset.specs.Grammar.{Reads};
 
 use crate::tree::{Key, Pair, Tree};
 use net_base::{Bytes, NoMemory};
@@ -235,10 +235,10 @@ fn print_pairs(
 
 /// The canonical form of a tree: a scalar on a line, or a block with two spaces for each level. It is
 /// read back as the tree.
-#[tactic(auto, using(crate::proofs::PrintedText::read_back))]
+#[tactic(auto, using(crate::proofs::PrintedText::reads_back))]
 pub fn print_yaml(alloc: Global, tree: &Tree) -> Result<Bytes, NoMemory>
     ensures canonical { IfOk result (λ text. text ≡ printed tree.now) }
-    ensures read_back { IfOk result (λ text. IsSpelled tree.now → read_of text ≡ Ok tree.now) }
+    ensures read_back { IfOk result (λ text. IsSpelled tree.now → Reads text tree.now) }
 {
     let mut out = Bytes::new(alloc);
     match scalar_of(alloc, tree)? {
@@ -249,115 +249,4 @@ pub fn print_yaml(alloc: Global, tree: &Tree) -> Result<Bytes, NoMemory>
         None => print_lines(alloc, &mut out, tree, &[])?,
     }
     Ok(out)
-}
-
-#[cfg(test)]
-mod tests {
-    use super::*;
-    use crate::reading::read_yaml;
-    use crate::tree::Pairs;
-    use net_base::{Items, Text};
-    use std::test::Fail;
-
-    fn text(alloc: Global, text: &str) -> Result<Tree, NoMemory> {
-        Ok(Tree::Text(Text::from_str(alloc, text)?))
-    }
-
-    const TEXTS: [(&str, &str); 16] = [
-        ("office", "office\n"),
-        ("a-b_c.d/e", "a-b_c.d/e\n"),
-        ("", "\"\"\n"),
-        (" a ", "\" a \"\n"),
-        ("null", "\"null\"\n"),
-        ("True", "\"True\"\n"),
-        ("FALSE", "\"FALSE\"\n"),
-        ("12", "\"12\"\n"),
-        ("0x1", "\"0x1\"\n"),
-        ("-a", "\"-a\"\n"),
-        ("a: b", "\"a: b\"\n"),
-        ("# x", "\"# x\"\n"),
-        ("a\"b\\c", "\"a\\\"b\\\\c\"\n"),
-        ("\n\t\r", "\"\\n\\t\\r\"\n"),
-        ("\u{1}\u{1f}\u{7f}", "\"\\u0001\\u001f\\u007f\"\n"),
-        ("\u{e9}", "\"\u{e9}\"\n"),
-    ];
-
-    #[test]
-    fn texts_are_quoted_where_they_must_be(rt: HostRuntime) -> Result<(), Fail> {
-        for (plain, printed) in TEXTS {
-            let tree = text(rt.alloc(), plain)?;
-            let found = print_yaml(rt.alloc(), &tree)?;
-            assert_eq!(rt; found.as_slice(), printed.as_bytes());
-        }
-        Ok(())
-    }
-
-    const INTS: [(i128, &str); 4] = [
-        (0, "0\n"),
-        (-7, "-7\n"),
-        (i128::MAX, "170141183460469231731687303715884105727\n"),
-        (i128::MIN, "-170141183460469231731687303715884105728\n"),
-    ];
-
-    #[test]
-    fn whole_numbers_are_decimal(rt: HostRuntime) -> Result<(), Fail> {
-        for (n, printed) in INTS {
-            let found = print_yaml(rt.alloc(), &Tree::Int(n))?;
-            assert_eq!(rt; found.as_slice(), printed.as_bytes());
-        }
-        Ok(())
-    }
-
-    #[test]
-    fn a_printed_tree_is_read_back(rt: HostRuntime) -> Result<(), Fail> {
-        let alloc = rt.alloc();
-        let cases = [
-            (
-                "b: {0x10: null, c: {d: \"null\"}}\na: true",
-                "b:\n  16: null\n  c:\n    d: \"null\"\na: true\n",
-            ),
-            (
-                "vlans:\n    office:\n        vid: 100\n        description: \"office network\"\n",
-                "vlans:\n  office:\n    vid: 100\n    description: \"office network\"\n",
-            ),
-            (
-                "vlans:\n    office:\n        vid: 100\n        description: \"office network\"\ndps:\n    sw1:\n        dp_id: 0x1\n        hardware: \"Open vSwitch\"\n        interfaces:\n            1:\n                name: \"host1\"\n                description: \"host1 network namespace\"\n                native_vlan: office\n            2:\n                name: \"host2\"\n                description: \"host2 network namespace\"\n                native_vlan: office\n",
-                "vlans:\n  office:\n    vid: 100\n    description: \"office network\"\ndps:\n  sw1:\n    dp_id: 1\n    hardware: \"Open vSwitch\"\n    interfaces:\n      1:\n        name: host1\n        description: \"host1 network namespace\"\n        native_vlan: office\n      2:\n        name: host2\n        description: \"host2 network namespace\"\n        native_vlan: office\n",
-            ),
-            (
-                "[[], {}, -170141183460469231731687303715884105728]",
-                "- []\n- {}\n- -170141183460469231731687303715884105728\n",
-            ),
-        ];
-        for (given, want) in cases {
-            let tree = read_yaml(alloc, given.as_bytes()).ok().ok_or("a tree")?;
-            let printed = print_yaml(alloc, &tree)?;
-            assert_eq!(rt; printed.as_slice(), want.as_bytes());
-            let again = read_yaml(alloc, printed.as_slice()).ok().ok_or("a tree")?;
-            let (tree, again) = (
-                format!(in alloc; "{tree:?}")?,
-                format!(in alloc; "{again:?}")?,
-            );
-            assert_eq!(rt; tree.as_str(), again.as_str());
-        }
-        Ok(())
-    }
-
-    #[test]
-    fn lists_are_in_block_form(rt: HostRuntime) -> Result<(), Fail> {
-        let alloc = rt.alloc();
-        let mut inner = Items::new(alloc);
-        inner.push(Tree::Bool(false))?;
-        inner.push(Tree::Map(Pairs::new(alloc)))?;
-        let mut outer = Items::new(alloc);
-        outer.push(Tree::List(Items::new(alloc)))?;
-        outer.push(Tree::List(inner))?;
-        outer.push(Tree::Null)?;
-        let found = print_yaml(alloc, &Tree::List(outer))?;
-        assert_eq!(rt;
-            found.as_slice(),
-            b"- []\n-\n  - false\n  - {}\n- null\n".as_slice()
-        );
-        Ok(())
-    }
 }

@@ -97,14 +97,10 @@ fn not_utf8(front: &[u8]) -> YamlFault
     }
 }
 
-/// Reads the tree of a text. A refusal is the text's first fault: `TooLong` at line 0 for a text of
-/// over 1,048,576 bytes, else `NotUtf8` at the line in which the bytes stop being UTF-8, else the cause
-/// at the leftmost column of the first line at which no accepted text goes on so.
-#[tactic(auto, using(crate::proofs::Text::valid_lens, crate::proofs::GrammarLaws::by_grammar, crate::proofs::TextFaults::tells_fault), unfolding(crate::specs::Reading::read_of))]
-pub fn read_yaml(alloc: Global, text: &[u8]) -> Result<Tree, YamlRefused>
-    ensures exact { GivesTree result (read_of text.now) }
-    ensures grammar { GivesByGrammar result text.now }
-    ensures first { TellsFault result text.now }
+/// A text's tree or its first fault.
+#[tactic(auto, using(crate::proofs::Text::valid_lens), unfolding(crate::specs::Reading::read_of))]
+fn read_bytes(alloc: Global, text: &[u8]) -> Result<Tree, YamlRefused>
+    ensures { GivesTree result (read_of text.now) }
 {
     if text.len() > MOST_BYTES {
         return Err(YamlRefused::At(too_long()));
@@ -116,4 +112,17 @@ pub fn read_yaml(alloc: Global, text: &[u8]) -> Result<Tree, YamlRefused>
             Err(YamlRefused::At(not_utf8(front)))
         }
     }
+}
+
+/// Reads the tree of a text. A refusal is the text's first fault: `TooLong` at line 0 for a text of
+/// over 1,048,576 bytes, else `NotUtf8` at the line in which the bytes stop being UTF-8, else the cause
+/// at the leftmost column of the first line at which no accepted text goes on so. A key or number that is
+/// left out, or stands twice, has its column at its first character, a bracket or quote that isn't closed
+/// at the line's end; any other cause at the first character that doesn't fit.
+#[tactic(auto, using(crate::proofs::GrammarLaws::by_grammar, crate::proofs::TextFaults::tells_fault))]
+pub fn read_yaml(alloc: Global, text: &[u8]) -> Result<Tree, YamlRefused>
+    ensures grammar { GivesByGrammar result text.now }
+    ensures first { TellsFault result text.now }
+{
+    read_bytes(alloc, text)
 }

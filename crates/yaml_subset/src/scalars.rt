@@ -1,17 +1,18 @@
 //! Scalars, and what they stand for as values and as keys.
 
-ghost use Rattle.std.specs.Prelude.{◌≡◌, ◌==◌, codes};
+ghost use Rattle.std.specs.Prelude.{◌≡◌, ◌==◌, false, codes, IfOk};
 ghost use Rattle.std.specs.Str.{bytes_eq};
-ghost use Rattle.yaml_subset.specs.Scalars.{text_of, plain_scalar, scan, is_null, is_true_word, is_false_word, plain_value, scalar_value, text_tree, as_key, key_of};
+ghost use Rattle.yaml_subset.specs.Scalars.{text_of, plain_scalar, scan, is_null, is_true_word, is_false_word, plain_value, scalar_value, text_tree, as_key, key_of, is_merge, is_wide, left_scalar};
 ghost use Rattle.yaml_subset.specs.Gives.{Gives};
 
+use crate::characters::is_mark;
 use crate::fault::{LineRefused, YamlCause, YamlForm};
 use crate::numbers::{Number, number_of};
 use crate::plain::{plain_fault, plain_span};
 use crate::quoted::{double_quoted, single_quoted};
 use crate::tree::{Key, Tree};
-use net_base::{Bytes, Text};
-use std::alloc::Global;
+use net_base::{Bytes, NoMemory, Text};
+use std::alloc::{AllocError, Global};
 
 /// A scalar as it is written: plain, or quoted with its escapes resolved.
 #[derive(Debug, Drop)]
@@ -136,12 +137,46 @@ fn as_key(tree: Tree) -> Result<Key, LineRefused>
     }
 }
 
+/// The plain `<<`.
+fn is_merge(scanned: &Scanned) -> bool
+    ensures { result ≡ is_merge scanned.now }
+{
+    scanned.plain && is_word(scanned.text.as_slice(), b"<<")
+}
+
+/// A whole number outside `i128`.
+pub(crate) fn is_wide(scanned: &Scanned) -> bool
+    ensures { result ≡ is_wide scanned.now }
+{
+    scanned.plain && matches!(number_of(scanned.text.as_slice()), Number::Wide)
+}
+
+/// The form of the scalar from which a line begins, where that is left out: a whole number outside `i128`,
+/// or the plain `<<` with its colon.
+pub(crate) fn left_scalar(alloc: Global, rest: &[u8]) -> Result<Option<YamlForm>, NoMemory>
+    ensures { IfOk result (λ form. form ≡ left_scalar (scan false rest.now)) }
+{
+    match scan(alloc, false, rest) {
+        Err(LineRefused::Memory) => Err(AllocError),
+        Err(LineRefused::Cause(_)) => Ok(None),
+        Ok((scanned, after)) => {
+            if is_wide(&scanned) {
+                Ok(Some(YamlForm::Wide))
+            } else if is_merge(&scanned) && is_mark(b':', after) {
+                Ok(Some(YamlForm::MergeKey))
+            } else {
+                Ok(None)
+            }
+        }
+    }
+}
+
 /// What a scalar stands for as a key.
 #[tactic(auto, unfolding(crate::specs::Scalars::key_of))]
 pub(crate) fn key_of(alloc: Global, scanned: &Scanned) -> Result<Key, LineRefused>
     ensures { Gives (λ x. x) result (key_of scanned.now) }
 {
-    if scanned.plain && is_word(scanned.text.as_slice(), b"<<") {
+    if is_merge(scanned) {
         return Err(LineRefused::Cause(YamlCause::LeftOut(YamlForm::MergeKey)));
     }
     as_key(scalar_value(alloc, scanned)?)

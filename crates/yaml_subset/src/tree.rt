@@ -88,3 +88,11 @@ impl TryCopy for Tree {
         copy_tree(self, alloc)
     }
 }
+
+impl TryCopy for Pair {
+    fn copy(&self, alloc: Global) -> Result<Pair, NoMemory> {
+        let key = self.key.copy(alloc)?;
+        let value = copy_tree(&self.value, alloc)?;
+        Ok(Pair { key, value })
+    }
+}
