@@ -1,5 +1,5 @@
 ghost use Rattle.std.specs.Prelude.{◌≡◌, ◌≤◌, ℕ, Bool, true, false};
-ghost use Rattle.fg_outside.specs.Counts.{Rose};
+ghost use Rattle.fg_outside.specs.Counts.{counted};
 
 use net_base::Items;
 
@@ -21,7 +21,7 @@ pub trait FaultPlan {
     fn next_call(&mut self) -> bool
         ensures fails { result ≡ fails self.old }
         ensures after { self.new ≡ after self.old }
-        ensures rose { result ≡ true → Rose (faults self.old) (faults self.new) }
+        ensures one_fault { result ≡ true → faults self.new ≡ counted (faults self.old) }
         ensures grows { faults self.old ≤ faults self.new }
         ensures kept { result ≡ false → faults self.new ≡ faults self.old };
 }

@@ -23,6 +23,3 @@ pub use mem_files::{FilesInMemory, MemFiles, SureFiles};
 pub use mem_sink::{MemSink, SinkInMemory, SureSink};
 pub use no_hub::NoHub;
 pub use sink::{Sink, write_all};
-
-#[cfg(test)]
-mod tests;

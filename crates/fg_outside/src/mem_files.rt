@@ -1,4 +1,4 @@
-ghost use Rattle.std.specs.Prelude.{◌≡◌, ◌↔◌, ℕ, ◌+◌, ◌-◌, ◌^◌, ◌<◌, ◌≤◌, List, [], length, min, Option, Some, None, IfOk, IfSome, IfNone, OnSome, OnOk, OnErr, IsErr, IsTrue};
+ghost use Rattle.std.specs.Prelude.{◌≡◌, ◌↔◌, ℕ, ◌+◌, ◌-◌, ◌^◌, ◌<◌, ◌≤◌, List, [], length, drop, min, Option, Some, None, IfOk, IfSome, IfNone, OnSome, OnOk, OnErr, IsErr, IsTrue};
 ghost use Rattle.std.specs.Option.{option_copied, option_map};
 ghost use Rattle.fg_outside.specs.Counts.{counted, Rose};
 ghost use Rattle.fg_outside.specs.Contents.{refreshed, Tells, ReadsAt};
@@ -67,7 +67,8 @@ impl<P: FaultPlan> Files for FilesInMemory<P> {
 
     ghost absences = { absences_of };
 
-    /// Fails exactly where the plan says so.
+    /// Fails exactly where the plan says so. The buffer stays as it was behind what was read, and
+    /// whole where nothing was.
     fn read_at(&mut self, name: &str, from: u64, buf: &mut [u8]) -> Result<Option<usize>, Failed>
         ensures contents { held_in self.new ≡ held_in self.old }
         ensures faults { P.faults (plan_of self.old) ≤ P.faults (plan_of self.new) }
@@ -85,7 +86,12 @@ impl<P: FaultPlan> Files for FilesInMemory<P> {
         ensures failed { OnErr result (Rose (P.faults (plan_of self.old)) (P.faults (plan_of self.new))) }
         ensures no_fault { OnOk result (P.faults (plan_of self.new) ≡ P.faults (plan_of self.old)) }
 
-        ensures missed { IfOk result (λ got. IfNone got (absences_of self.new ≡ counted (absences_of self.old))) }
+        ensures one_absence { IfOk result (λ got. IfNone got (absences_of self.new ≡ counted (absences_of self.old))) }
+        ensures one_fault { OnErr result (P.faults (plan_of self.new) ≡ counted (P.faults (plan_of self.old))) }
+
+        ensures behind { IfOk result (λ got. IfSome got (λ n. drop n buf.new ≡ drop n buf.old)) }
+        ensures no_file { IfOk result (λ got. IfNone got (buf.new ≡ buf.old)) }
+        ensures unread { OnErr result (buf.new ≡ buf.old) }
 
         ensures planned { IsErr result ↔ IsTrue (P.fails (plan_of self.old)) }
         ensures plan { plan_of self.new ≡ P.after (plan_of self.old) }
@@ -134,6 +140,7 @@ fn read_piece(file: &[u8], from: u64, buf: &mut [u8]) -> usize
     ensures reads { ReadsAt file.now from buf.new result }
     ensures count { result ≤ length buf.old }
     ensures end { from + result ≤ 2 ^ 64 - 1 }
+    ensures behind { drop result buf.new ≡ drop result buf.old }
 {
     let start = file.len().min(from as usize);
     let count = buf.len().min(file.len() - start);

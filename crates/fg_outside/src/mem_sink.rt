@@ -1,5 +1,5 @@
 ghost use Rattle.std.specs.Prelude.{◌≡◌, ◌⊎◌, ℕ, ◌+◌, ◌-◌, ◌^◌, ◌<◌, ◌≤◌, [], length, take, min, true, Some, IfOk, OnOk, OnErr, IsErr, vec_len, vec_capacity};
-ghost use Rattle.fg_outside.specs.Counts.{Rose};
+ghost use Rattle.fg_outside.specs.Counts.{counted, Rose};
 ghost use Rattle.fg_outside.specs.FaultPlan.{fresh};
 ghost use Rattle.fg_outside.specs.Wrote.{appended};
 
@@ -98,6 +98,7 @@ impl<P: FaultPlan> Sink for SinkInMemory<P> {
         ensures no_fault { OnOk result (faults_of P.faults self.new ≡ faults_of P.faults self.old) }
         ensures faults { faults_of P.faults self.old ≤ faults_of P.faults self.new }
 
+        ensures one_fault { OnErr result (faults_of P.faults self.new ≡ counted (faults_of P.faults self.old)) }
         ensures count { IfOk result (λ n. n ≡ min (length piece.now) (room_of self.old - length (taken_by self.old))) }
         ensures planned { P.fails (plan_of self.old) ≡ true → IsErr result }
         ensures cause { OnErr result ((P.fails (plan_of self.old) ≡ true)

@@ -1,16 +1,22 @@
+//! Files, sinks and hubs in memory, and what is read and written through their traits.
+
 ghost use Rattle.std.specs.Prelude.{◌≡◌, ◌++◌, [], ◌∷◌, ◌<◌, ℕ, List, Option, None, Some, length, take, OnOk, OnErr, IfOk, IsErr, IsErrOf};
 ghost use Rattle.fg_outside.specs.Counts.{Rose};
 ghost use Rattle.fg_outside.specs.Wrote.{appended, AppendsFront};
 ghost use Rattle.fg_outside.specs.Contents.{Tells};
 ghost use Rattle.fg_outside.specs.HubStep.{Leads, turned, said};
 
-use crate::*;
+use fg_outside::{
+    CallNos, EndCause, Failed, Files, Folder, Folders, Happening, Happenings, HeldFile, HeldFiles,
+    Hub, MemFiles, MemSink, NoHub, ReadRefused, Said, Sink, SureFiles, SureSink, Turn, read_whole,
+    write_all,
+};
 use net_base::{Bytes, Items, NoMemory, Text, TryCopy};
 use std::alloc::Global;
 use std::test::Fail;
 
 // A caller of any sink: what it writes in two pieces stands there as one.
-#[tactic(auto, using(crate::proofs::SinkLemmas::writes))]
+#[tactic(auto, using(fg_outside::proofs::SinkLemmas::writes))]
 fn write_two<S: Sink>(sink: &mut S, first: &[u8], second: &[u8]) -> Result<(), Failed>
     ensures ok { OnOk result (S.wrote sink.new ≡ appended (S.wrote sink.old) (first.now ++ second.now)) }
     ensures err { OnErr result (AppendsFront (S.wrote sink.old) (S.wrote sink.new) (first.now ++ second.now)) }

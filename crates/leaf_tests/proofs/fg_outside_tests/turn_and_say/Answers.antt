@@ -1,6 +1,6 @@
 use Rattle.std.proofs.Common.{[], ◌∷◌}
 use Rattle.fg_outside.specs.HubStep.{start, next, turned, said}
-use Rattle.fg_outside.proofs.tests.turn_and_say.Goals as goal
+use Rattle.leaf_tests.proofs.fg_outside_tests.turn_and_say.Goals as goal
 
 pub returns : goal.returns
 returns g c =
