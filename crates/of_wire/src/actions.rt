@@ -1,4 +1,4 @@
-ghost use Rattle.std.specs.Prelude.{◌≡◌, ◌≤◌, ◌<◌, ◌+◌, ◌*◌, ◌++◌, ◌^◌, length, drop, List, Ok, OnOk, IfOk};
+ghost use Rattle.std.specs.Prelude.{◌≡◌, ◌≤◌, ◌<◌, ◌+◌, ◌*◌, ◌++◌, ◌^◌, length, take, drop, List, Ok, OnOk, OnErr, IfOk};
 ghost use Rattle.std.specs.List.{flat_map};
 ghost use Rattle.of_wire.specs.Parts.{bare_action, set_bytes, action_bytes};
 ghost use Rattle.of_match.specs.declared.action.Action.{Action};
@@ -25,9 +25,12 @@ const DEC_NW_TTL: u128 = 24;
 
 const SET_FIELD: u128 = 25;
 
+// The next three write an action; after `NoMemory` a part of it may stand behind what was there.
+
 /// Writes an action that has nothing but its type.
 fn put_bare_action(kind: u128, out: &mut Bytes) -> Result<(), NoMemory>
-    ensures { OnOk result (out.new ≡ out.old ++ bare_action kind) }
+    ensures ok { OnOk result (out.new ≡ out.old ++ bare_action kind) }
+    ensures kept { OnErr result (take (length out.old) out.new ≡ out.old) }
 {
     put_number(out, kind, 2)?;
     put_number(out, 8, 2)?;
@@ -37,7 +40,8 @@ fn put_bare_action(kind: u128, out: &mut Bytes) -> Result<(), NoMemory>
 /// Writes the action that sets a field. Its length counts the padding.
 #[tactic(auto, using(crate::proofs::Lengths::set_padding))]
 fn put_set_field(field: &Field, out: &mut Bytes) -> Result<(), NoMemory>
-    ensures { OnOk result (out.new ≡ out.old ++ set_bytes field.now) }
+    ensures ok { OnOk result (out.new ≡ out.old ++ set_bytes field.now) }
+    ensures kept { OnErr result (take (length out.old) out.new ≡ out.old) }
 {
     let len = 4 + field_len(field);
     let padding = (8 - len % 8) % 8;
@@ -49,7 +53,8 @@ fn put_set_field(field: &Field, out: &mut Bytes) -> Result<(), NoMemory>
 
 /// Writes an action (OpenFlow 1.3, 7.2.5).
 fn put_action(action: &Action, out: &mut Bytes) -> Result<(), NoMemory>
-    ensures { OnOk result (out.new ≡ out.old ++ action_bytes action.now) }
+    ensures ok { OnOk result (out.new ≡ out.old ++ action_bytes action.now) }
+    ensures kept { OnErr result (take (length out.old) out.new ≡ out.old) }
 {
     match action {
         Action::Output { port, max_len } => {
@@ -71,12 +76,17 @@ fn put_action(action: &Action, out: &mut Bytes) -> Result<(), NoMemory>
     }
 }
 
-/// Writes actions, one behind the other, in their order.
+/// Writes actions, one behind the other, in their order. After `NoMemory` `out` is as it was.
 pub fn put_actions(actions: &[Action], out: &mut Bytes) -> Result<(), NoMemory>
-    ensures { OnOk result (out.new ≡ out.old ++ flat_map action_bytes actions.now) }
+    ensures ok { OnOk result (out.new ≡ out.old ++ flat_map action_bytes actions.now) }
+    ensures err { OnErr result (out.new ≡ out.old) }
 {
+    let start = out.len();
     for action in actions {
-        put_action(action, out)?;
+        if let Err(no_memory) = put_action(action, out) {
+            out.truncate(start);
+            return Err(no_memory);
+        }
     }
     Ok(())
 }

@@ -1,4 +1,4 @@
-ghost use Rattle.std.specs.Prelude.{◌≡◌, ◌≤◌, ◌<◌, ◌+◌, ◌++◌, ◌^◌, length, List, Ok, OnOk, IfOk};
+ghost use Rattle.std.specs.Prelude.{◌≡◌, ◌≤◌, ◌<◌, ◌+◌, ◌++◌, ◌^◌, length, take, List, Ok, OnOk, OnErr, IfOk};
 ghost use Rattle.std.specs.List.{flat_map};
 ghost use Rattle.of_wire.specs.Parts.{instr_bytes};
 ghost use Rattle.of_wire.specs.Numbers.{number_in};
@@ -20,9 +20,11 @@ const GOTO_TABLE: u128 = 1;
 
 const APPLY_ACTIONS: u128 = 4;
 
-/// Writes an instruction (OpenFlow 1.3, 7.2.4).
+/// Writes an instruction (OpenFlow 1.3, 7.2.4). After `NoMemory` a part of it may stand behind what
+/// was there.
 fn put_instr(instr: &Instr, out: &mut Bytes) -> Result<(), NoMemory>
-    ensures { OnOk result (out.new ≡ out.old ++ instr_bytes instr.now) }
+    ensures ok { OnOk result (out.new ≡ out.old ++ instr_bytes instr.now) }
+    ensures kept { OnErr result (take (length out.old) out.new ≡ out.old) }
 {
     match instr {
         Instr::Goto(table) => {
@@ -40,12 +42,17 @@ fn put_instr(instr: &Instr, out: &mut Bytes) -> Result<(), NoMemory>
     }
 }
 
-/// Writes instructions, one behind the other, in their order.
+/// Writes instructions, one behind the other, in their order. After `NoMemory` `out` is as it was.
 pub fn put_instrs(instrs: &[Instr], out: &mut Bytes) -> Result<(), NoMemory>
-    ensures { OnOk result (out.new ≡ out.old ++ flat_map instr_bytes instrs.now) }
+    ensures ok { OnOk result (out.new ≡ out.old ++ flat_map instr_bytes instrs.now) }
+    ensures err { OnErr result (out.new ≡ out.old) }
 {
+    let start = out.len();
     for instr in instrs {
-        put_instr(instr, out)?;
+        if let Err(no_memory) = put_instr(instr, out) {
+            out.truncate(start);
+            return Err(no_memory);
+        }
     }
     Ok(())
 }

@@ -1,4 +1,4 @@
-ghost use Rattle.std.specs.Prelude.{◌≡◌, ◌≤◌, ◌<◌, ◌+◌, ◌++◌, ◌^◌, ℕ, length, take, List, [], true, false, Ok, OnOk, IfOk, IfSome};
+ghost use Rattle.std.specs.Prelude.{◌≡◌, ◌≤◌, ◌<◌, ◌+◌, ◌++◌, ◌^◌, ℕ, length, take, List, [], true, false, Ok, OnOk, OnErr, IfOk, IfSome};
 ghost use Rattle.std.specs.List.{flat_map};
 ghost use Rattle.of_wire.specs.Parts.{field_bytes, match_bytes};
 ghost use Rattle.of_wire.specs.Spelling.{SpellsMatch, SpellsMatchSeen};
@@ -19,8 +19,10 @@ const OPENFLOW_BASIC: u128 = 0x8000;
 const OXM_MATCH: u128 = 1;
 
 /// Writes a field of a match, with its mask where that leaves a bit out (OpenFlow 1.3, 7.2.3.2).
+/// After `NoMemory` a part of it may stand behind what was there.
 pub fn put_field(field: &Field, out: &mut Bytes) -> Result<(), NoMemory>
-    ensures { OnOk result (out.new ≡ out.old ++ field_bytes field.now) }
+    ensures ok { OnOk result (out.new ≡ out.old ++ field_bytes field.now) }
+    ensures kept { OnErr result (take (length out.old) out.new ≡ out.old) }
 {
     let len = field.id.byte_len();
     let head = 2 * u128::from(field.id.number());
@@ -39,10 +41,15 @@ pub fn put_field(field: &Field, out: &mut Bytes) -> Result<(), NoMemory>
 }
 
 fn put_fields(fields: &[Field], out: &mut Bytes) -> Result<(), NoMemory>
-    ensures { OnOk result (out.new ≡ out.old ++ flat_map field_bytes fields.now) }
+    ensures ok { OnOk result (out.new ≡ out.old ++ flat_map field_bytes fields.now) }
+    ensures err { OnErr result (out.new ≡ out.old) }
 {
+    let start = out.len();
     for field in fields {
-        put_field(field, out)?;
+        if let Err(no_memory) = put_field(field, out) {
+            out.truncate(start);
+            return Err(no_memory);
+        }
     }
     Ok(())
 }
@@ -72,16 +79,31 @@ fn match_len(fields: &[Field]) -> u128
     total
 }
 
-/// Writes a match of these fields, in their order (OpenFlow 1.3, 7.2.3.1).
+// Writes a match; after `NoMemory` a part of it may stand behind what was there.
 #[tactic(auto, using(crate::proofs::Lengths::match_padding))]
-pub fn put_match(fields: &[Field], out: &mut Bytes) -> Result<(), NoMemory>
-    ensures { OnOk result (out.new ≡ out.old ++ match_bytes fields.now) }
+fn put_whole_match(fields: &[Field], out: &mut Bytes) -> Result<(), NoMemory>
+    ensures ok { OnOk result (out.new ≡ out.old ++ match_bytes fields.now) }
+    ensures kept { OnErr result (take (length out.old) out.new ≡ out.old) }
 {
     let len = match_len(fields);
     put_number(out, OXM_MATCH, 2)?;
     put_number(out, len, 2)?;
     put_fields(fields, out)?;
     put_zeros(out, ((8 - len % 8) % 8) as usize)
+}
+
+/// Writes a match of these fields, in their order (OpenFlow 1.3, 7.2.3.1). After `NoMemory` `out` is
+/// as it was.
+pub fn put_match(fields: &[Field], out: &mut Bytes) -> Result<(), NoMemory>
+    ensures ok { OnOk result (out.new ≡ out.old ++ match_bytes fields.now) }
+    ensures err { OnErr result (out.new ≡ out.old) }
+{
+    let start = out.len();
+    if let Err(no_memory) = put_whole_match(fields, out) {
+        out.truncate(start);
+        return Err(no_memory);
+    }
+    Ok(())
 }
 
 /// The field with a number.

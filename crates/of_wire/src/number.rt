@@ -1,15 +1,17 @@
-ghost use Rattle.std.specs.Prelude.{◌≡◌, ◌≤◌, ◌<◌, ◌+◌, ◌++◌, ◌^◌, length, OnOk};
+ghost use Rattle.std.specs.Prelude.{◌≡◌, ◌≤◌, ◌<◌, ◌+◌, ◌++◌, ◌^◌, length, OnOk, OnErr};
 ghost use Rattle.of_wire.specs.Parts.{number, zeros};
 ghost use Rattle.of_wire.specs.Numbers.{number_in};
 
 use byteorder::{BigEndian, ByteOrder};
 use net_base::{Bytes, NoMemory};
 
-/// Writes the lowest `len` bytes of a number, the highest of them first (OpenFlow 1.3, 7).
+/// Writes the lowest `len` bytes of a number, the highest of them first (OpenFlow 1.3, 7). After
+/// `NoMemory` `out` is as it was.
 #[tactic(auto, unfolding(crate::specs::Parts::number))]
 pub fn put_number(out: &mut Bytes, value: u128, len: usize) -> Result<(), NoMemory>
     requires { len ≤ 16 }
-    ensures { OnOk result (out.new ≡ out.old ++ number len value) }
+    ensures ok { OnOk result (out.new ≡ out.old ++ number len value) }
+    ensures err { OnErr result (out.new ≡ out.old) }
 {
     let mut bytes = [0u8; 16];
     BigEndian::write_u128(&mut bytes, value);
@@ -17,13 +19,18 @@ pub fn put_number(out: &mut Bytes, value: u128, len: usize) -> Result<(), NoMemo
     Ok(())
 }
 
-/// Writes zeros.
+/// Writes zeros. After `NoMemory` `out` is as it was.
 #[tactic(auto, using(crate::proofs::Numbers::replicate_more, std::proofs::lemmas::Grind::common_steps))]
 pub fn put_zeros(out: &mut Bytes, count: usize) -> Result<(), NoMemory>
-    ensures { OnOk result (out.new ≡ out.old ++ zeros count) }
+    ensures ok { OnOk result (out.new ≡ out.old ++ zeros count) }
+    ensures err { OnErr result (out.new ≡ out.old) }
 {
+    let start = out.len();
     for _ in 0..count {
-        out.push(0)?;
+        if let Err(no_memory) = out.push(0) {
+            out.truncate(start);
+            return Err(no_memory);
+        }
     }
     Ok(())
 }
