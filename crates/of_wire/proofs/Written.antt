@@ -16,7 +16,8 @@ use Rattle.net_base.specs.WellFormed.{Fits, AreAscending, has_prerequisite}
 use Rattle.of_wire.specs.Parts.{number, zeros, up_to_8, field_bytes, match_bytes, set_bytes, action_bytes, instr_bytes}
 use Rattle.of_wire.specs.Grammar.{Then, ◌▷◌, Number, Ignored, Zeros, Joined}
 use Rattle.of_wire.specs.Spelling.{SpellsPlain, SpellsMasked, SpellsField, SpellsItem, SpellsAnyMatch, SpellsSet, SpellsAction, SpellsActions, SpellsInstr, SpellsInstrs, MayStand, known, in_order, in_order_onto}
-use Rattle.of_wire.specs.WellFormed.{IsMatch, IsMatchSeen, IsAction, AreApplied, AreInstrs}
+use Rattle.of_match.specs.WellFormed.{IsAction, AreApplied, AreInstrs}
+use Rattle.of_wire.specs.WellFormed.{IsMatch, IsMatchSeen}
 use Rattle.of_wire.proofs.Bounds.{ascending_fit}
 use Rattle.of_wire.proofs.Lengths.{number_length}
 use Rattle.of_wire.proofs.FieldNames.{most_bytes, low_number}
@@ -264,17 +265,20 @@ apply_written actions h room =
     then_append _ _ z body four (actions_written actions h.each)))) in
     (subst (λ k. (Number 2 4 ▷ Number 2 k ▷ Ignored 4 ▷ SpellsActions actions) (((a ++ b) ++ z) ++ body)) size parts, h.some)
 
-pub instrs_written : (instrs : List Instr) → AreInstrs instrs → SpellsInstrs instrs (flat_map instr_bytes instrs)
-instrs_written [] h = refl
-instrs_written (Goto table ∷ []) h = record { first = instr_bytes (Goto table); rest = []; whole = refl; in_front = (goto_written table h, refl); behind = refl }
-instrs_written (Goto table ∷ i ∷ more) h = absurd h
-instrs_written (Apply actions ∷ []) h = record { first = instr_bytes (Apply actions); rest = []; whole = refl; in_front = (apply_written actions h h.room, (refl, refl)); behind = refl }
-instrs_written (Apply actions ∷ Goto table ∷ []) h = record {
+apply_room : (actions : List Action) (more : List Instr) → length (flat_map instr_bytes (Apply actions ∷ more)) < 2 ^ 16 → 8 + length (flat_map action_bytes actions) < 2 ^ 16
+apply_room actions more room = omega (arith, apply_size actions, length-append (instr_bytes (Apply actions)) (flat_map instr_bytes more), room)
+
+pub instrs_written : (instrs : List Instr) → AreInstrs instrs → length (flat_map instr_bytes instrs) < 2 ^ 16 → SpellsInstrs instrs (flat_map instr_bytes instrs)
+instrs_written [] h room = refl
+instrs_written (Goto table ∷ []) h room = record { first = instr_bytes (Goto table); rest = []; whole = refl; in_front = (goto_written table h, refl); behind = refl }
+instrs_written (Goto table ∷ i ∷ more) h room = absurd h
+instrs_written (Apply actions ∷ []) h room = record { first = instr_bytes (Apply actions); rest = []; whole = refl; in_front = (apply_written actions h (apply_room actions [] room), (refl, refl)); behind = refl }
+instrs_written (Apply actions ∷ Goto table ∷ []) h room = record {
   first = instr_bytes (Apply actions);
   rest = instr_bytes (Goto table) ++ [];
   whole = refl;
-  in_front = (apply_written actions h.0 h.0.room, (refl, refl));
+  in_front = (apply_written actions h.0 (apply_room actions (Goto table ∷ []) room), (refl, refl));
   behind = record { first = instr_bytes (Goto table); rest = []; whole = refl; in_front = (goto_written table h.1, refl); behind = refl };
 }
-instrs_written (Apply actions ∷ Goto table ∷ i ∷ more) h = absurd h
-instrs_written (Apply actions ∷ Apply others ∷ more) h = absurd h
+instrs_written (Apply actions ∷ Goto table ∷ i ∷ more) h room = absurd h
+instrs_written (Apply actions ∷ Apply others ∷ more) h room = absurd h

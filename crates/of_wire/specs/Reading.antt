@@ -1,5 +1,6 @@
--- Reading parts from the front of bytes, with the fault that is met. A fault's place counts from
--- the first byte of what the part stands in, so `at` is the place of the first byte given here.
+-- How the private readers go: parts from the front of bytes, with the fault that is met. What the
+-- public calls answer is fixed by Spelling and Faults alone. A fault's place counts from the first
+-- byte of what the part stands in, so `at` is the place of the first byte given here.
 use Rattle.std.specs.Prelude.{◌≡◌, ℕ, zero, suc, ◌+◌, ◌-◌, ◌*◌, ◌/◌, ◌%◌, min, Bool, true, false, not, ◌&&◌, ◌||◌, ◌==◌, nat_lt, if◌then◌else◌, List, [], ◌∷◌, ◌++◌, length, take, drop, insert, position, Option, Some, None, slice_range, Result, Ok, Err}
 use Rattle.std.specs.List.{list_any}
 use Rattle.net_base.specs.declared.field.Field.{Field}

@@ -1,6 +1,6 @@
 //! Laws of the definitions: each function is empty, and its contract is the law.
 
-ghost use Rattle.std.specs.Prelude.{◌≡◌, ◌≤◌, ◌<◌, ◌+◌, ◌*◌, ◌++◌, ℕ, Bool, List, [], length, slice_index};
+ghost use Rattle.std.specs.Prelude.{◌≡◌, ◌≤◌, ◌<◌, ◌+◌, ◌*◌, ◌++◌, ◌^◌, ℕ, Bool, List, [], length, slice_index};
 ghost use Rattle.std.specs.List.{AllByRecursion, flat_map, list_any};
 ghost use Rattle.net_base.specs.declared.field.Field.{Field};
 ghost use Rattle.of_match.specs.declared.action.Action.{Action};
@@ -10,14 +10,16 @@ ghost use Rattle.of_wire.specs.Parts.{number, field_bytes, match_bytes, action_b
 ghost use Rattle.of_wire.specs.declared.fault.PartFault.{PartFault};
 ghost use Rattle.of_wire.specs.Faults.{IsFirst, SpelledOrFaulty, FaultInActions, FaultInInstrs, FaultInMatch};
 ghost use Rattle.of_wire.specs.Spelling.{known, SpellsAnyMatch, SpellsMatch, SpellsMatchSeen, SpellsActions, SpellsInstrs};
-ghost use Rattle.of_wire.specs.WellFormed.{IsMatch, IsMatchSeen, IsAction, AreInstrs};
+ghost use Rattle.of_match.specs.WellFormed.{IsAction, AreInstrs};
+ghost use Rattle.of_wire.specs.WellFormed.{IsMatch, IsMatchSeen};
 
-/// What is written of well-formed parts spells them.
+/// What is written of well-formed parts spells them; of instructions where it has fewer than 2^16
+/// bytes, so that each length fits its 2 bytes.
 pub fn written_parts_are_spelled()
     ensures to_a_switch { (fields : List Field) → IsMatch fields → SpellsMatch fields (match_bytes fields) }
     ensures by_a_switch { (fields : List Field) → IsMatchSeen fields → SpellsMatchSeen fields (match_bytes fields) }
     ensures actions { (actions : List Action) → AllByRecursion IsAction actions → SpellsActions actions (flat_map action_bytes actions) }
-    ensures instrs { (instrs : List Instr) → AreInstrs instrs → SpellsInstrs instrs (flat_map instr_bytes instrs) }
+    ensures instrs { (instrs : List Instr) → AreInstrs instrs → length (flat_map instr_bytes instrs) < 2 ^ 16 → SpellsInstrs instrs (flat_map instr_bytes instrs) }
 {}
 
 /// No spelling of a match is the front of another, and one spelling spells one match.
