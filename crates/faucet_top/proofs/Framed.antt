@@ -23,7 +23,8 @@ use Rattle.cold_plan.specs.declared.cold.VlanRow.{VlanRow}
 use Rattle.cold_plan.specs.declared.cold.VlanRow.TheVariants.{UnicastFlood, GroupFlood}
 use Rattle.cold_plan.specs.Cold.{entry, in_port, tagged, untagged, to_port, to_controller, port_entry, vlan_entry, drops, passes, members, has_member, flood, port_entries, vlan_entries, cold}
 use Rattle.of_wire.specs.Parts.{number, field_bytes, match_bytes, action_bytes, instr_bytes}
-use Rattle.of_wire.specs.WellFormed.{IsMatch, IsAction, AreApplied, AreInstrs}
+use Rattle.of_match.specs.WellFormed.{IsAction, AreApplied, AreInstrs}
+use Rattle.of_wire.specs.WellFormed.{IsMatch}
 use Rattle.of13_codec.specs.declared.flow_mod.FlowMod.{FlowMod}
 use Rattle.of13_codec.specs.declared.message.Message.TheVariants as messages
 use Rattle.of13_codec.specs.Messages.{flow_mod_target, flow_mod_terms, flow_mod_filter}
@@ -200,7 +201,7 @@ module _ (number_len : NumberLen) (fields_len : FieldsLen) (match_len : MatchLen
       omega (arith, length-append (instr_bytes (Apply actions)) (flat_map instr_bytes (Goto table ∷ [])), length-append (instr_bytes (Goto table)) [], apply_len actions, goto_len table, actions_len actions, few)
 
   applies : (actions : List Action) → AllByRecursion IsAction actions → 0 < length actions → length actions ≤ 257 → AreApplied actions
-  applies actions each some few = record { each = each; some = some; room = (let n = actions_len actions in omega (arith, n, few)) }
+  applies actions each some few = record { each = each; some = some }
 
   -- ---- entries
 

@@ -2,7 +2,7 @@
 use Rattle.std.proofs.Common.{◌≡◌, ℕ, ◌+◌, ◌^◌, ◌<◌, Bool, true, false, cond, List, [], ◌∷◌, ◌++◌, length, Some, None, refl, sym, ap, ◌∙◌, subst, arith, append_assoc}
 use Rattle.std.specs.List.{AllByRecursion, flat_map}
 use Rattle.std.proofs.lemmas.List.{length-append, length-replicate, append-nil}
-use Rattle.of_wire.specs.Parts.{number, zeros, action_bytes, instr_bytes}
+use Rattle.of_wire.specs.Parts.{match_bytes, number, zeros, action_bytes, instr_bytes}
 use Rattle.of_wire.specs.Grammar.{◌▷◌, Number, Ignored, Zeros, Just, Joined}
 use Rattle.of_wire.specs.Spelling.{SpellsActions}
 use Rattle.of_wire.proofs.Lengths.{number_length}
@@ -17,7 +17,7 @@ use Rattle.of13_codec.specs.declared.packet_out.PacketOut.{PacketOut}
 use Rattle.of13_codec.specs.declared.flow_mod.FlowMod.{FlowMod}
 use Rattle.of13_codec.specs.declared.ports.PortDesc.{PortDesc}
 use Rattle.of13_codec.specs.declared.ports.PortStats.{PortStats}
-use Rattle.of13_codec.specs.Messages.{hello_bytes, error_bytes, features_bytes, packet_in_bytes, port_back, port_bytes, port_status_bytes, packet_out_bytes, flow_mod_bytes, multipart_head, port_stats_bytes, port_stats_request_bytes, body_of, kind_of, version_of, written}
+use Rattle.of13_codec.specs.Messages.{hello_bytes, error_bytes, features_bytes, packet_in_bytes, port_back, port_bytes, port_status_bytes, packet_out_bytes, flow_mod_target, flow_mod_terms, flow_mod_filter, flow_mod_bytes, multipart_head, port_stats_bytes, port_stats_request_bytes, body_of, kind_of, version_of, written}
 use Rattle.of13_codec.specs.Decoding.{decoded}
 use Rattle.of13_codec.specs.Spelling.{Spells, SpellsBody, SpellsHello, Element, SpellsElement, SpellsFeatures, SpellsPacketIn, SpellsPort, SpellsStats, SpellsFlowMod, Flags, Raw, Numbers}
 use Rattle.of13_codec.specs.WellFormed.{IsFeatures, IsPacketIn, IsPacketOut, IsFlowMod, IsPort, IsStats, IsWellFormed, FitsFrame}
@@ -122,14 +122,16 @@ packet_out_written m w fits =
     ▹ is_number 4 m.buffer (omega (arith, w.buffer)) ▹ is_number 4 m.in_port (omega (arith, w.in_port)) ▹ is_number 2 len (omega (arith, room)) ▹ padding 6) actions (refl, actions_written m.actions w.actions) in
     record { len = len; parts = front.on m.payload refl }
 
-flow_mod_written : (m : FlowMod) → IsFlowMod m → SpellsFlowMod m (flow_mod_bytes m)
-flow_mod_written m w =
+flow_mod_written : (m : FlowMod) → IsFlowMod m → FitsFrame (Change m) → SpellsFlowMod m (flow_mod_bytes m)
+flow_mod_written m w fits =
+    let instrs = flat_map instr_bytes m.instrs in
+    let room : length instrs < 2 ^ 16 = omega (arith, fits, length-append (flow_mod_target m ++ flow_mod_terms m ++ flow_mod_filter m ++ match_bytes m.fields) instrs) in
     let front = group (group (opens (λ bs. SpellsFlowMod m bs) ▹ is_number 8 m.cookie (omega (arith, w.cookie)) ▹ is_number 8 m.cookie_mask (omega (arith, w.cookie_mask))
     ▹ is_number 1 m.table (omega (arith, w.table)) ▹ is_number 1 m.command (omega (arith, w.command)))
     (opens _ ▹ is_number 2 m.idle (omega (arith, w.idle)) ▹ is_number 2 m.hard (omega (arith, w.hard)) ▹ is_number 2 m.priority (omega (arith, w.priority)) ▹ is_number 4 m.buffer (omega (arith, w.buffer))))
     (opens _ ▹ is_number 4 m.out_port (omega (arith, w.out_port)) ▹ is_number 4 m.out_group (omega (arith, w.out_group)) ▹ is_number 2 m.flags (omega (arith, w.flags)) ▹ padding 2)
     ▹ match_written m.fields w.fields in
-    front.on (flat_map instr_bytes m.instrs) (instrs_written m.instrs w.instrs)
+    front.on instrs (instrs_written m.instrs w.instrs room)
 
 desc_reply_written : (more : Bool) (flags : ℕ) (ports : List PortDesc) → Flags more (number 2 flags) → AllByRecursion IsPort ports → SpellsBody (PortDescReply more ports) (multipart_head 13 flags ++ flat_map port_bytes ports)
 desc_reply_written more flags ports x w =
@@ -191,7 +193,7 @@ body_written (Features m) w fits = features_written m w
 body_written (Packet m) w fits = packet_in_written m w
 body_written (PortStatus reason port) w fits = status_written reason port w.0 w.1
 body_written (Send m) w fits = packet_out_written m w fits
-body_written (Change m) w fits = flow_mod_written m w
+body_written (Change m) w fits = flow_mod_written m w fits
 body_written PortDescRequest w fits = desc_request_written (multipart_head 13 0) refl
 body_written (PortStatsRequest port) w fits = stats_request_written port w
 body_written (PortDescReply more ports) w fits = desc_reply_written more (cond more 1 0) ports (flags_written more) w

@@ -2,7 +2,8 @@
 -- actions and instructions are well formed.
 use Rattle.std.specs.Prelude.{◌≡◌, ◌+◌, ◌^◌, ◌<◌, length, IfSome}
 use Rattle.std.specs.List.{AllByRecursion}
-use Rattle.of_wire.specs.WellFormed.{IsMatch, IsMatchSeen, IsAction, AreInstrs}
+use Rattle.of_match.specs.WellFormed.{IsAction, AreInstrs}
+use Rattle.of_wire.specs.WellFormed.{IsMatch, IsMatchSeen}
 use Rattle.of13_codec.specs.declared.message.Message.{Message}
 use Rattle.of13_codec.specs.declared.message.Message.TheVariants.{Hello, Error, EchoRequest, EchoReply, FeaturesRequest, FeaturesReply as Features, PacketIn as Packet, PortStatus, PacketOut as Send, FlowMod as Change, PortDescRequest, PortStatsRequest, PortDescReply, PortStatsReply, BarrierRequest, BarrierReply, Other}
 use Rattle.of13_codec.specs.declared.features.FeaturesReply.{FeaturesReply}
