@@ -10,7 +10,7 @@ use Rattle.of_wire.specs.declared.fault.PartFault.{PartFault}
 use Rattle.of_wire.specs.declared.fault.PartCause.{PartCause}
 use Rattle.of_wire.specs.declared.fault.PartCause.TheVariants.{BadClass, BadLength, Repeated, Prerequisite}
 use Rattle.of_wire.specs.Numbers.{number_in}
-use Rattle.of_wire.specs.Reading.{◌>>=◌, fault_at, field_named, has_mask, payload_len, wanted_len, field_value, stands, has_prerequisites, placed, known_field, known_step, unknown_step, named_step, field_step}
+use Rattle.of_wire.specs.Reading.{◌>>=◌, fault_at, field_named, has_mask, payload_len, wanted_len, field_value, stands, placed, known_field, known_step, unknown_step, named_step, field_step}
 use Rattle.of_wire.specs.Spelling.{known, SpellsItem, SpellsUnknown}
 use Rattle.of_wire.specs.Faults.{ComesFirst, NamesNone, Names, FieldEndsEarly, FieldFault, unknown_field, field_again, unprepared, value_length, mask_length}
 use Rattle.of_wire.proofs.Grammars.{number_again}
@@ -151,7 +151,7 @@ known_step_told strict past before id at bytes head is =
     let read = known_field past id at bytes in
     let again : Result (List Field × ℕ) PartFault = Err (fault_at at Repeated) in
     let bare : Result (List Field × ℕ) PartFault = Err (fault_at at Prerequisite) in
-    let lacks = strict && not (has_prerequisites id fs) in
+    let lacks = strict && not (has_prerequisite id fs) in
     by_test P (stands id fs) again (cond lacks bare (read >>= λ f. Ok (make f)))
     (λ t. told_fault past at own early bytes again 0 Repeated (ap (λ k. Err (fault_at k Repeated)) (omega arith)) (omega arith)
     (field_again head id name (sym (stands_in_order id (known before)) ∙ t)) (repeated_first strict before bytes id name))
@@ -159,11 +159,11 @@ known_step_told strict past before id at bytes head is =
     (let once : stands id (known before) ≡ false = sym (stands_in_order id (known before)) ∙ t in
     by_test P lacks bare (read >>= λ f. Ok (make f))
     (λ l.
-    (let b = and_parts strict (not (has_prerequisites id fs)) l in
+    (let b = and_parts strict (not (has_prerequisite id fs)) l in
     told_fault past at own early bytes bare 0 Prerequisite (ap (λ k. Err (fault_at k Prerequisite)) (omega arith)) (omega arith)
     (unprepared head b.0 id name (sym (prerequisites_in_order id (known before)) ∙ not-true _ b.1)) (prerequisite_first strict before bytes id name once)))
     (λ l.
-    (let prepared : strict ≡ true → has_prerequisite id (known before) ≡ true = λ s. elim (and_cases strict (not (has_prerequisites id fs)) l) [
+    (let prepared : strict ≡ true → has_prerequisite id (known before) ≡ true = λ s. elim (and_cases strict (not (has_prerequisite id fs)) l) [
       | inl lax ↦ false_true strict lax s
       | inr met ↦ sym (prerequisites_in_order id (known before)) ∙ not-false _ met
     ] in

@@ -5,10 +5,11 @@ use Rattle.std.proofs.lemmas.List.{length-drop, length-take-le, length-append, t
 use Rattle.net_base.specs.declared.field.Field.{Field}
 use Rattle.net_base.specs.declared.field.FieldId.{FieldId}
 use Rattle.net_base.specs.FieldId.{number_of, byte_len_of, all_ones}
+use Rattle.net_base.specs.WellFormed.{has_prerequisite}
 use Rattle.of_wire.specs.declared.fault.PartFault.{PartFault}
 use Rattle.of_wire.specs.declared.fault.PartCause.TheVariants.{BadLength, BadClass, Repeated, Prerequisite}
 use Rattle.of_wire.specs.Numbers.{number_in}
-use Rattle.of_wire.specs.Reading.{◌>>=◌, fault_at, field_named, has_mask, payload_len, wanted_len, field_value, stands, has_prerequisites, placed, known_field, known_step, unknown_step, named_step, field_step}
+use Rattle.of_wire.specs.Reading.{◌>>=◌, fault_at, field_named, has_mask, payload_len, wanted_len, field_value, stands, placed, known_field, known_step, unknown_step, named_step, field_step}
 use Rattle.of_wire.specs.Spelling.{SpellsPlain, SpellsMasked, SpellsField, SpellsUnknown, SpellsItem, MayStand, known}
 use Rattle.of_wire.proofs.Grammars.{AreBytes, bytes_take, has_number, number_then, number_again, number_ends, number_of_take, number_of_front}
 use Rattle.of_wire.proofs.Chosen.{bind_ok, passed, held, one_answer}
@@ -159,8 +160,8 @@ known_sound strict past id before at bytes y h name e =
     let f = field_value id bytes in
     let n = 4 + payload_len bytes in
     let next = λ (f : Field). Ok (placed f fs, 4 + payload_len bytes) in
-    let a = passed (stands id fs) (fault_at at Repeated) (cond (strict && not (has_prerequisites id fs)) (Err (fault_at at Prerequisite)) (read >>= next)) y e in
-    let b = passed (strict && not (has_prerequisites id fs)) (fault_at at Prerequisite) (read >>= next) y a.1 in
+    let a = passed (stands id fs) (fault_at at Repeated) (cond (strict && not (has_prerequisite id fs)) (Err (fault_at at Prerequisite)) (read >>= next)) y e in
+    let b = passed (strict && not (has_prerequisite id fs)) (fault_at at Prerequisite) (read >>= next) y a.1 in
     let c = bind_ok read next y b.1 in
     let r : Result Field PartFault = Ok f in
     let d = held (eqb (payload_len bytes) (wanted_len id (has_mask bytes))) (fault_at (at + 3) BadLength) (cond (ltb (length bytes) n) (Err past) r) c.value c.first in
@@ -171,7 +172,7 @@ known_sound strict past id before at bytes y h name e =
     let q : Result (List Field × ℕ) PartFault = Ok (placed c.value fs, n) in
     let out : (placed c.value fs, n) ≡ y = one_answer q _ y refl c.then_ in
     let once : stands id (known before) ≡ false = sym (stands_in_order id (known before)) ∙ a.0 in
-    let met : strict ≡ true → not (has_prerequisites id fs) ≡ false = λ t. elim (and_cases strict (not (has_prerequisites id fs)) b.0) [ inl lax ↦ absurd (cc) | inr holds ↦ holds ] in
+    let met : strict ≡ true → not (has_prerequisite id fs) ≡ false = λ t. elim (and_cases strict (not (has_prerequisite id fs)) b.0) [ inl lax ↦ absurd (cc) | inr holds ↦ holds ] in
     let may : MayStand strict (known before) f = record { once = once; prerequisites = λ t. sym (prerequisites_in_order id (known before)) ∙ not-false _ (met t) } in
     let size : length (take n bytes) ≡ n = length-take-le n bytes room in
     let part : Part (SpellsItem strict) view before bytes (placed c.value fs, n) = record {
@@ -236,7 +237,7 @@ known_complete strict masked past before f at first rest g may =
     let long : ltb (length bytes) 4 ≡ false = le-ltb _ _ (omega (arith, g.room)) in
     let name = g.name in let value = g.value in let flag = g.flag in
     let once : stands f.id fs ≡ false = stands_in_order f.id (known before) ∙ may.once in
-    let met : (strict && not (has_prerequisites f.id fs)) ≡ false = met_or_lax strict (has_prerequisites f.id fs) (λ t. prerequisites_in_order f.id (known before) ∙ may.prerequisites t) in
+    let met : (strict && not (has_prerequisite f.id fs)) ≡ false = met_or_lax strict (has_prerequisite f.id fs) (λ t. prerequisites_in_order f.id (known before) ∙ may.prerequisites t) in
     let len : payload_len bytes ≡ wanted_len f.id (has_mask bytes) = g.len ∙ ap (wanted_len f.id) (sym flag) in
     let same : eqb (payload_len bytes) (wanted_len f.id (has_mask bytes)) ≡ true = eq-eqb _ _ len in
     let there : ltb (length bytes) (4 + payload_len bytes) ≡ false = le-ltb _ _ (omega (arith, g.room, g.len)) in

@@ -9,7 +9,7 @@ use Rattle.net_base.specs.declared.field.FieldId.{FieldId}
 use Rattle.net_base.specs.FieldId.{number_of, prerequisite_of}
 use Rattle.net_base.specs.declared.field.Prerequisite.{Prerequisite}
 use Rattle.net_base.specs.WellFormed.{meets, has_prerequisite}
-use Rattle.of_wire.specs.Reading.{has_prerequisites, placed, placed_at, first_above, stands}
+use Rattle.of_wire.specs.Reading.{placed, placed_at, first_above, stands}
 use Rattle.of_wire.specs.Spelling.{known, in_order, in_order_onto}
 
 or_last : (a b c : Bool) → (a || (b || c)) ≡ ((a || c) || b)
@@ -52,19 +52,14 @@ asked_in_order : (o : Option Prerequisite) (fs : List Field) → option_map_or (
 asked_in_order None fs = refl
 asked_in_order (Some p) fs = any_in_order (meets p) fs
 
--- the two words for what has to stand before a field agree
-pub prerequisites_agree : (id : FieldId) (fields : List Field) → has_prerequisites id fields ≡ has_prerequisite id fields
-unfolding has_prerequisites
-prerequisites_agree id fields = refl
-
-pub prerequisites_in_order : (id : FieldId) (fs : List Field) → has_prerequisites id (in_order fs) ≡ has_prerequisite id fs
-prerequisites_in_order id fs = prerequisites_agree id (in_order fs) ∙ asked_in_order (prerequisite_of id) fs
+pub prerequisites_in_order : (id : FieldId) (fs : List Field) → has_prerequisite id (in_order fs) ≡ has_prerequisite id fs
+prerequisites_in_order id fs = asked_in_order (prerequisite_of id) fs
 
 onto_push : (acc fs : List Field) (f : Field) → in_order_onto acc (fs ++ f ∷ []) ≡ placed f (in_order_onto acc fs)
 onto_push acc [] f = refl
 onto_push acc (g ∷ fs) f = onto_push (placed g acc) fs f
 
-known_some : (before : List (Option Field)) (f : Field) → known (before ++ Some f ∷ []) ≡ known before ++ f ∷ []
+pub known_some : (before : List (Option Field)) (f : Field) → known (before ++ Some f ∷ []) ≡ known before ++ f ∷ []
 known_some [] f = refl
 known_some (Some g ∷ before) f = ap (λ l. g ∷ l) (known_some before f)
 known_some (None ∷ before) f = known_some before f

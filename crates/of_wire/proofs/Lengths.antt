@@ -1,7 +1,7 @@
 -- How many bytes the parts take.
-use Rattle.std.proofs.Common.{◌≡◌, ◌≢◌, ℕ, zero, suc, ◌+◌, ◌-◌, ◌*◌, ◌%◌, true, false, eqb, eq-eqb, List, ◌++◌, length, replicate, refl, sym, ap, ◌∙◌, arith, append_assoc}
+use Rattle.std.proofs.Common.{◌≡◌, ◌≢◌, ℕ, ◌+◌, ◌-◌, ◌*◌, ◌%◌, true, false, eqb, eq-eqb, List, ◌++◌, length, replicate, refl, sym, ap, ◌∙◌, arith, append_assoc}
 use Rattle.std.specs.List.{flat_map}
-use Rattle.std.specs.Int.{bytes_high_first}
+use Rattle.byteorder.specs.Numbers.{length-bytes_high_first}
 use Rattle.std.proofs.lemmas.Bool.{ne_eqb}
 use Rattle.std.proofs.lemmas.List.{length-append, length-replicate}
 use Rattle.net_base.specs.declared.field.Field.{Field}
@@ -9,13 +9,9 @@ use Rattle.of_wire.specs.Parts.{number, field_bytes, match_bytes, set_bytes, up_
 use Rattle.of_match.specs.declared.action.Action.TheVariants.{Output, PushVlan}
 use Rattle.net_base.specs.FieldId.{number_of, byte_len_of, all_ones}
 
-length-bytes : (n v : ℕ) → length (bytes_high_first n v) ≡ n
-length-bytes zero v = refl
-length-bytes (suc n) v = ap suc (length-bytes n v)
-
 pub number_length : (n v : ℕ) → length (number n v) ≡ n
 unfolding number
-number_length n v = length-bytes n v
+number_length n v = length-bytes_high_first n v
 
 pub match_padding : (out : List ℕ) (fields : List Field) →
     ((((out ++ number 2 1) ++ number 2 (4 + length (flat_map field_bytes fields))) ++ flat_map field_bytes fields) ++ replicate ((8 - (4 + length (flat_map field_bytes fields)) % 8) % 8) 0) ≡ out ++ match_bytes fields

@@ -1,11 +1,12 @@
 -- Reading parts one behind the other, as a loop does.
-use Rattle.std.proofs.Common.{◌≡◌, ℕ, zero, suc, ◌+◌, ◌-◌, ◌≤◌, ◌<◌, true, false, eqb, eq-eqb, List, length, drop, Result, Ok, Err, refl, sym, ap, ◌∙◌, arith}
-use Rattle.std.proofs.lemmas.Bool.{ne_eqb, eqb-false, eqb-true}
+use Rattle.std.proofs.Common.{◌≡◌, ℕ, suc, ◌+◌, ◌-◌, ◌≤◌, ◌<◌, true, false, eqb, List, length, drop, Result, Ok, Err, refl, sym, ap, ◌∙◌, arith}
+use Rattle.std.proofs.lemmas.Bool.{eqb-false, eqb-true}
 use Rattle.std.proofs.lemmas.List.{length-drop}
 use Rattle.of_wire.specs.declared.fault.PartFault.{PartFault}
 use Rattle.of_wire.specs.declared.fault.PartRefused.{PartRefused}
 use Rattle.of_wire.specs.declared.fault.PartRefused.TheVariants.{At, Memory}
-use Rattle.of_wire.specs.Reading.{◌>>=◌, Fails, many}
+use Rattle.of_wire.specs.Reading.{Fails, many}
+use Rattle.of_wire.proofs.Joining.{one_more, no_more}
 
 -- what is still to be read gives what reading all gives
 pub record Left {S : Type 0} (step : S → ℕ → List ℕ → Result (S × ℕ) PartFault) (total : Result S PartFault) (s : S) (at : ℕ) (rest : List ℕ) : Type 0 where
@@ -16,19 +17,12 @@ pub record Left {S : Type 0} (step : S → ℕ → List ℕ → Result (S × ℕ
 pub starts : {S : Type 0} (step : S → ℕ → List ℕ → Result (S × ℕ) PartFault) (s : S) (at : ℕ) (bytes : List ℕ) → Left step (many step (length bytes) s at bytes) s at bytes
 starts step s at bytes = record { steps = length bytes; enough = omega arith; same = refl }
 
-many-more : {S : Type 0} (step : S → ℕ → List ℕ → Result (S × ℕ) PartFault) (steps : ℕ) (s : S) (at : ℕ) (rest : List ℕ) → 0 < length rest →
-    many step (suc steps) s at rest ≡ (step s at rest >>= λ x. many step steps x.0 (at + x.1) (drop x.1 rest))
-unfolding many
-many-more step steps s at rest lt =
-    let t : eqb (length rest) 0 ≡ false = ne_eqb (length rest) 0 (λ e. omega arith) in
-    rw t refl
-
 pub goes : {S : Type 0} (step : S → ℕ → List ℕ → Result (S × ℕ) PartFault) (total : Result S PartFault) (s : S) (at : ℕ) (rest : List ℕ) (x : S × ℕ) → 0 < length rest → 1 ≤ x.1 → step s at rest ≡ Ok x
     → Left step total s at rest → Left step total x.0 (at + x.1) (drop x.1 rest)
 goes step total s at rest x lt some h left =
     let k = left.steps - 1 in
     let e : left.steps ≡ suc k = omega (arith, left.enough) in
-    let one : many step left.steps s at rest ≡ many step k x.0 (at + x.1) (drop x.1 rest) = ap (λ n. many step n s at rest) e ∙ many-more step k s at rest lt ∙ rw h refl in
+    let one : many step left.steps s at rest ≡ many step k x.0 (at + x.1) (drop x.1 rest) = ap (λ n. many step n s at rest) e ∙ one_more step k s at rest (λ e. omega (arith, lt)) ∙ rw h refl in
     record { steps = k; enough = omega (arith, length-drop x.1 rest, left.enough); same = sym one ∙ left.same }
 
 pub ends : {S : Type 0} (step : S → ℕ → List ℕ → Result (S × ℕ) PartFault) (total : Result S PartFault) (s : S) (at : ℕ) (rest : List ℕ) (e : PartRefused) → 0 < length rest → Fails e (step s at rest)
@@ -37,19 +31,12 @@ ends step total s at rest Memory lt h left = tt
 ends step total s at rest (At f) lt h left =
     let k = left.steps - 1 in
     let e : left.steps ≡ suc k = omega (arith, left.enough) in
-    let one : many step left.steps s at rest ≡ Err f = ap (λ n. many step n s at rest) e ∙ many-more step k s at rest lt ∙ rw h refl in
+    let one : many step left.steps s at rest ≡ Err f = ap (λ n. many step n s at rest) e ∙ one_more step k s at rest (λ e. omega (arith, lt)) ∙ rw h refl in
     sym left.same ∙ one
-
-many-none : {S : Type 0} (step : S → ℕ → List ℕ → Result (S × ℕ) PartFault) (steps : ℕ) (s : S) (at : ℕ) (rest : List ℕ) → length rest ≡ 0 → many step steps s at rest ≡ Ok s
-unfolding many
-many-none step zero s at rest e = refl
-many-none step (suc steps) s at rest e =
-    let t : eqb (length rest) 0 ≡ true = eq-eqb (length rest) 0 e in
-    rw t refl
 
 pub is_done : {S : Type 0} (step : S → ℕ → List ℕ → Result (S × ℕ) PartFault) (total : Result S PartFault) (s : S) (at : ℕ) (rest : List ℕ) → length rest ≡ 0
     → Left step total s at rest → total ≡ Ok s
-is_done step total s at rest e left = sym left.same ∙ many-none step left.steps s at rest e
+is_done step total s at rest e left = sym left.same ∙ no_more step left.steps s at rest e
 
 pub is_some : (rest : List ℕ) → false ≡ eqb (length rest) 0 → 0 < length rest
 is_some rest e =

@@ -21,6 +21,7 @@ use Rattle.of_wire.specs.WellFormed.{IsMatch, IsMatchSeen}
 use Rattle.of_wire.proofs.Bounds.{ascending_fit}
 use Rattle.of_wire.proofs.Lengths.{number_length}
 use Rattle.of_wire.proofs.FieldNames.{most_bytes, low_number}
+use Rattle.of_wire.proofs.FieldOrder.{known_some}
 use Rattle.of_wire.proofs.Ascending.{AreBelow, AreFrom, below_push, from_above, placed_last, stands_not, prerequisite_before}
 
 pub then_append : (front back : List ℕ → Type 0) (xs ys : List ℕ) → front xs → back ys → Then front back (xs ++ ys)
@@ -74,11 +75,6 @@ unfolding items
 known_items [] = refl
 known_items (f ∷ fields) = ap (λ l. f ∷ l) (known_items fields)
 
-known_push : (before : List (Option Field)) (f : Field) → known (before ++ Some f ∷ []) ≡ known before ++ f ∷ []
-known_push [] f = refl
-known_push (Some g ∷ before) f = ap (λ l. g ∷ l) (known_push before f)
-known_push (None ∷ before) f = known_push before f
-
 -- fields that go on from those before them
 record GoOn (before fields : List Field) : Type 0 where
   pub ascending : AreAscending fields
@@ -116,7 +112,7 @@ joined_written strict before (f ∷ fields) g fits met =
       once = stands_not f.id acc g.above.0;
       prerequisites = λ t. (let m = met t in prerequisite_before f.id acc (f ∷ fields) from m.0);
     } in
-    let push : known (before ++ Some f ∷ []) ≡ acc ++ f ∷ [] = known_push before f in
+    let push : known (before ++ Some f ∷ []) ≡ acc ++ f ∷ [] = known_some before f in
     let again : (acc ++ f ∷ []) ++ fields ≡ acc ++ (f ∷ fields) = append_assoc acc (f ∷ []) fields in
     let whole : known (before ++ Some f ∷ []) ++ fields ≡ acc ++ (f ∷ fields) = ap (λ l. l ++ fields) push ∙ again in
     record {

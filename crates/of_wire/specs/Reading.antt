@@ -105,10 +105,6 @@ field_value id bytes = record {
 abbrev pub stands : FieldId → List Field → Bool
 stands id fields = list_any (λ f. number_of f.id == number_of id) fields
 
--- the match has what the field asks for (7.2.3.6)
-unfoldable pub has_prerequisites : FieldId → List Field → Bool
-has_prerequisites id fields = has_prerequisite id fields
-
 -- the place of the first field above a number
 abbrev pub first_above : ℕ → List Field → Option ℕ
 first_above number fields = position (λ g. nat_lt number (number_of g.id)) fields
@@ -132,7 +128,7 @@ known_field past id at bytes =
 unfoldable pub known_step : Bool → PartFault → FieldId → List Field → ℕ → List ℕ → Result (List Field × ℕ) PartFault
 known_step strict past id fields at bytes =
     if stands id fields then Err (fault_at at Repeated) else (
-    if strict && not (has_prerequisites id fields) then Err (fault_at at Prerequisite) else (
+    if strict && not (has_prerequisite id fields) then Err (fault_at at Prerequisite) else (
     known_field past id at bytes >>= λ f. Ok (placed f fields, 4 + payload_len bytes)))
 
 -- a field that isn't known is refused, or passed over

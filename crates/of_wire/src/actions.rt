@@ -9,7 +9,7 @@ ghost use Rattle.of_wire.specs.Reading.{Gives, fault_at, payload_len, set_named,
 use crate::fault::{PartCause, PartFault, PartRefused};
 use crate::matches::{field_len, field_named, field_value, has_mask, put_field};
 use crate::number::{put_number, put_zeros, u8_at, u16_at, u32_at};
-use crate::reading::{refused, take_padding};
+use crate::reading::{refused, take_padding, up_to_8};
 use net_base::{Bytes, Field, FieldId, NoMemory};
 use of_match::{Action, Actions};
 use std::alloc::Global;
@@ -100,10 +100,7 @@ fn action_len(action: &Action) -> usize
     match action {
         Action::Output { .. } => 16,
         Action::PushVlan(_) | Action::PopVlan | Action::DecTtl => 8,
-        Action::Set(field) => {
-            let len = 4 + field_len(field);
-            len + (8 - len % 8) % 8
-        }
+        Action::Set(field) => { up_to_8(4 + field_len(field)) }
     }
 }
 
@@ -169,7 +166,7 @@ fn read_set(
     }
     let (_, field) = bytes.split_at(4);
     let wanted = 8 + usize::from(u8_at(field, 3));
-    if len != wanted + (8 - wanted % 8) % 8 {
+    if len != up_to_8(wanted) {
         return Err(refused(at + 2, PartCause::BadLength));
     }
     read_set_named(field_named(field), past, len, at, bytes)

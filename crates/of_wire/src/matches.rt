@@ -4,12 +4,12 @@ ghost use Rattle.of_wire.specs.Parts.{field_bytes, match_bytes};
 ghost use Rattle.of_wire.specs.Spelling.{SpellsMatch, SpellsMatchSeen};
 ghost use Rattle.of_wire.specs.Faults.{TellsFirst, From, FaultInMatch};
 ghost use Rattle.net_base.specs.declared.field.Field.{Field};
-ghost use Rattle.of_wire.specs.Reading.{Gives, fault_at, field_numbered, field_named, has_mask, payload_len, wanted_len, field_value, stands, first_above, has_prerequisites, placed, known_field, known_step, unknown_step, field_step, many, fields_at, sized_match_at, match_at};
+ghost use Rattle.of_wire.specs.Reading.{Gives, fault_at, field_numbered, field_named, has_mask, payload_len, wanted_len, field_value, stands, first_above, placed, known_field, known_step, unknown_step, field_step, many, fields_at, sized_match_at, match_at};
 
 use crate::fault::{PartCause, PartFault, PartRefused};
 use crate::number::{number_at, put_number, put_zeros, u8_at, u16_at};
-use crate::reading::{past_end, refused, take_padding};
-use net_base::{Bytes, Field, FieldId, Fields, NoMemory};
+use crate::reading::{past_end, refused, take_padding, up_to_8};
+use net_base::{Bytes, Field, FieldId, Fields, NoMemory, has_prerequisite};
 use std::alloc::Global;
 
 /// The class of the fields that every switch knows (OpenFlow 1.3, 7.2.3.3).
@@ -166,14 +166,6 @@ fn stands(id: FieldId, fields: &[Field]) -> bool
     fields.iter().any(|f| f.id.number() == id.number())
 }
 
-/// Whether what has to stand before a field does (OpenFlow 1.3, 7.2.3.6).
-#[tactic(auto, unfolding(crate::specs::Reading::has_prerequisites))]
-fn has_prerequisites(id: FieldId, fields: &[Field]) -> bool
-    ensures { result ≡ has_prerequisites id fields.now }
-{
-    net_base::has_prerequisite(id, fields)
-}
-
 fn first_above(number: u8, fields: &[Field]) -> Option<usize>
     ensures value { result ≡ first_above number fields.now }
     ensures within { IfSome result (λ i. i < length fields.now) }
@@ -228,7 +220,7 @@ fn take_known(
     if stands(id, fields.as_slice()) {
         return Err(refused(at, PartCause::Repeated));
     }
-    if strict && !has_prerequisites(id, fields.as_slice()) {
+    if strict && !has_prerequisite(id, fields.as_slice()) {
         return Err(refused(at, PartCause::Prerequisite));
     }
     let field = known_field(past, id, at, bytes)?;
@@ -348,7 +340,7 @@ fn read_sized_match(
         at: at + bytes.len() as u32,
         cause: PartCause::Short,
     };
-    let taken = take_padding(short, at, len, len + (8 - len % 8) % 8, bytes)?;
+    let taken = take_padding(short, at, len, up_to_8(len), bytes)?;
     Ok((fields, taken))
 }
 

@@ -1,4 +1,5 @@
 ghost use Rattle.std.specs.Prelude.{◌≡◌, ◌≤◌, ◌<◌, ◌+◌, ◌^◌, length, IfOk, IfSome};
+ghost use Rattle.of_wire.specs.Parts.{up_to_8};
 ghost use Rattle.of_wire.specs.Reading.{Gives, fault_at, past_end, padding_at, first_nonzero};
 
 use crate::fault::{PartCause, PartFault, PartRefused};
@@ -17,6 +18,14 @@ pub fn past_end(len: usize, there: usize, wrong: PartFault, short: PartFault) ->
     ensures { result ≡ past_end len there wrong short }
 {
     if there < len { short } else { wrong }
+}
+
+/// A length up to a multiple of 8, with the padding that follows it (OpenFlow 1.3, 7.2).
+pub fn up_to_8(len: usize) -> usize
+    requires { len < 2 ^ 32 }
+    ensures { result ≡ up_to_8 len }
+{
+    len + (8 - len % 8) % 8
 }
 
 fn first_nonzero(bytes: &[u8]) -> Option<usize>
