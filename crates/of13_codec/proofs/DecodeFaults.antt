@@ -13,7 +13,7 @@ use Rattle.of13_codec.specs.declared.message.Message.{Message}
 use Rattle.of13_codec.specs.declared.message.Message.TheVariants.{EchoRequest, EchoReply, FeaturesRequest, FeaturesReply as Features, PortStatus, BarrierRequest, BarrierReply, Other}
 use Rattle.of13_codec.specs.declared.refused.WireRefused.{WireRefused}
 use Rattle.of13_codec.specs.declared.refused.WireRefused.TheVariants.{Version, Length, Body, Memory}
-use Rattle.of13_codec.specs.Decoding.{other_at, echo_request_at, echo_reply_at, hello_at, error_at, features_at, bare_at, packet_in_at, port_of, port_status_at, packet_out_at, flow_mod_at, request_at, reply_at, low_at, high_at, body_at, is_version, with_xid, decoded, Decodes}
+use Rattle.of13_codec.specs.Decoding.{echo_request_at, echo_reply_at, hello_at, error_at, features_at, bare_at, packet_in_at, port_of, port_status_at, packet_out_at, flow_mod_at, request_at, reply_at, body_at, is_version, with_xid, decoded, Decodes}
 use Rattle.of13_codec.specs.Faults.{features_request, features_reply, port_status, barrier_request, barrier_reply, FaultInBody, IsVersionOf, TellsFrame}
 use Rattle.of13_codec.specs.Spelling.{Spells}
 use Rattle.of13_codec.proofs.DecodeLaws.{decode_sound}
@@ -50,53 +50,27 @@ unsized kind a b c d e f =
     let x : eqb kind 21 ≡ false = ne_eqb _ _ f in
     rw (s, t, u, v, w, x) refl
 
-low_told : (version kind : ℕ) (body : List ℕ) → AreBytes body → kind < 10 → Says kind body (low_at version kind body)
-unfolding low_at
-low_told version kind body h small =
-    let P = Answers kind body in
-    let other = other_at kind body in
-    let r6 : Result Message PartFault = cond (eqb kind 6) (features_at body) other in
-    let r5 : Result Message PartFault = cond (eqb kind 5) (bare_at FeaturesRequest body) r6 in
-    let r3 : Result Message PartFault = cond (eqb kind 3) (echo_reply_at body) r5 in
-    let r2 : Result Message PartFault = cond (eqb kind 2) (echo_request_at body) r3 in
-    let r1 : Result Message PartFault = cond (eqb kind 1) (error_at body) r2 in
-    by_equal P kind 0 (hello_at version body) r1 (hello_told kind version body h)
-    (λ n0. by_equal P kind 1 (error_at body) r2 (error_told kind body)
-    (λ n1. by_equal P kind 2 (echo_request_at body) r3
-    (λ e. free_told kind body (EchoRequest body) (rw e refl) n0 n1 (λ k. omega arith) (λ k. omega arith) (λ k. omega arith) (λ k. omega arith) (λ k. omega arith))
-    (λ n2. by_equal P kind 3 (echo_reply_at body) r5
-    (λ e. free_told kind body (EchoReply body) (rw e refl) n0 n1 (λ k. omega arith) (λ k. omega arith) (λ k. omega arith) (λ k. omega arith) (λ k. omega arith))
-    (λ n3. by_equal P kind 5 (bare_at FeaturesRequest body) r6 (λ e. exact_told kind body 0 (features_request e) FeaturesRequest)
-    (λ n5. by_equal P kind 6 (features_at body) other (features_told kind body)
-    (λ n6. free_told kind body (Other kind body) (unsized kind n5 n6 (λ k. omega arith) (λ k. omega arith) (λ k. omega arith) (λ k. omega arith)) n0 n1
-    (λ k. omega arith) (λ k. omega arith) (λ k. omega arith) (λ k. omega arith) (λ k. omega arith)))))))
-
-high_told : (kind : ℕ) (body : List ℕ) → AreBytes body → 10 ≤ kind → Says kind body (high_at kind body)
-unfolding high_at
-high_told kind body h large =
-    let P = Answers kind body in
-    let other = other_at kind body in
-    let r21 : Result Message PartFault = cond (eqb kind 21) (bare_at BarrierReply body) other in
-    let r20 : Result Message PartFault = cond (eqb kind 20) (bare_at BarrierRequest body) r21 in
-    let r19 : Result Message PartFault = cond (eqb kind 19) (reply_at body) r20 in
-    let r18 : Result Message PartFault = cond (eqb kind 18) (request_at body) r19 in
-    let r14 : Result Message PartFault = cond (eqb kind 14) (flow_mod_at body) r18 in
-    let r13 : Result Message PartFault = cond (eqb kind 13) (packet_out_at body) r14 in
-    let r12 : Result Message PartFault = cond (eqb kind 12) (port_status_at body) r13 in
-    by_equal P kind 10 (packet_in_at body) r12 (packet_in_told kind body h)
-    (λ n10. by_equal P kind 12 (port_status_at body) r13 (port_status_told kind body)
-    (λ n12. by_equal P kind 13 (packet_out_at body) r14 (packet_out_told kind body h)
-    (λ n13. by_equal P kind 14 (flow_mod_at body) r18 (flow_mod_told kind body h)
-    (λ n14. by_equal P kind 18 (request_at body) r19 (request_told kind body)
-    (λ n18. by_equal P kind 19 (reply_at body) r20 (reply_told kind body h)
-    (λ n19. by_equal P kind 20 (bare_at BarrierRequest body) r21 (λ e. exact_told kind body 0 (barrier_request e) BarrierRequest)
-    (λ n20. by_equal P kind 21 (bare_at BarrierReply body) other (λ e. exact_told kind body 0 (barrier_reply e) BarrierReply)
-    (λ n21. free_told kind body (Other kind body) (unsized kind (λ k. omega arith) (λ k. omega arith) n12 n18 n20 n21)
-    (λ k. omega arith) (λ k. omega arith) n10 n13 n14 n18 n19))))))))
-
 body_told : (version kind : ℕ) (body : List ℕ) → AreBytes body → Says kind body (body_at version kind body)
 unfolding body_at
-body_told version kind body h = by_less (Answers kind body) kind 10 (low_at version kind body) (high_at kind body) (low_told version kind body h) (high_told kind body h)
+body_told version kind body h =
+    let P = Answers kind body in
+    by_equal P kind 0 (hello_at version body) _ (hello_told kind version body h)
+    (λ n0. by_equal P kind 1 (error_at body) _ (error_told kind body)
+    (λ n1. by_equal P kind 2 (echo_request_at body) _
+    (λ e. free_told kind body (EchoRequest body) (rw e refl) n0 n1 (λ k. omega arith) (λ k. omega arith) (λ k. omega arith) (λ k. omega arith) (λ k. omega arith))
+    (λ n2. by_equal P kind 3 (echo_reply_at body) _
+    (λ e. free_told kind body (EchoReply body) (rw e refl) n0 n1 (λ k. omega arith) (λ k. omega arith) (λ k. omega arith) (λ k. omega arith) (λ k. omega arith))
+    (λ n3. by_equal P kind 5 (bare_at FeaturesRequest body) _ (λ e. exact_told kind body 0 (features_request e) FeaturesRequest)
+    (λ n5. by_equal P kind 6 (features_at body) _ (features_told kind body)
+    (λ n6. by_equal P kind 10 (packet_in_at body) _ (packet_in_told kind body h)
+    (λ n10. by_equal P kind 12 (port_status_at body) _ (port_status_told kind body)
+    (λ n12. by_equal P kind 13 (packet_out_at body) _ (packet_out_told kind body h)
+    (λ n13. by_equal P kind 14 (flow_mod_at body) _ (flow_mod_told kind body h)
+    (λ n14. by_equal P kind 18 (request_at body) _ (request_told kind body)
+    (λ n18. by_equal P kind 19 (reply_at body) _ (reply_told kind body h)
+    (λ n19. by_equal P kind 20 (bare_at BarrierRequest body) _ (λ e. exact_told kind body 0 (barrier_request e) BarrierRequest)
+    (λ n20. by_equal P kind 21 (bare_at BarrierReply body) _ (λ e. exact_told kind body 0 (barrier_reply e) BarrierReply)
+    (λ n21. free_told kind body (Other kind body) (unsized kind n5 n6 n12 n18 n20 n21) n0 n1 n10 n13 n14 n18 n19))))))))))))))
 
 -- ---- frames
 

@@ -1,6 +1,6 @@
 -- A frame is decoded exactly where it spells a message.
 use Rattle.std.proofs.Common.{◌≡◌, ℕ, ◌+◌, ◌%◌, ◌≤◌, ◌<◌, Bool, true, false, not, cond, eqb, ltb, List, [], length, take, drop, Result, Ok, Err, refl, sym, ap, ◌∙◌, subst, arith, inl, inr, ◌⊎◌}
-use Rattle.std.proofs.lemmas.Bool.{ltb-true, ltb-false, eqb-true, le-ltb, lt-ltb, eq-eqb, ne_eqb, cases_eq, cases_lt, not-false}
+use Rattle.std.proofs.lemmas.Bool.{ltb-true, ltb-false, eqb-true, le-ltb, lt-ltb, eq-eqb, ne_eqb, cases_eq, not-false}
 use Rattle.std.proofs.lemmas.List.{length-drop, length-take-le}
 use Rattle.of_wire.specs.declared.fault.PartFault.{PartFault}
 use Rattle.of_wire.specs.Numbers.{number_in}
@@ -14,7 +14,7 @@ use Rattle.of13_codec.specs.declared.ports.PortStats.{PortStats}
 use Rattle.of13_codec.specs.declared.refused.WireRefused.{WireRefused}
 use Rattle.of13_codec.specs.declared.refused.WireRefused.TheVariants.{Version, Length}
 use Rattle.of13_codec.specs.Messages.{kind_of, version_of}
-use Rattle.of13_codec.specs.Decoding.{short, at_least, exactly, has_more, request_at, reply_at, other_at, port_desc_request_at, port_stats_request_at, port_desc_reply_at, port_stats_reply_at, port_status_at, port_of, ports_at, ports_stats_at, echo_request_at, echo_reply_at, hello_at, error_at, features_at, bare_at, packet_in_at, packet_out_at, flow_mod_at, low_at, high_at, body_at, is_version, with_xid, decoded}
+use Rattle.of13_codec.specs.Decoding.{short, at_least, exactly, has_more, request_at, reply_at, other_at, port_desc_request_at, port_stats_request_at, port_desc_reply_at, port_stats_reply_at, port_status_at, port_of, ports_at, ports_stats_at, echo_request_at, echo_reply_at, hello_at, body_at, is_version, with_xid, decoded}
 use Rattle.of13_codec.specs.Spelling.{Spells, SpellsBody, Flags, IsOwnKind, IsOther}
 use Rattle.of13_codec.proofs.Bodies.{Is, is_at, least_sound, least_complete, exact_sound, exact_complete, error_sound, error_complete, features_sound, features_complete, bare_sound, bare_complete, desc_request_sound, desc_request_complete, stats_request_sound, stats_request_complete}
 use Rattle.of13_codec.proofs.PortLaws.{ports_spelled, port_sound, port_complete, ports_sound, ports_complete}
@@ -218,136 +218,82 @@ four version kind ne e =
 moved : (version kind k : ℕ) (body : List ℕ) (m : Message) → version ≡ 4 → kind ≡ k → Is 4 k body m → Is version kind body m
 moved version kind k body m v e is = subst (λ n. Is n kind body m) (sym v) (subst (λ n. Is 4 n body m) (sym e) is)
 
-low_sound : (version kind : ℕ) (body : List ℕ) (m : Message) → AreBytes body → kind < 10 → is_version version kind ≡ true → low_at version kind body ≡ Ok m → Is version kind body m
-unfolding low_at
-low_sound version kind body m h small v e =
-    let other = other_at kind body in
-    let six : Result Message PartFault = cond (eqb kind 6) (features_at body) other in
-    let five : Result Message PartFault = cond (eqb kind 5) (bare_at FeaturesRequest body) six in
-    let three : Result Message PartFault = cond (eqb kind 3) (echo_reply_at body) five in
-    let two : Result Message PartFault = cond (eqb kind 2) (echo_request_at body) three in
-    let one : Result Message PartFault = cond (eqb kind 1) (error_at body) two in
-    elim (chosen kind 0 (hello_at version body) one (Ok m) e) [
-      | inl p ↦ subst (λ n. Is version n body m) (sym p.0) (hello_sound version body m h p.1)
-      | inr n0 ↦ (let w = four version kind n0.0 v in elim (chosen kind 1 (error_at body) two (Ok m) n0.1) [
-        | inl p ↦ moved version kind 1 body m w p.0 (error_sound body m h p.1)
-        | inr n1 ↦ elim (chosen kind 2 (echo_request_at body) three (Ok m) n1.1) [
-          | inl p ↦ moved version kind 2 body m w p.0 (is_at 4 2 body (EchoRequest body) m (echo_request_at body) refl p.1 (record { spelled = refl; kind_is = refl; version_is = refl }))
-          | inr n2 ↦ elim (chosen kind 3 (echo_reply_at body) five (Ok m) n2.1) [
-            | inl p ↦ moved version kind 3 body m w p.0 (is_at 4 3 body (EchoReply body) m (echo_reply_at body) refl p.1 (record { spelled = refl; kind_is = refl; version_is = refl }))
-            | inr n3 ↦ elim (chosen kind 5 (bare_at FeaturesRequest body) six (Ok m) n3.1) [
-              | inl p ↦ moved version kind 5 body m w p.0 (bare_sound 5 FeaturesRequest body m (λ b z. z) refl refl p.1)
-              | inr n5 ↦ elim (chosen kind 6 (features_at body) other (Ok m) n5.1) [
-                | inl p ↦ moved version kind 6 body m w p.0 (features_sound body m h p.1)
-                | inr n6 ↦ moved version kind kind body m w refl (other_is kind body m (record {
-                  other = own_cases kind ⊥ (λ x. omega (arith, n0.0, n1.0, n2.0, n3.0)) n5.0 n6.0 (λ x. omega arith) (λ x. omega arith) (λ x. omega arith) (λ x. omega arith) (λ x. omega arith) (λ x. omega arith);
-                  part = λ k. elim k [ inl x ↦ absurd (omega arith) | inr x ↦ absurd (omega arith) ];
-                }) n6.1)
-              ]
-            ]
-          ]
-        ]
-      ])
-    ]
-
-high_sound : (kind : ℕ) (body : List ℕ) (m : Message) → AreBytes body → 10 ≤ kind → high_at kind body ≡ Ok m → Is 4 kind body m
-unfolding high_at
-high_sound kind body m h large e =
-    let other = other_at kind body in
-    let r21 : Result Message PartFault = cond (eqb kind 21) (bare_at BarrierReply body) other in
-    let r20 : Result Message PartFault = cond (eqb kind 20) (bare_at BarrierRequest body) r21 in
-    let r19 : Result Message PartFault = cond (eqb kind 19) (reply_at body) r20 in
-    let r18 : Result Message PartFault = cond (eqb kind 18) (request_at body) r19 in
-    let r14 : Result Message PartFault = cond (eqb kind 14) (flow_mod_at body) r18 in
-    let r13 : Result Message PartFault = cond (eqb kind 13) (packet_out_at body) r14 in
-    let r12 : Result Message PartFault = cond (eqb kind 12) (port_status_at body) r13 in
-    elim (chosen kind 10 (packet_in_at body) r12 (Ok m) e) [
-      | inl p ↦ moved 4 kind 10 body m refl p.0 (packet_in_sound body m h p.1)
-      | inr n10 ↦ elim (chosen kind 12 (port_status_at body) r13 (Ok m) n10.1) [
-        | inl p ↦ moved 4 kind 12 body m refl p.0 (port_status_sound body m h p.1)
-        | inr n12 ↦ elim (chosen kind 13 (packet_out_at body) r14 (Ok m) n12.1) [
-          | inl p ↦ moved 4 kind 13 body m refl p.0 (packet_out_sound body m h p.1)
-          | inr n13 ↦ elim (chosen kind 14 (flow_mod_at body) r18 (Ok m) n13.1) [
-            | inl p ↦ moved 4 kind 14 body m refl p.0 (flow_mod_sound body m h p.1)
-            | inr n14 ↦ elim (chosen kind 18 (request_at body) r19 (Ok m) n14.1) [
-              | inl p ↦ moved 4 kind 18 body m refl p.0 (request_sound body m h p.1)
-              | inr n18 ↦ elim (chosen kind 19 (reply_at body) r20 (Ok m) n18.1) [
-                | inl p ↦ moved 4 kind 19 body m refl p.0 (reply_sound body m h p.1)
-                | inr n19 ↦ elim (chosen kind 20 (bare_at BarrierRequest body) r21 (Ok m) n19.1) [
-                  | inl p ↦ moved 4 kind 20 body m refl p.0 (bare_sound 20 BarrierRequest body m (λ b z. z) refl refl p.1)
-                  | inr n20 ↦ elim (chosen kind 21 (bare_at BarrierReply body) other (Ok m) n20.1) [
-                    | inl p ↦ moved 4 kind 21 body m refl p.0 (bare_sound 21 BarrierReply body m (λ b z. z) refl refl p.1)
-                    | inr n21 ↦ other_is kind body m (record {
-                      other = own_cases kind ⊥ (λ x. omega arith) (λ x. omega arith) (λ x. omega arith) n10.0 n12.0 n13.0 n14.0 n20.0 n21.0;
-                      part = λ k. elim k [ inl x ↦ absurd (n18.0 x) | inr x ↦ absurd (n19.0 x) ];
-                    }) n21.1
-                  ]
-                ]
-              ]
-            ]
-          ]
-        ]
-      ]
-    ]
+-- one test more: the body is of this type, or of another
+by_kind : (version kind k : ℕ) (body : List ℕ) (m : Message) (x r : Result Message PartFault) → is_version version kind ≡ true → (k ≡ 0 → ⊥) → (x ≡ Ok m → Is 4 k body m) → ((kind ≡ k → ⊥) → r ≡ Ok m → Is version kind body m)
+    → cond (eqb kind k) x r ≡ Ok m → Is version kind body m
+by_kind version kind k body m x r v some this other e = elim (chosen kind k x r (Ok m) e) [
+  | inl p ↦ moved version kind k body m (four version kind (λ z. some (sym p.0 ∙ z)) v) p.0 (this p.1)
+  | inr p ↦ other p.0 p.1
+]
 
 pub body_sound : (version kind : ℕ) (body : List ℕ) (m : Message) → AreBytes body → is_version version kind ≡ true → body_at version kind body ≡ Ok m → Is version kind body m
 unfolding body_at
-body_sound version kind body m h v e = elim (cases_lt kind 10) [
-  | inl small ↦ let t : ltb kind 10 ≡ true = lt-ltb _ _ small in low_sound version kind body m h small v (rw t at e)
-  | inr large ↦
-      let t : ltb kind 10 ≡ false = le-ltb _ _ large in
-      moved version kind kind body m (four version kind (λ z. omega arith) v) refl (high_sound kind body m h large (rw t at e))
-]
+body_sound version kind body m h v e =
+    elim (chosen kind 0 (hello_at version body) _ (Ok m) e) [
+      | inl p ↦ subst (λ n. Is version n body m) (sym p.0) (hello_sound version body m h p.1)
+      | inr n0 ↦
+          by_kind version kind 1 body m _ _ v (λ z. omega arith) (error_sound body m h)
+          (λ n1. by_kind version kind 2 body m _ _ v (λ z. omega arith) (λ p. is_at 4 2 body (EchoRequest body) m (echo_request_at body) refl p (record { spelled = refl; kind_is = refl; version_is = refl }))
+          (λ n2. by_kind version kind 3 body m _ _ v (λ z. omega arith) (λ p. is_at 4 3 body (EchoReply body) m (echo_reply_at body) refl p (record { spelled = refl; kind_is = refl; version_is = refl }))
+          (λ n3. by_kind version kind 5 body m _ _ v (λ z. omega arith) (bare_sound 5 FeaturesRequest body m (λ b z. z) refl refl)
+          (λ n5. by_kind version kind 6 body m _ _ v (λ z. omega arith) (features_sound body m h)
+          (λ n6. by_kind version kind 10 body m _ _ v (λ z. omega arith) (packet_in_sound body m h)
+          (λ n10. by_kind version kind 12 body m _ _ v (λ z. omega arith) (port_status_sound body m h)
+          (λ n12. by_kind version kind 13 body m _ _ v (λ z. omega arith) (packet_out_sound body m h)
+          (λ n13. by_kind version kind 14 body m _ _ v (λ z. omega arith) (flow_mod_sound body m h)
+          (λ n14. by_kind version kind 18 body m _ _ v (λ z. omega arith) (request_sound body m h)
+          (λ n18. by_kind version kind 19 body m _ _ v (λ z. omega arith) (reply_sound body m h)
+          (λ n19. by_kind version kind 20 body m _ _ v (λ z. omega arith) (bare_sound 20 BarrierRequest body m (λ b z. z) refl refl)
+          (λ n20. by_kind version kind 21 body m _ _ v (λ z. omega arith) (bare_sound 21 BarrierReply body m (λ b z. z) refl refl)
+          (λ n21 p. moved version kind kind body m (four version kind n0.0 v) refl (other_is kind body m (record {
+            other = own_cases kind ⊥ (λ x. (let z = n0.0 in omega arith)) n5 n6 n10 n12 n13 n14 n20 n21;
+            part = λ k. elim k [ inl x ↦ absurd (n18 x) | inr x ↦ absurd (n19 x) ];
+          }) p)))))))))))))) n0.1
+    ]
 
 other_complete : (kind : ℕ) (body : List ℕ) → IsOther kind body → body_at 4 kind body ≡ Ok (Other kind body)
-unfolding body_at low_at high_at request_at reply_at
-other_complete kind body o = elim (cases_lt kind 10) [
-  | inl small ↦
-      let own = o.other in
-      let t : ltb kind 10 ≡ true = lt-ltb _ _ small in
-      let n0 : eqb kind 0 ≡ false = ne_eqb _ _ (λ x. own (inl (omega arith))) in
-      let n1 : eqb kind 1 ≡ false = ne_eqb _ _ (λ x. own (inl (omega arith))) in
-      let n2 : eqb kind 2 ≡ false = ne_eqb _ _ (λ x. own (inl (omega arith))) in
-      let n3 : eqb kind 3 ≡ false = ne_eqb _ _ (λ x. own (inl (omega arith))) in
-      let n5 : eqb kind 5 ≡ false = ne_eqb _ _ (λ x. own (inr (inl x))) in
-      let n6 : eqb kind 6 ≡ false = ne_eqb _ _ (λ x. own (inr (inr (inl x)))) in
-      rw (t, n0, n1, n2, n3, n5, n6) refl
-  | inr large ↦
-      let own = o.other in
-      let t : ltb kind 10 ≡ false = le-ltb _ _ large in
-      let n10 : eqb kind 10 ≡ false = ne_eqb _ _ (λ x. own (inr (inr (inr (inl x))))) in
-      let n12 : eqb kind 12 ≡ false = ne_eqb _ _ (λ x. own (inr (inr (inr (inr (inl x)))))) in
-      let n13 : eqb kind 13 ≡ false = ne_eqb _ _ (λ x. own (inr (inr (inr (inr (inr (inl x))))))) in
-      let n14 : eqb kind 14 ≡ false = ne_eqb _ _ (λ x. own (inr (inr (inr (inr (inr (inr (inl x)))))))) in
-      let n20 : eqb kind 20 ≡ false = ne_eqb _ _ (λ x. own (inr (inr (inr (inr (inr (inr (inr (inl x))))))))) in
-      let n21 : eqb kind 21 ≡ false = ne_eqb _ _ (λ x. own (inr (inr (inr (inr (inr (inr (inr (inr x))))))))) in
-      elim (cases_eq kind 18) [
-        | inl k ↦
-            let p = o.part (inl k) in
-            let y : eqb kind 18 ≡ true = eq-eqb _ _ k in
-            let least : at_least 8 body ≡ Ok 8 = least_complete 8 body p.0 in
-            let a : eqb (number_in 0 2 body) 13 ≡ false = ne_eqb _ _ p.1 in
-            let b : eqb (number_in 0 2 body) 4 ≡ false = ne_eqb _ _ p.2 in
-            rw (t, n10, n12, n13, n14, y, least, a, b) (ap (λ n. Ok (Other n body)) (sym k))
-        | inr n18 ↦
-            let f18 : eqb kind 18 ≡ false = ne_eqb _ _ n18 in
-            elim (cases_eq kind 19) [
-              | inl k ↦
-                  let p = o.part (inr k) in
-                  let y : eqb kind 19 ≡ true = eq-eqb _ _ k in
-                  let least : at_least 8 body ≡ Ok 8 = least_complete 8 body p.0 in
-                  let a : eqb (number_in 0 2 body) 13 ≡ false = ne_eqb _ _ p.1 in
-                  let b : eqb (number_in 0 2 body) 4 ≡ false = ne_eqb _ _ p.2 in
-                  rw (t, n10, n12, n13, n14, f18, y, least, a, b) (ap (λ n. Ok (Other n body)) (sym k))
-              | inr n19 ↦
-                  let f19 : eqb kind 19 ≡ false = ne_eqb _ _ n19 in
-                  rw (t, n10, n12, n13, n14, f18, f19, n20, n21) refl
-            ]
-      ]
-]
+unfolding body_at request_at reply_at
+other_complete kind body o =
+    let own = o.other in
+    let n0 : eqb kind 0 ≡ false = ne_eqb _ _ (λ x. own (inl (omega arith))) in
+    let n1 : eqb kind 1 ≡ false = ne_eqb _ _ (λ x. own (inl (omega arith))) in
+    let n2 : eqb kind 2 ≡ false = ne_eqb _ _ (λ x. own (inl (omega arith))) in
+    let n3 : eqb kind 3 ≡ false = ne_eqb _ _ (λ x. own (inl (omega arith))) in
+    let n5 : eqb kind 5 ≡ false = ne_eqb _ _ (λ x. own (inr (inl x))) in
+    let n6 : eqb kind 6 ≡ false = ne_eqb _ _ (λ x. own (inr (inr (inl x)))) in
+    let n10 : eqb kind 10 ≡ false = ne_eqb _ _ (λ x. own (inr (inr (inr (inl x))))) in
+    let n12 : eqb kind 12 ≡ false = ne_eqb _ _ (λ x. own (inr (inr (inr (inr (inl x)))))) in
+    let n13 : eqb kind 13 ≡ false = ne_eqb _ _ (λ x. own (inr (inr (inr (inr (inr (inl x))))))) in
+    let n14 : eqb kind 14 ≡ false = ne_eqb _ _ (λ x. own (inr (inr (inr (inr (inr (inr (inl x)))))))) in
+    let n20 : eqb kind 20 ≡ false = ne_eqb _ _ (λ x. own (inr (inr (inr (inr (inr (inr (inr (inl x))))))))) in
+    let n21 : eqb kind 21 ≡ false = ne_eqb _ _ (λ x. own (inr (inr (inr (inr (inr (inr (inr (inr x))))))))) in
+    let least : 8 ≤ length body → at_least 8 body ≡ Ok 8 = least_complete 8 body in
+    elim (cases_eq kind 18) [
+      | inl k ↦
+          let p = o.part (inl k) in
+          let y : eqb kind 18 ≡ true = eq-eqb _ _ k in
+          let l = least p.0 in
+          let a : eqb (number_in 0 2 body) 13 ≡ false = ne_eqb _ _ p.1 in
+          let b : eqb (number_in 0 2 body) 4 ≡ false = ne_eqb _ _ p.2 in
+          rw (n0, n1, n2, n3, n5, n6, n10, n12, n13, n14, y, l, a, b) (ap (λ n. Ok (Other n body)) (sym k))
+      | inr n18 ↦
+          let f18 : eqb kind 18 ≡ false = ne_eqb _ _ n18 in
+          elim (cases_eq kind 19) [
+            | inl k ↦
+                let p = o.part (inr k) in
+                let y : eqb kind 19 ≡ true = eq-eqb _ _ k in
+                let l = least p.0 in
+                let a : eqb (number_in 0 2 body) 13 ≡ false = ne_eqb _ _ p.1 in
+                let b : eqb (number_in 0 2 body) 4 ≡ false = ne_eqb _ _ p.2 in
+                rw (n0, n1, n2, n3, n5, n6, n10, n12, n13, n14, f18, y, l, a, b) (ap (λ n. Ok (Other n body)) (sym k))
+            | inr n19 ↦
+                let f19 : eqb kind 19 ≡ false = ne_eqb _ _ n19 in
+                rw (n0, n1, n2, n3, n5, n6, n10, n12, n13, n14, f18, f19, n20, n21) refl
+          ]
+    ]
 
 pub body_complete : (m : Message) (body : List ℕ) → SpellsBody m body → body_at (version_of m) (kind_of m) body ≡ Ok m
-unfolding body_at low_at high_at
+unfolding body_at
 body_complete (Hello version bitmap) body p = hello_complete version bitmap body p
 body_complete (Error kind code payload) body p = error_complete kind code payload body p
 body_complete (EchoRequest payload) body p = ap (λ l. Ok (EchoRequest l)) p

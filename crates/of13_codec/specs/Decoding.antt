@@ -204,18 +204,15 @@ echo_request_at body = Ok (EchoRequest body)
 abbrev pub echo_reply_at : List ℕ → Result Message PartFault
 echo_reply_at body = Ok (EchoReply body)
 
--- the types below 10
-unfoldable pub low_at : (version kind : ℕ) → List ℕ → Result Message PartFault
-low_at version kind body =
+-- a body, by the type in the header
+unfoldable pub body_at : (version kind : ℕ) → List ℕ → Result Message PartFault
+body_at version kind body =
     if kind == 0 then hello_at version body else (
     if kind == 1 then error_at body else (
     if kind == 2 then echo_request_at body else (
     if kind == 3 then echo_reply_at body else (
     if kind == 5 then bare_at FeaturesRequest body else (
-    if kind == 6 then features_at body else other_at kind body)))))
-
-unfoldable pub high_at : ℕ → List ℕ → Result Message PartFault
-high_at kind body =
+    if kind == 6 then features_at body else (
     if kind == 10 then packet_in_at body else (
     if kind == 12 then port_status_at body else (
     if kind == 13 then packet_out_at body else (
@@ -223,10 +220,7 @@ high_at kind body =
     if kind == 18 then request_at body else (
     if kind == 19 then reply_at body else (
     if kind == 20 then bare_at BarrierRequest body else (
-    if kind == 21 then bare_at BarrierReply body else other_at kind body)))))))
-
-unfoldable pub body_at : (version kind : ℕ) → List ℕ → Result Message PartFault
-body_at version kind body = if nat_lt kind 10 then low_at version kind body else high_at kind body
+    if kind == 21 then bare_at BarrierReply body else other_at kind body)))))))))))))
 
 -- HELLO has any version from 1 on, every other message version 4
 abbrev pub is_version : (version kind : ℕ) → Bool

@@ -1,7 +1,7 @@
 ghost use Rattle.std.specs.Prelude.{◌≡◌, ◌≤◌, ◌<◌, ◌++◌, ◌+◌, ◌^◌, ℕ, List, length, Ok, OnOk, OnErr, IfOk, MatchOption};
 ghost use Rattle.of_wire.specs.Reading.{Gives};
 ghost use Rattle.of_wire.specs.Numbers.{number_in};
-ghost use Rattle.of13_codec.specs.Decoding.{error_at, other_at, bare_at, echo_request_at, echo_reply_at, low_at, high_at, body_at, is_version, decoded, Decodes};
+ghost use Rattle.of13_codec.specs.Decoding.{error_at, other_at, bare_at, echo_request_at, echo_reply_at, body_at, is_version, decoded, Decodes};
 ghost use Rattle.of13_codec.specs.declared.message.Message.{Message};
 ghost use Rattle.of13_codec.specs.Messages.{body_of, error_bytes, framed, written, head_of};
 ghost use Rattle.of13_codec.specs.Spelling.{Spells};
@@ -169,11 +169,11 @@ fn read_bare(message: Message, body: &[u8]) -> Result<Message, PartRefused>
     Ok(message)
 }
 
-/// Reads the body of a message of a type below 10.
-#[tactic(auto, unfolding(crate::specs::Decoding::low_at))]
-fn read_low(alloc: Global, version: u8, kind: u8, body: &[u8]) -> Result<Message, PartRefused>
+/// Reads what stands behind the header, by the header's type (OpenFlow 1.3, 7.1).
+#[tactic(auto, unfolding(crate::specs::Decoding::body_at))]
+fn read_body(alloc: Global, version: u8, kind: u8, body: &[u8]) -> Result<Message, PartRefused>
     requires { length body.now < 2 ^ 16 }
-    ensures { Gives (λ m. m) result (low_at version kind body.now) }
+    ensures { Gives (λ m. m) result (body_at version kind body.now) }
 {
     match kind {
         0 => read_hello(version, body),
@@ -182,17 +182,6 @@ fn read_low(alloc: Global, version: u8, kind: u8, body: &[u8]) -> Result<Message
         3 => read_echo_reply(alloc, body),
         5 => read_bare(Message::FeaturesRequest, body),
         6 => read_features(body),
-        _ => read_other(alloc, kind, body),
-    }
-}
-
-/// Reads the body of a message of a type from 10 on.
-#[tactic(auto, unfolding(crate::specs::Decoding::high_at))]
-fn read_high(alloc: Global, kind: u8, body: &[u8]) -> Result<Message, PartRefused>
-    requires { length body.now < 2 ^ 16 }
-    ensures { Gives (λ m. m) result (high_at kind body.now) }
-{
-    match kind {
         10 => read_packet_in(alloc, body),
         12 => read_port_status(alloc, body),
         13 => read_packet_out(alloc, body),
@@ -202,19 +191,6 @@ fn read_high(alloc: Global, kind: u8, body: &[u8]) -> Result<Message, PartRefuse
         20 => read_bare(Message::BarrierRequest, body),
         21 => read_bare(Message::BarrierReply, body),
         _ => read_other(alloc, kind, body),
-    }
-}
-
-/// Reads what stands behind the header.
-#[tactic(auto, unfolding(crate::specs::Decoding::body_at))]
-fn read_body(alloc: Global, version: u8, kind: u8, body: &[u8]) -> Result<Message, PartRefused>
-    requires { length body.now < 2 ^ 16 }
-    ensures { Gives (λ m. m) result (body_at version kind body.now) }
-{
-    if kind < 10 {
-        read_low(alloc, version, kind, body)
-    } else {
-        read_high(alloc, kind, body)
     }
 }
 
