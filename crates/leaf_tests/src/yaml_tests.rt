@@ -188,7 +188,7 @@ const TREES: [(&str, &str); 102] = [
     ("é: ü\n", "{'é': 'ü',}"),
 ];
 
-const FAULTS: [(&str, &str); 149] = [
+const FAULTS: [(&str, &str); 152] = [
     ("\ta: 1", "line 1: Tab"),
     ("a:\t1", "line 1: Tab"),
     ("a: 1\n  \tb", "line 2: Tab"),
@@ -376,7 +376,10 @@ const FAULTS: [(&str, &str); 149] = [
     ("- a\n<<:", "line 2: LeftOut MergeKey"),
     ("a: 1\n <<", "line 2: Indent"),
     ("a: 1\n '<<': b", "line 2: Indent"),
-    ("a: <<: b", "line 1: Syntax"),
+    ("a: <<: b", "line 1: LeftOut MergeKey"),
+    ("[<<: a]", "line 1: LeftOut MergeKey"),
+    ("{a: <<: b", "line 1: LeftOut MergeKey"),
+    ("a: <<b: c", "line 1: Syntax"),
 ];
 
 #[test]

@@ -8,9 +8,9 @@ use Rattle.yaml_subset.specs.declared.tree.Tree.TheVariants as tree
 use Rattle.yaml_subset.specs.declared.tree.Key.{Key}
 use Rattle.yaml_subset.specs.declared.tree.Pair.{Pair}
 use Rattle.yaml_subset.specs.Characters.{is_empty, begins, next_part, line_end}
-use Rattle.yaml_subset.specs.Scalars.{scan, scalar_value}
-use Rattle.yaml_subset.specs.Flow.{at_opening, opened, parted, entry_key, entry_value, with_entry, list_step, list_from, map_step, map_from, flow_scalar, opens, flow_value}
-use Rattle.yaml_subset.specs.Blocks.{line_value, block_scalar, block_value}
+use Rattle.yaml_subset.specs.Scalars.{scan, value_at, scalar_from}
+use Rattle.yaml_subset.specs.Flow.{at_opening, opened, parted, entry_key, entry_value, with_entry, list_step, list_from, map_step, map_from, opens, flow_value}
+use Rattle.yaml_subset.specs.Blocks.{line_value, block_value}
 use Rattle.yaml_subset.specs.Gives.{◌>>=◌}
 use Rattle.yaml_subset.specs.FirstFault.{Tells}
 use Rattle.yaml_subset.specs.LineValue.{IsScalar, IsFlowItem, IsFlowEntry, IsFlowValue, IsNested, IsFlow}
@@ -372,7 +372,6 @@ fault_opens (suc n) rest at c (in_list inside e vs i p f) = ap opens e
 fault_opens (suc n) rest at c (in_map inside e ps i p f) = ap opens e
 
 nested_tells : (n : ℕ) → ((rest : List ℕ) → opens rest ≡ true → Tells (FlowFault n rest) (flow_value n rest)) → IsTold (NestedFault (FlowFault n)) (flow_value n)
-unfolding flow_scalar
 nested_tells n flow rest = by_opens (opens rest) refl
   where
     by_opens : (b : Bool) → opens rest ≡ b → Tells (NestedFault (FlowFault n) rest) (flow_value n rest)
@@ -380,9 +379,9 @@ nested_tells n flow rest = by_opens (opens rest) refl
         tells_as (FlowFault n rest) (NestedFault (FlowFault n) rest) (flow_value n rest) (λ at c f. inr f)
         (λ at c w. elim w [ inl s ↦ absurd (clash (opens rest) o s.0) | inr f ↦ f ]) (flow rest o)
     by_opens false o =
-        let e : flow_value n rest ≡ flow_scalar rest = flow_value_scalar n rest (or_left (begins 91 rest) (begins 123 rest) o) (or_right (begins 91 rest) (begins 123 rest) o) in
+        let e : flow_value n rest ≡ scalar_from true rest = flow_value_scalar n rest (or_left (begins 91 rest) (begins 123 rest) o) (or_right (begins 91 rest) (begins 123 rest) o) in
         subst (Tells (NestedFault (FlowFault n) rest)) (sym e)
-        (tells_as (ScalarFault true rest) (NestedFault (FlowFault n) rest) (flow_scalar rest) (λ at c f. inl (o, f))
+        (tells_as (ScalarFault true rest) (NestedFault (FlowFault n) rest) (scalar_from true rest) (λ at c f. inl (o, f))
         (λ at c w. elim w [ inl s ↦ s.1 | inr f ↦ absurd (clash (opens rest) (fault_opens n rest at c f) o) ]) (scalar_tells true rest))
 
 nested_found : (n : ℕ) → IsOnlyRead (IsNested (IsFlow n)) (flow_value n)
@@ -405,7 +404,7 @@ flow_tells (suc n) rest o = by_tests (begins 91 rest) (begins 123 rest) refl ref
 
     by_tests : (a b : Bool) → begins 91 rest ≡ a → begins 123 rest ≡ b → a || b ≡ true → IsTold (NestedFault (FlowFault n)) (flow_value n)
         → Tells (BracketFault (IsNested (IsFlow n)) (NestedFault (FlowFault n)) rest)
-        (cond (a || b) (cond a (list_from (flow_value n) (length (drop 1 rest)) [] (drop 1 rest)) (map_from (flow_value n) (length (drop 1 rest)) [] (drop 1 rest))) (flow_scalar rest))
+        (cond (a || b) (cond a (list_from (flow_value n) (length (drop 1 rest)) [] (drop 1 rest)) (map_from (flow_value n) (length (drop 1 rest)) [] (drop 1 rest))) (scalar_from true rest))
     by_tests true b e f h told =
         let L : ℕ → YamlCause → Type 0 = ListFault Value Wrong (drop 1 rest) in
         let r = list_from (flow_value n) (length (drop 1 rest)) [] (drop 1 rest) in
@@ -431,7 +430,7 @@ flow_tells (suc n) rest o = by_tests (begins 91 rest) (begins 123 rest) refl ref
 -- ---- a value on one line
 
 pub value_tells : (n : ℕ) (part : List ℕ) → Tells (LineValueFault n part) (block_value n part)
-unfolding block_value block_scalar
+unfolding block_value scalar_from
 value_tells n part =
     tells_as (λ at c. Here at c ⊎ BehindValue (IsValue n) part (λ v after. LineEndFault after) at c) (LineValueFault n part) (block_value n part)
     (λ at c w. elim w [ inl h ↦ to at c h | inr b ↦ behind_value b ])
@@ -443,7 +442,7 @@ value_tells n part =
     Here at c = ((opens part ≡ true) × FlowFault n part at c) ⊎ ((opens part ≡ false) × ScalarFault false part at c)
 
     read : Result (Tree × List ℕ) YamlCause
-    read = cond (opens part) (flow_value n part) (block_scalar part)
+    read = cond (opens part) (flow_value n part) (scalar_from false part)
 
     to : (at : ℕ) (c : YamlCause) → Here at c → LineValueFault n part at c
     to at c (inl w) = in_flow_value w.0 w.1
@@ -453,7 +452,7 @@ value_tells n part =
     here true o =
         rw o (tells_as (FlowFault n part) Here (flow_value n part) (λ at c f. inl (o, f)) (λ at c w. elim w [ inl f ↦ f.1 | inr f ↦ absurd (clash (opens part) o f.0) ]) (flow_tells n part o))
     here false o =
-        rw o (tells_as (ScalarFault false part) Here (block_scalar part) (λ at c f. inr (o, f)) (λ at c w. elim w [ inl f ↦ absurd (clash (opens part) f.0 o) | inr f ↦ f.1 ]) (scalar_tells false part))
+        rw o (tells_as (ScalarFault false part) Here (scalar_from false part) (λ at c f. inr (o, f)) (λ at c w. elim w [ inl f ↦ absurd (clash (opens part) f.0 o) | inr f ↦ f.1 ]) (scalar_tells false part))
 
     scalar_opens : (v : Tree) (after : List ℕ) → IsScalar false part v after → (b : Bool) → opens part ≡ b → read ≡ Ok (v, after)
     scalar_opens v after s true o = absurd (never_both (scan false part) (s.0, after) (no_bracket false part o) s.1)
@@ -473,8 +472,8 @@ value_tells n part =
     found : (v : Tree) (after : List ℕ) (b : Bool) → opens part ≡ b → read ≡ Ok (v, after) → IsValue n part v after
     found v after true o h = let q : flow_value n part ≡ Ok (v, after) = rw o at h in of_nested v after o (flow_found n part v after q)
     found v after false o h =
-        let q : (scan false part >>= λ s. scalar_value s.0 >>= λ w. value_ok w s.1) ≡ Ok (v, after) = rw o at h in
-        let s = bind_ok (scan false part) (λ s. scalar_value s.0 >>= λ w. value_ok w s.1) (v, after) q in
-        let w = bind_ok (scalar_value s.0.0) (λ w. value_ok w s.0.1) (v, after) s.2 in
+        let q : (scan false part >>= λ s. value_at s.0 s.1 >>= λ w. value_ok w s.1) ≡ Ok (v, after) = rw o at h in
+        let s = bind_ok (scan false part) (λ s. value_at s.0 s.1 >>= λ w. value_ok w s.1) (v, after) q in
+        let w = bind_ok (value_at s.0.0 s.0.1) (λ w. value_ok w s.0.1) (v, after) s.2 in
         let e : (w.0, s.0.1) ≡ (v, after) = same_ok (w.0, s.0.1) (v, after) w.2 in
-        inl (s.0.0, s.1 ∙ ap (λ (x : Tree × List ℕ). Ok (s.0.0, x.1)) e, w.1 ∙ ap (λ (x : Tree × List ℕ). Ok x.0) e)
+        inl (s.0.0, s.1 ∙ ap (λ (x : Tree × List ℕ). Ok (s.0.0, x.1)) e, subst (λ xs. value_at s.0.0 xs ≡ Ok v) (ap (λ (x : Tree × List ℕ). x.1) e) (w.1 ∙ ap (λ (x : Tree × List ℕ). Ok x.0) e))

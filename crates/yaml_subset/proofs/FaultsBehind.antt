@@ -6,7 +6,7 @@ use Rattle.yaml_subset.specs.declared.fault.YamlForm.TheVariants.{Anchor, Alias,
 use Rattle.yaml_subset.specs.declared.fault.YamlCause.{YamlCause}
 use Rattle.yaml_subset.specs.declared.fault.YamlCause.TheVariants.{NotUtf8, TooLong, TooDeep, Tab, LeftOut, Indent, DuplicateKey, Syntax}
 use Rattle.yaml_subset.specs.Gives.{◌>>=◌}
-use Rattle.yaml_subset.specs.FirstFault.{cause_number, ComesFirst, IsFirst, Tells, Behind}
+use Rattle.yaml_subset.specs.FirstFault.{cause_number, ComesFirst, IsFirst, Tells}
 use Rattle.yaml_subset.proofs.FirstFaults.{comes_later, tells_same}
 
 abbrev given : {A : Type 0} → A → Result A YamlCause
@@ -79,18 +79,6 @@ tells_result {X = X} (Err e) = (0, record { there = (refl, refl); least = λ at 
 -- one fault alone
 pub tells_one : (X : Type 0) (a : ℕ) (e : YamlCause) → Tells {X = X} (λ at c. (at ≡ a) × (c ≡ e)) (Err e)
 tells_one X a e = (a, record { there = (refl, refl); least = λ at c w. first_same a at e c w.0 w.1 })
-
--- the faults of a part that is read, and of what follows it
-pub tells_behind : {X Y : Type 0} (Here : ℕ → YamlCause → Type 0) (rest : List ℕ) (read : Result (X × List ℕ) YamlCause) (Next : X → List ℕ → ℕ → YamlCause → Type 0) (f : X × List ℕ → Result Y YamlCause)
-    → Tells Here read → ((x : X) (after : List ℕ) → read ≡ Ok (x, after) → Tells (Next x after) (f (x, after)))
-    → Tells (λ at c. Here at c ⊎ Behind rest read Next at c) (read >>= f)
-tells_behind {X = X} Here rest read Next f here next =
-    let shift : X × List ℕ → ℕ = λ x. length rest - length x.1 in
-    let Then : X × List ℕ → ℕ → YamlCause → Type 0 = λ x. Next x.0 x.1 in
-    tells_as (λ at c. Here at c ⊎ Later read shift Then at c) (λ at c. Here at c ⊎ Behind rest read Next at c) (read >>= f)
-    (λ at c w. elim w [ inl h ↦ inl h | inr l ↦ inr (record { value = l.0.0; after = l.0.1; is = l.1; inside = l.2; place = l.3; fault = l.4 }) ])
-    (λ at c w. elim w [ inl h ↦ inl h | inr b ↦ inr ((b.value, b.after), b.is, b.inside, b.place, b.fault) ])
-    (tells_then Here read shift Then f here (λ x e. next x.0 x.1 e))
 
 -- reading in three steps
 pub bind_assoc : {A B C : Type 0} (r : Result A YamlCause) (f : A → Result B YamlCause) (g : B → Result C YamlCause) → ((r >>= f) >>= g) ≡ (r >>= λ x. f x >>= g)

@@ -5,9 +5,6 @@ use Rattle.yaml_subset.specs.declared.fault.YamlCause.{YamlCause}
 use Rattle.yaml_subset.specs.Gives.{◌>>=◌}
 use Rattle.yaml_subset.specs.FirstFault.{cause_number, ComesFirst, Tells}
 
-pub tells_ok : {X : Type 0} (F : ℕ → YamlCause → Type 0) (r : Result X YamlCause) (x : X) → r ≡ Ok x → ((at : ℕ) (cause : YamlCause) → F at cause → ⊥) → Tells F r
-tells_ok {X = X} F r x is none = subst (λ (q : Result X YamlCause). Tells F q) (sym is) none
-
 pub tells_err : {X : Type 0} (F : ℕ → YamlCause → Type 0) (r : Result X YamlCause) (at : ℕ) (cause : YamlCause) → r ≡ Err cause → F at cause
     → ((other_at : ℕ) (other : YamlCause) → F other_at other → ComesFirst at cause other_at other) → Tells F r
 tells_err {X = X} F r at cause is there least = subst (λ (q : Result X YamlCause). Tells F q) (sym is) (at, record { there = there; least = least })

@@ -11,13 +11,13 @@ use Rattle.yaml_subset.specs.declared.tree.Pair.{Pair}
 use Rattle.yaml_subset.specs.Characters.{is_empty, begins, skip, is_kept, marks, next_part}
 use Rattle.yaml_subset.specs.Scalars.{is_wide, scan, key_of}
 use Rattle.yaml_subset.specs.Entries.{has_key}
-use Rattle.yaml_subset.specs.Flow.{at_opening, behind_item, parted, colon_fault, key_fault, entry_key}
+use Rattle.yaml_subset.specs.Flow.{at_opening, behind_item, parted, colon_fault, key_fault, entry_key, line_ends, colon_and_tab}
 use Rattle.yaml_subset.specs.Gives.{◌>>=◌}
 use Rattle.yaml_subset.specs.FirstFault.{cause_number, Tells}
 use Rattle.yaml_subset.specs.ScalarFaults.{NextFault, ScanFault}
-use Rattle.yaml_subset.specs.FlowFaults.{InPart, BehindValue, line_ends, colon_and_tab, ColonFault, colon_past_end, tab_for_colon, tab_behind_colon, no_colon, NoNewKey, no_key, key_again, KeyFault, in_key, wide_alone, behind_key, at_key, IsNewKey, SeparatorFault, separator_open, tab_for_separator, no_separator, StartFault, start_open, in_start, PartedFault}
+use Rattle.yaml_subset.specs.FlowFaults.{InPart, BehindValue, ColonFault, colon_past_end, tab_for_colon, tab_behind_colon, no_colon, NoNewKey, no_key, key_again, KeyFault, in_key, wide_alone, behind_key, at_key, IsNewKey, SeparatorFault, separator_open, tab_for_separator, no_separator, StartFault, start_open, in_start, PartedFault}
 use Rattle.yaml_subset.proofs.ScalarFaults.{next_tells, scan_tells}
-use Rattle.yaml_subset.proofs.FirstFaults.{tells_map}
+use Rattle.yaml_subset.proofs.FirstFaults.{tells_map, and_parts}
 use Rattle.yaml_subset.proofs.FaultsBehind.{tells_as, tells_then, tells_shift, tells_one, Later, first_same}
 use Rattle.yaml_subset.proofs.LineValues.{same, key_parts}
 
@@ -61,136 +61,79 @@ key_one r k l p q = cc
 pub no_true : false ≡ true → ⊥
 no_true e = cc
 
-and_none : (b : Bool) → b && false ≡ true → ⊥
-and_none true e = cc
-and_none false e = cc
+ends_no_tab : (s : Scanned) (after : List ℕ) → line_ends s after ≡ true → s.plain ≡ false → begins 9 after ≡ true → ⊥
+ends_no_tab s [] l p t = no_true t
+ends_no_tab s (x ∷ xs) l p t = let h : false && (begins 35 (skip (x ∷ xs)) && list_all is_kept (skip (x ∷ xs))) ≡ true = rw p at l in no_true h
 
-none_and : (b : Bool) → b && false ≡ false
-none_and true = refl
-none_and false = refl
+ends_no_colon : (s : Scanned) (after : List ℕ) → line_ends s after ≡ true → colon_and_tab s after ≡ true → ⊥
+ends_no_colon s after l t = by_plain s.plain after refl l t
+  where
+    by_plain : (p : Bool) (xs : List ℕ) → s.plain ≡ p → is_empty xs || p && (begins 35 (skip xs) && list_all is_kept (skip xs)) ≡ true → not p && (begins 58 xs && begins 9 (drop 1 xs)) ≡ true → ⊥
+    by_plain true xs e l t = no_true t
+    by_plain false [] e l t = no_true t
+    by_plain false (x ∷ xs) e l t = no_true l
+
+not_tab : (p t : Bool) → p ≡ false → t ≡ true → not p && t ≡ true
+not_tab p t e f = rw (e, f) refl
+
+quoted_tab : (p t : Bool) → not p && t ≡ true → (p ≡ false) × (t ≡ true)
+quoted_tab true t h = absurd (no_true h)
+quoted_tab false t h = (refl, h)
 
 -- what follows where a colon has to stand
 pub colon_tells : (X : Type 0) (flow : Bool) (s : Scanned) (after : List ℕ) → Tells {X = X} (ColonFault flow s after) (Err (colon_fault flow s after))
-unfolding colon_fault
-colon_tells X flow s [] = at_end flow refl
+colon_tells X flow s after = by_tests (flow && line_ends s after) (not s.plain && begins 9 after) (colon_and_tab s after) refl refl refl
   where
-    at_end : (b : Bool) → flow ≡ b → Tells {X = X} (ColonFault flow s []) (Err (cond b (LeftOut LongFlow) Syntax))
-    at_end true e = (
-      0,
+    by_tests : (l t k : Bool) → flow && line_ends s after ≡ l → not s.plain && begins 9 after ≡ t → colon_and_tab s after ≡ k
+        → Tells {X = X} (ColonFault flow s after) (Err (cond l (LeftOut LongFlow) (cond (t || k) Tab Syntax)))
+    by_tests true t k el et ek = (
+      length after,
       record {
-        there = colon_past_end e refl refl refl;
+        there = let w = and_parts flow (line_ends s after) el in colon_past_end w.0 w.1 refl refl;
         least = λ at c w. elim w [
-          | colon_past_end f l p d ↦ first_same 0 at (LeftOut LongFlow) c p d
-          | tab_for_colon q b p d ↦ absurd (no_true b)
-          | tab_behind_colon t p d ↦ absurd (and_none (not s.plain) t)
-          | no_colon l t p d ↦ absurd (clash (flow && true) (rw e refl) l)
+          | colon_past_end f l p d ↦ first_same (length after) at (LeftOut LongFlow) c p d
+          | tab_for_colon q b p d ↦ absurd (ends_no_tab s after (and_parts flow (line_ends s after) el).1 q b)
+          | tab_behind_colon g p d ↦ absurd (ends_no_colon s after (and_parts flow (line_ends s after) el).1 g)
+          | no_colon l g p d ↦ absurd (clash (flow && line_ends s after) el l)
         ];
       },
     )
-    at_end false e = (
+    by_tests false true k el et ek = (
       0,
       record {
-        there = no_colon (rw e refl) (none_and (not s.plain)) refl refl;
+        there = let w = quoted_tab s.plain (begins 9 after) et in tab_for_colon w.0 w.1 refl refl;
         least = λ at c w. elim w [
-          | colon_past_end f l p d ↦ absurd (clash flow f e)
-          | tab_for_colon q b p d ↦ absurd (no_true b)
-          | tab_behind_colon t p d ↦ absurd (and_none (not s.plain) t)
-          | no_colon l t p d ↦ first_same 0 at Syntax c p d
-        ];
-      },
-    )
-colon_tells X flow s (x ∷ xs) = by_all s.plain flow (begins 35 (skip (x ∷ xs))) (list_all is_kept (skip (x ∷ xs))) (x == 9) (begins 58 (x ∷ xs) && begins 9 xs) refl refl refl refl refl refl
-  where
-    by_all : (p f g h t k : Bool) → s.plain ≡ p → flow ≡ f → begins 35 (skip (x ∷ xs)) ≡ g → list_all is_kept (skip (x ∷ xs)) ≡ h → x == 9 ≡ t → (begins 58 (x ∷ xs) && begins 9 xs) ≡ k
-        → Tells {X = X} (ColonFault flow s (x ∷ xs)) (Err (cond p (cond (f && g && h) (LeftOut LongFlow) Syntax) (cond (t || k) Tab Syntax)))
-    by_all true true true true t k ep ef eg eh et ek = (
-      length (x ∷ xs),
-      record {
-        there = colon_past_end ef (rw (ep, eg, eh) refl) refl refl;
-        least = λ at c w. elim w [
-          | colon_past_end f l p d ↦ first_same (length (x ∷ xs)) at (LeftOut LongFlow) c p d
-          | tab_for_colon q b p d ↦ absurd (clash s.plain ep q)
-          | tab_behind_colon g p d ↦ absurd (clash (colon_and_tab s (x ∷ xs)) g (rw ep refl))
-          | no_colon l g p d ↦ absurd (clash (flow && line_ends s (x ∷ xs)) (rw (ef, ep, eg, eh) refl) l)
-        ];
-      },
-    )
-    by_all true true true false t k ep ef eg eh et ek = (
-      0,
-      record {
-        there = no_colon (rw (ef, ep, eg, eh) refl) (rw ep refl) refl refl;
-        least = λ at c w. elim w [
-          | colon_past_end f l p d ↦ absurd (clash (line_ends s (x ∷ xs)) l (rw (ep, eg, eh) refl))
-          | tab_for_colon q b p d ↦ absurd (clash s.plain ep q)
-          | tab_behind_colon g p d ↦ absurd (clash (colon_and_tab s (x ∷ xs)) g (rw ep refl))
-          | no_colon l g p d ↦ first_same 0 at Syntax c p d
-        ];
-      },
-    )
-    by_all true true false h t k ep ef eg eh et ek = (
-      0,
-      record {
-        there = no_colon (rw (ef, ep, eg) refl) (rw ep refl) refl refl;
-        least = λ at c w. elim w [
-          | colon_past_end f l p d ↦ absurd (clash (line_ends s (x ∷ xs)) l (rw (ep, eg) refl))
-          | tab_for_colon q b p d ↦ absurd (clash s.plain ep q)
-          | tab_behind_colon g p d ↦ absurd (clash (colon_and_tab s (x ∷ xs)) g (rw ep refl))
-          | no_colon l g p d ↦ first_same 0 at Syntax c p d
-        ];
-      },
-    )
-    by_all true false g h t k ep ef eg eh et ek = (
-      0,
-      record {
-        there = no_colon (rw ef refl) (rw ep refl) refl refl;
-        least = λ at c w. elim w [
-          | colon_past_end f l p d ↦ absurd (clash flow f ef)
-          | tab_for_colon q b p d ↦ absurd (clash s.plain ep q)
-          | tab_behind_colon g p d ↦ absurd (clash (colon_and_tab s (x ∷ xs)) g (rw ep refl))
-          | no_colon l g p d ↦ first_same 0 at Syntax c p d
-        ];
-      },
-    )
-    by_all false f m h true k ep ef eg eh et ek = (
-      0,
-      record {
-        there = tab_for_colon ep et refl refl;
-        least = λ at c w. elim w [
-          | colon_past_end g l p d ↦ absurd (clash (line_ends s (x ∷ xs)) l (rw ep refl))
+          | colon_past_end f l p d ↦ absurd (clash (flow && line_ends s after) (rw (f, l) refl) el)
           | tab_for_colon q b p d ↦ first_same 0 at Tab c p d
           | tab_behind_colon g p d ↦ inl (omega (arith, p))
           | no_colon l g p d ↦ inr (sym p, let n : cause_number c ≡ 18 = ap cause_number d in omega (arith, n))
         ];
       },
     )
-    by_all false f m h false true ep ef eg eh et ek = (
+    by_tests false false true el et ek = (
       1,
       record {
-        there = tab_behind_colon (rw (ep, ek) refl) refl refl;
+        there = tab_behind_colon ek refl refl;
         least = λ at c w. elim w [
-          | colon_past_end g l p d ↦ absurd (clash (line_ends s (x ∷ xs)) l (rw ep refl))
-          | tab_for_colon q b p d ↦ absurd (clash (x == 9) b et)
+          | colon_past_end f l p d ↦ absurd (clash (flow && line_ends s after) (rw (f, l) refl) el)
+          | tab_for_colon q b p d ↦ absurd (clash (not s.plain && begins 9 after) (not_tab s.plain (begins 9 after) q b) et)
           | tab_behind_colon g p d ↦ first_same 1 at Tab c p d
-          | no_colon l g p d ↦ absurd (clash (colon_and_tab s (x ∷ xs)) (rw (ep, ek) refl) g)
+          | no_colon l g p d ↦ absurd (clash (colon_and_tab s after) ek g)
         ];
       },
     )
-    by_all false f m h false false ep ef eg eh et ek = (
+    by_tests false false false el et ek = (
       0,
       record {
-        there = no_colon (ends_not flow) (rw (ep, ek) refl) refl refl;
+        there = no_colon el ek refl refl;
         least = λ at c w. elim w [
-          | colon_past_end g l p d ↦ absurd (clash (line_ends s (x ∷ xs)) l (rw ep refl))
-          | tab_for_colon q b p d ↦ absurd (clash (x == 9) b et)
-          | tab_behind_colon g p d ↦ absurd (clash (colon_and_tab s (x ∷ xs)) g (rw (ep, ek) refl))
+          | colon_past_end f l p d ↦ absurd (clash (flow && line_ends s after) (rw (f, l) refl) el)
+          | tab_for_colon q b p d ↦ absurd (clash (not s.plain && begins 9 after) (not_tab s.plain (begins 9 after) q b) et)
+          | tab_behind_colon g p d ↦ absurd (clash (colon_and_tab s after) g ek)
           | no_colon l g p d ↦ first_same 0 at Syntax c p d
         ];
       },
     )
-      where
-        ends_not : (b : Bool) → b && line_ends s (x ∷ xs) ≡ false
-        ends_not true = rw ep refl
-        ends_not false = refl
 
 abbrev AtKey : List Pair → Scanned → ℕ → YamlCause → Type 0
 AtKey before s at c = (at ≡ 0) × NoNewKey before s c

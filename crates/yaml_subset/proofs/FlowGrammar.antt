@@ -1,12 +1,12 @@
 -- A value on one line is read exactly where it is one by the grammar.
-use Rattle.std.proofs.Common.{◌≡◌, ◌⊎◌, inl, inr, ℕ, zero, suc, ◌<◌, ◌≤◌, Bool, true, false, cond, ◌||◌, List, [], ◌∷◌, ◌++◌, length, drop, Ok, Err, refl, sym, ◌∙◌, ap, arith}
+use Rattle.std.proofs.Common.{◌≡◌, ◌⊎◌, inl, inr, ℕ, zero, suc, ◌<◌, ◌≤◌, Bool, true, false, cond, ◌||◌, List, [], ◌∷◌, ◌++◌, length, drop, Ok, Err, refl, sym, ◌∙◌, ap, arith, subst}
 use Rattle.yaml_subset.specs.declared.fault.YamlCause.TheVariants.{TooDeep}
 use Rattle.yaml_subset.specs.declared.scalars.Scanned.{Scanned}
 use Rattle.yaml_subset.specs.declared.tree.Tree.{Tree}
 use Rattle.yaml_subset.specs.declared.tree.Pair.{Pair}
 use Rattle.yaml_subset.specs.Characters.{begins, line_end}
-use Rattle.yaml_subset.specs.Scalars.{scan, scalar_value}
-use Rattle.yaml_subset.specs.Flow.{flow_scalar, list_from, map_from, opens, flow_value}
+use Rattle.yaml_subset.specs.Scalars.{scan, value_at, scalar_from}
+use Rattle.yaml_subset.specs.Flow.{list_from, map_from, opens, flow_value}
 use Rattle.yaml_subset.specs.Blocks.{line_value, block_value}
 use Rattle.yaml_subset.specs.Gives.{◌>>=◌}
 use Rattle.yaml_subset.specs.LineValue.{IsScalar, AreFlowItems, AreFlowEntries, IsNested, IsFlowList, IsFlowMap, IsFlow, IsLineValue}
@@ -75,7 +75,7 @@ or_right true b h = absurd cc
 or_right false b h = h
 
 pub scalar_read : (n : ℕ) (rest : List ℕ) (v : Tree) (after : List ℕ) → IsScalar true rest v after → flow_value n rest ≡ Ok (v, after)
-unfolding flow_scalar
+unfolding scalar_from
 scalar_read n rest v after s =
     let o = no_open true rest s.0 after s.1 in
     flow_value_scalar n rest (or_left (begins 91 rest) (begins 123 rest) o) (or_right (begins 91 rest) (begins 123 rest) o) ∙ rw (s.1, s.2) refl
@@ -98,13 +98,13 @@ flow_read (suc n) start v after f = by_form f (nested (flow_read n))
         ap (flow_value (suc n)) m.opens ∙ map_read (IsNested (IsFlow n)) (flow_value n) reads (nested_shorter n) (length m.inside) [] m.inside m.pairs after (omega arith) m.are
         ∙ ap (λ t. value_ok t after) (sym m.is)
 
-scalar_found : (rest : List ℕ) (v : Tree) (after : List ℕ) → flow_scalar rest ≡ Ok (v, after) → IsScalar true rest v after
-unfolding flow_scalar
+scalar_found : (rest : List ℕ) (v : Tree) (after : List ℕ) → scalar_from true rest ≡ Ok (v, after) → IsScalar true rest v after
+unfolding scalar_from
 scalar_found rest v after h =
-    let s = bind_ok (scan true rest) (λ s. scalar_value s.0 >>= λ w. value_ok w s.1) (v, after) h in
-    let w = bind_ok (scalar_value s.0.0) (λ w. value_ok w s.0.1) (v, after) s.2 in
+    let s = bind_ok (scan true rest) (λ s. value_at s.0 s.1 >>= λ w. value_ok w s.1) (v, after) h in
+    let w = bind_ok (value_at s.0.0 s.0.1) (λ w. value_ok w s.0.1) (v, after) s.2 in
     let e = same_value w.0 v s.0.1 after w.2 in
-    (s.0.0, s.1 ∙ ap (λ xs. Ok (s.0.0, xs)) e.1, w.1 ∙ ap Ok e.0)
+    (s.0.0, s.1 ∙ ap (λ xs. Ok (s.0.0, xs)) e.1, subst (λ xs. value_at s.0.0 xs ≡ Ok v) e.1 (w.1 ∙ ap Ok e.0))
 
 pub begins_with : (c : ℕ) (rest : List ℕ) → begins c rest ≡ true → rest ≡ c ∷ drop 1 rest
 begins_with c [] h = absurd cc
@@ -115,13 +115,13 @@ pub flow_found : (n : ℕ) → IsOnlyRead (IsNested (IsFlow n)) (flow_value n)
 unfolding flow_value
 flow_found zero start v after h = by_opens (opens start) h
   where
-    by_opens : (b : Bool) → cond b (Err TooDeep) (flow_scalar start) ≡ value_ok v after → IsNested (IsFlow zero) start v after
+    by_opens : (b : Bool) → cond b (Err TooDeep) (scalar_from true start) ≡ value_ok v after → IsNested (IsFlow zero) start v after
     by_opens true g = absurd cc
     by_opens false g = inl (scalar_found start v after g)
 flow_found (suc n) start v after h = by_tests (begins 91 start) (begins 123 start) refl refl h (flow_found n)
   where
     by_tests : (a b : Bool) → begins 91 start ≡ a → begins 123 start ≡ b
-        → cond (a || b) (cond a (list_from (flow_value n) (length (drop 1 start)) [] (drop 1 start)) (map_from (flow_value n) (length (drop 1 start)) [] (drop 1 start))) (flow_scalar start) ≡ value_ok v after
+        → cond (a || b) (cond a (list_from (flow_value n) (length (drop 1 start)) [] (drop 1 start)) (map_from (flow_value n) (length (drop 1 start)) [] (drop 1 start))) (scalar_from true start) ≡ value_ok v after
         → IsOnlyRead (IsNested (IsFlow n)) (flow_value n) → IsNested (IsFlow (suc n)) start v after
     by_tests true b e f g rec =
         let l = list_found (IsNested (IsFlow n)) (flow_value n) rec (length (drop 1 start)) [] (drop 1 start) v after g in

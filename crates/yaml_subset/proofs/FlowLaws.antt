@@ -5,11 +5,12 @@ use Rattle.yaml_subset.specs.declared.tree.Tree.{Tree}
 use Rattle.yaml_subset.specs.declared.tree.Tree.TheVariants as tree
 use Rattle.yaml_subset.specs.declared.tree.Pair.{Pair}
 use Rattle.yaml_subset.specs.Characters.{begins}
-use Rattle.yaml_subset.specs.Flow.{list_step, list_from, map_step, map_from, flow_value, flow_scalar}
+use Rattle.yaml_subset.specs.Flow.{list_step, list_from, map_step, map_from, flow_value}
 use Rattle.yaml_subset.specs.Gives.{◌>>=◌}
+use Rattle.yaml_subset.specs.Scalars.{scalar_from}
 
 -- a scalar takes none of the levels that are left
-pub flow_value_scalar : (n : ℕ) (rest : List ℕ) → begins 91 rest ≡ false → begins 123 rest ≡ false → flow_value n rest ≡ flow_scalar rest
+pub flow_value_scalar : (n : ℕ) (rest : List ℕ) → begins 91 rest ≡ false → begins 123 rest ≡ false → flow_value n rest ≡ scalar_from true rest
 unfolding flow_value
 flow_value_scalar zero rest g h = rw (g, h) refl
 flow_value_scalar (suc n) rest g h = rw (g, h) refl

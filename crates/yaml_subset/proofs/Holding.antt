@@ -7,12 +7,6 @@ use Rattle.yaml_subset.specs.Gives.{◌>>=◌}
 pub record Holds {A : Type 0} (P : A → Type 0) (r : Result A YamlCause) : Type 0 where
   pub at : (x : A) → r ≡ Ok x → P x
 
-abbrev pub Anything : {A : Type 0} → A → Type 0
-Anything x = Unit {0}
-
-pub holds_any : {A : Type 0} (r : Result A YamlCause) → Holds Anything r
-holds_any r = record { at = λ x e. tt }
-
 abbrev given : {A : Type 0} → A → Result A YamlCause
 given x = Ok x
 
@@ -32,6 +26,3 @@ holds_bind (Err e) f Q P q k = record { at = λ y h. absurd cc }
 pub holds_if : {A : Type 0} (b : Bool) (x y : Result A YamlCause) (P : A → Type 0) → (b ≡ true → Holds P x) → (b ≡ false → Holds P y) → Holds P (if b then x else y)
 holds_if true x y P h k = h refl
 holds_if false x y P h k = k refl
-
-pub holds_weaker : {A : Type 0} (r : Result A YamlCause) (Q P : A → Type 0) → ((x : A) → Q x → P x) → Holds Q r → Holds P r
-holds_weaker r Q P f h = record { at = λ x e. f x (h.at x e) }

@@ -19,23 +19,23 @@ use Rattle.yaml_subset.specs.declared.tree.Tree.TheVariants as tree
 use Rattle.yaml_subset.specs.declared.tree.Key.{Key}
 use Rattle.yaml_subset.specs.declared.tree.Pair.{Pair}
 use Rattle.yaml_subset.specs.Characters.{is_empty, begins, at_gap, marks, next_part, stray, line_end, left_out, form_or}
-use Rattle.yaml_subset.specs.Scalars.{is_wide, is_merge, left_scalar, scan, scalar_value, key_of}
+use Rattle.yaml_subset.specs.Scalars.{is_wide, is_merge, left_scalar, scan, key_of, value_at}
 use Rattle.yaml_subset.specs.Entries.{key_eq, has_key}
-use Rattle.yaml_subset.specs.Flow.{entry_key, with_entry, opens, flow_value}
+use Rattle.yaml_subset.specs.Flow.{entry_key, with_entry, opens, flow_value, colon_and_tab}
 use Rattle.yaml_subset.specs.Blocks.{list_frame, map_frame, closed, top_is, ends_block, settle, levels_in, line_value, block_value, behind_colon, value_alone, scalar_alone, first_key, key_or_value, behind_dash, content, misplaced, no_item, next_entry, go_on, begins_block, in_blocks, is_marker, at_start, by_state, counted_line, step}
 use Rattle.yaml_subset.specs.Gives.{◌>>=◌}
 use Rattle.yaml_subset.specs.FirstFault.{form_number, cause_number, Tells}
 use Rattle.yaml_subset.specs.LineValue.{IsLineValue}
 use Rattle.yaml_subset.specs.Grammar.{IsNoHead}
 use Rattle.yaml_subset.specs.ScalarFaults.{NextFault, LineEndFault, ScanFault}
-use Rattle.yaml_subset.specs.FlowFaults.{colon_and_tab, no_key, key_again, KeyFault, in_key, wide_alone, behind_key, at_key, IsNewKey, LineValueFault}
-use Rattle.yaml_subset.specs.LineFaults.{InSome, AloneFault, alone_tab, alone_value, alone_end, FirstKeyFault, NoKey, merge_key, wide_key, other_key, map_too_deep, first_no_key, first_no_utf8, behind_first_key, HeadFault, head_flow, head_scalar, head_key, head_alone, head_below, DashFault, ContentFault, MisplacedFault, misplaced_tab, misplaced_form, misplaced_scalar, misplaced_line, ItemLineFault, no_dash, dash_scalar, dash_and_tab, dash_alone, in_item, EntryLineFault, OpenLineFault, StayOpen, BlocksFault, in_deeper, in_open, in_none, FirstLineFault, head_comment, no_head, StateFault, ends_document, CountedFault, directive, documents, in_line, LineFault}
+use Rattle.yaml_subset.specs.FlowFaults.{no_key, key_again, KeyFault, in_key, wide_alone, behind_key, at_key, IsNewKey, LineValueFault}
+use Rattle.yaml_subset.specs.LineFaults.{InSome, AloneFault, alone_tab, alone_value, alone_end, FirstKeyFault, map_too_deep, first_no_key, behind_first_key, HeadFault, head_flow, head_scalar, head_key, head_alone, head_below, DashFault, ContentFault, MisplacedFault, misplaced_tab, misplaced_form, misplaced_scalar, misplaced_line, ItemLineFault, no_dash, dash_scalar, dash_and_tab, dash_alone, in_item, EntryLineFault, OpenLineFault, StayOpen, BlocksFault, in_deeper, in_open, in_none, FirstLineFault, head_comment, no_head, StateFault, ends_document, CountedFault, directive, documents, in_line, LineFault}
 use Rattle.yaml_subset.proofs.ScalarFaults.{next_tells, line_end_tells, scan_tells}
 use Rattle.yaml_subset.proofs.FirstFaults.{tells_map, tells_if}
 use Rattle.yaml_subset.proofs.FaultsBehind.{tells_as, tells_then, tells_shift, tells_result, tells_one, Later, first_same, bind_assoc}
 use Rattle.yaml_subset.proofs.FlowFaults.{tells_part, tells_value, clash, key_tells, key_reads, key_found}
 use Rattle.yaml_subset.proofs.BracketFaults.{value_tells}
-use Rattle.yaml_subset.proofs.KeyCauses.{KeyCause, key_causes}
+use Rattle.yaml_subset.proofs.KeyCauses.{late_key}
 use Rattle.yaml_subset.proofs.FlowGrammar.{line_value_read, line_value_found, flow_opens}
 use Rattle.yaml_subset.proofs.LineValues.{no_mark_at_end, marks_begins, alone_read, alone_parts}
 
@@ -88,17 +88,13 @@ below_tells place frames column rest Wrong r t =
     by_place Item v = λ at c w. not_item w.0
     by_place Deeper v = (0, record { there = (refl, refl, refl); least = λ at c w. first_same 0 at Syntax c w.1 w.2 })
 
-and_same : (a b c : Bool) → a && (b && c) ≡ a && b && c
-and_same true b c = refl
-and_same false b c = refl
-
 -- a scalar before no colon
 alone_tells : (rest : List ℕ) (s : Scanned) (after : List ℕ) → Tells (AloneFault rest s after) (scalar_alone s after)
 unfolding scalar_alone
-alone_tells rest s after = by_test (not s.plain && begins 58 after && begins 9 (drop 1 after)) (and_same (not s.plain) (begins 58 after) (begins 9 (drop 1 after)))
+alone_tells rest s after = by_test (colon_and_tab s after) refl
   where
     Here : ℕ → YamlCause → Type 0
-    Here at c = (at ≡ 0) × (scalar_value s ≡ Err c)
+    Here at c = (at ≡ 0) × (value_at s after ≡ Err c)
 
     shift : Tree → ℕ
     shift v = length rest - length after
@@ -107,7 +103,7 @@ alone_tells rest s after = by_test (not s.plain && begins 58 after && begins 9 (
     Then v = LineEndFault after
 
     value : Result Tree YamlCause
-    value = scalar_value s >>= λ v. line_value (v, after)
+    value = value_at s after >>= λ v. line_value (v, after)
 
     tab : Result Tree YamlCause
     tab = Err Tab
@@ -122,14 +118,14 @@ alone_tells rest s after = by_test (not s.plain && begins 58 after && begins 9 (
         ])
         (tells_one Tree ((length rest - length after) + 1) Tab)
     by_test false e =
-        tells_as (λ at c. Here at c ⊎ Later (scalar_value s) shift Then at c) (AloneFault rest s after) value
+        tells_as (λ at c. Here at c ⊎ Later (value_at s after) shift Then at c) (AloneFault rest s after) value
         (λ at c w. elim w [ inl h ↦ alone_value e h.0 h.1 | inr l ↦ alone_end e l.0 l.1 l.2 l.3 l.4 ])
         (λ at c w. elim w [
           | alone_tab q p d ↦ absurd (clash (colon_and_tab s after) q e)
           | alone_value q p d ↦ inl (p, d)
           | alone_end q v h i p f ↦ inr (v, h, i, p, f)
         ])
-        (tells_then Here (scalar_value s) shift Then (λ v. line_value (v, after)) (tells_result (scalar_value s)) (λ v h. tells_map (LineEndFault after) (line_end after) (λ u. v) (line_end_tells after)))
+        (tells_then Here (value_at s after) shift Then (λ v. line_value (v, after)) (tells_result (value_at s after)) (λ v h. tells_map (LineEndFault after) (line_end after) (λ u. v) (line_end_tells after)))
 
 full : (l : ℕ) → nat_le 32 l ≡ true → 32 - l ≡ 0
 full l h = grind (arith, nat_tests)
@@ -158,22 +154,6 @@ first_key_tells frames column rest s after =
     key : Result State YamlCause
     key = key_of s >>= λ k. behind_colon (map_frame column [] k ∷ frames) (drop 1 after)
 
-    late_key : (c : YamlCause) → NoKey s c → 3 ≤ cause_number c
-    late_key c (merge_key q d) = let n : cause_number c ≡ 11 = ap cause_number d in omega (arith, n)
-    late_key c (wide_key q d) = let n : cause_number c ≡ 15 = ap cause_number d in omega (arith, n)
-    late_key c (other_key q d) = let n : cause_number c ≡ 18 = ap cause_number d in omega (arith, n)
-
-    refused_key : (c : YamlCause) → NoKey s c → key_of s ≡ Err c
-    refused_key c (merge_key q d) = q ∙ ap Err (sym d)
-    refused_key c (wide_key q d) = q ∙ ap Err (sym d)
-    refused_key c (other_key q d) = q ∙ ap Err (sym d)
-
-    by_cause : 0 < levels_in frames → (at : ℕ) (c : YamlCause) → at ≡ 0 → key_of s ≡ Err c → KeyCause c → FirstKeyFault (levels_in frames) rest s after at c
-    by_cause l at c p q (inl d) = first_no_key p (merge_key (q ∙ ap Err d) d)
-    by_cause l at c p q (inr (inl d)) = first_no_key p (wide_key (q ∙ ap Err d) d)
-    by_cause l at c p q (inr (inr (inl d))) = first_no_key p (other_key (q ∙ ap Err d) d)
-    by_cause l at c p q (inr (inr (inr d))) = first_no_utf8 l p (q ∙ ap Err d) d
-
     too_deep : levels_in frames ≡ 0 → Tells {X = State} (FirstKeyFault (levels_in frames) rest s after) (Err TooDeep)
     too_deep z = (
       0,
@@ -181,8 +161,7 @@ first_key_tells frames column rest s after =
         there = map_too_deep z refl refl;
         least = λ at c w. elim w [
           | map_too_deep e p d ↦ first_same 0 at TooDeep c p d
-          | first_no_key p k ↦ inr (sym p, late_key c k)
-          | first_no_utf8 l p q d ↦ absurd (none_left (levels_in frames) z l)
+          | first_no_key p k ↦ inr (sym p, late_key s c k)
           | behind_first_key l k h i p f ↦ absurd (none_left (levels_in frames) z l)
         ];
       },
@@ -199,11 +178,10 @@ first_key_tells frames column rest s after =
     with_room : 0 < levels_in frames → Tells (FirstKeyFault (levels_in frames) rest s after) key
     with_room l =
         tells_as (λ at c. Here at c ⊎ Later (key_of s) shift Then at c) (FirstKeyFault (levels_in frames) rest s after) key
-        (λ at c w. elim w [ inl h ↦ by_cause l at c h.0 h.1 (key_causes s c h.1) | inr q ↦ behind_first_key l q.0 q.1 q.2 q.3 q.4 ])
+        (λ at c w. elim w [ inl h ↦ first_no_key h.0 h.1 | inr q ↦ behind_first_key l q.0 q.1 q.2 q.3 q.4 ])
         (λ at c w. elim w [
           | map_too_deep e p d ↦ absurd (none_left (levels_in frames) e l)
-          | first_no_key p k ↦ inl (p, refused_key c k)
-          | first_no_utf8 m p q d ↦ inl (p, q ∙ ap Err (sym d))
+          | first_no_key p k ↦ inl (p, k)
           | behind_first_key m k h i p f ↦ inr (k, h, i, p, f)
         ])
         (tells_then Here (key_of s) shift Then (λ k. behind_colon (map_frame column [] k ∷ frames) (drop 1 after)) (tells_result (key_of s)) (λ k e. behind k))

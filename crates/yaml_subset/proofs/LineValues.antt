@@ -11,10 +11,10 @@ use Rattle.yaml_subset.specs.declared.tree.Tree.{Tree}
 use Rattle.yaml_subset.specs.declared.tree.Key.{Key}
 use Rattle.yaml_subset.specs.declared.tree.Pair.{Pair}
 use Rattle.yaml_subset.specs.Characters.{begins, at_gap, marks, next_part, line_end}
-use Rattle.yaml_subset.specs.Scalars.{scan, scalar_value, key_of}
+use Rattle.yaml_subset.specs.Scalars.{scan, key_of, value_at, scalar_from}
 use Rattle.yaml_subset.specs.Entries.{has_key}
 use Rattle.yaml_subset.specs.Flow.{entry_key, key_fault, opens, flow_value}
-use Rattle.yaml_subset.specs.Blocks.{levels_in, line_value, block_scalar, block_value, value_alone, scalar_alone, first_key, key_or_value, content}
+use Rattle.yaml_subset.specs.Blocks.{levels_in, line_value, block_value, value_alone, scalar_alone, first_key, key_or_value, content}
 use Rattle.yaml_subset.specs.Gives.{◌>>=◌}
 use Rattle.yaml_subset.proofs.BlockLaws.{content_value}
 
@@ -114,7 +114,7 @@ pub record IsScalar (part : List ℕ) (v : Tree) : Type 0 where
   pub scanned : Scanned
   pub after : List ℕ
   pub scan : scan false part ≡ Ok (scanned, after)
-  pub value : scalar_value scanned ≡ Ok v
+  pub value : value_at scanned after ≡ Ok v
   pub end : line_end after ≡ Ok tt
 
 pub line_value_ok : (w v : Tree) (after : List ℕ) → line_value (w, after) ≡ Ok v → (w ≡ v) × (line_end after ≡ Ok tt)
@@ -124,18 +124,18 @@ line_value_ok w v after h =
     (cc, e.1)
 
 pub scalar_parts : (n : ℕ) (part : List ℕ) (v : Tree) → opens part ≡ false → block_value n part ≡ Ok v → IsScalar part v
-unfolding block_value block_scalar
+unfolding block_value scalar_from
 scalar_parts n part v o h =
-    let h1 : (block_scalar part >>= line_value) ≡ Ok v = rw o at h in
-    let e1 = bind_ok (block_scalar part) line_value v h1 in
-    let e2 = bind_ok (scan false part) (λ s. scalar_value s.0 >>= λ v. Ok (v, s.1)) e1.0 e1.1 in
-    let e3 = bind_ok (scalar_value e2.0.0) (λ v. Ok (v, e2.0.1)) e1.0 e2.2 in
+    let h1 : (scalar_from false part >>= line_value) ≡ Ok v = rw o at h in
+    let e1 = bind_ok (scalar_from false part) line_value v h1 in
+    let e2 = bind_ok (scan false part) (λ s. value_at s.0 s.1 >>= λ v. Ok (v, s.1)) e1.0 e1.1 in
+    let e3 = bind_ok (value_at e2.0.0 e2.0.1) (λ v. Ok (v, e2.0.1)) e1.0 e2.2 in
     let e4 : e1.0 ≡ (e3.0, e2.0.1) = cc in
     let e5 = line_value_ok e3.0 v e2.0.1 (subst (λ x. line_value x ≡ Ok v) e4 e1.2) in
     record { scanned = e2.0.0; after = e2.0.1; scan = e2.1; value = e3.1 ∙ ap Ok e5.0; end = e5.1 }
 
 pub scalar_value_on_line : (n : ℕ) (part : List ℕ) (v : Tree) → opens part ≡ false → IsScalar part v → block_value n part ≡ Ok v
-unfolding block_value block_scalar
+unfolding block_value scalar_from
 scalar_value_on_line n part v o s = rw (o, s.scan, s.value, s.end) refl
 
 pub no_mark_at_end : (after : List ℕ) → line_end after ≡ Ok tt → begins 58 after ≡ false
@@ -156,11 +156,11 @@ value_no_dash n part v h = by_opens (opens part) refl
     by_opens true o = false_unless (marks 45 part) (λ m. open_no_dash part o m)
     by_opens false o = let s = scalar_parts n part v o h in false_unless (marks 45 part) (λ m. never_both (scan false part) (s.scanned, s.after) (no_dash part m) s.scan)
 
-and_false : (p x y : Bool) → x ≡ false → not p && x && y ≡ false
+and_false : (p x y : Bool) → x ≡ false → not p && (x && y) ≡ false
 and_false true x y h = refl
 and_false false x y h = rw h refl
 
-pub alone_read : (scanned : Scanned) (after : List ℕ) (v : Tree) → scalar_value scanned ≡ Ok v → line_end after ≡ Ok tt → begins 58 after ≡ false
+pub alone_read : (scanned : Scanned) (after : List ℕ) (v : Tree) → value_at scanned after ≡ Ok v → line_end after ≡ Ok tt → begins 58 after ≡ false
     → scalar_alone scanned after ≡ Ok v
 unfolding scalar_alone
 alone_read scanned after v value end b = rw (and_false scanned.plain (begins 58 after) (begins 9 (drop 1 after)) b, value, end) refl
@@ -195,14 +195,14 @@ pub record IsValue (n : ℕ) (place : Place) (frames : List Frame) (column : ℕ
   pub is : block_value n part ≡ Ok value
   pub runs : (value_alone place frames column value >>= next) ≡ Ok end
 
-pub alone_parts : (scanned : Scanned) (after : List ℕ) (v : Tree) → scalar_alone scanned after ≡ Ok v → (scalar_value scanned ≡ Ok v) × (line_end after ≡ Ok tt)
+pub alone_parts : (scanned : Scanned) (after : List ℕ) (v : Tree) → scalar_alone scanned after ≡ Ok v → (value_at scanned after ≡ Ok v) × (line_end after ≡ Ok tt)
 unfolding scalar_alone
-alone_parts scanned after v h = by_test (not scanned.plain && begins 58 after && begins 9 (drop 1 after)) h
+alone_parts scanned after v h = by_test (not scanned.plain && (begins 58 after && begins 9 (drop 1 after))) h
   where
-    by_test : (b : Bool) → cond b (Err Tab) (scalar_value scanned >>= λ w. line_value (w, after)) ≡ Ok v → (scalar_value scanned ≡ Ok v) × (line_end after ≡ Ok tt)
+    by_test : (b : Bool) → cond b (Err Tab) (value_at scanned after >>= λ w. line_value (w, after)) ≡ Ok v → (value_at scanned after ≡ Ok v) × (line_end after ≡ Ok tt)
     by_test true e = absurd cc
     by_test false e =
-        let b = bind_ok (scalar_value scanned) (λ w. line_value (w, after)) v e in
+        let b = bind_ok (value_at scanned after) (λ w. line_value (w, after)) v e in
         let l = line_value_ok b.0 v after b.2 in
         (b.1 ∙ ap Ok l.0, l.1)
 

@@ -13,10 +13,10 @@ use Rattle.yaml_subset.specs.declared.tree.Tree.TheVariants as tree
 use Rattle.yaml_subset.specs.declared.tree.Key.{Key}
 use Rattle.yaml_subset.specs.declared.tree.Pair.{Pair}
 use Rattle.yaml_subset.specs.Characters.{at_gap, marks, next_part, line_end}
-use Rattle.yaml_subset.specs.Scalars.{scan}
+use Rattle.yaml_subset.specs.Scalars.{scan, value_at, scalar_from}
 use Rattle.yaml_subset.specs.Entries.{has_key}
 use Rattle.yaml_subset.specs.Flow.{entry_key, opens, flow_value, list_step, list_from, map_step, map_from, opened}
-use Rattle.yaml_subset.specs.Blocks.{map_frame, levels_in, line_value, block_scalar, block_value, behind_colon, value_alone, scalar_alone, first_key, key_or_value, behind_dash, content, is_marker}
+use Rattle.yaml_subset.specs.Blocks.{map_frame, levels_in, line_value, block_value, behind_colon, value_alone, scalar_alone, first_key, key_or_value, behind_dash, content, is_marker}
 use Rattle.yaml_subset.specs.Levels.{levels}
 use Rattle.yaml_subset.proofs.TreeLevels.{levels_list, levels_map}
 use Rattle.yaml_subset.proofs.BlockLaws.{content_value}
@@ -35,12 +35,12 @@ ended : (v : Tree) → line_value (v, []) ≡ Ok v
 unfolding line_end next_part
 ended v = refl
 
-no_tab : (b : Bool) → (not b && false && false) ≡ false
+no_tab : (b : Bool) → (not b && (false && false)) ≡ false
 no_tab true = refl
 no_tab false = refl
 
 alone_is : (text : List ℕ) (v : Tree) (s : IsScalar text v) → scalar_alone s.scanned [] ≡ Ok v
-unfolding scalar_alone
+unfolding scalar_alone value_at
 alone_is text v s = rw (no_tab s.scanned.plain, s.value) (ended v)
 
 scan_all : (text : List ℕ) (v : Tree) (s : IsScalar text v) → scan false text ≡ Ok (s.scanned, [])
@@ -54,7 +54,7 @@ unfolding key_or_value
 scalar_at text v s place frames column = rw (opens_not text v s, scan_all text v s, alone_is text v s) refl
 
 scalar_behind : (text : List ℕ) (v : Tree) (s : IsScalar text v) (n : ℕ) → block_value n text ≡ Ok v
-unfolding block_value block_scalar
+unfolding block_value scalar_from value_at
 scalar_behind text v s n = rw (opens_not text v s, scan_all text v s, s.value) (ended v)
 
 pub inline_scalar : (text : List ℕ) (v : Tree) → IsScalar text v → IsInline text v

@@ -156,6 +156,3 @@ has_key_among (p ∷ ps) k = rw (has_key_among ps k) refl
 pub keys_push : (pairs : List Pair) (p : Pair) → map key_at (pairs ++ p ∷ []) ≡ map key_at pairs ++ p.key ∷ []
 keys_push [] p = refl
 keys_push (q ∷ qs) p = ap (λ ks. q.key ∷ ks) (keys_push qs p)
-
-pub pair_made : (p : Pair) → (record { key = p.key; value = p.value }) ≡ p
-pair_made p = refl

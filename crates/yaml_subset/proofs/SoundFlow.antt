@@ -4,7 +4,7 @@ use Rattle.std.specs.Option.{option_and_then}
 use Rattle.std.specs.Str.{is_utf8}
 use Rattle.yaml_subset.specs.declared.fault.YamlForm.TheVariants as form
 use Rattle.yaml_subset.specs.declared.fault.YamlForm.TheVariants.{MergeKey}
-use Rattle.yaml_subset.specs.declared.fault.YamlCause.TheVariants.{NotUtf8, LeftOut, Syntax}
+use Rattle.yaml_subset.specs.declared.fault.YamlCause.TheVariants.{LeftOut, Syntax}
 use Rattle.yaml_subset.specs.declared.numbers.Number.{Number}
 use Rattle.yaml_subset.specs.declared.numbers.Number.TheVariants.{Not, Whole, Wide}
 use Rattle.yaml_subset.specs.declared.scalars.Scanned.{Scanned}
@@ -13,9 +13,9 @@ use Rattle.yaml_subset.specs.declared.tree.Tree.TheVariants as tree
 use Rattle.yaml_subset.specs.declared.tree.Key.{Key}
 use Rattle.yaml_subset.specs.declared.tree.Key.TheVariants as keys
 use Rattle.yaml_subset.specs.declared.tree.Pair.{Pair}
-use Rattle.yaml_subset.specs.Characters.{begins}
+use Rattle.yaml_subset.specs.Characters.{begins, marks}
 use Rattle.yaml_subset.specs.Numbers.{greatest, magnitude, signed, whole_or, number_in, decimal, number_of}
-use Rattle.yaml_subset.specs.Scalars.{text_of, is_null, is_true_word, is_false_word, is_merge, text_tree, number_or_text, plain_value, scalar_value, as_key, key_of}
+use Rattle.yaml_subset.specs.Scalars.{text_of, is_null, is_true_word, is_false_word, is_merge, text_tree, number_or_text, plain_value, scalar_value, as_key, key_of, value_at}
 use Rattle.yaml_subset.specs.LineValue.{IsScalar, AreFlowItems, IsFlowValue, AreFlowEntries, IsNested, IsFlow, IsLineValue}
 use Rattle.yaml_subset.specs.ReadBack.{is_i128, is_key, is_sound}
 use Rattle.yaml_subset.proofs.Holding.{Holds, holds_ok, holds_err, holds_bind, holds_if}
@@ -68,7 +68,7 @@ text_tree_within : (bytes : List ℕ) → Holds (IsWithin 0) (text_tree bytes)
 unfolding text_of
 text_tree_within bytes =
     holds_bind _ _ (λ (text : List ℕ). is_utf8 text ≡ true) (IsWithin 0)
-    (holds_if (is_utf8 bytes) (Ok bytes) (Err NotUtf8) (λ text. is_utf8 text ≡ true) (λ e. holds_ok (λ (text : List ℕ). is_utf8 text ≡ true) bytes e) (λ e. holds_err (λ (text : List ℕ). is_utf8 text ≡ true) NotUtf8))
+    (holds_if (is_utf8 bytes) (Ok bytes) (Err Syntax) (λ text. is_utf8 text ≡ true) (λ e. holds_ok (λ (text : List ℕ). is_utf8 text ≡ true) bytes e) (λ e. holds_err (λ (text : List ℕ). is_utf8 text ≡ true) Syntax))
     (λ text u. holds_ok (IsWithin 0) (tree.Text text) (text_within text u))
 
 number_or_text_within : (n : Number) (text : List ℕ) → NumberSound n → Holds (IsWithin 0) (number_or_text n text)
@@ -112,8 +112,12 @@ key_sound s =
 abbrev AreSound : ℕ → (List ℕ → Tree → List ℕ → Type 0) → Type 0
 AreSound n Value = (start : List ℕ) (v : Tree) (after : List ℕ) → Value start v after → IsWithin n v
 
+value_within : (s : Scanned) (after : List ℕ) → Holds (IsWithin 0) (value_at s after)
+unfolding value_at
+value_within s after = holds_if (marks 58 after && is_merge s) _ _ (IsWithin 0) (λ e. holds_err (IsWithin 0) (LeftOut MergeKey)) (λ e. scalar_within s)
+
 scalar_sound : (n : ℕ) (flow : Bool) (rest : List ℕ) (v : Tree) (after : List ℕ) → IsScalar flow rest v after → IsWithin n v
-scalar_sound n flow rest v after s = within_more 0 n v (omega arith) ((scalar_within s.0).at v s.2)
+scalar_sound n flow rest v after s = within_more 0 n v (omega arith) ((value_within s.0 after).at v s.2)
 
 items_sound : (n : ℕ) (Value : List ℕ → Tree → List ℕ → Type 0) → AreSound n Value → (vs : List Tree) (inside after : List ℕ) → AreFlowItems Value inside vs after → ItemsWithin n vs
 items_sound n Value sound [] inside after are = no_items n

@@ -16,8 +16,8 @@ use Rattle.yaml_subset.specs.declared.tree.Tree.TheVariants as tree
 use Rattle.yaml_subset.specs.declared.tree.Key.{Key}
 use Rattle.yaml_subset.specs.declared.tree.Pair.{Pair}
 use Rattle.yaml_subset.specs.Characters.{is_empty, begins, at_gap, marks, next_part, stray, line_end, left_out, form_or}
-use Rattle.yaml_subset.specs.Scalars.{scan, left_scalar, scalar_value, key_of}
-use Rattle.yaml_subset.specs.Flow.{entry_key, with_entry, opens, flow_value}
+use Rattle.yaml_subset.specs.Scalars.{scan, left_scalar, value_at, scalar_from, key_of}
+use Rattle.yaml_subset.specs.Flow.{entry_key, with_entry, opens, flow_value, colon_and_tab}
 use Rattle.yaml_subset.specs.Gives.{◌>>=◌}
 
 abbrev pub list_frame : ℕ → List Tree → Frame
@@ -64,15 +64,9 @@ levels_in frames = 32 - length frames
 abbrev pub line_value : Tree × List ℕ → Result Tree YamlCause
 line_value read = line_end read.1 >>= λ _. Ok read.0
 
-unfoldable pub block_scalar : List ℕ → Result (Tree × List ℕ) YamlCause
-block_scalar rest = do
-  s ← scan false rest
-  v ← scalar_value s.0
-  Ok (v, s.1)
-
 -- the value behind a key, on the key's line
 unfoldable pub block_value : ℕ → List ℕ → Result Tree YamlCause
-block_value levels rest = (if opens rest then flow_value levels rest else block_scalar rest) >>= line_value
+block_value levels rest = (if opens rest then flow_value levels rest else scalar_from false rest) >>= line_value
 
 -- what follows the colon of a key
 unfoldable pub behind_colon : List Frame → List ℕ → Result State YamlCause
@@ -89,8 +83,8 @@ value_alone Item frames column v = Ok (Blocks frames (Some v))
 
 -- a scalar behind which no colon follows
 unfoldable pub scalar_alone : Scanned → List ℕ → Result Tree YamlCause
-scalar_alone s after = if not s.plain && begins 58 after && begins 9 (drop 1 after) then Err Tab
-    else (scalar_value s >>= λ v. line_value (v, after))
+scalar_alone s after = if colon_and_tab s after then Err Tab
+    else (value_at s after >>= λ v. line_value (v, after))
 
 -- the first key of a map at this column
 unfoldable pub first_key : List Frame → ℕ → Scanned → List ℕ → Result State YamlCause

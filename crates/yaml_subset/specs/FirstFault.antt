@@ -44,12 +44,3 @@ pub record IsFirst (Stands : ℕ → YamlCause → Type 0) (at : ℕ) (cause : Y
 abbrev pub Tells : {X : Type 0} → (ℕ → YamlCause → Type 0) → Result X YamlCause → Type 0
 Tells Stands (Ok x) = (at : ℕ) (cause : YamlCause) → Stands at cause → ⊥
 Tells Stands (Err cause) = (at : ℕ) × IsFirst Stands at cause
-
--- a fault stands in what follows a part that is read
-pub record Behind {X : Type 0} (rest : List ℕ) (read : Result (X × List ℕ) YamlCause) (Next : X → List ℕ → ℕ → YamlCause → Type 0) (at : ℕ) (cause : YamlCause) : Type 0 where
-  pub value : X
-  pub after : List ℕ
-  pub is : read ≡ Ok (value, after)
-  pub inside : ℕ
-  pub place : at ≡ (length rest - length after) + inside
-  pub fault : Next value after inside cause

@@ -1,5 +1,5 @@
 -- Flow lists and flow maps, which stand on one line.
-use Rattle.std.specs.Prelude.{ℕ, zero, suc, Bool, true, false, ◌||◌, ◌&&◌, ◌==◌, if◌then◌else◌, List, [], ◌∷◌, ◌++◌, length, drop, Result, Ok, Err}
+use Rattle.std.specs.Prelude.{ℕ, zero, suc, Bool, true, false, ◌||◌, ◌&&◌, ◌==◌, if◌then◌else◌, List, [], ◌∷◌, ◌++◌, length, drop, Result, Ok, Err, not}
 use Rattle.std.specs.List.{list_all}
 use Rattle.yaml_subset.specs.declared.fault.YamlForm.TheVariants.{LongFlow}
 use Rattle.yaml_subset.specs.declared.fault.YamlForm.TheVariants as form
@@ -11,7 +11,7 @@ use Rattle.yaml_subset.specs.declared.tree.Tree.TheVariants as tree
 use Rattle.yaml_subset.specs.declared.tree.Key.{Key}
 use Rattle.yaml_subset.specs.declared.tree.Pair.{Pair}
 use Rattle.yaml_subset.specs.Characters.{is_empty, begins, skip, is_kept, marks, next_part, stray}
-use Rattle.yaml_subset.specs.Scalars.{is_wide, scan, scalar_value, key_of}
+use Rattle.yaml_subset.specs.Scalars.{is_wide, scan, scalar_from, key_of}
 use Rattle.yaml_subset.specs.Entries.{has_key}
 use Rattle.yaml_subset.specs.Gives.{◌>>=◌}
 
@@ -31,11 +31,18 @@ behind_item closing (c ∷ cs) = if c == closing then Ok (true, cs) else if c ==
 unfoldable pub parted : ℕ → List ℕ → Result (Bool × List ℕ) YamlCause
 parted closing rest = next_part false rest >>= λ next. behind_item closing next
 
+-- behind a key the line ends, without a colon
+abbrev pub line_ends : Scanned → List ℕ → Bool
+line_ends s after = is_empty after || s.plain && (begins 35 (skip after) && list_all is_kept (skip after))
+
+-- a colon and a tab stand behind a quoted scalar
+abbrev pub colon_and_tab : Scanned → List ℕ → Bool
+colon_and_tab s after = not s.plain && (begins 58 after && begins 9 (drop 1 after))
+
 -- what is wrong where a colon has to stand
-unfoldable pub colon_fault : Bool → Scanned → List ℕ → YamlCause
-colon_fault flow s after = if is_empty after then (if flow then LeftOut LongFlow else Syntax)
-    else if s.plain then (if flow && begins 35 (skip after) && list_all is_kept (skip after) then LeftOut LongFlow else Syntax)
-    else if begins 9 after || begins 58 after && begins 9 (drop 1 after) then Tab
+abbrev pub colon_fault : Bool → Scanned → List ℕ → YamlCause
+colon_fault flow s after = if flow && line_ends s after then LeftOut LongFlow
+    else if not s.plain && begins 9 after || colon_and_tab s after then Tab
     else Syntax
 
 -- what is wrong with a scalar that has to be a key, where no colon follows
@@ -48,12 +55,6 @@ entry_key flow pairs rest = do
   s ← scan flow rest
   if marks 58 s.1 then (key_of s.0 >>= λ k. if has_key pairs k then Err DuplicateKey else Ok (k, drop 1 s.1))
       else Err (key_fault flow s.0 s.1)
-
-unfoldable pub flow_scalar : List ℕ → Result (Tree × List ℕ) YamlCause
-flow_scalar rest = do
-  s ← scan true rest
-  v ← scalar_value s.0
-  Ok (v, s.1)
 
 -- the value of an entry, which may be nothing
 unfoldable pub entry_value : (List ℕ → Result (Tree × List ℕ) YamlCause) → List ℕ → Result (Tree × List ℕ) YamlCause
@@ -104,8 +105,8 @@ opens rest = begins 91 rest || begins 123 rest
 
 -- A value on one line, a flow list or map or what a scalar is; it nests at most so many lists and maps.
 unfoldable pub flow_value : ℕ → List ℕ → Result (Tree × List ℕ) YamlCause
-flow_value zero rest = if opens rest then Err TooDeep else flow_scalar rest
+flow_value zero rest = if opens rest then Err TooDeep else scalar_from true rest
 flow_value (suc n) rest = if opens rest
     then (if begins 91 rest then list_from (flow_value n) (length (drop 1 rest)) [] (drop 1 rest)
     else map_from (flow_value n) (length (drop 1 rest)) [] (drop 1 rest))
-    else flow_scalar rest
+    else scalar_from true rest

@@ -12,8 +12,7 @@ use Rattle.yaml_subset.specs.declared.tree.Pair.{Pair}
 use Rattle.yaml_subset.specs.Characters.{is_empty, begins, skip, is_kept, marks, next_part}
 use Rattle.yaml_subset.specs.Scalars.{is_wide, scan, key_of}
 use Rattle.yaml_subset.specs.Entries.{has_key}
-use Rattle.yaml_subset.specs.Flow.{opens}
-use Rattle.yaml_subset.specs.FirstFault.{Behind}
+use Rattle.yaml_subset.specs.Flow.{opens, line_ends, colon_and_tab}
 use Rattle.yaml_subset.specs.LineValue.{IsScalar, IsFlowItem, IsFlowEntry, IsFlowValue, IsNested, IsFlow}
 use Rattle.yaml_subset.specs.ScalarFaults.{NextFault, LineEndFault, ScanFault, ScalarFault}
 
@@ -42,14 +41,6 @@ pub record BehindValue {V : Type 0} (Value : List ℕ → V → List ℕ → Typ
 
 -- ---- keys
 
--- behind a key the line ends, without a colon
-abbrev pub line_ends : Scanned → List ℕ → Bool
-line_ends s after = is_empty after || s.plain && (begins 35 (skip after) && list_all is_kept (skip after))
-
--- a colon and a tab stand behind a quoted scalar
-abbrev pub colon_and_tab : Scanned → List ℕ → Bool
-colon_and_tab s after = not s.plain && (begins 58 after && begins 9 (drop 1 after))
-
 -- what is wrong behind a scalar that has to be a key, where no colon with a space or the line's end follows
 pub data ColonFault (flow : Bool) (s : Scanned) (after : List ℕ) (at : ℕ) (cause : YamlCause) : Type 0 where
   colon_past_end : flow ≡ true → line_ends s after ≡ true → at ≡ length after → cause ≡ LeftOut LongFlow → ColonFault flow s after at cause
@@ -67,7 +58,7 @@ pub data NoNewKey (before : List Pair) (s : Scanned) (cause : YamlCause) : Type 
 pub data KeyFault (flow : Bool) (before : List Pair) (rest : List ℕ) (at : ℕ) (cause : YamlCause) : Type 0 where
   in_key : ScanFault flow rest at cause → KeyFault flow before rest at cause
   wide_alone : (s : Scanned) (after : List ℕ) → scan flow rest ≡ Ok (s, after) → marks 58 after ≡ false → is_wide s ≡ true → at ≡ 0 → cause ≡ LeftOut Wide → KeyFault flow before rest at cause
-  behind_key : Behind rest (scan flow rest) (λ s after inside c. (marks 58 after ≡ false) × (is_wide s ≡ false) × ColonFault flow s after inside c) at cause → KeyFault flow before rest at cause
+  behind_key : BehindValue (λ start s after. scan flow start ≡ Ok (s, after)) rest (λ s after inside c. (marks 58 after ≡ false) × (is_wide s ≡ false) × ColonFault flow s after inside c) at cause → KeyFault flow before rest at cause
   at_key : (s : Scanned) (after : List ℕ) → scan flow rest ≡ Ok (s, after) → marks 58 after ≡ true → at ≡ 0 → NoNewKey before s cause → KeyFault flow before rest at cause
 
 -- a key that none of these entries has, and what follows its colon

@@ -17,13 +17,13 @@ use Rattle.yaml_subset.specs.declared.tree.Tree.{Tree}
 use Rattle.yaml_subset.specs.declared.tree.Key.{Key}
 use Rattle.yaml_subset.specs.declared.tree.Pair.{Pair}
 use Rattle.yaml_subset.specs.Characters.{is_empty, begins, marks, left_out}
-use Rattle.yaml_subset.specs.Scalars.{scan, left_scalar, scalar_value, key_of}
-use Rattle.yaml_subset.specs.Flow.{with_entry, opens}
+use Rattle.yaml_subset.specs.Scalars.{scan, left_scalar, value_at, key_of}
+use Rattle.yaml_subset.specs.Flow.{with_entry, opens, colon_and_tab}
 use Rattle.yaml_subset.specs.Blocks.{top_is, ends_block, levels_in, begins_block, is_marker, is_start}
 use Rattle.yaml_subset.specs.LineValue.{IsLineValue}
 use Rattle.yaml_subset.specs.Grammar.{IsNoHead}
 use Rattle.yaml_subset.specs.ScalarFaults.{NextFault, LineEndFault, ScanFault}
-use Rattle.yaml_subset.specs.FlowFaults.{InPart, BehindValue, colon_and_tab, KeyFault, IsNewKey, LineValueFault}
+use Rattle.yaml_subset.specs.FlowFaults.{InPart, BehindValue, KeyFault, IsNewKey, LineValueFault}
 
 -- ---- what begins at a column
 
@@ -35,24 +35,16 @@ InSome rest In at cause = InPart false rest (λ part inside c. (is_empty part �
 -- tab behind the colon of a quoted key, no value, or something behind it
 pub data AloneFault (rest : List ℕ) (s : Scanned) (after : List ℕ) (at : ℕ) (cause : YamlCause) : Type 0 where
   alone_tab : colon_and_tab s after ≡ true → at ≡ (length rest - length after) + 1 → cause ≡ Tab → AloneFault rest s after at cause
-  alone_value : colon_and_tab s after ≡ false → at ≡ 0 → scalar_value s ≡ Err cause → AloneFault rest s after at cause
-  alone_end : colon_and_tab s after ≡ false → (v : Tree) → scalar_value s ≡ Ok v → (inside : ℕ) → at ≡ (length rest - length after) + inside → LineEndFault after inside cause
+  alone_value : colon_and_tab s after ≡ false → at ≡ 0 → value_at s after ≡ Err cause → AloneFault rest s after at cause
+  alone_end : colon_and_tab s after ≡ false → (v : Tree) → value_at s after ≡ Ok v → (inside : ℕ) → at ≡ (length rest - length after) + inside → LineEndFault after inside cause
       → AloneFault rest s after at cause
 
--- a scalar before a colon is no key: it is the plain `<<`, a number outside i128, or neither a whole number
--- nor a text
-pub data NoKey (s : Scanned) (cause : YamlCause) : Type 0 where
-  merge_key : key_of s ≡ Err (LeftOut MergeKey) → cause ≡ LeftOut MergeKey → NoKey s cause
-  wide_key : key_of s ≡ Err (LeftOut Wide) → cause ≡ LeftOut Wide → NoKey s cause
-  other_key : key_of s ≡ Err Syntax → cause ≡ Syntax → NoKey s cause
-
 -- What is wrong with a scalar before a colon, which is the first key of a map: the map is too deep, the
--- scalar is no key, or something is wrong with its value. That its bytes aren't UTF-8, which those of a
--- text are, is judged only of a map that isn't too deep.
+-- scalar is no key (`<<`, a number outside i128, or neither a whole number nor a text), or something is
+-- wrong with its value.
 pub data FirstKeyFault (levels : ℕ) (rest : List ℕ) (s : Scanned) (after : List ℕ) (at : ℕ) (cause : YamlCause) : Type 0 where
   map_too_deep : levels ≡ 0 → at ≡ 0 → cause ≡ TooDeep → FirstKeyFault levels rest s after at cause
-  first_no_key : at ≡ 0 → NoKey s cause → FirstKeyFault levels rest s after at cause
-  first_no_utf8 : 0 < levels → at ≡ 0 → key_of s ≡ Err NotUtf8 → cause ≡ NotUtf8 → FirstKeyFault levels rest s after at cause
+  first_no_key : at ≡ 0 → key_of s ≡ Err cause → FirstKeyFault levels rest s after at cause
   behind_first_key : 0 < levels → (k : Key) → key_of s ≡ Ok k → (inside : ℕ) → at ≡ (length rest - length (drop 1 after)) + inside
       → InSome (drop 1 after) (LineValueFault (levels - 1)) inside cause → FirstKeyFault levels rest s after at cause
 

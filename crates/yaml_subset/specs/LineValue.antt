@@ -5,12 +5,12 @@ use Rattle.yaml_subset.specs.declared.tree.Tree.{Tree}
 use Rattle.yaml_subset.specs.declared.tree.Tree.TheVariants as tree
 use Rattle.yaml_subset.specs.declared.tree.Pair.{Pair}
 use Rattle.yaml_subset.specs.Characters.{is_empty, begins, marks, next_part, line_end}
-use Rattle.yaml_subset.specs.Scalars.{scan, scalar_value, key_of}
+use Rattle.yaml_subset.specs.Scalars.{scan, value_at, key_of}
 use Rattle.yaml_subset.specs.Entries.{has_key}
 
 -- a scalar with its value, within or outside of flow brackets, and what follows it
 abbrev pub IsScalar : Bool → List ℕ → Tree → List ℕ → Type 0
-IsScalar flow rest v after = (scanned : Scanned) × (scan flow rest ≡ Ok (scanned, after)) × (scalar_value scanned ≡ Ok v)
+IsScalar flow rest v after = (scanned : Scanned) × (scan flow rest ≡ Ok (scanned, after)) × (value_at scanned after ≡ Ok v)
 
 -- an item of a flow list with its value, and the part behind it
 pub record IsFlowItem (Value : List ℕ → Tree → List ℕ → Type 0) (inside : List ℕ) (v : Tree) (behind : List ℕ) : Type 0 where

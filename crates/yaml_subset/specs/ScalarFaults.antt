@@ -1,6 +1,6 @@
 -- Which faults stand in a scalar as it is written, and between the parts of a line. Several may stand in
 -- the same bytes. Columns count from the first byte of the part.
-use Rattle.std.specs.Prelude.{◌≡◌, ℕ, suc, ◌+◌, ◌-◌, Bool, true, false, ◌||◌, ◌&&◌, not, ◌==◌, List, [], ◌∷◌, ◌++◌, length, Some, Result, Ok}
+use Rattle.std.specs.Prelude.{◌≡◌, ℕ, suc, ◌+◌, ◌-◌, Bool, true, false, ◌||◌, ◌&&◌, not, ◌==◌, List, [], ◌∷◌, ◌++◌, length, Some, Result, Ok, Err}
 use Rattle.std.specs.Str.{is_utf8}
 use Rattle.yaml_subset.specs.declared.fault.YamlForm.{YamlForm}
 use Rattle.yaml_subset.specs.declared.fault.YamlForm.TheVariants.{LongFlow, LongQuote}
@@ -15,7 +15,7 @@ use Rattle.yaml_subset.specs.Plain.{is_flow, is_reserved, plain_ends}
 use Rattle.yaml_subset.specs.SingleQuoted.{doubled}
 use Rattle.yaml_subset.specs.DoubleQuoted.{IsSpelled, BeginsEscape, IsUnfinished}
 use Rattle.yaml_subset.specs.Numbers.{number_of}
-use Rattle.yaml_subset.specs.Scalars.{scan, scalar_value}
+use Rattle.yaml_subset.specs.Scalars.{scan, value_at}
 use Rattle.yaml_subset.specs.Gives.{◌>>=◌}
 
 -- a control character stands there that may stand neither in quotes nor in comments
@@ -106,18 +106,7 @@ pub data ScanFault (flow : Bool) (rest : List ℕ) : ℕ → YamlCause → Type 
   in_single : (inside : List ℕ) → rest ≡ 39 ∷ inside → (at : ℕ) (cause : YamlCause) → SingleFault inside at cause → ScanFault flow rest (suc at) cause
   in_double : (inside : List ℕ) → rest ≡ 34 ∷ inside → (at : ℕ) (cause : YamlCause) → DoubleFault inside at cause → ScanFault flow rest (suc at) cause
 
--- A scalar that can't be read, or that has no value: a plain number that is too wide, or a text, quoted or
--- plain and no number, whose bytes aren't UTF-8.
-pub data ScalarFault (flow : Bool) (rest : List ℕ) : ℕ → YamlCause → Type 0 where
-  unread : (at : ℕ) (cause : YamlCause) → ScanFault flow rest at cause → ScalarFault flow rest at cause
-  too_wide : (scanned : Scanned) (after : List ℕ) → scan flow rest ≡ Ok (scanned, after) → scanned.plain ≡ true → number_of scanned.text ≡ Wide
-      → ScalarFault flow rest 0 (LeftOut form.Wide)
-  no_utf8 : (scanned : Scanned) (after : List ℕ) → scan flow rest ≡ Ok (scanned, after) → (scanned.plain ≡ true → number_of scanned.text ≡ Not) → is_utf8 scanned.text ≡ false
-      → ScalarFault flow rest 0 NotUtf8
-
--- a scalar with its value, and what follows it
-abbrev pub scalar_from : Bool → List ℕ → Result (Tree × List ℕ) YamlCause
-scalar_from flow rest = do
-  s ← scan flow rest
-  v ← scalar_value s.0
-  Ok (v, s.1)
+-- a scalar that can't be read, or that has no value: a number outside i128, or `<<` with its colon
+pub data ScalarFault (flow : Bool) (rest : List ℕ) (at : ℕ) (cause : YamlCause) : Type 0 where
+  unread : ScanFault flow rest at cause → ScalarFault flow rest at cause
+  no_value : (s : Scanned) (after : List ℕ) → scan flow rest ≡ Ok (s, after) → at ≡ 0 → value_at s after ≡ Err cause → ScalarFault flow rest at cause

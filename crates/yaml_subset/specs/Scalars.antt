@@ -5,7 +5,7 @@ use Rattle.yaml_subset.specs.declared.fault.YamlForm.{YamlForm}
 use Rattle.yaml_subset.specs.declared.fault.YamlForm.TheVariants.{MergeKey}
 use Rattle.yaml_subset.specs.declared.fault.YamlForm.TheVariants as form
 use Rattle.yaml_subset.specs.declared.fault.YamlCause.{YamlCause}
-use Rattle.yaml_subset.specs.declared.fault.YamlCause.TheVariants.{NotUtf8, LeftOut, Syntax}
+use Rattle.yaml_subset.specs.declared.fault.YamlCause.TheVariants.{LeftOut, Syntax}
 use Rattle.yaml_subset.specs.declared.numbers.Number.{Number}
 use Rattle.yaml_subset.specs.declared.numbers.Number.TheVariants.{Not, Whole, Wide}
 use Rattle.yaml_subset.specs.declared.quoted.Escape.TheVariants.{Outside}
@@ -22,7 +22,7 @@ use Rattle.yaml_subset.specs.Gives.{◌>>=◌}
 
 -- the bytes as a text
 unfoldable pub text_of : List ℕ → Result (List ℕ) YamlCause
-text_of bytes = if is_utf8 bytes then Ok bytes else Err NotUtf8
+text_of bytes = if is_utf8 bytes then Ok bytes else Err Syntax
 
 -- a plain scalar, and what follows it
 unfoldable pub plain_scalar : Bool → List ℕ → Result (Scanned × List ℕ) YamlCause
@@ -92,6 +92,17 @@ is_wide s = s.plain && are_wide (number_of s.text)
 unfoldable pub key_of : Scanned → Result Key YamlCause
 key_of s = if is_merge s then Err (LeftOut MergeKey)
     else scalar_value s >>= as_key
+
+-- what a scalar stands for as a value, where this follows; `<<` with its colon is left out
+unfoldable pub value_at : Scanned → List ℕ → Result Tree YamlCause
+value_at s after = if marks 58 after && is_merge s then Err (LeftOut MergeKey) else scalar_value s
+
+-- a scalar with its value, within or outside of flow brackets, and what follows it
+unfoldable pub scalar_from : Bool → List ℕ → Result (Tree × List ℕ) YamlCause
+scalar_from flow rest = do
+  s ← scan flow rest
+  v ← value_at s.0 s.1
+  Ok (v, s.1)
 
 -- the scalar from which a line begins is left out wherever a scalar stands: a whole number outside i128, or
 -- the plain `<<` with its colon

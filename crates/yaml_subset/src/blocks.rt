@@ -2,7 +2,7 @@
 
 ghost use Rattle.std.specs.Prelude.{◌≡◌, ◌-◌, ◌==◌, ◌^◌, ◌<◌, ◌+◌, [], length};
 ghost use Rattle.yaml_subset.specs.Characters.{marks};
-ghost use Rattle.yaml_subset.specs.Blocks.{begins_block, ends_block, closed, settle, close_all, levels_in, line_value, block_scalar, block_value, behind_colon, value_alone, scalar_alone, first_key, key_or_value, behind_dash, content, no_item, next_entry, go_on, in_blocks, is_marker, at_start, is_start, by_state, counted_line, step, finish};
+ghost use Rattle.yaml_subset.specs.Blocks.{begins_block, ends_block, closed, settle, close_all, levels_in, line_value, block_value, behind_colon, value_alone, scalar_alone, first_key, key_or_value, behind_dash, content, no_item, next_entry, go_on, in_blocks, is_marker, at_start, is_start, by_state, counted_line, step, finish};
 ghost use Rattle.yaml_subset.specs.declared.blocks.Place.TheVariants.{Item};
 ghost use Rattle.yaml_subset.specs.Flow.{opens};
 ghost use Rattle.yaml_subset.specs.Gives.{Gives};
@@ -10,8 +10,8 @@ ghost use Rattle.yaml_subset.specs.Gives.{Gives};
 use crate::characters::{begins, behind_first, is_mark, line_end, next_part};
 use crate::entries::Entries;
 use crate::fault::{LineRefused, YamlCause, YamlForm};
-use crate::flow::{entry_key, flow_value};
-use crate::scalars::{Scanned, key_of, scalar_value, scan};
+use crate::flow::{colon_and_tab, flow_value};
+use crate::scalars::{Scanned, key_of, scalar_from, scan, value_at};
 use crate::stack::{Frame, Open, Stack};
 use crate::tree::Tree;
 use net_base::{Items, NoMemory};
@@ -55,15 +55,6 @@ fn line_value(value: Tree, after: &[u8]) -> Result<Tree, LineRefused>
     Ok(value)
 }
 
-#[tactic(auto, unfolding(crate::specs::Blocks::block_scalar))]
-fn block_scalar(alloc: Global, rest: &[u8]) -> Result<(Tree, &[u8]), LineRefused>
-    ensures { Gives (λ x. (x.0, x.1.now)) result (block_scalar rest.now) }
-{
-    let (scanned, after) = scan(alloc, false, rest)?;
-    let value = scalar_value(alloc, &scanned)?;
-    Ok((value, after))
-}
-
 fn is_opening(rest: &[u8]) -> bool
     ensures { result ≡ opens rest.now }
 {
@@ -78,7 +69,7 @@ pub(crate) fn block_value(alloc: Global, levels: usize, rest: &[u8]) -> Result<T
     let (value, after) = if is_opening(rest) {
         flow_value(alloc, levels, rest)?
     } else {
-        block_scalar(alloc, rest)?
+        scalar_from(alloc, false, rest)?
     };
     line_value(value, after)
 }
@@ -112,10 +103,10 @@ fn value_alone(place: Place, stack: Stack, column: usize, value: Tree) -> Result
 fn scalar_alone(alloc: Global, scanned: &Scanned, after: &[u8]) -> Result<Tree, LineRefused>
     ensures { Gives (λ x. x) result (scalar_alone scanned.now after.now) }
 {
-    if !scanned.plain && begins(b':', after) && begins(b'\t', behind_first(after)) {
+    if colon_and_tab(scanned, after) {
         return Err(LineRefused::Cause(YamlCause::Tab));
     }
-    let value = scalar_value(alloc, scanned)?;
+    let value = value_at(alloc, scanned, after)?;
     line_value(value, after)
 }
 

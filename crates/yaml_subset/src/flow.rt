@@ -1,13 +1,13 @@
 //! Flow lists and flow maps, which stand on one line.
 
 ghost use Rattle.std.specs.Prelude.{◌≡◌, ◌≤◌, [], length};
-ghost use Rattle.yaml_subset.specs.Flow.{opened, parted, colon_fault, key_fault, entry_key, flow_scalar, entry_value, list_step, list_from, map_step, map_from, flow_value};
+ghost use Rattle.yaml_subset.specs.Flow.{opened, parted, line_ends, colon_and_tab, colon_fault, key_fault, entry_key, entry_value, list_step, list_from, map_step, map_from, flow_value};
 ghost use Rattle.yaml_subset.specs.Gives.{Gives};
 
 use crate::characters::{are_kept, begins, behind_first, is_mark, next_part, skip_spaces, stray};
 use crate::entries::Entries;
 use crate::fault::{LineRefused, YamlCause, YamlForm};
-use crate::scalars::{Scanned, is_wide, key_of, scalar_value, scan};
+use crate::scalars::{Scanned, is_wide, key_of, scalar_from, scan};
 use crate::tree::{Key, Tree};
 use net_base::Items;
 use std::alloc::Global;
@@ -39,25 +39,31 @@ fn parted(closing: u8, rest: &[u8]) -> Result<(bool, &[u8]), LineRefused>
     }
 }
 
+/// Whether the line ends behind a key, without a colon.
+fn line_ends(scanned: &Scanned, after: &[u8]) -> bool
+    ensures { result ≡ line_ends scanned.now after.now }
+{
+    if after.is_empty() {
+        return true;
+    }
+    let comment = skip_spaces(after);
+    scanned.plain && begins(b'#', comment) && are_kept(comment)
+}
+
+/// Whether a colon and a tab stand behind a quoted scalar.
+pub(crate) fn colon_and_tab(scanned: &Scanned, after: &[u8]) -> bool
+    ensures { result ≡ colon_and_tab scanned.now after.now }
+{
+    !scanned.plain && begins(b':', after) && begins(b'\t', behind_first(after))
+}
+
 /// What is wrong where a colon has to stand.
-#[tactic(auto, unfolding(crate::specs::Flow::colon_fault))]
 fn colon_fault(flow: bool, scanned: &Scanned, after: &[u8]) -> LineRefused
     ensures { result ≡ LineRefused.Cause (colon_fault flow scanned.now after.now) }
 {
-    let [_, tail @ ..] = after else {
-        if flow {
-            return LineRefused::Cause(YamlCause::LeftOut(YamlForm::LongFlow));
-        }
-        return LineRefused::Cause(YamlCause::Syntax);
-    };
-    if scanned.plain {
-        let comment = skip_spaces(after);
-        if flow && begins(b'#', comment) && are_kept(comment) {
-            return LineRefused::Cause(YamlCause::LeftOut(YamlForm::LongFlow));
-        }
-        return LineRefused::Cause(YamlCause::Syntax);
-    }
-    if begins(b'\t', after) || begins(b':', after) && begins(b'\t', tail) {
+    if flow && line_ends(scanned, after) {
+        LineRefused::Cause(YamlCause::LeftOut(YamlForm::LongFlow))
+    } else if !scanned.plain && begins(b'\t', after) || colon_and_tab(scanned, after) {
         LineRefused::Cause(YamlCause::Tab)
     } else {
         LineRefused::Cause(YamlCause::Syntax)
@@ -94,15 +100,6 @@ pub(crate) fn entry_key<'a>(
         return Err(LineRefused::Cause(YamlCause::DuplicateKey));
     }
     Ok((key, behind_first(after)))
-}
-
-#[tactic(auto, unfolding(crate::specs::Flow::flow_scalar))]
-fn flow_scalar(alloc: Global, rest: &[u8]) -> Result<(Tree, &[u8]), LineRefused>
-    ensures { Gives (λ x. (x.0, x.1.now)) result (flow_scalar rest.now) }
-{
-    let (scanned, after) = scan(alloc, true, rest)?;
-    let value = scalar_value(alloc, &scanned)?;
-    Ok((value, after))
 }
 
 /// The value of an entry of a flow map, which may be nothing.
@@ -227,5 +224,5 @@ pub(crate) fn flow_value(
         }
         return flow_map(alloc, levels - 1, behind_first(rest));
     }
-    flow_scalar(alloc, rest)
+    scalar_from(alloc, true, rest)
 }

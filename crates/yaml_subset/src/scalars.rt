@@ -2,7 +2,7 @@
 
 ghost use Rattle.std.specs.Prelude.{◌≡◌, ◌==◌, false, codes, IfOk};
 ghost use Rattle.std.specs.Str.{bytes_eq};
-ghost use Rattle.yaml_subset.specs.Scalars.{text_of, plain_scalar, scan, is_null, is_true_word, is_false_word, plain_value, scalar_value, text_tree, as_key, key_of, is_merge, is_wide, left_scalar};
+ghost use Rattle.yaml_subset.specs.Scalars.{text_of, plain_scalar, scan, is_null, is_true_word, is_false_word, plain_value, scalar_value, text_tree, as_key, key_of, is_merge, is_wide, left_scalar, value_at, scalar_from};
 ghost use Rattle.yaml_subset.specs.Gives.{Gives};
 
 use crate::characters::is_mark;
@@ -28,7 +28,7 @@ fn text_of(alloc: Global, bytes: &[u8]) -> Result<Text, LineRefused>
 {
     match std::str::from_utf8(bytes) {
         Ok(text) => Ok(Text::from_str(alloc, text)?),
-        Err(_) => Err(LineRefused::Cause(YamlCause::NotUtf8)),
+        Err(_) => Err(LineRefused::Cause(YamlCause::Syntax)),
     }
 }
 
@@ -117,7 +117,7 @@ fn plain_value(alloc: Global, text: &[u8]) -> Result<Tree, LineRefused>
 
 /// What a scalar stands for as a value.
 #[tactic(auto, unfolding(crate::specs::Scalars::scalar_value))]
-pub(crate) fn scalar_value(alloc: Global, scanned: &Scanned) -> Result<Tree, LineRefused>
+fn scalar_value(alloc: Global, scanned: &Scanned) -> Result<Tree, LineRefused>
     ensures { Gives (λ x. x) result (scalar_value scanned.now) }
 {
     if scanned.plain {
@@ -149,6 +149,31 @@ pub(crate) fn is_wide(scanned: &Scanned) -> bool
     ensures { result ≡ is_wide scanned.now }
 {
     scanned.plain && matches!(number_of(scanned.text.as_slice()), Number::Wide)
+}
+
+/// What a scalar stands for as a value, where this follows; `<<` with its colon is left out.
+#[tactic(auto, unfolding(crate::specs::Scalars::value_at))]
+pub(crate) fn value_at(alloc: Global, scanned: &Scanned, after: &[u8]) -> Result<Tree, LineRefused>
+    ensures { Gives (λ x. x) result (value_at scanned.now after.now) }
+{
+    if is_mark(b':', after) && is_merge(scanned) {
+        return Err(LineRefused::Cause(YamlCause::LeftOut(YamlForm::MergeKey)));
+    }
+    scalar_value(alloc, scanned)
+}
+
+/// A scalar with its value, within or outside of flow brackets, and what follows it.
+#[tactic(auto, unfolding(crate::specs::Scalars::scalar_from))]
+pub(crate) fn scalar_from(
+    alloc: Global,
+    flow: bool,
+    rest: &[u8],
+) -> Result<(Tree, &[u8]), LineRefused>
+    ensures { Gives (λ x. (x.0, x.1.now)) result (scalar_from flow rest.now) }
+{
+    let (scanned, after) = scan(alloc, flow, rest)?;
+    let value = value_at(alloc, &scanned, after)?;
+    Ok((value, after))
 }
 
 /// The form of the scalar from which a line begins, where that is left out: a whole number outside `i128`,
