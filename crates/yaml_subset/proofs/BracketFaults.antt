@@ -19,12 +19,12 @@ use Rattle.yaml_subset.specs.FlowFaults.{InPart, BehindValue, KeyFault, IsNewKey
 use Rattle.yaml_subset.proofs.ScalarFaults.{line_end_tells, scalar_tells}
 use Rattle.yaml_subset.proofs.FirstFaults.{tells_map, tells_if}
 use Rattle.yaml_subset.proofs.FaultsBehind.{tells_as, tells_then, tells_shift, Later, first_same, same_ok, bind_assoc}
-use Rattle.yaml_subset.proofs.FlowFaults.{tells_part, tells_value, no_true, clash, key_tells, key_reads, key_found, start_tells, parted_tells}
+use Rattle.yaml_subset.proofs.FlowFaults.{tells_part, tells_value, no_true, clash, key_tells, key_reads, start_tells, parted_tells}
 use Rattle.yaml_subset.proofs.FlowLaws.{flow_value_scalar}
 use Rattle.yaml_subset.proofs.FlowParts.{scan_shrinks, drop_one, part_at_most}
-use Rattle.yaml_subset.proofs.FlowValues.{Reader, IsRead, IsOnlyRead, NoLonger, opened_is, comma_is, key_is, value_is, value_shorter, opened_parts, parted_parts, entry_value_parts}
+use Rattle.yaml_subset.proofs.FlowValues.{Reader, IsRead, IsOnlyRead, NoLonger, opened_is, comma_is, key_is, value_is, value_shorter, Step, IsStep, list_steps, map_steps}
 use Rattle.yaml_subset.proofs.FlowGrammar.{nested_shorter, flow_read, flow_found, flow_opens, begins_with, scalar_read, or_left, or_right}
-use Rattle.yaml_subset.proofs.LineValues.{bind_ok, never_both, no_bracket}
+use Rattle.yaml_subset.proofs.LineValues.{bind_ok, never_both, no_bracket, key_found}
 
 abbrev Wrongs : Type 1
 Wrongs = List ℕ → ℕ → YamlCause → Type 0
@@ -32,10 +32,16 @@ Wrongs = List ℕ → ℕ → YamlCause → Type 0
 abbrev IsTold : Wrongs → Reader → Type 0
 IsTold Wrong value = (start : List ℕ) → Tells (Wrong start) (value start)
 
+-- a step behind which a comma comes
+going_on : {U : Type 0} (closing : ℕ) (us : List U) (inside : List ℕ) (One : U → List ℕ → Type 0) (s : Step U) → s.0 ≡ false → IsStep closing us inside One s → (u : U) × (s.1 ≡ us ++ u ∷ []) × One u (44 ∷ s.2)
+going_on closing us inside One s f (inl w) = absurd (clash s.0 w.0 f)
+going_on closing us inside One s f (inr (u, e, inl w)) = absurd (clash s.0 w.0 f)
+going_on closing us inside One s f (inr (u, e, inr w)) = (u, e, w.1)
+
 -- ---- flow lists
 
 abbrev ListStep : Type 0
-ListStep = Bool × List Tree × List ℕ
+ListStep = Step Tree
 
 item_tells : (Value : List ℕ → Tree → List ℕ → Type 0) (Wrong : Wrongs) (value : Reader) → IsRead Value value → IsOnlyRead Value value → IsTold Wrong value
     → (items : List Tree) (inside : List ℕ) → Tells (ItemFault Value Wrong inside) (list_step value items inside)
@@ -60,39 +66,7 @@ FoundItem Value items inside s = (v : Tree) × (s.1 ≡ items ++ v ∷ []) × Is
 
 item_found : (Value : List ℕ → Tree → List ℕ → Type 0) (value : Reader) → IsOnlyRead Value value → (items : List Tree) (inside : List ℕ) (s : ListStep)
     → list_step value items inside ≡ Ok s → s.0 ≡ false → FoundItem Value items inside s
-unfolding list_step
-item_found Value value found items inside s h f = by_opening (opened_parts 93 inside o.0 o.1)
-  where
-    step_ok : Bool → List Tree → List ℕ → Result ListStep YamlCause
-    step_ok b us rest = Ok (b, us, rest)
-
-    part_step : Tree × List ℕ → Result ListStep YamlCause
-    part_step item = parted 93 item.1 >>= λ part. step_ok part.0 (items ++ item.0 ∷ []) part.1
-
-    opened_step : Bool × List ℕ → Result ListStep YamlCause
-    opened_step opening = cond opening.0 (step_ok true items opening.1) (value opening.1 >>= part_step)
-
-    o : (opening : Bool × List ℕ) × (opened 93 inside ≡ Ok opening) × (opened_step opening ≡ Ok s)
-    o = bind_ok (opened 93 inside) opened_step s h
-
-    closed : (us : List Tree) (rest : List ℕ) (b : Bool) → step_ok b us rest ≡ Ok s → b ≡ true → ⊥
-    closed us rest b q e = let t : b ≡ s.0 = ap (λ (x : ListStep). x.0) (same_ok (b, us, rest) s q) in clash b e (t ∙ f)
-
-    by_part : (start mid : List ℕ) (v : Tree) → next_part false inside ≡ Ok start → is_empty start ≡ false → begins 93 start ≡ false → Value start v mid → (d : Bool × List ℕ) → step_ok d.0 (items ++ v ∷ []) d.1 ≡ Ok s
-        → ((d.0 ≡ true) × (next_part false mid ≡ Ok (93 ∷ d.1))) ⊎ ((d.0 ≡ false) × (next_part false mid ≡ Ok (44 ∷ d.1))) → FoundItem Value items inside s
-    by_part start mid v b e u is d q (inl p) = absurd (closed (items ++ v ∷ []) d.1 d.0 q p.0)
-    by_part start mid v b e u is d q (inr p) =
-        let same : (d.0, items ++ v ∷ [], d.1) ≡ s = same_ok (d.0, items ++ v ∷ [], d.1) s q in
-        (v, sym (ap (λ (x : ListStep). x.1) same), record { start = start; after = mid; begins_at = b; some = e; unclosed = u; value = is; ends_at = p.1 ∙ ap (λ (x : ListStep). Ok (44 ∷ x.2)) same })
-
-    by_opening : ((o.0.0 ≡ true) × (next_part false inside ≡ Ok (93 ∷ o.0.1))) ⊎ ((o.0.0 ≡ false) × (next_part false inside ≡ Ok o.0.1) × (is_empty o.0.1 ≡ false) × (begins 93 o.0.1 ≡ false))
-        → FoundItem Value items inside s
-    by_opening (inl w) = let q : step_ok true items o.0.1 ≡ Ok s = rw w.0 at o.2 in absurd (closed items o.0.1 true q refl)
-    by_opening (inr w) =
-        let q : (value o.0.1 >>= part_step) ≡ Ok s = rw w.0 at o.2 in
-        let i = bind_ok (value o.0.1) part_step s q in
-        let d = bind_ok (parted 93 i.0.1) (λ part. step_ok part.0 (items ++ i.0.0 ∷ []) part.1) s i.2 in
-        by_part o.0.1 i.0.1 i.0.0 w.1 w.2 w.3 (found o.0.1 i.0.0 i.0.1 i.1) d.0 d.2 (parted_parts 93 i.0.1 d.0 d.1)
+item_found Value value found items inside s h f = going_on 93 items inside (IsFlowItem Value inside) s f (list_steps Value value found items inside s h)
 
 item_shorter : (Value : List ℕ → Tree → List ℕ → Type 0) → NoLonger Value → (inside : List ℕ) (v : Tree) (next : List ℕ) → IsFlowItem Value inside v (44 ∷ next) → length next < length inside
 item_shorter Value short inside v next item =
@@ -154,7 +128,7 @@ list_tells Value Wrong value reads found short told (suc fuel) items inside few 
 -- ---- flow maps
 
 abbrev MapStep : Type 0
-MapStep = Bool × List Pair × List ℕ
+MapStep = Step Pair
 
 null_tells : {Z : Type 0} (Value : List ℕ → Tree → List ℕ → Type 0) (Wrong : Wrongs) (value : Reader) → IsRead Value value → IsOnlyRead Value value → IsTold Wrong value
     → (k : Tree × List ℕ → Bool × List ℕ → Z) (part : List ℕ)
@@ -239,64 +213,7 @@ FoundEntry Value before inside s = (p : Pair) × (s.1 ≡ before ++ p ∷ []) ×
 
 entry_found : (Value : List ℕ → Tree → List ℕ → Type 0) (value : Reader) → IsOnlyRead Value value → (before : List Pair) (inside : List ℕ) (s : MapStep)
     → map_step value before inside ≡ Ok s → s.0 ≡ false → FoundEntry Value before inside s
-unfolding map_step
-entry_found Value value found before inside s h f = by_opening (opened_parts 125 inside o.0 o.1)
-  where
-    step_ok : Bool → List Pair → List ℕ → Result MapStep YamlCause
-    step_ok b us rest = Ok (b, us, rest)
-
-    part_step : Key → Tree × List ℕ → Result MapStep YamlCause
-    part_step k v = parted 125 v.1 >>= λ part. step_ok part.0 (with_entry before k v.0) part.1
-
-    value_step : Key × List ℕ → Result MapStep YamlCause
-    value_step k = entry_value value k.1 >>= part_step k.0
-
-    opened_step : Bool × List ℕ → Result MapStep YamlCause
-    opened_step opening = cond opening.0 (step_ok true before opening.1) (entry_key true before opening.1 >>= value_step)
-
-    o : (opening : Bool × List ℕ) × (opened 125 inside ≡ Ok opening) × (opened_step opening ≡ Ok s)
-    o = bind_ok (opened 125 inside) opened_step s h
-
-    closed : (us : List Pair) (rest : List ℕ) (b : Bool) → step_ok b us rest ≡ Ok s → b ≡ true → ⊥
-    closed us rest b q e = let t : b ≡ s.0 = ap (λ (x : MapStep). x.0) (same_ok (b, us, rest) s q) in clash b e (t ∙ f)
-
-    by_part : (start mid : List ℕ) (k : Key × List ℕ) (v : Tree) → next_part false inside ≡ Ok start → is_empty start ≡ false → begins 125 start ≡ false → IsNewKey true before start k.0 k.1
-        → (at : List ℕ) × (next_part false k.1 ≡ Ok at) × (is_empty at ≡ false) × IsFlowValue Value at v mid → (d : Bool × List ℕ) → step_ok d.0 (with_entry before k.0 v) d.1 ≡ Ok s
-        → ((d.0 ≡ true) × (next_part false mid ≡ Ok (125 ∷ d.1))) ⊎ ((d.0 ≡ false) × (next_part false mid ≡ Ok (44 ∷ d.1))) → FoundEntry Value before inside s
-    by_part start mid k v b e u key at d q (inl p) = absurd (closed (with_entry before k.0 v) d.1 d.0 q p.0)
-    by_part start mid k v b e u key at d q (inr p) =
-        let same : (d.0, with_entry before k.0 v, d.1) ≡ s = same_ok (d.0, with_entry before k.0 v, d.1) s q in (
-          record { key = k.0; value = v },
-          sym (ap (λ (x : MapStep). x.1) same),
-          record {
-            start = start;
-            scanned = key.scanned;
-            colon_at = key.colon_at;
-            part = at.0;
-            after = mid;
-            begins_at = b;
-            some = e;
-            unclosed = u;
-            scalar = key.scalar;
-            colon = key.colon;
-            key = key.key;
-            first = key.first;
-            value_at = ap (λ xs. next_part false xs) (sym key.behind) ∙ at.1;
-            ended = at.2;
-            value = at.3;
-            ends_at = p.1 ∙ ap (λ (x : MapStep). Ok (44 ∷ x.2)) same;
-          },
-        )
-
-    by_opening : ((o.0.0 ≡ true) × (next_part false inside ≡ Ok (125 ∷ o.0.1))) ⊎ ((o.0.0 ≡ false) × (next_part false inside ≡ Ok o.0.1) × (is_empty o.0.1 ≡ false) × (begins 125 o.0.1 ≡ false))
-        → FoundEntry Value before inside s
-    by_opening (inl w) = let q : step_ok true before o.0.1 ≡ Ok s = rw w.0 at o.2 in absurd (closed before o.0.1 true q refl)
-    by_opening (inr w) =
-        let q : (entry_key true before o.0.1 >>= value_step) ≡ Ok s = rw w.0 at o.2 in
-        let k = bind_ok (entry_key true before o.0.1) value_step s q in
-        let i = bind_ok (entry_value value k.0.1) (part_step k.0.0) s k.2 in
-        let d = bind_ok (parted 125 i.0.1) (λ part. step_ok part.0 (with_entry before k.0.0 i.0.0) part.1) s i.2 in
-        by_part o.0.1 i.0.1 k.0 i.0.0 w.1 w.2 w.3 (key_found true before o.0.1 k.0.0 k.0.1 k.1) (entry_value_parts Value value found k.0.1 i.0.0 i.0.1 i.1) d.0 d.2 (parted_parts 125 i.0.1 d.0 d.1)
+entry_found Value value found before inside s h f = going_on 125 before inside (IsFlowEntry Value before inside) s f (map_steps Value value found before inside s h)
 
 entry_shorter : (Value : List ℕ → Tree → List ℕ → Type 0) → NoLonger Value → (before : List Pair) (inside : List ℕ) (p : Pair) (next : List ℕ) → IsFlowEntry Value before inside p (44 ∷ next) → length next < length inside
 entry_shorter Value short before inside p next entry = omega (

@@ -19,7 +19,7 @@ use Rattle.yaml_subset.specs.FlowFaults.{InPart, BehindValue, ColonFault, colon_
 use Rattle.yaml_subset.proofs.ScalarFaults.{next_tells, scan_tells}
 use Rattle.yaml_subset.proofs.FirstFaults.{tells_map, and_parts}
 use Rattle.yaml_subset.proofs.FaultsBehind.{tells_as, tells_then, tells_shift, tells_one, Later, first_same}
-use Rattle.yaml_subset.proofs.LineValues.{same, key_parts}
+use Rattle.yaml_subset.proofs.LineValues.{same}
 
 -- a part behind spaces
 pub tells_part : {Y : Type 0} (fresh : Bool) (rest : List ℕ) (In : List ℕ → ℕ → YamlCause → Type 0) (f : List ℕ → Result Y YamlCause)
@@ -236,11 +236,6 @@ key_tells flow before rest =
 pub key_reads : (flow : Bool) (before : List Pair) (rest : List ℕ) (k : Key) (after : List ℕ) → IsNewKey flow before rest k after → entry_key flow before rest ≡ Ok (k, after)
 unfolding entry_key
 key_reads flow before rest k after w = rw (w.scalar, w.colon, w.key, w.first) (ap (λ xs. Ok (k, xs)) (sym w.behind))
-
-pub key_found : (flow : Bool) (before : List Pair) (rest : List ℕ) (k : Key) (after : List ℕ) → entry_key flow before rest ≡ Ok (k, after) → IsNewKey flow before rest k after
-key_found flow before rest k after e =
-    let w = key_parts flow before rest (k, after) e in
-    record { scanned = w.scanned; colon_at = w.after; scalar = w.scan; colon = w.colon; key = w.is; first = w.first; behind = sym w.behind }
 
 -- ---- the parts of flow lists and maps
 

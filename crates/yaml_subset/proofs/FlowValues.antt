@@ -1,5 +1,5 @@
 -- What is read of a line is a value by the grammar, and what is one is read.
-use Rattle.std.proofs.Common.{◌≡◌, ◌⊎◌, inl, inr, ℕ, zero, suc, ◌<◌, ◌≤◌, ◌==◌, Bool, true, false, cond, ◌||◌, List, [], ◌∷◌, ◌++◌, length, drop, Result, Ok, Err, refl, sym, ◌∙◌, ap, arith, append_assoc}
+use Rattle.std.proofs.Common.{◌≡◌, ◌⊎◌, inl, inr, ℕ, zero, suc, ◌<◌, ◌≤◌, ◌==◌, Bool, true, false, cond, ◌||◌, List, [], ◌∷◌, ◌++◌, length, drop, Result, Ok, Err, refl, sym, ◌∙◌, ap, arith, append_assoc, subst}
 use Rattle.std.proofs.lemmas.List.{append-nil}
 use Rattle.std.proofs.lemmas.Bool.Decides.{nat_tests}
 use Rattle.yaml_subset.specs.declared.fault.YamlForm.TheVariants.{LongFlow}
@@ -17,7 +17,8 @@ use Rattle.yaml_subset.specs.Flow.{at_opening, opened, behind_item, parted, entr
 use Rattle.yaml_subset.specs.Gives.{◌>>=◌}
 use Rattle.yaml_subset.specs.LineValue.{IsFlowItem, AreFlowItems, IsFlowValue, IsFlowEntry, AreFlowEntries}
 use Rattle.yaml_subset.proofs.FlowParts.{scan_shrinks, drop_one, part_at_most}
-use Rattle.yaml_subset.proofs.LineValues.{bind_ok, same, KeyRead, key_parts}
+use Rattle.yaml_subset.proofs.LineValues.{bind_ok, same, key_found}
+use Rattle.yaml_subset.specs.FlowFaults.{IsNewKey}
 
 -- what reads a value, and what is one
 abbrev pub Reader : Type 0
@@ -238,165 +239,187 @@ entry_value_parts Value value found rest v after h = by_tests (is_empty b.0) ref
         let q : value b.0 ≡ value_ok v after = rw (i, m) at g in
         (b.0, b.1, i, inr (m, found b.0 v after q))
 
--- what is read of a flow list is its items
-pub list_found : (Value : List ℕ → Tree → List ℕ → Type 0) (value : Reader) → IsOnlyRead Value value → (fuel : ℕ) (items : List Tree) (inside : List ℕ) (t : Tree) (after : List ℕ)
-    → list_from value fuel items inside ≡ Ok (t, after) → (vs : List Tree) × (t ≡ tree.List (items ++ vs)) × AreFlowItems Value inside vs after
-unfolding list_from list_step
-list_found Value value found zero items inside t after h = absurd cc
-list_found Value value found (suc fuel) items inside t after h = by_opening (opened_parts 93 inside o.0 o.1) (λ us next t g. list_found Value value found fuel us next t after g)
+-- ---- one step of a flow list or map
+
+abbrev pub Step : Type 0 → Type 0
+Step U = Bool × List U × List ℕ
+
+abbrev step_ok : {U : Type 0} → Bool → List U → List ℕ → Result (Step U) YamlCause
+step_ok b us rest = Ok (b, us, rest)
+
+abbrev step_of : {U : Type 0} → Bool → List U → List ℕ → Step U
+step_of b us rest = (b, us, rest)
+
+same_step : {U : Type 0} (b : Bool) (us : List U) (rest : List ℕ) (s : Step U) → step_ok b us rest ≡ Ok s → step_of b us rest ≡ s
+same_step b us rest s h = cc
+
+-- behind these ones a step is the closing bracket, or one more with the closing bracket or a comma behind it
+abbrev pub IsStep : {U : Type 0} → ℕ → List U → List ℕ → (U → List ℕ → Type 0) → Step U → Type 0
+IsStep {U = U} closing us inside One s = ((s.0 ≡ true) × (s.1 ≡ us) × (next_part false inside ≡ Ok (closing ∷ s.2)))
+    ⊎ ((u : U) × (s.1 ≡ us ++ u ∷ []) × (((s.0 ≡ true) × One u (closing ∷ s.2)) ⊎ ((s.0 ≡ false) × One u (44 ∷ s.2))))
+
+closed_step : {U : Type 0} (closing : ℕ) (us : List U) (inside : List ℕ) (One : U → List ℕ → Type 0) (rest : List ℕ) (s : Step U) → step_ok true us rest ≡ Ok s → next_part false inside ≡ Ok (closing ∷ rest)
+    → IsStep closing us inside One s
+closed_step {U = U} closing us inside One rest s h p =
+    let q = same_step true us rest s h in
+    inl (sym (ap (λ (x : Step U). x.0) q), sym (ap (λ (x : Step U). x.1) q), p ∙ ap (λ (x : Step U). Ok (closing ∷ x.2)) q)
+
+ended_step : {U : Type 0} (closing : ℕ) (us : List U) (inside : List ℕ) (One : U → List ℕ → Type 0) (u : U) (mid : List ℕ) (s : Step U) (d : Bool × List ℕ) → step_ok d.0 (us ++ u ∷ []) d.1 ≡ Ok s
+    → ((behind : List ℕ) → next_part false mid ≡ Ok behind → One u behind) → ((d.0 ≡ true) × (next_part false mid ≡ Ok (closing ∷ d.1))) ⊎ ((d.0 ≡ false) × (next_part false mid ≡ Ok (44 ∷ d.1)))
+    → IsStep closing us inside One s
+ended_step {U = U} closing us inside One u mid s d h one (inl p) =
+    let q = same_step d.0 (us ++ u ∷ []) d.1 s h in
+    inr (u, sym (ap (λ (x : Step U). x.1) q), inl (sym (ap (λ (x : Step U). x.0) q) ∙ p.0, one (closing ∷ s.2) (p.1 ∙ ap (λ (x : Step U). Ok (closing ∷ x.2)) q)))
+ended_step {U = U} closing us inside One u mid s d h one (inr p) =
+    let q = same_step d.0 (us ++ u ∷ []) d.1 s h in
+    inr (u, sym (ap (λ (x : Step U). x.1) q), inr (sym (ap (λ (x : Step U). x.0) q) ∙ p.0, one (44 ∷ s.2) (p.1 ∙ ap (λ (x : Step U). Ok (44 ∷ x.2)) q)))
+
+pub list_steps : (Value : List ℕ → Tree → List ℕ → Type 0) (value : Reader) → IsOnlyRead Value value → (items : List Tree) (inside : List ℕ) (s : Step Tree) → list_step value items inside ≡ Ok s
+    → IsStep 93 items inside (IsFlowItem Value inside) s
+unfolding list_step
+list_steps Value value found items inside s h = by_opening (opened_parts 93 inside o.0 o.1)
   where
-    Step : Type 0
-    Step = Bool × List Tree × List ℕ
-
-    finish_step : Step → Result (Tree × List ℕ) YamlCause
-    finish_step step = cond step.0 (value_ok (tree.List step.1) step.2) (list_from value fuel step.1 step.2)
-
-    step_ok : Bool → List Tree → List ℕ → Result Step YamlCause
-    step_ok b us rest = Ok (b, us, rest)
-
-    part_step : Tree × List ℕ → Result Step YamlCause
+    part_step : Tree × List ℕ → Result (Step Tree) YamlCause
     part_step item = parted 93 item.1 >>= λ part. step_ok part.0 (items ++ item.0 ∷ []) part.1
 
-    opened_step : Bool × List ℕ → Result Step YamlCause
+    opened_step : Bool × List ℕ → Result (Step Tree) YamlCause
     opened_step opening = cond opening.0 (step_ok true items opening.1) (value opening.1 >>= part_step)
 
-    s : (step : Step) × (list_step value items inside ≡ Ok step) × (finish_step step ≡ value_ok t after)
+    o : (opening : Bool × List ℕ) × (opened 93 inside ≡ Ok opening) × (opened_step opening ≡ Ok s)
+    o = bind_ok (opened 93 inside) opened_step s h
+
+    item_step : (v : Tree) (mid : List ℕ) → next_part false inside ≡ Ok o.0.1 → is_empty o.0.1 ≡ false → begins 93 o.0.1 ≡ false → Value o.0.1 v mid → (d : Bool × List ℕ) → step_ok d.0 (items ++ v ∷ []) d.1 ≡ Ok s
+        → ((d.0 ≡ true) × (next_part false mid ≡ Ok (93 ∷ d.1))) ⊎ ((d.0 ≡ false) × (next_part false mid ≡ Ok (44 ∷ d.1))) → IsStep 93 items inside (IsFlowItem Value inside) s
+    item_step v mid b e u is d q p =
+        ended_step 93 items inside (IsFlowItem Value inside) v mid s d q (λ behind n. record { start = o.0.1; after = mid; begins_at = b; some = e; unclosed = u; value = is; ends_at = n }) p
+
+    by_opening : ((o.0.0 ≡ true) × (next_part false inside ≡ Ok (93 ∷ o.0.1))) ⊎ ((o.0.0 ≡ false) × (next_part false inside ≡ Ok o.0.1) × (is_empty o.0.1 ≡ false) × (begins 93 o.0.1 ≡ false))
+        → IsStep 93 items inside (IsFlowItem Value inside) s
+    by_opening (inl w) = let q : step_ok true items o.0.1 ≡ Ok s = rw w.0 at o.2 in closed_step 93 items inside (IsFlowItem Value inside) o.0.1 s q w.1
+    by_opening (inr w) =
+        let q : (value o.0.1 >>= part_step) ≡ Ok s = rw w.0 at o.2 in
+        let i = bind_ok (value o.0.1) part_step s q in
+        let d = bind_ok (parted 93 i.0.1) (λ part. step_ok part.0 (items ++ i.0.0 ∷ []) part.1) s i.2 in
+        item_step i.0.0 i.0.1 w.1 w.2 w.3 (found o.0.1 i.0.0 i.0.1 i.1) d.0 d.2 (parted_parts 93 i.0.1 d.0 d.1)
+
+pub map_steps : (Value : List ℕ → Tree → List ℕ → Type 0) (value : Reader) → IsOnlyRead Value value → (before : List Pair) (inside : List ℕ) (s : Step Pair) → map_step value before inside ≡ Ok s
+    → IsStep 125 before inside (IsFlowEntry Value before inside) s
+unfolding map_step
+map_steps Value value found before inside s h = by_opening (opened_parts 125 inside o.0 o.1)
+  where
+    part_step : Key → Tree × List ℕ → Result (Step Pair) YamlCause
+    part_step k v = parted 125 v.1 >>= λ part. step_ok part.0 (with_entry before k v.0) part.1
+
+    value_step : Key × List ℕ → Result (Step Pair) YamlCause
+    value_step k = entry_value value k.1 >>= part_step k.0
+
+    opened_step : Bool × List ℕ → Result (Step Pair) YamlCause
+    opened_step opening = cond opening.0 (step_ok true before opening.1) (entry_key true before opening.1 >>= value_step)
+
+    o : (opening : Bool × List ℕ) × (opened 125 inside ≡ Ok opening) × (opened_step opening ≡ Ok s)
+    o = bind_ok (opened 125 inside) opened_step s h
+
+    entry_step : (k : Key × List ℕ) (v : Tree) (mid : List ℕ) → next_part false inside ≡ Ok o.0.1 → is_empty o.0.1 ≡ false → begins 125 o.0.1 ≡ false → IsNewKey true before o.0.1 k.0 k.1
+        → (at : List ℕ) × (next_part false k.1 ≡ Ok at) × (is_empty at ≡ false) × IsFlowValue Value at v mid → (d : Bool × List ℕ) → step_ok d.0 (with_entry before k.0 v) d.1 ≡ Ok s
+        → ((d.0 ≡ true) × (next_part false mid ≡ Ok (125 ∷ d.1))) ⊎ ((d.0 ≡ false) × (next_part false mid ≡ Ok (44 ∷ d.1))) → IsStep 125 before inside (IsFlowEntry Value before inside) s
+    entry_step k v mid b e u key at d q p =
+        ended_step 125 before inside (IsFlowEntry Value before inside) (record { key = k.0; value = v }) mid s d q (λ behind n. record {
+          start = o.0.1;
+          scanned = key.scanned;
+          colon_at = key.colon_at;
+          part = at.0;
+          after = mid;
+          begins_at = b;
+          some = e;
+          unclosed = u;
+          scalar = key.scalar;
+          colon = key.colon;
+          key = key.key;
+          first = key.first;
+          value_at = ap (λ xs. next_part false xs) (sym key.behind) ∙ at.1;
+          ended = at.2;
+          value = at.3;
+          ends_at = n;
+        }) p
+
+    by_opening : ((o.0.0 ≡ true) × (next_part false inside ≡ Ok (125 ∷ o.0.1))) ⊎ ((o.0.0 ≡ false) × (next_part false inside ≡ Ok o.0.1) × (is_empty o.0.1 ≡ false) × (begins 125 o.0.1 ≡ false))
+        → IsStep 125 before inside (IsFlowEntry Value before inside) s
+    by_opening (inl w) = let q : step_ok true before o.0.1 ≡ Ok s = rw w.0 at o.2 in closed_step 125 before inside (IsFlowEntry Value before inside) o.0.1 s q w.1
+    by_opening (inr w) =
+        let q : (entry_key true before o.0.1 >>= value_step) ≡ Ok s = rw w.0 at o.2 in
+        let k = bind_ok (entry_key true before o.0.1) value_step s q in
+        let i = bind_ok (entry_value value k.0.1) (part_step k.0.0) s k.2 in
+        let d = bind_ok (parted 125 i.0.1) (λ part. step_ok part.0 (with_entry before k.0.0 i.0.0) part.1) s i.2 in
+        entry_step k.0 i.0.0 i.0.1 w.1 w.2 w.3 (key_found true before o.0.1 k.0.0 k.0.1 k.1) (entry_value_parts Value value found k.0.1 i.0.0 i.0.1 i.1) d.0 d.2 (parted_parts 125 i.0.1 d.0 d.1)
+
+-- ---- what is read of a flow list is its items
+
+pub list_found : (Value : List ℕ → Tree → List ℕ → Type 0) (value : Reader) → IsOnlyRead Value value → (fuel : ℕ) (items : List Tree) (inside : List ℕ) (t : Tree) (after : List ℕ)
+    → list_from value fuel items inside ≡ Ok (t, after) → (vs : List Tree) × (t ≡ tree.List (items ++ vs)) × AreFlowItems Value inside vs after
+unfolding list_from
+list_found Value value found zero items inside t after h = absurd cc
+list_found Value value found (suc fuel) items inside t after h = by_step (list_steps Value value found items inside s.0 s.1) (λ us next t g. list_found Value value found fuel us next t after g)
+  where
+    finish_step : Step Tree → Result (Tree × List ℕ) YamlCause
+    finish_step step = cond step.0 (value_ok (tree.List step.1) step.2) (list_from value fuel step.1 step.2)
+
+    s : (step : Step Tree) × (list_step value items inside ≡ Ok step) × (finish_step step ≡ value_ok t after)
     s = bind_ok (list_step value items inside) finish_step (t, after) h
-
-    o : (opening : Bool × List ℕ) × (opened 93 inside ≡ Ok opening) × (opened_step opening ≡ Ok s.0)
-    o = bind_ok (opened 93 inside) opened_step s.0 s.1
-
-    at_end : (b : Bool) (us : List Tree) (rest : List ℕ) → step_ok b us rest ≡ Ok s.0 → cond b (value_ok (tree.List us) rest) (list_from value fuel us rest) ≡ value_ok t after
-    at_end b us rest e = let q : (b, us, rest) ≡ s.0 = cc in ap finish_step q ∙ s.2
 
     Later : Type 0
     Later = (us : List Tree) (next : List ℕ) (t : Tree) → list_from value fuel us next ≡ Ok (t, after) → (vs : List Tree) × (t ≡ tree.List (us ++ vs)) × AreFlowItems Value next vs after
 
-    of_item : (v : Tree) (mid : List ℕ) (behind : List ℕ) → IsFlowItem Value inside v behind → (part : Bool × List ℕ) → cond part.0 (value_ok (tree.List (items ++ v ∷ [])) part.1) (list_from value fuel (items ++ v ∷ []) part.1) ≡ value_ok t after
-        → ((part.0 ≡ true) × (behind ≡ 93 ∷ part.1)) ⊎ ((part.0 ≡ false) × (behind ≡ 44 ∷ part.1)) → Later → (vs : List Tree) × (t ≡ tree.List (items ++ vs)) × AreFlowItems Value inside vs after
-    of_item v mid behind item part g (inl w) later =
-        let q : value_ok (tree.List (items ++ v ∷ [])) part.1 ≡ value_ok t after = rw w.0 at g in
-        let z = same_value (tree.List (items ++ v ∷ [])) t part.1 after q in
-        (v ∷ [], sym z.0, (behind, item, inl (w.1 ∙ ap (λ xs. 93 ∷ xs) z.1, refl)))
-    of_item v mid behind item part g (inr w) later =
-        let q : list_from value fuel (items ++ v ∷ []) part.1 ≡ value_ok t after = rw w.0 at g in
-        let l = later (items ++ v ∷ []) part.1 t q in
-        (v ∷ l.0, l.1 ∙ ap (λ us. tree.List us) (append_assoc items (v ∷ []) l.0), (behind, item, inr (part.1, w.1, l.2)))
+    by_end : (v : Tree) → s.0.1 ≡ items ++ v ∷ [] → ((s.0.0 ≡ true) × IsFlowItem Value inside v (93 ∷ s.0.2)) ⊎ ((s.0.0 ≡ false) × IsFlowItem Value inside v (44 ∷ s.0.2)) → Later
+        → (vs : List Tree) × (t ≡ tree.List (items ++ vs)) × AreFlowItems Value inside vs after
+    by_end v e (inl w) later =
+        let g : value_ok (tree.List s.0.1) s.0.2 ≡ value_ok t after = rw w.0 at s.2 in
+        let z = same_value (tree.List s.0.1) t s.0.2 after g in
+        (v ∷ [], sym z.0 ∙ ap (λ us. tree.List us) e, (93 ∷ s.0.2, w.1, inl (ap (λ xs. 93 ∷ xs) z.1, refl)))
+    by_end v e (inr w) later =
+        let g : list_from value fuel s.0.1 s.0.2 ≡ value_ok t after = rw w.0 at s.2 in
+        let l = later s.0.1 s.0.2 t g in
+        (v ∷ l.0, l.1 ∙ ap (λ us. tree.List (us ++ l.0)) e ∙ ap (λ us. tree.List us) (append_assoc items (v ∷ []) l.0), (44 ∷ s.0.2, w.1, inr (s.0.2, refl, l.2)))
 
-    by_opening : ((o.0.0 ≡ true) × (next_part false inside ≡ Ok (93 ∷ o.0.1))) ⊎ ((o.0.0 ≡ false) × (next_part false inside ≡ Ok o.0.1) × (is_empty o.0.1 ≡ false) × (begins 93 o.0.1 ≡ false))
-        → Later → (vs : List Tree) × (t ≡ tree.List (items ++ vs)) × AreFlowItems Value inside vs after
-    by_opening (inl w) later =
-        let q : step_ok true items o.0.1 ≡ Ok s.0 = rw w.0 at o.2 in
-        let g : value_ok (tree.List items) o.0.1 ≡ value_ok t after = at_end true items o.0.1 q in
-        let z = same_value (tree.List items) t o.0.1 after g in
-        ([], sym z.0 ∙ ap (λ us. tree.List us) (sym (append-nil items)), w.1 ∙ ap (λ xs. Ok (93 ∷ xs)) z.1)
-    by_opening (inr w) later =
-        let q : (value o.0.1 >>= part_step) ≡ Ok s.0 = rw w.0 at o.2 in
-        let i = bind_ok (value o.0.1) part_step s.0 q in
-        let d = bind_ok (parted 93 i.0.1) (λ part. step_ok part.0 (items ++ i.0.0 ∷ []) part.1) s.0 i.2 in
-        let g = at_end d.0.0 (items ++ i.0.0 ∷ []) d.0.1 d.2 in
-        let is : Value o.0.1 i.0.0 i.0.1 = found o.0.1 i.0.0 i.0.1 i.1 in
-        of_parted i.0.0 i.0.1 w.1 w.2 w.3 is d.0 g (parted_parts 93 i.0.1 d.0 d.1) later
-      where
-        of_parted : (v : Tree) (mid : List ℕ) → next_part false inside ≡ Ok o.0.1 → is_empty o.0.1 ≡ false → begins 93 o.0.1 ≡ false → Value o.0.1 v mid → (part : Bool × List ℕ)
-            → cond part.0 (value_ok (tree.List (items ++ v ∷ [])) part.1) (list_from value fuel (items ++ v ∷ []) part.1) ≡ value_ok t after
-            → ((part.0 ≡ true) × (next_part false mid ≡ Ok (93 ∷ part.1))) ⊎ ((part.0 ≡ false) × (next_part false mid ≡ Ok (44 ∷ part.1))) → Later
-            → (vs : List Tree) × (t ≡ tree.List (items ++ vs)) × AreFlowItems Value inside vs after
-        of_parted v mid b e u is part g (inl p) later =
-            of_item v mid (93 ∷ part.1) (record { start = o.0.1; after = mid; begins_at = b; some = e; unclosed = u; value = is; ends_at = p.1 }) part g (inl (p.0, refl)) later
-        of_parted v mid b e u is part g (inr p) later =
-            of_item v mid (44 ∷ part.1) (record { start = o.0.1; after = mid; begins_at = b; some = e; unclosed = u; value = is; ends_at = p.1 }) part g (inr (p.0, refl)) later
+    by_step : IsStep 93 items inside (IsFlowItem Value inside) s.0 → Later → (vs : List Tree) × (t ≡ tree.List (items ++ vs)) × AreFlowItems Value inside vs after
+    by_step (inl w) later =
+        let g : value_ok (tree.List s.0.1) s.0.2 ≡ value_ok t after = rw w.0 at s.2 in
+        let z = same_value (tree.List s.0.1) t s.0.2 after g in
+        ([], sym z.0 ∙ ap (λ us. tree.List us) (w.1 ∙ sym (append-nil items)), w.2 ∙ ap (λ xs. Ok (93 ∷ xs)) z.1)
+    by_step (inr w) later = by_end w.0 w.1 w.2 later
 
 -- what is read of a flow map is its entries
 pub map_found : (Value : List ℕ → Tree → List ℕ → Type 0) (value : Reader) → IsOnlyRead Value value → (fuel : ℕ) (before : List Pair) (inside : List ℕ) (t : Tree) (after : List ℕ)
     → map_from value fuel before inside ≡ Ok (t, after) → (ps : List Pair) × (t ≡ tree.Map (before ++ ps)) × AreFlowEntries Value before inside ps after
-unfolding map_from map_step
+unfolding map_from
 map_found Value value found zero before inside t after h = absurd cc
-map_found Value value found (suc fuel) before inside t after h = by_opening (opened_parts 125 inside o.0 o.1) (λ us next t g. map_found Value value found fuel us next t after g)
+map_found Value value found (suc fuel) before inside t after h = by_step (map_steps Value value found before inside s.0 s.1) (λ us next t g. map_found Value value found fuel us next t after g)
   where
-    Step : Type 0
-    Step = Bool × List Pair × List ℕ
-
-    finish_step : Step → Result (Tree × List ℕ) YamlCause
+    finish_step : Step Pair → Result (Tree × List ℕ) YamlCause
     finish_step step = cond step.0 (value_ok (tree.Map step.1) step.2) (map_from value fuel step.1 step.2)
 
-    step_ok : Bool → List Pair → List ℕ → Result Step YamlCause
-    step_ok b us rest = Ok (b, us, rest)
-
-    part_step : Key → Tree × List ℕ → Result Step YamlCause
-    part_step k v = parted 125 v.1 >>= λ part. step_ok part.0 (with_entry before k v.0) part.1
-
-    value_step : Key × List ℕ → Result Step YamlCause
-    value_step k = entry_value value k.1 >>= part_step k.0
-
-    opened_step : Bool × List ℕ → Result Step YamlCause
-    opened_step opening = cond opening.0 (step_ok true before opening.1) (entry_key true before opening.1 >>= value_step)
-
-    s : (step : Step) × (map_step value before inside ≡ Ok step) × (finish_step step ≡ value_ok t after)
+    s : (step : Step Pair) × (map_step value before inside ≡ Ok step) × (finish_step step ≡ value_ok t after)
     s = bind_ok (map_step value before inside) finish_step (t, after) h
-
-    o : (opening : Bool × List ℕ) × (opened 125 inside ≡ Ok opening) × (opened_step opening ≡ Ok s.0)
-    o = bind_ok (opened 125 inside) opened_step s.0 s.1
-
-    at_end : (b : Bool) (us : List Pair) (rest : List ℕ) → step_ok b us rest ≡ Ok s.0 → cond b (value_ok (tree.Map us) rest) (map_from value fuel us rest) ≡ value_ok t after
-    at_end b us rest e = let q : (b, us, rest) ≡ s.0 = cc in ap finish_step q ∙ s.2
 
     Later : Type 0
     Later = (us : List Pair) (next : List ℕ) (t : Tree) → map_from value fuel us next ≡ Ok (t, after) → (ps : List Pair) × (t ≡ tree.Map (us ++ ps)) × AreFlowEntries Value us next ps after
 
-    of_entry : (p : Pair) (behind : List ℕ) → IsFlowEntry Value before inside p behind → (part : Bool × List ℕ) → cond part.0 (value_ok (tree.Map (before ++ p ∷ [])) part.1) (map_from value fuel (before ++ p ∷ []) part.1) ≡ value_ok t after
-        → ((part.0 ≡ true) × (behind ≡ 125 ∷ part.1)) ⊎ ((part.0 ≡ false) × (behind ≡ 44 ∷ part.1)) → Later → (ps : List Pair) × (t ≡ tree.Map (before ++ ps)) × AreFlowEntries Value before inside ps after
-    of_entry p behind entry part g (inl w) later =
-        let q : value_ok (tree.Map (before ++ p ∷ [])) part.1 ≡ value_ok t after = rw w.0 at g in
-        let z = same_value (tree.Map (before ++ p ∷ [])) t part.1 after q in
-        (p ∷ [], sym z.0, (behind, entry, inl (w.1 ∙ ap (λ xs. 125 ∷ xs) z.1, refl)))
-    of_entry p behind entry part g (inr w) later =
-        let q : map_from value fuel (before ++ p ∷ []) part.1 ≡ value_ok t after = rw w.0 at g in
-        let l = later (before ++ p ∷ []) part.1 t q in
-        (p ∷ l.0, l.1 ∙ ap (λ us. tree.Map us) (append_assoc before (p ∷ []) l.0), (behind, entry, inr (part.1, w.1, l.2)))
+    by_end : (p : Pair) → s.0.1 ≡ before ++ p ∷ [] → ((s.0.0 ≡ true) × IsFlowEntry Value before inside p (125 ∷ s.0.2)) ⊎ ((s.0.0 ≡ false) × IsFlowEntry Value before inside p (44 ∷ s.0.2)) → Later
+        → (ps : List Pair) × (t ≡ tree.Map (before ++ ps)) × AreFlowEntries Value before inside ps after
+    by_end p e (inl w) later =
+        let g : value_ok (tree.Map s.0.1) s.0.2 ≡ value_ok t after = rw w.0 at s.2 in
+        let z = same_value (tree.Map s.0.1) t s.0.2 after g in
+        (p ∷ [], sym z.0 ∙ ap (λ us. tree.Map us) e, (125 ∷ s.0.2, w.1, inl (ap (λ xs. 125 ∷ xs) z.1, refl)))
+    by_end p e (inr w) later =
+        let g : map_from value fuel s.0.1 s.0.2 ≡ value_ok t after = rw w.0 at s.2 in
+        let l = later s.0.1 s.0.2 t g in (
+          p ∷ l.0,
+          l.1 ∙ ap (λ us. tree.Map (us ++ l.0)) e ∙ ap (λ us. tree.Map us) (append_assoc before (p ∷ []) l.0),
+          (44 ∷ s.0.2, w.1, inr (s.0.2, refl, subst (λ us. AreFlowEntries Value us s.0.2 l.0 after) e l.2)),
+        )
 
-    of_parts : next_part false inside ≡ Ok o.0.1 → is_empty o.0.1 ≡ false → begins 125 o.0.1 ≡ false → (k : Key × List ℕ) → KeyRead true before o.0.1 k → (v : Tree) (mid : List ℕ)
-        → (at : List ℕ) × (next_part false k.1 ≡ Ok at) × (is_empty at ≡ false) × IsFlowValue Value at v mid → (behind : List ℕ) → next_part false mid ≡ Ok behind
-        → IsFlowEntry Value before inside (record { key = k.0; value = v }) behind
-    of_parts b e u k read v mid at behind p = record {
-      start = o.0.1;
-      scanned = read.scanned;
-      colon_at = read.after;
-      part = at.0;
-      after = mid;
-      begins_at = b;
-      some = e;
-      unclosed = u;
-      scalar = read.scan;
-      colon = read.colon;
-      key = read.is;
-      first = read.first;
-      value_at = ap (λ xs. next_part false xs) read.behind ∙ at.1;
-      ended = at.2;
-      value = at.3;
-      ends_at = p;
-    }
-
-    by_opening : ((o.0.0 ≡ true) × (next_part false inside ≡ Ok (125 ∷ o.0.1))) ⊎ ((o.0.0 ≡ false) × (next_part false inside ≡ Ok o.0.1) × (is_empty o.0.1 ≡ false) × (begins 125 o.0.1 ≡ false))
-        → Later → (ps : List Pair) × (t ≡ tree.Map (before ++ ps)) × AreFlowEntries Value before inside ps after
-    by_opening (inl w) later =
-        let q : step_ok true before o.0.1 ≡ Ok s.0 = rw w.0 at o.2 in
-        let g : value_ok (tree.Map before) o.0.1 ≡ value_ok t after = at_end true before o.0.1 q in
-        let z = same_value (tree.Map before) t o.0.1 after g in
-        ([], sym z.0 ∙ ap (λ us. tree.Map us) (sym (append-nil before)), w.1 ∙ ap (λ xs. Ok (125 ∷ xs)) z.1)
-    by_opening (inr w) later =
-        let q : (entry_key true before o.0.1 >>= value_step) ≡ Ok s.0 = rw w.0 at o.2 in
-        let k = bind_ok (entry_key true before o.0.1) value_step s.0 q in
-        let i = bind_ok (entry_value value k.0.1) (part_step k.0.0) s.0 k.2 in
-        let d = bind_ok (parted 125 i.0.1) (λ part. step_ok part.0 (with_entry before k.0.0 i.0.0) part.1) s.0 i.2 in
-        let g = at_end d.0.0 (with_entry before k.0.0 i.0.0) d.0.1 d.2 in
-        let read = key_parts true before o.0.1 k.0 k.1 in
-        let at = entry_value_parts Value value found k.0.1 i.0.0 i.0.1 i.1 in
-        of_parted k.0.0 i.0.0 i.0.1 (of_parts w.1 w.2 w.3 k.0 read i.0.0 i.0.1 at) d.0 g (parted_parts 125 i.0.1 d.0 d.1) later
-      where
-        of_parted : (k : Key) (v : Tree) (mid : List ℕ) → ((behind : List ℕ) → next_part false mid ≡ Ok behind → IsFlowEntry Value before inside (record { key = k; value = v }) behind) → (part : Bool × List ℕ)
-            → cond part.0 (value_ok (tree.Map (with_entry before k v)) part.1) (map_from value fuel (with_entry before k v) part.1) ≡ value_ok t after
-            → ((part.0 ≡ true) × (next_part false mid ≡ Ok (125 ∷ part.1))) ⊎ ((part.0 ≡ false) × (next_part false mid ≡ Ok (44 ∷ part.1))) → Later
-            → (ps : List Pair) × (t ≡ tree.Map (before ++ ps)) × AreFlowEntries Value before inside ps after
-        of_parted k v mid entry part g (inl p) later = of_entry (record { key = k; value = v }) (125 ∷ part.1) (entry (125 ∷ part.1) p.1) part g (inl (p.0, refl)) later
-        of_parted k v mid entry part g (inr p) later = of_entry (record { key = k; value = v }) (44 ∷ part.1) (entry (44 ∷ part.1) p.1) part g (inr (p.0, refl)) later
+    by_step : IsStep 125 before inside (IsFlowEntry Value before inside) s.0 → Later → (ps : List Pair) × (t ≡ tree.Map (before ++ ps)) × AreFlowEntries Value before inside ps after
+    by_step (inl w) later =
+        let g : value_ok (tree.Map s.0.1) s.0.2 ≡ value_ok t after = rw w.0 at s.2 in
+        let z = same_value (tree.Map s.0.1) t s.0.2 after g in
+        ([], sym z.0 ∙ ap (λ us. tree.Map us) (w.1 ∙ sym (append-nil before)), w.2 ∙ ap (λ xs. Ok (125 ∷ xs)) z.1)
+    by_step (inr w) later = by_end w.0 w.1 w.2 later

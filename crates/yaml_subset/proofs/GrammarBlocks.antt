@@ -20,10 +20,11 @@ use Rattle.yaml_subset.specs.Blocks.{list_frame, map_frame, top_is, in_blocks, g
 use Rattle.yaml_subset.specs.Gives.{◌>>=◌}
 use Rattle.yaml_subset.specs.Grammar.{Line, of_list, of_map, ItemValue, EntryValue, AreItems, AreEntries, IsBlock}
 use Rattle.yaml_subset.proofs.BlockLaws.{content_value}
-use Rattle.yaml_subset.proofs.LineValues.{bind_ok, same, KeyRead, key_parts, IsKey, IsValue, value_split}
+use Rattle.yaml_subset.proofs.LineValues.{bind_ok, same, IsKey, IsValue, value_split, key_found}
 use Rattle.yaml_subset.proofs.Steps.{steps, then_steps, Stands, Ends, ends, Passes, stands_closed}
 use Rattle.yaml_subset.proofs.GrammarRead.{levels_left, next_item, scan_no_dash, few}
 use Rattle.yaml_subset.proofs.GrammarSplits.{Stops, BlockSplit, NestedSplits, EntrySplit, rests, item_split, entry_split}
+use Rattle.yaml_subset.specs.FlowFaults.{IsNewKey}
 
 -- the lines that are read behind some items of a list: further items, and more
 record ItemsSplit (n at : ℕ) (fs : List Frame) (items : List Tree) (v : Tree) (ls : List Line) (end : State) : Type 0 where
@@ -201,13 +202,13 @@ entries_step m n nested at fs l pairs k v frames slot indent rest ls end later f
     key : Key × List ℕ
     key = both.0
 
-    read : KeyRead false before rest key
-    read = key_parts false before rest key both.1
+    read : IsNewKey false before rest key.0 key.1
+    read = key_found false before rest key.0 key.1 both.1
 
-    e : (part : List ℕ) × (next_part false (drop 1 read.after) ≡ Ok part) × EntrySplit (EntryValue n (IsBlock n) at part) (map_frame at before key.0) fs ls end
-    e = entry_split n nested before key.0 at fs (drop 1 read.after) ls end (levels key.0) (ap (λ xs. then_steps (behind_colon (map_frame at before key.0 ∷ fs) xs) ls) read.behind ∙ both.2)
+    e : (part : List ℕ) × (next_part false (drop 1 read.colon_at) ≡ Ok part) × EntrySplit (EntryValue n (IsBlock n) at part) (map_frame at before key.0) fs ls end
+    e = entry_split n nested before key.0 at fs (drop 1 read.colon_at) ls end (levels key.0) (ap (λ xs. then_steps (behind_colon (map_frame at before key.0 ∷ fs) xs) ls) (sym read.behind) ∙ both.2)
 
-    joins : (k' : Key) (read : KeyRead false before rest key) (part : List ℕ) → next_part false (drop 1 read.after) ≡ Ok part → (e : EntrySplit (EntryValue n (IsBlock n) at part) (map_frame at before key.0) fs ls end)
+    joins : (k' : Key) (read : IsNewKey false before rest key.0 key.1) (part : List ℕ) → next_part false (drop 1 read.colon_at) ≡ Ok part → (e : EntrySplit (EntryValue n (IsBlock n) at part) (map_frame at before key.0) fs ls end)
         → EntriesSplit n at fs before key.0 e.value e.more end → EntriesSplit n at fs pairs k v ((indent, rest) ∷ ls) end
     joins k' read part behind e w = record {
       later = (record { key = key.0; value = e.value }) ∷ w.later;
@@ -216,7 +217,7 @@ entries_step m n nested at fs l pairs k v frames slot indent rest ls end later f
       frames = w.frames;
       slot = w.slot;
       split = ap (λ (i : ℕ). (i, rest) ∷ ls) (sym (same at indent here)) ∙ ap (λ xs. (at, rest) ∷ xs) (joined ls e.below e.more w.below w.more e.split w.split);
-      are = (w.below, record { rest = rest; scanned = read.scanned; after = read.after; part = part; below = e.below; stands = refl; scalar = read.scan; colon = read.colon; key = read.is; first = read.first; behind = behind; value = e.is }, w.are);
+      are = (w.below, record { rest = rest; scanned = read.scanned; after = read.colon_at; part = part; below = e.below; stands = refl; scalar = read.scalar; colon = read.colon; key = read.key; first = read.first; behind = behind; value = e.is }, w.are);
       stands = subst (λ us. Stands (Ends at false fs) fs (tree.Map us) w.frames w.slot) (append_assoc pairs ((record { key = k; value = v }) ∷ []) ((record { key = key.0; value = e.value }) ∷ w.later)) w.stands;
       runs = w.runs;
       stops = w.stops;

@@ -1,5 +1,5 @@
 -- Reading tells the first fault of a line.
-use Rattle.std.proofs.Common.{◌≡◌, ◌⊎◌, inl, inr, ℕ, zero, suc, ◌+◌, ◌-◌, ◌<◌, ◌≤◌, ◌==◌, nat_le, Bool, true, false, cond, not, ◌||◌, ◌&&◌, List, [], ◌∷◌, ◌++◌, length, drop, Option, Some, None, Result, Ok, Err, refl, sym, ◌∙◌, ap, subst, arith}
+use Rattle.std.proofs.Common.{◌≡◌, ◌⊎◌, inl, inr, ℕ, zero, suc, ◌+◌, ◌-◌, ◌<◌, ◌≤◌, ◌==◌, nat_le, Bool, true, false, cond, ◌||◌, ◌&&◌, List, [], ◌∷◌, ◌++◌, length, drop, Option, Some, None, Result, Ok, Err, refl, sym, ◌∙◌, ap, subst, arith}
 use Rattle.std.specs.Prelude.{unwrap_or}
 use Rattle.std.proofs.lemmas.Bool.Decides.{nat_tests}
 use Rattle.yaml_subset.specs.declared.fault.YamlForm.{YamlForm}
@@ -33,11 +33,11 @@ use Rattle.yaml_subset.specs.LineFaults.{InSome, AloneFault, alone_tab, alone_va
 use Rattle.yaml_subset.proofs.ScalarFaults.{next_tells, line_end_tells, scan_tells}
 use Rattle.yaml_subset.proofs.FirstFaults.{tells_map, tells_if}
 use Rattle.yaml_subset.proofs.FaultsBehind.{tells_as, tells_then, tells_shift, tells_result, tells_one, Later, first_same, bind_assoc}
-use Rattle.yaml_subset.proofs.FlowFaults.{tells_part, tells_value, clash, key_tells, key_reads, key_found}
+use Rattle.yaml_subset.proofs.FlowFaults.{tells_part, tells_value, clash, key_tells, key_reads}
 use Rattle.yaml_subset.proofs.BracketFaults.{value_tells}
 use Rattle.yaml_subset.proofs.KeyCauses.{late_key}
 use Rattle.yaml_subset.proofs.FlowGrammar.{line_value_read, line_value_found, flow_opens}
-use Rattle.yaml_subset.proofs.LineValues.{no_mark_at_end, marks_begins, alone_read, alone_parts}
+use Rattle.yaml_subset.proofs.LineValues.{no_mark_at_end, marks_begins, alone_read, alone_parts, key_found}
 
 -- ---- what begins at a column
 

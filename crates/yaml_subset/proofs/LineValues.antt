@@ -17,6 +17,7 @@ use Rattle.yaml_subset.specs.Flow.{entry_key, key_fault, opens, flow_value}
 use Rattle.yaml_subset.specs.Blocks.{levels_in, line_value, block_value, value_alone, scalar_alone, first_key, key_or_value, content}
 use Rattle.yaml_subset.specs.Gives.{◌>>=◌}
 use Rattle.yaml_subset.proofs.BlockLaws.{content_value}
+use Rattle.yaml_subset.specs.FlowFaults.{IsNewKey}
 
 -- what is read has each of its parts
 pub bind_ok : {A B : Type 0} (r : Result A YamlCause) (f : A → Result B YamlCause) (y : B) → (r >>= f) ≡ Ok y → (x : A) × (r ≡ Ok x) × (f x ≡ Ok y)
@@ -57,42 +58,39 @@ no_bracket flow (x ∷ xs) h = by_test (x == 91) (x == 123) refl refl h
     by_test false false e f h = absurd cc
 
 -- a key that is read behind some entries
-pub record KeyRead (flow : Bool) (before : List Pair) (rest : List ℕ) (entry : Key × List ℕ) : Type 0 where
-  pub scanned : Scanned
-  pub after : List ℕ
-  pub scan : scan flow rest ≡ Ok (scanned, after)
-  pub colon : marks 58 after ≡ true
-  pub is : key_of scanned ≡ Ok entry.0
-  pub first : has_key before entry.0 ≡ false
-  pub behind : drop 1 after ≡ entry.1
-
-pub key_parts : (flow : Bool) (before : List Pair) (rest : List ℕ) (entry : Key × List ℕ) → entry_key flow before rest ≡ Ok entry → KeyRead flow before rest entry
+pub key_found : (flow : Bool) (before : List Pair) (rest : List ℕ) (k : Key) (after : List ℕ) → entry_key flow before rest ≡ Ok (k, after) → IsNewKey flow before rest k after
 unfolding entry_key
-key_parts flow before rest entry h = by_mark (marks 58 s.0.1) refl s.2
+key_found flow before rest k after h = by_mark (marks 58 s.0.1) refl s.2
   where
+    entry : Key → List ℕ → Result (Key × List ℕ) YamlCause
+    entry j xs = Ok (j, xs)
+
+    both : Key → List ℕ → Key × List ℕ
+    both j xs = (j, xs)
+
     fresh : List ℕ → Key → Bool → Result (Key × List ℕ) YamlCause
-    fresh after k b = cond b (Err DuplicateKey) (Ok (k, drop 1 after))
+    fresh xs j b = cond b (Err DuplicateKey) (entry j (drop 1 xs))
 
     marked : Scanned → List ℕ → Bool → Result (Key × List ℕ) YamlCause
-    marked s after b = cond b (key_of s >>= λ k. fresh after k (has_key before k)) (Err (key_fault flow s after))
+    marked s xs b = cond b (key_of s >>= λ j. fresh xs j (has_key before j)) (Err (key_fault flow s xs))
 
-    s : (s : Scanned × List ℕ) × (scan flow rest ≡ Ok s) × (marked s.0 s.1 (marks 58 s.1) ≡ Ok entry)
-    s = bind_ok (scan flow rest) (λ s. marked s.0 s.1 (marks 58 s.1)) entry h
+    s : (s : Scanned × List ℕ) × (scan flow rest ≡ Ok s) × (marked s.0 s.1 (marks 58 s.1) ≡ Ok (k, after))
+    s = bind_ok (scan flow rest) (λ s. marked s.0 s.1 (marks 58 s.1)) (k, after) h
 
-    by_fresh : marks 58 s.0.1 ≡ true → (k : Key) → key_of s.0.0 ≡ Ok k → (b : Bool) → has_key before k ≡ b → fresh s.0.1 k b ≡ Ok entry → KeyRead flow before rest entry
-    by_fresh m k e true g q = absurd cc
-    by_fresh m k e false g q =
-        let pair : (k, drop 1 s.0.1) ≡ entry = cc in
-        let key : k ≡ entry.0 = ap (λ x. x.0) pair in
-        record { scanned = s.0.0; after = s.0.1; scan = s.1; colon = m; is = e ∙ ap Ok key; first = ap (has_key before) (sym key) ∙ g; behind = ap (λ x. x.1) pair }
+    by_fresh : marks 58 s.0.1 ≡ true → (j : Key) → key_of s.0.0 ≡ Ok j → (b : Bool) → has_key before j ≡ b → fresh s.0.1 j b ≡ entry k after → IsNewKey flow before rest k after
+    by_fresh m j e true g q = absurd cc
+    by_fresh m j e false g q =
+        let pair : both j (drop 1 s.0.1) ≡ both k after = cc in
+        let key : j ≡ k = ap (λ x. x.0) pair in
+        record { scanned = s.0.0; colon_at = s.0.1; scalar = s.1; colon = m; key = e ∙ ap Ok key; first = ap (has_key before) (sym key) ∙ g; behind = sym (ap (λ x. x.1) pair) }
 
-    by_mark : (b : Bool) → marks 58 s.0.1 ≡ b → marked s.0.0 s.0.1 (marks 58 s.0.1) ≡ Ok entry → KeyRead flow before rest entry
+    by_mark : (b : Bool) → marks 58 s.0.1 ≡ b → marked s.0.0 s.0.1 (marks 58 s.0.1) ≡ entry k after → IsNewKey flow before rest k after
     by_mark true m q =
-        let q' : (key_of s.0.0 >>= λ k. fresh s.0.1 k (has_key before k)) ≡ Ok entry = rw m at q in
-        let d = bind_ok (key_of s.0.0) (λ k. fresh s.0.1 k (has_key before k)) entry q' in
+        let q' : (key_of s.0.0 >>= λ j. fresh s.0.1 j (has_key before j)) ≡ entry k after = rw m at q in
+        let d = bind_ok (key_of s.0.0) (λ j. fresh s.0.1 j (has_key before j)) (k, after) q' in
         by_fresh m d.0 d.1 (has_key before d.0) refl d.2
     by_mark false m q =
-        let q' : Err (key_fault flow s.0.0 s.0.1) ≡ Ok entry = rw m at q in
+        let q' : Err (key_fault flow s.0.0 s.0.1) ≡ entry k after = rw m at q in
         absurd cc
 
 -- where a colon follows, the line has not ended

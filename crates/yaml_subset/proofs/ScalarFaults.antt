@@ -1,5 +1,5 @@
 -- What reading a scalar tells is the first fault that stands in it, and so between the parts of a line.
-use Rattle.std.proofs.Common.{◌≡◌, ◌⊎◌, inl, inr, ℕ, suc, ◌+◌, ◌==◌, Bool, true, false, cond, ◌||◌, List, [], ◌∷◌, Result, Ok, Err, refl, sym, ap, subst, arith}
+use Rattle.std.proofs.Common.{◌≡◌, ◌⊎◌, inl, inr, ℕ, suc, ◌+◌, ◌==◌, Bool, false, cond, ◌||◌, List, [], ◌∷◌, Result, Ok, Err, refl, sym, ap, subst, arith}
 use Rattle.yaml_subset.specs.declared.fault.YamlCause.{YamlCause}
 use Rattle.yaml_subset.specs.declared.quoted.Escape.TheVariants.{Outside}
 use Rattle.yaml_subset.specs.declared.scalars.Scanned.{Scanned}

@@ -2,9 +2,9 @@
 -- one line. Columns count from the first byte of the part, those of a line from its first byte.
 use Rattle.std.specs.Prelude.{◌≡◌, ◌⊎◌, ℕ, zero, suc, Bool, true, false, ◌||◌, ◌&&◌, not, ◌==◌, if◌then◌else◌, ◌+◌, ◌-◌, ◌<◌, List, [], ◌∷◌, length, drop, Option, Some, Ok, Err}
 use Rattle.yaml_subset.specs.declared.fault.YamlForm.{YamlForm}
-use Rattle.yaml_subset.specs.declared.fault.YamlForm.TheVariants.{Directive, MergeKey, Documents, Wide}
+use Rattle.yaml_subset.specs.declared.fault.YamlForm.TheVariants.{Directive, Documents}
 use Rattle.yaml_subset.specs.declared.fault.YamlCause.{YamlCause}
-use Rattle.yaml_subset.specs.declared.fault.YamlCause.TheVariants.{NotUtf8, TooDeep, Tab, LeftOut, Indent, Syntax}
+use Rattle.yaml_subset.specs.declared.fault.YamlCause.TheVariants.{TooDeep, Tab, LeftOut, Indent, Syntax}
 use Rattle.yaml_subset.specs.declared.scalars.Scanned.{Scanned}
 use Rattle.yaml_subset.specs.declared.stack.Open.{Open}
 use Rattle.yaml_subset.specs.declared.stack.Open.TheVariants as open_

@@ -1,22 +1,16 @@
 -- Which faults stand in a scalar as it is written, and between the parts of a line. Several may stand in
 -- the same bytes. Columns count from the first byte of the part.
-use Rattle.std.specs.Prelude.{◌≡◌, ℕ, suc, ◌+◌, ◌-◌, Bool, true, false, ◌||◌, ◌&&◌, not, ◌==◌, List, [], ◌∷◌, ◌++◌, length, Some, Result, Ok, Err}
-use Rattle.std.specs.Str.{is_utf8}
+use Rattle.std.specs.Prelude.{◌≡◌, ℕ, suc, ◌+◌, ◌-◌, Bool, true, false, ◌||◌, ◌&&◌, not, ◌==◌, List, [], ◌∷◌, ◌++◌, length, Some, Ok, Err}
 use Rattle.yaml_subset.specs.declared.fault.YamlForm.{YamlForm}
 use Rattle.yaml_subset.specs.declared.fault.YamlForm.TheVariants.{LongFlow, LongQuote}
-use Rattle.yaml_subset.specs.declared.fault.YamlForm.TheVariants as form
 use Rattle.yaml_subset.specs.declared.fault.YamlCause.{YamlCause}
-use Rattle.yaml_subset.specs.declared.fault.YamlCause.TheVariants.{NotUtf8, Tab, LeftOut, Syntax}
-use Rattle.yaml_subset.specs.declared.numbers.Number.TheVariants.{Not, Wide}
+use Rattle.yaml_subset.specs.declared.fault.YamlCause.TheVariants.{Tab, LeftOut, Syntax}
 use Rattle.yaml_subset.specs.declared.scalars.Scanned.{Scanned}
-use Rattle.yaml_subset.specs.declared.tree.Tree.{Tree}
 use Rattle.yaml_subset.specs.Characters.{is_empty, begins, skip, is_control, is_kept, at_gap, left_out}
 use Rattle.yaml_subset.specs.Plain.{is_flow, is_reserved, plain_ends}
 use Rattle.yaml_subset.specs.SingleQuoted.{doubled}
 use Rattle.yaml_subset.specs.DoubleQuoted.{IsSpelled, BeginsEscape, IsUnfinished}
-use Rattle.yaml_subset.specs.Numbers.{number_of}
 use Rattle.yaml_subset.specs.Scalars.{scan, value_at}
-use Rattle.yaml_subset.specs.Gives.{◌>>=◌}
 
 -- a control character stands there that may stand neither in quotes nor in comments
 pub record ControlAt (bytes : List ℕ) (at : ℕ) : Type 0 where
