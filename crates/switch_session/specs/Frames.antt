@@ -1,7 +1,7 @@
 -- Frames in a stream of bytes (OpenFlow 1.3, 7.1): each begins with a header of 8 bytes, which tells the length of the whole.
 use Rattle.std.specs.Prelude.{◌≡◌, ◌≤◌, ◌<◌, ℕ, List, [], ◌∷◌, ◌++◌, length}
 use Rattle.std.specs.List.{concat, AllByRecursion}
-use Rattle.of13_codec.specs.Decoding.{head_of}
+use Rattle.of_wire.specs.Numbers.{number_in}
 use Rattle.switch_session.specs.declared.stream.Got.{Got}
 use Rattle.switch_session.specs.declared.stream.Got.TheVariants.{NotYet, Frame, Bad}
 use Rattle.switch_session.specs.declared.stream.Cut.{Cut}
@@ -9,7 +9,7 @@ use Rattle.switch_session.specs.declared.stream.Cut.TheVariants.{NotYet as Nothi
 
 -- the length that the header at the front tells
 abbrev pub told : List ℕ → ℕ
-told bytes = (head_of bytes).length
+told bytes = number_in 2 2 bytes
 
 -- a header, and as many bytes as it tells
 pub record IsFrame (bytes : List ℕ) : Type 0 where

@@ -1,1 +1,5 @@
+pub mod Closings
+pub mod Connections
 pub mod Frames
+pub mod Stages
+pub mod Told

@@ -1,7 +1,17 @@
 //! One connection to a switch: the frames of its byte stream, and what its messages do to it.
 #![tactic(auto)]
 
+mod closing;
 pub mod laws;
+mod ports;
+mod quiet;
+mod session;
+mod state;
 mod stream;
 
+pub use closing::Closing;
+pub use ports::PortTold;
+pub use quiet::Quiet;
+pub use session::Session;
+pub use state::{Stage, Step};
 pub use stream::{Frame, Got, Stream};
