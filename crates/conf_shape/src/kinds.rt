@@ -1,0 +1,93 @@
+/// What a value that is no list and no map has to be.
+#[derive(Clone, Copy)]
+pub enum Scalar {
+    /// `true` or `false`.
+    Flag,
+    /// A whole number in a range.
+    Number { low: u64, high: u64 },
+    /// A text of 1 to 255 bytes.
+    Name,
+    /// Any text.
+    Words,
+    /// Any text, or a whole number, which stands for its decimal digits.
+    Label,
+    /// Any text, or a whole number in a range: a VLAN or a port, by its name or its number.
+    Reference { low: u64, high: u64 },
+    /// `true`, `false`, 1 or 0.
+    Permission,
+    /// A flag, a whole number or a text, which has no effect.
+    NoEffect,
+    /// The Ethernet address of one station, not zero.
+    StationMac,
+    /// An Ethernet address, or one with a slash and a mask.
+    MaskedMac,
+    /// An IPv4 address with the length of its network, 1 to 31.
+    Vip,
+    /// An IPv4 network without host bits.
+    Destination,
+    /// An IPv4 address.
+    Gateway,
+    /// An IPv4 address, or an IPv4 network without host bits, in a match.
+    Prefix,
+}
+
+/// A kind of map of a configuration.
+#[derive(Clone, Copy)]
+pub enum MapKind {
+    /// The whole document.
+    Top,
+    /// `dps`: datapaths by their names.
+    Datapaths,
+    Datapath,
+    /// `stack` of a datapath.
+    DatapathStack,
+    /// `interfaces`: interfaces by their numbers or names.
+    Interfaces,
+    /// An interface; its number where its key gives it.
+    Interface { number: Option<u64> },
+    /// `stack` of an interface.
+    PortStack,
+    /// `vlans`: VLANs by their numbers or names.
+    Vlans,
+    /// A VLAN; its number where its key gives it.
+    Vlan { number: Option<u64> },
+    /// An item of `routes`.
+    RouteItem,
+    Route,
+    /// `acls`: lists of rules by their names.
+    Acls,
+    /// An item of an ACL.
+    RuleItem,
+    Rule,
+    Actions,
+    Output,
+    /// `routers`: routers by their names.
+    Routers,
+    Router,
+}
+
+/// What a value has to be.
+#[derive(Clone, Copy)]
+pub enum Kind {
+    One(Scalar),
+    /// A list of such values.
+    Several(Scalar),
+    /// Such a value or a list of them.
+    OneOrSeveral(Scalar),
+    /// A whole number in a range, and the number of the map's own key where that gives one.
+    Given { low: u64, high: u64 },
+    Map(MapKind),
+    /// A list of such maps.
+    Maps(MapKind),
+    /// Such a map or a list of them.
+    MapOrMaps(MapKind),
+}
+
+/// Whether a key has to be there.
+#[derive(Clone, Copy)]
+pub enum Need {
+    Always,
+    /// Where the map's own key gives no number.
+    UnlessNumbered,
+    Never,
+}
