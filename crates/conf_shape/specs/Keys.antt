@@ -33,244 +33,244 @@ row key kind need = record { key = key; kind = kind; need = need }
 abbrev pub top_keys : Keys
 top_keys = record {
   rows =
-    row (codes "dps") (Map Datapaths) Always ∷
-    row (codes "vlans") (Map Vlans) Never ∷
-    row (codes "acls") (Map Acls) Never ∷
-    row (codes "routers") (Map Routers) Never ∷
-    row (codes "version") (One (Number 2 2)) Never ∷
-    [];
+      row (codes "dps") (Map Datapaths) Always ∷
+      row (codes "vlans") (Map Vlans) Never ∷
+      row (codes "acls") (Map Acls) Never ∷
+      row (codes "routers") (Map Routers) Never ∷
+      row (codes "version") (One (Number 2 2)) Never ∷
+      [];
   left_out =
-    codes "include" ∷ codes "include-optional" ∷ codes "meters" ∷ [];
+      codes "include" ∷ codes "include-optional" ∷ codes "meters" ∷ [];
   spellings =
-    [];
+      [];
   unlisted = UnknownKey;
 }
 
 abbrev pub datapath_keys : Keys
 datapath_keys = record {
   rows =
-    row (codes "dp_id") (One (Number 0 (2 ^ 64 - 1))) Always ∷
-    row (codes "interfaces") (Map Interfaces) Always ∷
-    row (codes "name") (One Name) Never ∷
-    row (codes "description") (One Name) Never ∷
-    row (codes "hardware") (One Words) Never ∷
-    row (codes "timeout") (One (Number 1 604800)) Never ∷
-    row (codes "arp_neighbor_timeout") (One (Number 1 604800)) Never ∷
-    row (codes "stack") (Map DatapathStack) Never ∷
-    row (codes "drop_spoofed_faucet_mac") (One Flag) Never ∷
-    row (codes "drop_broadcast_source_address") (One Flag) Never ∷
-    row (codes "drop_bpdu") (One Flag) Never ∷
-    row (codes "drop_lldp") (One Flag) Never ∷
-    row (codes "learn_ban_timeout") (One NoEffect) Never ∷
-    row (codes "learn_jitter") (One NoEffect) Never ∷
-    row (codes "ignore_learn_ins") (One NoEffect) Never ∷
-    row (codes "packetin_pps") (One NoEffect) Never ∷
-    row (codes "slowpath_pps") (One NoEffect) Never ∷
-    row (codes "max_resolve_backoff_time") (One NoEffect) Never ∷
-    row (codes "max_host_fib_retry_count") (One NoEffect) Never ∷
-    row (codes "max_hosts_per_resolve_cycle") (One NoEffect) Never ∷
-    row (codes "metrics_rate_limit_sec") (One NoEffect) Never ∷
-    row (codes "ofchannel_log") (One NoEffect) Never ∷
-    row (codes "combinatorial_port_flood") (One NoEffect) Never ∷
-    row (codes "cache_update_guard_time") (One NoEffect) Never ∷
-    [];
+      row (codes "dp_id") (One (Number 0 (2 ^ 64 - 1))) Always ∷
+      row (codes "interfaces") (Map Interfaces) Always ∷
+      row (codes "name") (One Name) Never ∷
+      row (codes "description") (One Name) Never ∷
+      row (codes "hardware") (One Words) Never ∷
+      row (codes "timeout") (One (Number 1 604800)) Never ∷
+      row (codes "arp_neighbor_timeout") (One (Number 1 604800)) Never ∷
+      row (codes "stack") (Map DatapathStack) Never ∷
+      row (codes "drop_spoofed_faucet_mac") (One Flag) Never ∷
+      row (codes "drop_broadcast_source_address") (One Flag) Never ∷
+      row (codes "drop_bpdu") (One Flag) Never ∷
+      row (codes "drop_lldp") (One Flag) Never ∷
+      row (codes "learn_ban_timeout") (One NoEffect) Never ∷
+      row (codes "learn_jitter") (One NoEffect) Never ∷
+      row (codes "ignore_learn_ins") (One NoEffect) Never ∷
+      row (codes "packetin_pps") (One NoEffect) Never ∷
+      row (codes "slowpath_pps") (One NoEffect) Never ∷
+      row (codes "max_resolve_backoff_time") (One NoEffect) Never ∷
+      row (codes "max_host_fib_retry_count") (One NoEffect) Never ∷
+      row (codes "max_hosts_per_resolve_cycle") (One NoEffect) Never ∷
+      row (codes "metrics_rate_limit_sec") (One NoEffect) Never ∷
+      row (codes "ofchannel_log") (One NoEffect) Never ∷
+      row (codes "combinatorial_port_flood") (One NoEffect) Never ∷
+      row (codes "cache_update_guard_time") (One NoEffect) Never ∷
+      [];
   left_out =
-    codes "interface_ranges" ∷ codes "lldp_beacon" ∷ codes "dot1x" ∷ codes "egress_pipeline" ∷
-    codes "group_table" ∷ codes "use_idle_timeout" ∷ codes "priority_offset" ∷ codes "low_priority" ∷
-    codes "high_priority" ∷ codes "lowest_priority" ∷ codes "highest_priority" ∷ codes "proactive_learn_v4" ∷
-    codes "proactive_learn_v6" ∷ codes "nd_neighbor_timeout" ∷ codes "idle_dst" ∷ codes "dp_acls" ∷
-    codes "global_vlan" ∷ codes "strict_packet_in_cookie" ∷ codes "multi_out" ∷ codes "advertise_interval" ∷
-    codes "table_sizes" ∷ codes "use_classification" ∷ codes "lacp_timeout" ∷ [];
+      codes "interface_ranges" ∷ codes "lldp_beacon" ∷ codes "dot1x" ∷ codes "egress_pipeline" ∷
+      codes "group_table" ∷ codes "use_idle_timeout" ∷ codes "priority_offset" ∷ codes "low_priority" ∷
+      codes "high_priority" ∷ codes "lowest_priority" ∷ codes "highest_priority" ∷ codes "proactive_learn_v4" ∷
+      codes "proactive_learn_v6" ∷ codes "nd_neighbor_timeout" ∷ codes "idle_dst" ∷ codes "dp_acls" ∷
+      codes "global_vlan" ∷ codes "strict_packet_in_cookie" ∷ codes "multi_out" ∷ codes "advertise_interval" ∷
+      codes "table_sizes" ∷ codes "use_classification" ∷ codes "lacp_timeout" ∷ [];
   spellings =
-    [];
+      [];
   unlisted = UnknownKey;
 }
 
 abbrev pub datapath_stack_keys : Keys
 datapath_stack_keys = record {
   rows =
-    row (codes "priority") (One (Number 0 (2 ^ 32 - 1))) Never ∷
-    [];
+      row (codes "priority") (One (Number 0 (2 ^ 32 - 1))) Never ∷
+      [];
   left_out =
-    [];
+      [];
   spellings =
-    [];
+      [];
   unlisted = LeftOut;
 }
 
 abbrev pub interface_keys : Keys
 interface_keys = record {
   rows =
-    row (codes "number") (Given 1 0xffffff00) UnlessNumbered ∷
-    row (codes "name") (One Name) Never ∷
-    row (codes "description") (One Name) Never ∷
-    row (codes "enabled") (One Flag) Never ∷
-    row (codes "unicast_flood") (One Flag) Never ∷
-    row (codes "opstatus_reconf") (One Flag) Never ∷
-    row (codes "output_only") (One Flag) Never ∷
-    row (codes "hairpin") (One Flag) Never ∷
-    row (codes "permanent_learn") (One Flag) Never ∷
-    row (codes "native_vlan") (One (Reference 1 4094)) Never ∷
-    row (codes "tagged_vlans") (Several (Reference 1 4094)) Never ∷
-    row (codes "acl_in") (One Label) Never ∷
-    row (codes "acls_in") (Several Label) Never ∷
-    row (codes "max_hosts") (One (Number 1 16384)) Never ∷
-    row (codes "mirror") (OneOrSeveral (Reference 1 0xffffff00)) Never ∷
-    row (codes "stack") (Map PortStack) Never ∷
-    [];
+      row (codes "number") (Given 1 0xffffff00) UnlessNumbered ∷
+      row (codes "name") (One Name) Never ∷
+      row (codes "description") (One Name) Never ∷
+      row (codes "enabled") (One Flag) Never ∷
+      row (codes "unicast_flood") (One Flag) Never ∷
+      row (codes "opstatus_reconf") (One Flag) Never ∷
+      row (codes "output_only") (One Flag) Never ∷
+      row (codes "hairpin") (One Flag) Never ∷
+      row (codes "permanent_learn") (One Flag) Never ∷
+      row (codes "native_vlan") (One (Reference 1 4094)) Never ∷
+      row (codes "tagged_vlans") (Several (Reference 1 4094)) Never ∷
+      row (codes "acl_in") (One Label) Never ∷
+      row (codes "acls_in") (Several Label) Never ∷
+      row (codes "max_hosts") (One (Number 1 16384)) Never ∷
+      row (codes "mirror") (OneOrSeveral (Reference 1 0xffffff00)) Never ∷
+      row (codes "stack") (Map PortStack) Never ∷
+      [];
   left_out =
-    codes "acls_out" ∷ codes "dot1x" ∷ codes "dot1x_acl" ∷ codes "dot1x_mab" ∷ codes "lacp" ∷
-    codes "lacp_active" ∷ codes "lldp_beacon" ∷ codes "receive_lldp" ∷ codes "loop_protect" ∷
-    codes "loop_protect_external" ∷ codes "override_output_port" ∷ codes "restricted_bcast_arpnd" ∷
-    codes "coprocessor" ∷ [];
+      codes "acls_out" ∷ codes "dot1x" ∷ codes "dot1x_acl" ∷ codes "dot1x_mab" ∷ codes "lacp" ∷
+      codes "lacp_active" ∷ codes "lldp_beacon" ∷ codes "receive_lldp" ∷ codes "loop_protect" ∷
+      codes "loop_protect_external" ∷ codes "override_output_port" ∷ codes "restricted_bcast_arpnd" ∷
+      codes "coprocessor" ∷ [];
   spellings =
-    [];
+      [];
   unlisted = UnknownKey;
 }
 
 abbrev pub port_stack_keys : Keys
 port_stack_keys = record {
   rows =
-    row (codes "dp") (One Words) Always ∷
-    row (codes "port") (One (Reference 1 0xffffff00)) Always ∷
-    [];
+      row (codes "dp") (One Words) Always ∷
+      row (codes "port") (One (Reference 1 0xffffff00)) Always ∷
+      [];
   left_out =
-    [];
+      [];
   spellings =
-    [];
+      [];
   unlisted = UnknownKey;
 }
 
 abbrev pub vlan_keys : Keys
 vlan_keys = record {
   rows =
-    row (codes "vid") (Given 1 4094) UnlessNumbered ∷
-    row (codes "name") (One Name) Never ∷
-    row (codes "description") (One Name) Never ∷
-    row (codes "acl_in") (One Label) Never ∷
-    row (codes "acls_in") (Several Label) Never ∷
-    row (codes "faucet_mac") (One StationMac) Never ∷
-    row (codes "faucet_vips") (Several Vip) Never ∷
-    row (codes "routes") (Maps RouteItem) Never ∷
-    row (codes "max_hosts") (One (Number 1 16384)) Never ∷
-    row (codes "unicast_flood") (One Flag) Never ∷
-    [];
+      row (codes "vid") (Given 1 4094) UnlessNumbered ∷
+      row (codes "name") (One Name) Never ∷
+      row (codes "description") (One Name) Never ∷
+      row (codes "acl_in") (One Label) Never ∷
+      row (codes "acls_in") (Several Label) Never ∷
+      row (codes "faucet_mac") (One StationMac) Never ∷
+      row (codes "faucet_vips") (Several Vip) Never ∷
+      row (codes "routes") (Maps RouteItem) Never ∷
+      row (codes "max_hosts") (One (Number 1 16384)) Never ∷
+      row (codes "unicast_flood") (One Flag) Never ∷
+      [];
   left_out =
-    codes "acls_out" ∷ codes "targeted_gw_resolution" ∷ codes "minimum_ip_size_check" ∷
-    codes "proactive_arp_limit" ∷ codes "proactive_nd_limit" ∷ [];
+      codes "acls_out" ∷ codes "targeted_gw_resolution" ∷ codes "minimum_ip_size_check" ∷
+      codes "proactive_arp_limit" ∷ codes "proactive_nd_limit" ∷ [];
   spellings =
-    [];
+      [];
   unlisted = UnknownKey;
 }
 
 abbrev pub route_item_keys : Keys
 route_item_keys = record {
   rows =
-    row (codes "route") (Map Route) Always ∷
-    [];
+      row (codes "route") (Map Route) Always ∷
+      [];
   left_out =
-    [];
+      [];
   spellings =
-    [];
+      [];
   unlisted = UnknownKey;
 }
 
 abbrev pub route_keys : Keys
 route_keys = record {
   rows =
-    row (codes "ip_dst") (One Destination) Always ∷
-    row (codes "ip_gw") (One Gateway) Always ∷
-    [];
+      row (codes "ip_dst") (One Destination) Always ∷
+      row (codes "ip_gw") (One Gateway) Always ∷
+      [];
   left_out =
-    [];
+      [];
   spellings =
-    [];
+      [];
   unlisted = UnknownKey;
 }
 
 abbrev pub rule_item_keys : Keys
 rule_item_keys = record {
   rows =
-    row (codes "rule") (Map Rule) Always ∷
-    [];
+      row (codes "rule") (Map Rule) Always ∷
+      [];
   left_out =
-    [];
+      [];
   spellings =
-    [];
+      [];
   unlisted = UnknownKey;
 }
 
 abbrev pub rule_keys : Keys
 rule_keys = record {
   rows =
-    row (codes "actions") (Map Actions) Always ∷
-    row (codes "description") (One Words) Never ∷
-    row (codes "eth_src") (One MaskedMac) Never ∷
-    row (codes "eth_dst") (One MaskedMac) Never ∷
-    row (codes "eth_type") (One (Number 0 0xffff)) Never ∷
-    row (codes "vlan_vid") (One (Number 1 4094)) Never ∷
-    row (codes "vlan_pcp") (One (Number 0 7)) Never ∷
-    row (codes "ip_proto") (One (Number 0 255)) Never ∷
-    row (codes "ipv4_src") (One Prefix) Never ∷
-    row (codes "ipv4_dst") (One Prefix) Never ∷
-    row (codes "tcp_src") (One (Number 0 0xffff)) Never ∷
-    row (codes "tcp_dst") (One (Number 0 0xffff)) Never ∷
-    row (codes "udp_src") (One (Number 0 0xffff)) Never ∷
-    row (codes "udp_dst") (One (Number 0 0xffff)) Never ∷
-    row (codes "icmpv4_type") (One (Number 0 255)) Never ∷
-    row (codes "icmpv4_code") (One (Number 0 255)) Never ∷
-    row (codes "arp_op") (One (Number 0 0xffff)) Never ∷
-    row (codes "arp_spa") (One Prefix) Never ∷
-    row (codes "arp_tpa") (One Prefix) Never ∷
-    [];
+      row (codes "actions") (Map Actions) Always ∷
+      row (codes "description") (One Words) Never ∷
+      row (codes "eth_src") (One MaskedMac) Never ∷
+      row (codes "eth_dst") (One MaskedMac) Never ∷
+      row (codes "eth_type") (One (Number 0 0xffff)) Never ∷
+      row (codes "vlan_vid") (One (Number 1 4094)) Never ∷
+      row (codes "vlan_pcp") (One (Number 0 7)) Never ∷
+      row (codes "ip_proto") (One (Number 0 255)) Never ∷
+      row (codes "ipv4_src") (One Prefix) Never ∷
+      row (codes "ipv4_dst") (One Prefix) Never ∷
+      row (codes "tcp_src") (One (Number 0 0xffff)) Never ∷
+      row (codes "tcp_dst") (One (Number 0 0xffff)) Never ∷
+      row (codes "udp_src") (One (Number 0 0xffff)) Never ∷
+      row (codes "udp_dst") (One (Number 0 0xffff)) Never ∷
+      row (codes "icmpv4_type") (One (Number 0 255)) Never ∷
+      row (codes "icmpv4_code") (One (Number 0 255)) Never ∷
+      row (codes "arp_op") (One (Number 0 0xffff)) Never ∷
+      row (codes "arp_spa") (One Prefix) Never ∷
+      row (codes "arp_tpa") (One Prefix) Never ∷
+      [];
   left_out =
-    codes "cookie" ∷ codes "in_port" ∷ codes "ip_dscp" ∷ codes "ip_ecn" ∷ codes "ipv6_src" ∷ codes "ipv6_dst" ∷
-    codes "icmpv6_type" ∷ codes "icmpv6_code" ∷ codes "ipv6_nd_target" ∷ [];
+      codes "cookie" ∷ codes "in_port" ∷ codes "ip_dscp" ∷ codes "ip_ecn" ∷ codes "ipv6_src" ∷ codes "ipv6_dst" ∷
+      codes "icmpv6_type" ∷ codes "icmpv6_code" ∷ codes "ipv6_nd_target" ∷ [];
   spellings =
-    (codes "dl_src", codes "eth_src") ∷ (codes "dl_dst", codes "eth_dst") ∷
-    (codes "dl_type", codes "eth_type") ∷ (codes "dl_vlan", codes "vlan_vid") ∷
-    (codes "dl_vlan_pcp", codes "vlan_pcp") ∷ (codes "nw_proto", codes "ip_proto") ∷
-    (codes "nw_src", codes "ipv4_src") ∷ (codes "nw_dst", codes "ipv4_dst") ∷ [];
+      (codes "dl_src", codes "eth_src") ∷ (codes "dl_dst", codes "eth_dst") ∷
+      (codes "dl_type", codes "eth_type") ∷ (codes "dl_vlan", codes "vlan_vid") ∷
+      (codes "dl_vlan_pcp", codes "vlan_pcp") ∷ (codes "nw_proto", codes "ip_proto") ∷
+      (codes "nw_src", codes "ipv4_src") ∷ (codes "nw_dst", codes "ipv4_dst") ∷ [];
   unlisted = UnknownKey;
 }
 
 abbrev pub actions_keys : Keys
 actions_keys = record {
   rows =
-    row (codes "allow") (One Permission) Never ∷
-    row (codes "mirror") (One (Reference 1 0xffffff00)) Never ∷
-    row (codes "output") (MapOrMaps Output) Never ∷
-    [];
+      row (codes "allow") (One Permission) Never ∷
+      row (codes "mirror") (One (Reference 1 0xffffff00)) Never ∷
+      row (codes "output") (MapOrMaps Output) Never ∷
+      [];
   left_out =
-    codes "meter" ∷ codes "ct" ∷ codes "force_port_vlan" ∷ [];
+      codes "meter" ∷ codes "ct" ∷ codes "force_port_vlan" ∷ [];
   spellings =
-    [];
+      [];
   unlisted = UnknownKey;
 }
 
 abbrev pub output_keys : Keys
 output_keys = record {
   rows =
-    row (codes "port") (One (Reference 1 0xffffff00)) Never ∷
-    row (codes "ports") (Several (Reference 1 0xffffff00)) Never ∷
-    [];
+      row (codes "port") (One (Reference 1 0xffffff00)) Never ∷
+      row (codes "ports") (Several (Reference 1 0xffffff00)) Never ∷
+      [];
   left_out =
-    codes "set_fields" ∷ codes "vlan_vid" ∷ codes "vlan_vids" ∷ codes "pop_vlans" ∷ codes "swap_vid" ∷
-    codes "failover" ∷ codes "tunnel" ∷ [];
+      codes "set_fields" ∷ codes "vlan_vid" ∷ codes "vlan_vids" ∷ codes "pop_vlans" ∷ codes "swap_vid" ∷
+      codes "failover" ∷ codes "tunnel" ∷ [];
   spellings =
-    [];
+      [];
   unlisted = UnknownKey;
 }
 
 abbrev pub router_keys : Keys
 router_keys = record {
   rows =
-    row (codes "vlans") (Several (Reference 1 4094)) Always ∷
-    [];
+      row (codes "vlans") (Several (Reference 1 4094)) Always ∷
+      [];
   left_out =
-    codes "bgp" ∷ [];
+      codes "bgp" ∷ [];
   spellings =
-    [];
+      [];
   unlisted = UnknownKey;
 }
 

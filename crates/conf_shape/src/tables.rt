@@ -1,6 +1,16 @@
 ghost use Rattle.std.specs.Prelude.{◌≡◌};
 ghost use Rattle.conf_shape.specs.Keys.{seen_table, keys_of};
 
+use crate::kinds::Kind::{Given, Map, MapOrMaps, Maps, One, OneOrSeveral, Several};
+use crate::kinds::MapKind::{
+    Acls, Actions, DatapathStack, Datapaths, Interfaces, Output, PortStack, Route, RouteItem,
+    Routers, Rule, Vlans,
+};
+use crate::kinds::Need::{Always, Never, UnlessNumbered};
+use crate::kinds::Scalar::{
+    Destination, Flag, Gateway, Label, MaskedMac, Name, NoEffect, Number, Permission, Prefix,
+    Reference, StationMac, Vip, Words,
+};
 use crate::kinds::{Kind, MapKind, Need, Scalar};
 use crate::refused::ConfCause;
 
@@ -35,13 +45,31 @@ macro_rules! row {
     };
 }
 
+macro_rules! number {
+    ($low:expr, $high:expr) => {
+        Number {
+            low: $low,
+            high: $high,
+        }
+    };
+}
+
+/// A VLAN by its name or its number.
+const VLAN_NAMED: Scalar = Reference { low: 1, high: 4094 };
+
+/// A port by its name or its number.
+const PORT_NAMED: Scalar = Reference {
+    low: 1,
+    high: 0xffff_ff00,
+};
+
 const TOP: Table = Table {
     rows: &[
-        row!("dps", Kind::Map(MapKind::Datapaths), Need::Always),
-        row!("vlans", Kind::Map(MapKind::Vlans), Need::Never),
-        row!("acls", Kind::Map(MapKind::Acls), Need::Never),
-        row!("routers", Kind::Map(MapKind::Routers), Need::Never),
-        row!("version", Kind::One(Scalar::Number { low: 2, high: 2 }), Need::Never),
+        row!("dps", Map(Datapaths), Always),
+        row!("vlans", Map(Vlans), Never),
+        row!("acls", Map(Acls), Never),
+        row!("routers", Map(Routers), Never),
+        row!("version", One(number!(2, 2)), Never),
     ],
     left_out: &["include", "include-optional", "meters"],
     spellings: &[],
@@ -50,40 +78,62 @@ const TOP: Table = Table {
 
 const DATAPATH: Table = Table {
     rows: &[
-        row!("dp_id", Kind::One(Scalar::Number { low: 0, high: u64::MAX }), Need::Always),
-        row!("interfaces", Kind::Map(MapKind::Interfaces), Need::Always),
-        row!("name", Kind::One(Scalar::Name), Need::Never),
-        row!("description", Kind::One(Scalar::Name), Need::Never),
-        row!("hardware", Kind::One(Scalar::Words), Need::Never),
-        row!("timeout", Kind::One(Scalar::Number { low: 1, high: 604_800 }), Need::Never),
-        row!("arp_neighbor_timeout", Kind::One(Scalar::Number { low: 1, high: 604_800 }), Need::Never),
-        row!("stack", Kind::Map(MapKind::DatapathStack), Need::Never),
-        row!("drop_spoofed_faucet_mac", Kind::One(Scalar::Flag), Need::Never),
-        row!("drop_broadcast_source_address", Kind::One(Scalar::Flag), Need::Never),
-        row!("drop_bpdu", Kind::One(Scalar::Flag), Need::Never),
-        row!("drop_lldp", Kind::One(Scalar::Flag), Need::Never),
-        row!("learn_ban_timeout", Kind::One(Scalar::NoEffect), Need::Never),
-        row!("learn_jitter", Kind::One(Scalar::NoEffect), Need::Never),
-        row!("ignore_learn_ins", Kind::One(Scalar::NoEffect), Need::Never),
-        row!("packetin_pps", Kind::One(Scalar::NoEffect), Need::Never),
-        row!("slowpath_pps", Kind::One(Scalar::NoEffect), Need::Never),
-        row!("max_resolve_backoff_time", Kind::One(Scalar::NoEffect), Need::Never),
-        row!("max_host_fib_retry_count", Kind::One(Scalar::NoEffect), Need::Never),
-        row!("max_hosts_per_resolve_cycle", Kind::One(Scalar::NoEffect), Need::Never),
-        row!("metrics_rate_limit_sec", Kind::One(Scalar::NoEffect), Need::Never),
-        row!("ofchannel_log", Kind::One(Scalar::NoEffect), Need::Never),
-        row!("combinatorial_port_flood", Kind::One(Scalar::NoEffect), Need::Never),
-        row!("cache_update_guard_time", Kind::One(Scalar::NoEffect), Need::Never),
+        row!("dp_id", One(number!(0, u64::MAX)), Always),
+        row!("interfaces", Map(Interfaces), Always),
+        row!("name", One(Name), Never),
+        row!("description", One(Name), Never),
+        row!("hardware", One(Words), Never),
+        row!("timeout", One(number!(1, 604_800)), Never),
+        row!("arp_neighbor_timeout", One(number!(1, 604_800)), Never),
+        row!("stack", Map(DatapathStack), Never),
+        row!("drop_spoofed_faucet_mac", One(Flag), Never),
+        row!("drop_broadcast_source_address", One(Flag), Never),
+        row!("drop_bpdu", One(Flag), Never),
+        row!("drop_lldp", One(Flag), Never),
+        row!("learn_ban_timeout", One(NoEffect), Never),
+        row!("learn_jitter", One(NoEffect), Never),
+        row!("ignore_learn_ins", One(NoEffect), Never),
+        row!("packetin_pps", One(NoEffect), Never),
+        row!("slowpath_pps", One(NoEffect), Never),
+        row!("max_resolve_backoff_time", One(NoEffect), Never),
+        row!("max_host_fib_retry_count", One(NoEffect), Never),
+        row!("max_hosts_per_resolve_cycle", One(NoEffect), Never),
+        row!("metrics_rate_limit_sec", One(NoEffect), Never),
+        row!("ofchannel_log", One(NoEffect), Never),
+        row!("combinatorial_port_flood", One(NoEffect), Never),
+        row!("cache_update_guard_time", One(NoEffect), Never),
     ],
-    left_out: &["interface_ranges", "lldp_beacon", "dot1x", "egress_pipeline", "group_table", "use_idle_timeout", "priority_offset", "low_priority", "high_priority", "lowest_priority", "highest_priority", "proactive_learn_v4", "proactive_learn_v6", "nd_neighbor_timeout", "idle_dst", "dp_acls", "global_vlan", "strict_packet_in_cookie", "multi_out", "advertise_interval", "table_sizes", "use_classification", "lacp_timeout"],
+    left_out: &[
+        "interface_ranges",
+        "lldp_beacon",
+        "dot1x",
+        "egress_pipeline",
+        "group_table",
+        "use_idle_timeout",
+        "priority_offset",
+        "low_priority",
+        "high_priority",
+        "lowest_priority",
+        "highest_priority",
+        "proactive_learn_v4",
+        "proactive_learn_v6",
+        "nd_neighbor_timeout",
+        "idle_dst",
+        "dp_acls",
+        "global_vlan",
+        "strict_packet_in_cookie",
+        "multi_out",
+        "advertise_interval",
+        "table_sizes",
+        "use_classification",
+        "lacp_timeout",
+    ],
     spellings: &[],
     unlisted: ConfCause::UnknownKey,
 };
 
 const DATAPATH_STACK: Table = Table {
-    rows: &[
-        row!("priority", Kind::One(Scalar::Number { low: 0, high: 0xffff_ffff }), Need::Never),
-    ],
+    rows: &[row!("priority", One(number!(0, 0xffff_ffff)), Never)],
     left_out: &[],
     spellings: &[],
     unlisted: ConfCause::LeftOut,
@@ -91,32 +141,53 @@ const DATAPATH_STACK: Table = Table {
 
 const INTERFACE: Table = Table {
     rows: &[
-        row!("number", Kind::Given { low: 1, high: 0xffff_ff00 }, Need::UnlessNumbered),
-        row!("name", Kind::One(Scalar::Name), Need::Never),
-        row!("description", Kind::One(Scalar::Name), Need::Never),
-        row!("enabled", Kind::One(Scalar::Flag), Need::Never),
-        row!("unicast_flood", Kind::One(Scalar::Flag), Need::Never),
-        row!("opstatus_reconf", Kind::One(Scalar::Flag), Need::Never),
-        row!("output_only", Kind::One(Scalar::Flag), Need::Never),
-        row!("hairpin", Kind::One(Scalar::Flag), Need::Never),
-        row!("permanent_learn", Kind::One(Scalar::Flag), Need::Never),
-        row!("native_vlan", Kind::One(Scalar::Reference { low: 1, high: 4094 }), Need::Never),
-        row!("tagged_vlans", Kind::Several(Scalar::Reference { low: 1, high: 4094 }), Need::Never),
-        row!("acl_in", Kind::One(Scalar::Label), Need::Never),
-        row!("acls_in", Kind::Several(Scalar::Label), Need::Never),
-        row!("max_hosts", Kind::One(Scalar::Number { low: 1, high: 16_384 }), Need::Never),
-        row!("mirror", Kind::OneOrSeveral(Scalar::Reference { low: 1, high: 0xffff_ff00 }), Need::Never),
-        row!("stack", Kind::Map(MapKind::PortStack), Need::Never),
+        row!(
+            "number",
+            Given {
+                low: 1,
+                high: 0xffff_ff00
+            },
+            UnlessNumbered
+        ),
+        row!("name", One(Name), Never),
+        row!("description", One(Name), Never),
+        row!("enabled", One(Flag), Never),
+        row!("unicast_flood", One(Flag), Never),
+        row!("opstatus_reconf", One(Flag), Never),
+        row!("output_only", One(Flag), Never),
+        row!("hairpin", One(Flag), Never),
+        row!("permanent_learn", One(Flag), Never),
+        row!("native_vlan", One(VLAN_NAMED), Never),
+        row!("tagged_vlans", Several(VLAN_NAMED), Never),
+        row!("acl_in", One(Label), Never),
+        row!("acls_in", Several(Label), Never),
+        row!("max_hosts", One(number!(1, 16_384)), Never),
+        row!("mirror", OneOrSeveral(PORT_NAMED), Never),
+        row!("stack", Map(PortStack), Never),
     ],
-    left_out: &["acls_out", "dot1x", "dot1x_acl", "dot1x_mab", "lacp", "lacp_active", "lldp_beacon", "receive_lldp", "loop_protect", "loop_protect_external", "override_output_port", "restricted_bcast_arpnd", "coprocessor"],
+    left_out: &[
+        "acls_out",
+        "dot1x",
+        "dot1x_acl",
+        "dot1x_mab",
+        "lacp",
+        "lacp_active",
+        "lldp_beacon",
+        "receive_lldp",
+        "loop_protect",
+        "loop_protect_external",
+        "override_output_port",
+        "restricted_bcast_arpnd",
+        "coprocessor",
+    ],
     spellings: &[],
     unlisted: ConfCause::UnknownKey,
 };
 
 const PORT_STACK: Table = Table {
     rows: &[
-        row!("dp", Kind::One(Scalar::Words), Need::Always),
-        row!("port", Kind::One(Scalar::Reference { low: 1, high: 0xffff_ff00 }), Need::Always),
+        row!("dp", One(Words), Always),
+        row!("port", One(PORT_NAMED), Always),
     ],
     left_out: &[],
     spellings: &[],
@@ -125,26 +196,30 @@ const PORT_STACK: Table = Table {
 
 const VLAN: Table = Table {
     rows: &[
-        row!("vid", Kind::Given { low: 1, high: 4094 }, Need::UnlessNumbered),
-        row!("name", Kind::One(Scalar::Name), Need::Never),
-        row!("description", Kind::One(Scalar::Name), Need::Never),
-        row!("acl_in", Kind::One(Scalar::Label), Need::Never),
-        row!("acls_in", Kind::Several(Scalar::Label), Need::Never),
-        row!("faucet_mac", Kind::One(Scalar::StationMac), Need::Never),
-        row!("faucet_vips", Kind::Several(Scalar::Vip), Need::Never),
-        row!("routes", Kind::Maps(MapKind::RouteItem), Need::Never),
-        row!("max_hosts", Kind::One(Scalar::Number { low: 1, high: 16_384 }), Need::Never),
-        row!("unicast_flood", Kind::One(Scalar::Flag), Need::Never),
+        row!("vid", Given { low: 1, high: 4094 }, UnlessNumbered),
+        row!("name", One(Name), Never),
+        row!("description", One(Name), Never),
+        row!("acl_in", One(Label), Never),
+        row!("acls_in", Several(Label), Never),
+        row!("faucet_mac", One(StationMac), Never),
+        row!("faucet_vips", Several(Vip), Never),
+        row!("routes", Maps(RouteItem), Never),
+        row!("max_hosts", One(number!(1, 16_384)), Never),
+        row!("unicast_flood", One(Flag), Never),
     ],
-    left_out: &["acls_out", "targeted_gw_resolution", "minimum_ip_size_check", "proactive_arp_limit", "proactive_nd_limit"],
+    left_out: &[
+        "acls_out",
+        "targeted_gw_resolution",
+        "minimum_ip_size_check",
+        "proactive_arp_limit",
+        "proactive_nd_limit",
+    ],
     spellings: &[],
     unlisted: ConfCause::UnknownKey,
 };
 
 const ROUTE_ITEM: Table = Table {
-    rows: &[
-        row!("route", Kind::Map(MapKind::Route), Need::Always),
-    ],
+    rows: &[row!("route", Map(Route), Always)],
     left_out: &[],
     spellings: &[],
     unlisted: ConfCause::UnknownKey,
@@ -152,8 +227,8 @@ const ROUTE_ITEM: Table = Table {
 
 const ROUTE: Table = Table {
     rows: &[
-        row!("ip_dst", Kind::One(Scalar::Destination), Need::Always),
-        row!("ip_gw", Kind::One(Scalar::Gateway), Need::Always),
+        row!("ip_dst", One(Destination), Always),
+        row!("ip_gw", One(Gateway), Always),
     ],
     left_out: &[],
     spellings: &[],
@@ -161,9 +236,7 @@ const ROUTE: Table = Table {
 };
 
 const RULE_ITEM: Table = Table {
-    rows: &[
-        row!("rule", Kind::Map(MapKind::Rule), Need::Always),
-    ],
+    rows: &[row!("rule", Map(Rule), Always)],
     left_out: &[],
     spellings: &[],
     unlisted: ConfCause::UnknownKey,
@@ -171,36 +244,55 @@ const RULE_ITEM: Table = Table {
 
 const RULE: Table = Table {
     rows: &[
-        row!("actions", Kind::Map(MapKind::Actions), Need::Always),
-        row!("description", Kind::One(Scalar::Words), Need::Never),
-        row!("eth_src", Kind::One(Scalar::MaskedMac), Need::Never),
-        row!("eth_dst", Kind::One(Scalar::MaskedMac), Need::Never),
-        row!("eth_type", Kind::One(Scalar::Number { low: 0, high: 0xffff }), Need::Never),
-        row!("vlan_vid", Kind::One(Scalar::Number { low: 1, high: 4094 }), Need::Never),
-        row!("vlan_pcp", Kind::One(Scalar::Number { low: 0, high: 7 }), Need::Never),
-        row!("ip_proto", Kind::One(Scalar::Number { low: 0, high: 255 }), Need::Never),
-        row!("ipv4_src", Kind::One(Scalar::Prefix), Need::Never),
-        row!("ipv4_dst", Kind::One(Scalar::Prefix), Need::Never),
-        row!("tcp_src", Kind::One(Scalar::Number { low: 0, high: 0xffff }), Need::Never),
-        row!("tcp_dst", Kind::One(Scalar::Number { low: 0, high: 0xffff }), Need::Never),
-        row!("udp_src", Kind::One(Scalar::Number { low: 0, high: 0xffff }), Need::Never),
-        row!("udp_dst", Kind::One(Scalar::Number { low: 0, high: 0xffff }), Need::Never),
-        row!("icmpv4_type", Kind::One(Scalar::Number { low: 0, high: 255 }), Need::Never),
-        row!("icmpv4_code", Kind::One(Scalar::Number { low: 0, high: 255 }), Need::Never),
-        row!("arp_op", Kind::One(Scalar::Number { low: 0, high: 0xffff }), Need::Never),
-        row!("arp_spa", Kind::One(Scalar::Prefix), Need::Never),
-        row!("arp_tpa", Kind::One(Scalar::Prefix), Need::Never),
+        row!("actions", Map(Actions), Always),
+        row!("description", One(Words), Never),
+        row!("eth_src", One(MaskedMac), Never),
+        row!("eth_dst", One(MaskedMac), Never),
+        row!("eth_type", One(number!(0, 0xffff)), Never),
+        row!("vlan_vid", One(number!(1, 4094)), Never),
+        row!("vlan_pcp", One(number!(0, 7)), Never),
+        row!("ip_proto", One(number!(0, 255)), Never),
+        row!("ipv4_src", One(Prefix), Never),
+        row!("ipv4_dst", One(Prefix), Never),
+        row!("tcp_src", One(number!(0, 0xffff)), Never),
+        row!("tcp_dst", One(number!(0, 0xffff)), Never),
+        row!("udp_src", One(number!(0, 0xffff)), Never),
+        row!("udp_dst", One(number!(0, 0xffff)), Never),
+        row!("icmpv4_type", One(number!(0, 255)), Never),
+        row!("icmpv4_code", One(number!(0, 255)), Never),
+        row!("arp_op", One(number!(0, 0xffff)), Never),
+        row!("arp_spa", One(Prefix), Never),
+        row!("arp_tpa", One(Prefix), Never),
     ],
-    left_out: &["cookie", "in_port", "ip_dscp", "ip_ecn", "ipv6_src", "ipv6_dst", "icmpv6_type", "icmpv6_code", "ipv6_nd_target"],
-    spellings: &[("dl_src", "eth_src"), ("dl_dst", "eth_dst"), ("dl_type", "eth_type"), ("dl_vlan", "vlan_vid"), ("dl_vlan_pcp", "vlan_pcp"), ("nw_proto", "ip_proto"), ("nw_src", "ipv4_src"), ("nw_dst", "ipv4_dst")],
+    left_out: &[
+        "cookie",
+        "in_port",
+        "ip_dscp",
+        "ip_ecn",
+        "ipv6_src",
+        "ipv6_dst",
+        "icmpv6_type",
+        "icmpv6_code",
+        "ipv6_nd_target",
+    ],
+    spellings: &[
+        ("dl_src", "eth_src"),
+        ("dl_dst", "eth_dst"),
+        ("dl_type", "eth_type"),
+        ("dl_vlan", "vlan_vid"),
+        ("dl_vlan_pcp", "vlan_pcp"),
+        ("nw_proto", "ip_proto"),
+        ("nw_src", "ipv4_src"),
+        ("nw_dst", "ipv4_dst"),
+    ],
     unlisted: ConfCause::UnknownKey,
 };
 
 const ACTIONS: Table = Table {
     rows: &[
-        row!("allow", Kind::One(Scalar::Permission), Need::Never),
-        row!("mirror", Kind::One(Scalar::Reference { low: 1, high: 0xffff_ff00 }), Need::Never),
-        row!("output", Kind::MapOrMaps(MapKind::Output), Need::Never),
+        row!("allow", One(Permission), Never),
+        row!("mirror", One(PORT_NAMED), Never),
+        row!("output", MapOrMaps(Output), Never),
     ],
     left_out: &["meter", "ct", "force_port_vlan"],
     spellings: &[],
@@ -209,18 +301,24 @@ const ACTIONS: Table = Table {
 
 const OUTPUT: Table = Table {
     rows: &[
-        row!("port", Kind::One(Scalar::Reference { low: 1, high: 0xffff_ff00 }), Need::Never),
-        row!("ports", Kind::Several(Scalar::Reference { low: 1, high: 0xffff_ff00 }), Need::Never),
+        row!("port", One(PORT_NAMED), Never),
+        row!("ports", Several(PORT_NAMED), Never),
     ],
-    left_out: &["set_fields", "vlan_vid", "vlan_vids", "pop_vlans", "swap_vid", "failover", "tunnel"],
+    left_out: &[
+        "set_fields",
+        "vlan_vid",
+        "vlan_vids",
+        "pop_vlans",
+        "swap_vid",
+        "failover",
+        "tunnel",
+    ],
     spellings: &[],
     unlisted: ConfCause::UnknownKey,
 };
 
 const ROUTER: Table = Table {
-    rows: &[
-        row!("vlans", Kind::Several(Scalar::Reference { low: 1, high: 4094 }), Need::Always),
-    ],
+    rows: &[row!("vlans", Several(VLAN_NAMED), Always)],
     left_out: &["bgp"],
     spellings: &[],
     unlisted: ConfCause::UnknownKey,

@@ -1,0 +1,142 @@
+ghost use Rattle.std.specs.Prelude.{◌≡◌};
+ghost use Rattle.conf_shape.specs.declared.kinds.Scalar.TheVariants.{Name};
+ghost use Rattle.conf_shape.specs.Scalars.{within, if_within, is_name, flag_fault, number_fault, text_fault, scalar_kind, item_kind, map_kind, flag_cause, number_cause, text_cause};
+
+use crate::addresses::{
+    destination_cause, gateway_cause, masked_cause, prefix_cause, station_cause, vip_cause,
+};
+use crate::kinds::{Kind, MapKind, Scalar};
+use crate::refused::ConfCause;
+
+/// The number, where it stands in the range.
+pub fn within(low: u64, high: u64, n: i128) -> Option<u64>
+    ensures { result ≡ within low high n }
+{
+    let n = u64::try_from(n).ok()?;
+    if low <= n && n <= high { Some(n) } else { None }
+}
+
+fn range_fault(low: u64, high: u64, n: i128) -> Option<ConfCause>
+    ensures { result ≡ if_within (within low high n) }
+{
+    match within(low, high, n) {
+        Some(_) => None,
+        None => Some(ConfCause::OutOfRange),
+    }
+}
+
+/// Whether the text has 1 to 255 bytes.
+pub fn is_name(text: &str) -> bool
+    ensures { result ≡ is_name text.now }
+{
+    1 <= text.len() && text.len() <= 255
+}
+
+fn flag_fault(scalar: Scalar) -> Option<ConfCause>
+    ensures { result ≡ flag_fault scalar }
+{
+    match scalar {
+        Scalar::Flag | Scalar::Permission | Scalar::NoEffect => None,
+        _ => Some(ConfCause::WrongType),
+    }
+}
+
+fn number_fault(scalar: Scalar, n: i128) -> Option<ConfCause>
+    ensures { result ≡ number_fault scalar n }
+{
+    match scalar {
+        Scalar::Number { low, high } => range_fault(low, high, n),
+        Scalar::Reference { low, high } => range_fault(low, high, n),
+        Scalar::Permission => range_fault(0, 1, n),
+        Scalar::Label | Scalar::NoEffect => None,
+        _ => Some(ConfCause::WrongType),
+    }
+}
+
+fn name_fault(text: &str) -> Option<ConfCause>
+    ensures { result ≡ text_fault Name text.now }
+{
+    if is_name(text) {
+        None
+    } else {
+        Some(ConfCause::OutOfRange)
+    }
+}
+
+fn text_fault(scalar: Scalar, text: &str) -> Option<ConfCause>
+    ensures { result ≡ text_fault scalar text.now }
+{
+    match scalar {
+        Scalar::Flag | Scalar::Number { .. } | Scalar::Permission => Some(ConfCause::WrongType),
+        Scalar::Words | Scalar::Label | Scalar::Reference { .. } | Scalar::NoEffect => None,
+        Scalar::Name => name_fault(text),
+        Scalar::StationMac => station_cause(text),
+        Scalar::MaskedMac => masked_cause(text),
+        Scalar::Vip => vip_cause(text),
+        Scalar::Destination => destination_cause(text),
+        Scalar::Gateway => gateway_cause(text),
+        Scalar::Prefix => prefix_cause(text),
+    }
+}
+
+/// What a scalar has to be where a value of this kind stands; `None` where none may stand.
+fn scalar_kind(kind: Kind) -> Option<Scalar>
+    ensures { result ≡ scalar_kind kind }
+{
+    match kind {
+        Kind::One(scalar) | Kind::OneOrSeveral(scalar) => Some(scalar),
+        Kind::Given { low, high } => Some(Scalar::Number { low, high }),
+        _ => None,
+    }
+}
+
+/// What the items of a list have to be where a value of this kind stands; `None` where none may.
+pub fn item_kind(kind: Kind) -> Option<Kind>
+    ensures { result ≡ item_kind kind }
+{
+    match kind {
+        Kind::Several(scalar) | Kind::OneOrSeveral(scalar) => Some(Kind::One(scalar)),
+        Kind::Maps(map) | Kind::MapOrMaps(map) => Some(Kind::Map(map)),
+        _ => None,
+    }
+}
+
+/// Which map may stand where a value of this kind stands; `None` where none may.
+pub fn map_kind(kind: Kind) -> Option<MapKind>
+    ensures { result ≡ map_kind kind }
+{
+    match kind {
+        Kind::Map(map) | Kind::MapOrMaps(map) => Some(map),
+        _ => None,
+    }
+}
+
+/// What is wrong with a flag in the place of a value of this kind.
+pub fn flag_cause(kind: Kind) -> Option<ConfCause>
+    ensures { result ≡ flag_cause kind }
+{
+    match scalar_kind(kind) {
+        Some(scalar) => flag_fault(scalar),
+        None => Some(ConfCause::WrongType),
+    }
+}
+
+/// What is wrong with a whole number in the place of a value of this kind.
+pub fn number_cause(kind: Kind, n: i128) -> Option<ConfCause>
+    ensures { result ≡ number_cause kind n }
+{
+    match scalar_kind(kind) {
+        Some(scalar) => number_fault(scalar, n),
+        None => Some(ConfCause::WrongType),
+    }
+}
+
+/// What is wrong with a text in the place of a value of this kind.
+pub fn text_cause(kind: Kind, text: &str) -> Option<ConfCause>
+    ensures { result ≡ text_cause kind text.now }
+{
+    match scalar_kind(kind) {
+        Some(scalar) => text_fault(scalar, text),
+        None => Some(ConfCause::WrongType),
+    }
+}
