@@ -9,11 +9,11 @@ use Rattle.conf_types.specs.declared.acl.Rule.{Rule}
 use Rattle.conf_types.specs.declared.datapath.Dp.{Dp}
 use Rattle.conf_types.specs.declared.datapath.Port.{Port}
 use Rattle.conf_types.specs.Configuration.{Configuration}
-use Rattle.conf_types.specs.Lists.{is_text}
+use Rattle.conf_types.specs.Lists.{is_same}
 
 -- the ACL with a name
 abbrev pub acl_named : List Acl → List ℕ → Option Acl
-acl_named acls name = find (λ acl. is_text acl.name name) acls
+acl_named acls name = find (λ acl. is_same acl.name name) acls
 
 -- the rules of the named ACLs, joined in order: those of an interface or a VLAN, by its `acls`
 abbrev pub rules_of : Configuration → List (List ℕ) → List Rule
@@ -22,7 +22,7 @@ rules_of conf names = flat_map (λ name. option_map_or (λ acl. acl.rules) (acl_
 -- the interface is the one that is named
 abbrev pub is_named : PortRef → Port → Bool
 is_named (No number) p = p.no == number
-is_named (Name name) p = is_text p.name name
+is_named (Name name) p = is_same p.name name
 
 -- the interface of a datapath that an ACL names
 abbrev pub port_named : Dp → PortRef → Option Port

@@ -1,6 +1,8 @@
 -- Groups of datapaths: those that stack links of the configuration join, whether or not their ends
 -- are enabled. The hosts of a group are one table.
-use Rattle.std.specs.Prelude.{◌≡◌, ◌≤◌, ℕ, zero, suc, Some, Contains}
+use Rattle.std.specs.Prelude.{◌≡◌, ◌≤◌, ◌==◌, ◌&&◌, ◌||◌, Bool, false, ℕ, zero, suc, Some, List, [], ◌∷◌, Contains, map, filter, length, nat_lt, if◌then◌else◌}
+use Rattle.std.specs.List.{list_any}
+use Rattle.std.specs.Option.{option_map_or}
 use Rattle.net_base.specs.declared.numbers.DpId.{DpId}
 use Rattle.conf_types.specs.declared.datapath.Dp.{Dp}
 use Rattle.conf_types.specs.declared.datapath.Port.{Port}
@@ -38,6 +40,22 @@ pub record IsGroup (conf : Configuration) (dp group : DpId) : Type 0 where
   pub joined : IsJoined conf dp group
   pub least : (other : DpId) → IsJoined conf dp other → group.0 ≤ other.0
 
--- the function gives each datapath of the configuration the number of its group
-abbrev pub IsGrouping : Configuration → (DpId → DpId) → Type 0
-IsGrouping conf group = (dp : DpId) → IsDp conf dp → IsGroup conf dp (group dp)
+-- ---- the number as a function: the least identifier among those that are reached in as many steps
+-- as there are datapaths
+
+-- an interface of the datapath is an end of a stack link whose far end lies on this one
+abbrev pub leads_to : Dp → DpId → Bool
+leads_to d b = list_any (λ p. option_map_or (λ far. far.dp.0 == b.0) p.stack false) d.ports
+
+-- at most n stack links lead from a to b
+abbrev pub is_reached : Configuration → DpId → ℕ → DpId → Bool
+is_reached conf a zero b = a.0 == b.0
+is_reached conf a (suc n) b = is_reached conf a n b || list_any (λ d. is_reached conf a n d.id && leads_to d b) conf.dps
+
+-- the least of one number and more
+abbrev pub least_id : DpId → List DpId → DpId
+least_id a [] = a
+least_id a (b ∷ more) = let least = least_id a more in if nat_lt b.0 least.0 then b else least
+
+abbrev pub group_of : Configuration → DpId → DpId
+group_of conf dp = least_id dp (map (λ d. d.id) (filter (λ d. is_reached conf dp (length conf.dps) d.id) conf.dps))

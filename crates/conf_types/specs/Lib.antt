@@ -3,10 +3,11 @@ pub mod Configuration
 pub mod Count
 pub mod First
 pub mod Groups
+pub mod Links
 pub mod Lists
 pub mod Membership
 pub mod Networks
 pub mod Routing
 pub mod RuleFields
-pub mod Valid
 pub mod State
+pub mod Valid

@@ -27,9 +27,9 @@ different (x ∷ xs) = (if is_among xs x then 0 else 1) + different xs
 abbrev pub IsTextBefore : List ℕ → List ℕ → Type 0
 IsTextBefore a b = slice_cmp nat_cmp a b ≡ Less
 
--- the texts have the same bytes
-abbrev pub is_text : List ℕ → List ℕ → Bool
-is_text a b = is_eq (slice_cmp nat_cmp a b)
+-- two texts or addresses have the same bytes
+abbrev pub is_same : List ℕ → List ℕ → Bool
+is_same a b = is_eq (slice_cmp nat_cmp a b)
 
 -- a name or a description has 1 to 255 bytes
 pub record IsLabel (text : List ℕ) : Type 0 where

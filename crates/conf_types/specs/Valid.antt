@@ -3,7 +3,6 @@ use Rattle.std.specs.Prelude.{◌≡◌, ◌==◌, ◌&&◌, ◌||◌, ◌+◌, 
 use Rattle.std.specs.List.{AllByRecursion, list_any}
 use Rattle.std.specs.Option.{option_map_or}
 use Rattle.net_base.specs.declared.net4.Net4.{Net4}
-use Rattle.net_base.specs.declared.numbers.DpId.{DpId}
 use Rattle.net_base.specs.WellFormed.{IsWellFormed}
 use Rattle.net_base.specs.Numbers.{IsVid, IsPortNo}
 use Rattle.conf_types.specs.declared.acl.Rule.{Rule}
@@ -14,7 +13,7 @@ use Rattle.conf_types.specs.declared.vlan.Route.{Route}
 use Rattle.conf_types.specs.declared.vlan.Vlan.{Vlan}
 use Rattle.conf_types.specs.Attached.{acl_named, rules_of, is_named, port_named, names_in}
 use Rattle.conf_types.specs.Configuration.{Configuration, port_with, port_at, vlan_with}
-use Rattle.conf_types.specs.Groups.{IsGrouping}
+use Rattle.conf_types.specs.Groups.{group_of}
 use Rattle.conf_types.specs.Lists.{EachBefore, AreDistinct, IsTextBefore, IsLabel, is_among, different}
 use Rattle.conf_types.specs.Membership.{is_edge, is_stack, is_edge_member, has_edge_member, is_mirror_of, is_mirrored}
 use Rattle.conf_types.specs.Networks.{AreApart, LiesIn, AreSame, HasNoHostBits, is_neighbour_address}
@@ -211,8 +210,8 @@ route_items conf v =
     if length v.vips == 0 then 0 else length (vips_in conf (routing_set conf v.vid)) + length (routes_in conf (routing_set conf v.vid))
 
 -- how many groups there are, by their numbers
-abbrev pub group_count : Configuration → (DpId → DpId) → ℕ
-group_count conf group = count_by (λ d. (group d.id).0 == d.id.0) conf.dps
+abbrev pub group_count : Configuration → ℕ
+group_count conf = count_by (λ d. (group_of conf d.id).0 == d.id.0) conf.dps
 
 pub record IsWithinLimits (conf : Configuration) : Type 0 where
   pub dps : length conf.dps ≤ 64
@@ -222,7 +221,7 @@ pub record IsWithinLimits (conf : Configuration) : Type 0 where
   pub router_vlans : AllByRecursion (λ r. length r.vlans ≤ 16) conf.routers
   pub routes : sum_by (λ v. length v.routes) conf.vlans ≤ 1024
   -- each group asks for each gateway of each VLAN
-  pub gateways : (group : DpId → DpId) → IsGrouping conf group → group_count conf group * sum_by (λ v. different (map (λ r. r.gw.0) v.routes)) conf.vlans ≤ 1024
+  pub gateways : group_count conf * sum_by (λ v. different (map (λ r. r.gw.0) v.routes)) conf.vlans ≤ 1024
   pub route_items : sum_by (route_items conf) conf.vlans ≤ 32768
 
 -- ---- all of it

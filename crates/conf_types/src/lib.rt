@@ -6,6 +6,7 @@ mod acl;
 mod conf;
 mod datapath;
 pub mod first;
+mod links;
 mod state;
 mod tally;
 mod vlan;
