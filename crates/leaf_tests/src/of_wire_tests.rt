@@ -3,8 +3,9 @@
 use net_base::{Bytes, Field, FieldId, Items};
 use of_match::{Action, Instr};
 use of_wire::{
-    PartCause, PartFault, PartRefused, get_actions, get_instrs, get_match, get_match_seen, put_actions,
-    put_instrs, put_match,
+    PartCause, PartFault, PartRefused, get_actions, get_instrs, get_instrs_at, get_match,
+    get_match_at, get_match_seen, get_match_seen_at, put_actions, put_instrs, put_match,
+    read_actions,
 };
 use std::alloc::Global;
 use std::test::Fail;
@@ -585,4 +586,73 @@ fn actions_and_instructions_are_refused_at_their_places(rt: HostRuntime) {
         let fault = Some(PartFault { at, cause });
         assert_eq!(rt; list_fault(rt.alloc(), instructions, bytes), fault);
     }
+}
+
+fn at(place: u32, cause: PartCause) -> Option<PartRefused> {
+    Some(PartRefused::At(PartFault { at: place, cause }))
+}
+
+#[test]
+fn matches_inside_a_message_have_their_places_in_it(rt: HostRuntime) -> Result<(), Fail> {
+    let tcp = [
+        Field::exact(FieldId::EthType, 0x0800),
+        Field::exact(FieldId::IpProto, 6),
+    ];
+    let (fields, taken) = get_match_at(rt.alloc(), 48, &TCP).ok().ok_or("a match")?;
+    assert_eq!(rt; fields.as_slice(), tcp.as_slice());
+    assert_eq!(rt; taken, 16);
+    let (fields, taken) = get_match_seen_at(rt.alloc(), 24, &TCP)
+        .ok()
+        .ok_or("a match")?;
+    assert_eq!(rt; fields.as_slice(), tcp.as_slice());
+    assert_eq!(rt; taken, 16);
+    // No field, and padding whose second byte isn't zero; and a header that is cut off.
+    let padded = [0, 1, 0, 4, 0, 7, 0, 0];
+    assert_eq!(rt;
+        get_match_at(rt.alloc(), 48, &padded).err(),
+        at(53, PartCause::BadPad)
+    );
+    assert_eq!(rt;
+        get_match_seen_at(rt.alloc(), 24, &[0, 1, 0]).err(),
+        at(27, PartCause::Short)
+    );
+    Ok(())
+}
+
+#[test]
+fn actions_and_instructions_inside_a_message_have_their_places_in_it(
+    rt: HostRuntime,
+) -> Result<(), Fail> {
+    let pop = [0, 18, 0, 8, 0, 0, 0, 0];
+    let past = PartFault {
+        at: 16,
+        cause: PartCause::BadLength,
+    };
+    let read = read_actions(rt.alloc(), past, 24, &pop)
+        .ok()
+        .ok_or("actions")?;
+    assert_eq!(rt; read.as_slice(), [Action::PopVlan].as_slice());
+    // The end cuts off the action; and a GROUP behind it.
+    assert_eq!(rt;
+        read_actions(rt.alloc(), past, 24, &pop[..7]).err(),
+        at(16, PartCause::BadLength)
+    );
+    let group = [0, 18, 0, 8, 0, 0, 0, 0, 0, 22, 0, 8, 0, 0, 0, 1];
+    assert_eq!(rt;
+        read_actions(rt.alloc(), past, 24, &group).err(),
+        at(32, PartCause::UnknownAction)
+    );
+    // GOTO_TABLE, and GOTO_TABLE twice.
+    let twice = [0, 1, 0, 8, 3, 0, 0, 0, 0, 1, 0, 8, 4, 0, 0, 0];
+    let read = get_instrs_at(rt.alloc(), 64, &twice[..8])
+        .ok()
+        .ok_or("instructions")?;
+    let mut again = Bytes::new(rt.alloc());
+    put_instrs(read.as_slice(), &mut again)?;
+    assert_eq!(rt; again.as_slice(), &twice[..8]);
+    assert_eq!(rt;
+        get_instrs_at(rt.alloc(), 64, &twice).err(),
+        at(72, PartCause::Repeated)
+    );
+    Ok(())
 }
