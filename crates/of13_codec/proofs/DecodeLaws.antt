@@ -14,11 +14,12 @@ use Rattle.of13_codec.specs.declared.ports.PortStats.{PortStats}
 use Rattle.of13_codec.specs.declared.refused.WireRefused.{WireRefused}
 use Rattle.of13_codec.specs.declared.refused.WireRefused.TheVariants.{Version, Length}
 use Rattle.of13_codec.specs.Messages.{kind_of, version_of}
-use Rattle.of13_codec.specs.Decoding.{short, at_least, exactly, has_more, request_at, reply_at, other_at, port_desc_request_at, port_stats_request_at, port_desc_reply_at, port_stats_reply_at, port_status_at, port_of, ports_at, ports_stats_at, echo_request_at, echo_reply_at, hello_at, body_at, is_version, with_xid, decoded}
-use Rattle.of13_codec.specs.Spelling.{Spells, SpellsBody, Flags, IsOwnKind, IsOther}
+use Rattle.of13_codec.specs.Decoding.{short, at_least, exactly, has_more, request_at, reply_at, other_at, port_desc_request_at, port_stats_request_at, port_desc_reply_at, port_stats_reply_at, port_status_at, port_of, stats_of, ports_at, ports_stats_at, echo_request_at, echo_reply_at, hello_at, body_at, is_version, with_xid, decoded}
+use Rattle.of13_codec.specs.Spelling.{Spells, SpellsBody, SpellsPort, SpellsStats, Flags, IsOwnKind, IsOther}
 use Rattle.of13_codec.proofs.Bodies.{Is, is_at, least_sound, least_complete, exact_sound, exact_complete, error_sound, error_complete, features_sound, features_complete, bare_sound, bare_complete, desc_request_sound, desc_request_complete, stats_request_sound, stats_request_complete}
-use Rattle.of13_codec.proofs.PortLaws.{ports_spelled, port_sound, port_complete, ports_sound, ports_complete}
-use Rattle.of13_codec.proofs.StatsLaws.{stats_spelled, all_stats_sound, all_stats_complete}
+use Rattle.of13_codec.proofs.ItemLaws.{EachItem, items_sound, items_complete}
+use Rattle.of13_codec.proofs.PortLaws.{port_sound, port_complete, port_is_item}
+use Rattle.of13_codec.proofs.StatsLaws.{stats_is_item}
 use Rattle.of13_codec.proofs.HelloLaws.{hello_sound, hello_complete}
 use Rattle.of13_codec.proofs.PacketLaws.{packet_in_sound, packet_in_complete, packet_out_sound, packet_out_complete, flow_mod_sound, flow_mod_complete}
 
@@ -109,18 +110,18 @@ reply_sound body m h e =
     elim (chosen kind 13 (port_desc_reply_at body) two (Ok m) a.then_) [
       | inl p ↦
           let b = bind_ok (ports_at (short body) (drop 8 body)) desc_end m p.1 in
-          let ports = ports_sound (short body) (drop 8 body) b.value (bytes_drop 8 body h) b.first in
+          let ports = items_sound SpellsPort 64 port_of port_is_item (short body) (drop 8 body) b.value (bytes_drop 8 body h) b.first in
           is_at 4 19 body (PortDescReply (has_more body) b.value) m (desc_end b.value) refl b.then_ (record {
-            spelled = number_then 0 2 13 _ body h (omega arith) p.0 (flags_then body (Joined ports_spelled [] b.value) h long ports);
+            spelled = number_then 0 2 13 _ body h (omega arith) p.0 (flags_then body (Joined (EachItem SpellsPort) [] b.value) h long ports);
             kind_is = refl;
             version_is = refl;
           })
       | inr q ↦ elim (chosen kind 4 (port_stats_reply_at body) (other_at 19 body) (Ok m) q.1) [
         | inl p ↦
             let b = bind_ok (ports_stats_at (short body) (drop 8 body)) stats_end m p.1 in
-            let stats = all_stats_sound (short body) (drop 8 body) b.value (bytes_drop 8 body h) b.first in
+            let stats = items_sound SpellsStats 112 stats_of stats_is_item (short body) (drop 8 body) b.value (bytes_drop 8 body h) b.first in
             is_at 4 19 body (PortStatsReply (has_more body) b.value) m (stats_end b.value) refl b.then_ (record {
-              spelled = number_then 0 2 4 _ body h (omega arith) p.0 (flags_then body (Joined stats_spelled [] b.value) h long stats);
+              spelled = number_then 0 2 4 _ body h (omega arith) p.0 (flags_then body (Joined (EachItem SpellsStats) [] b.value) h long stats);
               kind_is = refl;
               version_is = refl;
             })
@@ -164,22 +165,22 @@ pub desc_reply_read : (more : Bool) (ports : List PortDesc) (body : List ℕ) �
 unfolding reply_at
 desc_reply_read more ports body p =
     let a = number_again 0 2 13 _ body p in
-    let f = flags_again more (Joined ports_spelled [] ports) body a.behind in
+    let f = flags_again more (Joined (EachItem SpellsPort) [] ports) body a.behind in
     let k = a.value in
     let m = f.more_is in
     let least : at_least 8 body ≡ Ok 8 = least_complete 8 body (omega (arith, a.size, f.size)) in
-    let read : ports_at (short body) (drop 8 body) ≡ Ok ports = ports_complete (short body) ports (drop 8 body) f.behind in
+    let read : ports_at (short body) (drop 8 body) ≡ Ok ports = items_complete SpellsPort 64 port_of port_is_item (short body) ports (drop 8 body) f.behind in
     rw (least, k, read, m) refl
 
 pub stats_reply_read : (more : Bool) (stats : List PortStats) (body : List ℕ) → SpellsBody (PortStatsReply more stats) body → reply_at body ≡ Ok (PortStatsReply more stats)
 unfolding reply_at
 stats_reply_read more stats body p =
     let a = number_again 0 2 4 _ body p in
-    let f = flags_again more (Joined stats_spelled [] stats) body a.behind in
+    let f = flags_again more (Joined (EachItem SpellsStats) [] stats) body a.behind in
     let k = a.value in
     let m = f.more_is in
     let least : at_least 8 body ≡ Ok 8 = least_complete 8 body (omega (arith, a.size, f.size)) in
-    let read : ports_stats_at (short body) (drop 8 body) ≡ Ok stats = all_stats_complete (short body) stats (drop 8 body) f.behind in
+    let read : ports_stats_at (short body) (drop 8 body) ≡ Ok stats = items_complete SpellsStats 112 stats_of stats_is_item (short body) stats (drop 8 body) f.behind in
     rw (least, k, read, m) refl
 
 -- ---- PORT_STATUS

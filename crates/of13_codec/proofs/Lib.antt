@@ -1,4 +1,5 @@
 pub mod Bodies
+pub mod ItemLaws
 pub mod PortLaws
 pub mod StatsLaws
 pub mod HelloLaws
@@ -7,7 +8,6 @@ pub mod DecodeLaws
 pub mod Written
 pub mod Spelled
 pub mod HelloFaults
-pub mod ReplyFaults
 pub mod BodyFaults
 pub mod PlainFaults
 pub mod PacketFaults

@@ -12,10 +12,13 @@ use Rattle.of13_codec.specs.declared.message.Message.{Message}
 use Rattle.of13_codec.specs.declared.message.Message.TheVariants.{Hello, Error, PortDescRequest, PortStatsRequest, PortDescReply, PortStatsReply, Other}
 use Rattle.of13_codec.specs.declared.ports.PortDesc.{PortDesc}
 use Rattle.of13_codec.specs.declared.ports.PortStats.{PortStats}
-use Rattle.of13_codec.specs.Decoding.{short, hello_step, hello_at, error_at, has_more, other_at, request_at, port_desc_request_at, port_stats_request_at, reply_at, port_desc_reply_at, port_stats_reply_at}
+use Rattle.of13_codec.specs.Decoding.{short, port_of, stats_of, hello_step, hello_at, error_at, has_more, other_at, request_at, port_desc_request_at, port_stats_request_at, reply_at, port_desc_reply_at, port_stats_reply_at}
+use Rattle.of13_codec.specs.Spelling.{SpellsPort, SpellsStats}
 use Rattle.of13_codec.specs.Faults.{IsExactly, features_request, features_reply, port_status, port_desc_request, port_stats_request, barrier_request, barrier_reply, error_head, request_head, reply_head, EachElement, WrongElement, EachPort, EachStats, BodyFault, in_hello, BodyEnds, hello_ends, ports_end, stats_end}
 use Rattle.of13_codec.proofs.HelloFaults.{elements_told}
-use Rattle.of13_codec.proofs.ReplyFaults.{NothingWrong, IsBelow, ports_told, all_stats_told}
+use Rattle.of13_codec.proofs.ItemLaws.{NothingWrong, IsBelow, items_told}
+use Rattle.of13_codec.proofs.PortLaws.{port_is_item}
+use Rattle.of13_codec.proofs.StatsLaws.{stats_is_item}
 use Rattle.of13_codec.proofs.BodyFaults.{Says, says_ok, says_fault, says_end, fault_cases, end_cases, least_kinds, is_sized, not_sized, no_fault, no_end, exact_told, head_told}
 
 -- ---- HELLO
@@ -132,13 +135,13 @@ reply_told kind body h e =
     let rest = drop 8 body in
     head_told kind body 8 (λ n. cond (eqb t 13) (port_desc_reply_at body) two) (reply_head e) (λ few. none)
     (λ least. by_equal P t 13 (port_desc_reply_at body) two
-    (λ is. elim (ports_told (short body) rest (bytes_drop 8 body h)) [
+    (λ is. elim (items_told SpellsPort 64 port_of port_is_item (short body) rest (bytes_drop 8 body h)) [
       | inl p ↦ says_ok kind body (port_desc_reply_at body) (desc p.value) (ap bind_desc p.is) none (reply_end kind body e least (λ z. p.whole) (λ z b. omega (arith, is, z)))
       | inr (inl f) ↦ (let g = f.there in let x = g.there in absurd (x.fault))
       | inr (inr f) ↦ says_end kind body (port_desc_reply_at body) (ap bind_desc f.is) (ports_end e is (cut_ends EachPort (IsBelow 64) NothingWrong [] rest f.early)) none
     ])
     (λ a. by_equal P t 4 (port_stats_reply_at body) other
-    (λ is. elim (all_stats_told (short body) rest (bytes_drop 8 body h)) [
+    (λ is. elim (items_told SpellsStats 112 stats_of stats_is_item (short body) rest (bytes_drop 8 body h)) [
       | inl p ↦ says_ok kind body (port_stats_reply_at body) (stat p.value) (ap bind_stat p.is) none (reply_end kind body e least (λ z b. a z) (λ z. p.whole))
       | inr (inl f) ↦ (let g = f.there in let x = g.there in absurd (x.fault))
       | inr (inr f) ↦ says_end kind body (port_stats_reply_at body) (ap bind_stat f.is) (stats_end e is (cut_ends EachStats (IsBelow 112) NothingWrong [] rest f.early)) none

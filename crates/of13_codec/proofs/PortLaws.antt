@@ -1,16 +1,12 @@
 -- Ports and their counters are read exactly where they are spelled.
-use Rattle.std.proofs.Common.{◌≡◌, ℕ, ◌≤◌, false, ltb, List, [], ◌∷◌, ◌++◌, length, take, drop, get_or, slice_index, Result, Ok, refl, sym, ap, ◌∙◌, subst, arith}
-use Rattle.std.proofs.lemmas.Bool.{ltb-false, le-ltb}
-use Rattle.std.proofs.lemmas.List.{length-drop, length-take-le, length-append, take-append-drop, take-append-le, take_all, drop-append-le, get_or_append_left, get_or-drop}
-use Rattle.of_wire.specs.declared.fault.PartFault.{PartFault}
+use Rattle.std.proofs.Common.{◌≡◌, ℕ, ◌≤◌, List, [], ◌∷◌, ◌++◌, length, take, drop, get_or, slice_index, refl, sym, ap, ◌∙◌, arith}
+use Rattle.std.proofs.lemmas.List.{length-drop, length-take-le, take-append-le, take_all, drop-append-le, get_or_append_left, get_or-drop}
 use Rattle.of_wire.specs.Numbers.{number_in}
-use Rattle.of_wire.specs.Grammar.{Joined}
-use Rattle.of_wire.proofs.Grammars.{AreBytes, bytes_take, number_then, ignored_then, front_then, number_again, ignored_again, front_again, number_of_front}
-use Rattle.of_wire.proofs.Chosen.{passed, one_answer}
-use Rattle.of_wire.proofs.Joining.{Part, IsRead, read_joined, joined_read}
+use Rattle.of_wire.proofs.Grammars.{AreBytes, number_then, ignored_then, front_then, number_again, ignored_again, front_again, number_of_front}
 use Rattle.of13_codec.specs.declared.ports.PortDesc.{PortDesc}
-use Rattle.of13_codec.specs.Decoding.{port_of, port_step, ports_at}
+use Rattle.of13_codec.specs.Decoding.{port_of}
 use Rattle.of13_codec.specs.Spelling.{SpellsPort, Raw}
+use Rattle.of13_codec.proofs.ItemLaws.{IsItem}
 
 six : (ys : List ℕ) → 6 ≤ length ys → take 6 ys ≡ get_or ys 0 0 ∷ get_or ys 1 0 ∷ get_or ys 2 0 ∷ get_or ys 3 0 ∷ get_or ys 4 0 ∷ get_or ys 5 0 ∷ []
 six [] h = absurd (omega arith)
@@ -69,43 +65,5 @@ port_front xs ys len =
     let same : port_of (xs ++ ys) ≡ port_of xs = λ i. record { no = a i; hw = record { 0 = h8 i ∷ h9 i ∷ h10 i ∷ h11 i ∷ h12 i ∷ h13 i ∷ [] }; name = n i; config = b i; state = c i; rest = r i } in
     same
 
-abbrev pub ports_spelled : List PortDesc → PortDesc → List ℕ → Type 0
-ports_spelled before p bytes = SpellsPort p bytes
-
-pub port_step_sound : (past : PartFault) (before : List PortDesc) (at : ℕ) (bytes : List ℕ) (y : List PortDesc × ℕ) → AreBytes bytes → port_step past before at bytes ≡ Ok y
-    → Part ports_spelled (λ l. l) before bytes y
-unfolding port_step
-port_step_sound past before at bytes y h e =
-    let r : Result (List PortDesc × ℕ) PartFault = Ok (before ++ port_of bytes ∷ [], 64) in
-    let a = passed (ltb (length bytes) 64) past r y e in
-    let room : 64 ≤ length bytes = ltb-false _ _ a.0 in
-    let out : (before ++ port_of bytes ∷ [], 64) ≡ y = one_answer r _ y refl a.1 in
-    let xs = take 64 bytes in
-    let len : length xs ≡ 64 = length-take-le 64 bytes room in
-    let same : port_of xs ≡ port_of bytes = sym (port_front xs (drop 64 bytes) len) ∙ ap port_of (take-append-drop 64 bytes) in
-    let part : Part ports_spelled (λ l. l) before bytes (before ++ port_of bytes ∷ [], 64) = record {
-      part = port_of bytes;
-      parts = record { first = xs; rest = drop 64 bytes; whole = sym (take-append-drop 64 bytes); in_front = subst (λ p. SpellsPort p xs) same (port_sound xs (bytes_take 64 bytes h) len); behind = omega arith };
-      size = len;
-      seen = refl;
-    } in
-    subst (λ (z : List PortDesc × ℕ). Part ports_spelled (λ l. l) before bytes z) out part
-
-pub port_step_complete : (past : PartFault) (before : List PortDesc) (p : PortDesc) (at : ℕ) (first rest : List ℕ) → SpellsPort p first → IsRead (λ l. l) (port_step past) before p at first rest
-unfolding port_step
-port_step_complete past before p at first rest s =
-    let c = port_complete p first s in
-    let len = c.1 in
-    let long : ltb (length (first ++ rest)) 64 ≡ false = le-ltb _ _ (omega (arith, length-append first rest)) in
-    let same : port_of (first ++ rest) ≡ p = port_front first rest len ∙ c.0 in
-    record { read = rw (long, same, len) refl; some = omega arith }
-
-pub ports_sound : (past : PartFault) (bytes : List ℕ) (ports : List PortDesc) → AreBytes bytes → ports_at past bytes ≡ Ok ports → Joined ports_spelled [] ports bytes
-unfolding ports_at
-ports_sound past bytes ports h e =
-    let r = read_joined ports_spelled (λ l. l) (port_step past) (port_step_sound past) (length bytes) [] 16 bytes ports h (omega arith) e in
-    subst (λ l. Joined ports_spelled [] l bytes) (sym r.seen) r.joined
-
-pub ports_complete : (past : PartFault) (ports : List PortDesc) (bytes : List ℕ) → Joined ports_spelled [] ports bytes → ports_at past bytes ≡ Ok ports
-unfolding ports_at
-ports_complete past ports bytes p = joined_read ports_spelled (λ l. l) (port_step past) (port_step_complete past) ports (length bytes) [] 16 bytes (omega arith) p
+pub port_is_item : IsItem SpellsPort 64 port_of
+port_is_item = record { some = omega arith; sound = port_sound; complete = port_complete; front = port_front }

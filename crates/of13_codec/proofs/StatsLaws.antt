@@ -1,16 +1,12 @@
 -- Ports' counters are read exactly where they are spelled.
-use Rattle.std.proofs.Common.{◌≡◌, ℕ, zero, suc, ◌+◌, ◌*◌, ◌≤◌, false, ltb, List, [], ◌∷◌, ◌++◌, length, take, drop, Result, Ok, refl, sym, ap, ◌∙◌, subst, arith}
-use Rattle.std.proofs.lemmas.Bool.{ltb-false, le-ltb}
-use Rattle.std.proofs.lemmas.List.{length-take-le, length-append, take-append-drop}
-use Rattle.of_wire.specs.declared.fault.PartFault.{PartFault}
+use Rattle.std.proofs.Common.{◌≡◌, ℕ, zero, suc, ◌+◌, ◌*◌, List, [], ◌∷◌, ◌++◌, length, drop, refl, sym, ap, ◌∙◌, subst, arith}
 use Rattle.of_wire.specs.Numbers.{number_in}
-use Rattle.of_wire.specs.Grammar.{◌▷◌, Number, Joined}
-use Rattle.of_wire.proofs.Grammars.{AreBytes, bytes_take, has_number, number_then, ignored_then, number_again, number_ends, ignored_again, number_of_front}
-use Rattle.of_wire.proofs.Chosen.{passed, one_answer}
-use Rattle.of_wire.proofs.Joining.{Part, IsRead, read_joined, joined_read}
+use Rattle.of_wire.specs.Grammar.{◌▷◌, Number}
+use Rattle.of_wire.proofs.Grammars.{AreBytes, has_number, number_then, ignored_then, number_again, number_ends, ignored_again, number_of_front}
 use Rattle.of13_codec.specs.declared.ports.PortStats.{PortStats}
-use Rattle.of13_codec.specs.Decoding.{stats_of, stats_step, ports_stats_at}
+use Rattle.of13_codec.specs.Decoding.{stats_of}
 use Rattle.of13_codec.specs.Spelling.{SpellsStats, Numbers}
+use Rattle.of13_codec.proofs.ItemLaws.{IsItem}
 
 pub stats_sound : (xs : List ℕ) → AreBytes xs → length xs ≡ 112 → SpellsStats (stats_of xs) xs
 unfolding stats_of
@@ -101,43 +97,5 @@ stats_front xs ys len =
     } in
     same
 
-abbrev pub stats_spelled : List PortStats → PortStats → List ℕ → Type 0
-stats_spelled before s bytes = SpellsStats s bytes
-
-pub stats_step_sound : (past : PartFault) (before : List PortStats) (at : ℕ) (bytes : List ℕ) (y : List PortStats × ℕ) → AreBytes bytes → stats_step past before at bytes ≡ Ok y
-    → Part stats_spelled (λ l. l) before bytes y
-unfolding stats_step
-stats_step_sound past before at bytes y h e =
-    let r : Result (List PortStats × ℕ) PartFault = Ok (before ++ stats_of bytes ∷ [], 112) in
-    let a = passed (ltb (length bytes) 112) past r y e in
-    let room : 112 ≤ length bytes = ltb-false _ _ a.0 in
-    let out : (before ++ stats_of bytes ∷ [], 112) ≡ y = one_answer r _ y refl a.1 in
-    let xs = take 112 bytes in
-    let len : length xs ≡ 112 = length-take-le 112 bytes room in
-    let same : stats_of xs ≡ stats_of bytes = sym (stats_front xs (drop 112 bytes) len) ∙ ap stats_of (take-append-drop 112 bytes) in
-    let part : Part stats_spelled (λ l. l) before bytes (before ++ stats_of bytes ∷ [], 112) = record {
-      part = stats_of bytes;
-      parts = record { first = xs; rest = drop 112 bytes; whole = sym (take-append-drop 112 bytes); in_front = subst (λ s. SpellsStats s xs) same (stats_sound xs (bytes_take 112 bytes h) len); behind = omega arith };
-      size = len;
-      seen = refl;
-    } in
-    subst (λ (z : List PortStats × ℕ). Part stats_spelled (λ l. l) before bytes z) out part
-
-pub stats_step_complete : (past : PartFault) (before : List PortStats) (s : PortStats) (at : ℕ) (first rest : List ℕ) → SpellsStats s first → IsRead (λ l. l) (stats_step past) before s at first rest
-unfolding stats_step
-stats_step_complete past before s at first rest p =
-    let c = stats_complete s first p in
-    let len = c.1 in
-    let long : ltb (length (first ++ rest)) 112 ≡ false = le-ltb _ _ (omega (arith, length-append first rest)) in
-    let same : stats_of (first ++ rest) ≡ s = stats_front first rest len ∙ c.0 in
-    record { read = rw (long, same, len) refl; some = omega arith }
-
-pub all_stats_sound : (past : PartFault) (bytes : List ℕ) (stats : List PortStats) → AreBytes bytes → ports_stats_at past bytes ≡ Ok stats → Joined stats_spelled [] stats bytes
-unfolding ports_stats_at
-all_stats_sound past bytes stats h e =
-    let r = read_joined stats_spelled (λ l. l) (stats_step past) (stats_step_sound past) (length bytes) [] 16 bytes stats h (omega arith) e in
-    subst (λ l. Joined stats_spelled [] l bytes) (sym r.seen) r.joined
-
-pub all_stats_complete : (past : PartFault) (stats : List PortStats) (bytes : List ℕ) → Joined stats_spelled [] stats bytes → ports_stats_at past bytes ≡ Ok stats
-unfolding ports_stats_at
-all_stats_complete past stats bytes p = joined_read stats_spelled (λ l. l) (stats_step past) (stats_step_complete past) stats (length bytes) [] 16 bytes (omega arith) p
+pub stats_is_item : IsItem SpellsStats 112 stats_of
+stats_is_item = record { some = omega arith; sound = stats_sound; complete = stats_complete; front = stats_front }

@@ -169,17 +169,19 @@ request_at body = at_least 8 body >>= λ n. (
 abbrev pub has_more : List ℕ → Bool
 has_more body = number_in 2 2 body % 2 == 1
 
-unfoldable pub port_step : PartFault → List PortDesc → ℕ → List ℕ → Result (List PortDesc × ℕ) PartFault
-port_step past ports at bytes = if nat_lt (length bytes) 64 then Err past else Ok (ports ++ port_of bytes ∷ [], 64)
+-- one item more, of so many bytes
+unfoldable pub item_step : {A : Type 0} → (size : ℕ) → (List ℕ → A) → PartFault → List A → ℕ → List ℕ → Result (List A × ℕ) PartFault
+item_step size of past items at bytes = if nat_lt (length bytes) size then Err past else Ok (items ++ of bytes ∷ [], size)
 
-unfoldable pub stats_step : PartFault → List PortStats → ℕ → List ℕ → Result (List PortStats × ℕ) PartFault
-stats_step past stats at bytes = if nat_lt (length bytes) 112 then Err past else Ok (stats ++ stats_of bytes ∷ [], 112)
+-- items up to the end of the bytes
+unfoldable pub items_at : {A : Type 0} → (size : ℕ) → (List ℕ → A) → PartFault → List ℕ → Result (List A) PartFault
+items_at size of past bytes = many (item_step size of past) (length bytes) [] 16 bytes
 
-unfoldable pub ports_at : PartFault → List ℕ → Result (List PortDesc) PartFault
-ports_at past bytes = many (port_step past) (length bytes) [] 16 bytes
+abbrev pub ports_at : PartFault → List ℕ → Result (List PortDesc) PartFault
+ports_at past bytes = items_at 64 port_of past bytes
 
-unfoldable pub ports_stats_at : PartFault → List ℕ → Result (List PortStats) PartFault
-ports_stats_at past bytes = many (stats_step past) (length bytes) [] 16 bytes
+abbrev pub ports_stats_at : PartFault → List ℕ → Result (List PortStats) PartFault
+ports_stats_at past bytes = items_at 112 stats_of past bytes
 
 abbrev pub port_desc_reply_at : List ℕ → Result Message PartFault
 port_desc_reply_at body = ports_at (short body) (drop 8 body) >>= λ ports. Ok (PortDescReply (has_more body) ports)

@@ -1,15 +1,13 @@
 ghost use Rattle.std.specs.Prelude.{◌≡◌, ◌≤◌, ◌<◌, ◌+◌, ◌++◌, ◌^◌, length, ℕ, OnOk, IfOk};
 ghost use Rattle.of_wire.specs.Reading.{Gives};
-ghost use Rattle.of13_codec.specs.Decoding.{other_at, port_desc_request_at, port_stats_request_at, port_desc_reply_at, port_stats_reply_at, request_at, has_more, port_step, stats_step, ports_at, ports_stats_at, reply_at};
+ghost use Rattle.of13_codec.specs.Decoding.{other_at, port_desc_request_at, port_stats_request_at, port_desc_reply_at, port_stats_reply_at, request_at, has_more, items_at, reply_at};
 ghost use Rattle.std.specs.List.{flat_map};
 ghost use Rattle.of13_codec.specs.Messages.{multipart_head, port_bytes, port_stats_bytes, port_desc_reply_bytes, port_stats_request_bytes, port_stats_reply_bytes};
 
 use crate::message::Message;
-use crate::ports::{
-    PortDesc, PortDescs, PortStats, PortStatsList, port_of, put_port, put_port_stats, stats_of,
-};
+use crate::ports::{Item, PortDesc, PortStats};
 use crate::sizes::{at_least, exactly, short};
-use net_base::{Bytes, NoMemory};
+use net_base::{Bytes, Items, NoMemory};
 use of_wire::{PartFault, PartRefused, put_number, put_zeros, u16_at, u32_at};
 use std::alloc::Global;
 
@@ -36,20 +34,11 @@ pub fn put_port_stats_request(port: u32, out: &mut Bytes) -> Result<(), NoMemory
     put_zeros(out, 4)
 }
 
-fn put_ports(ports: &[PortDesc], out: &mut Bytes) -> Result<(), NoMemory>
-    ensures { OnOk result (out.new ≡ out.old ++ flat_map port_bytes ports.now) }
+fn put_items<T: Item>(items: &[T], out: &mut Bytes) -> Result<(), NoMemory>
+    ensures { OnOk result (out.new ≡ out.old ++ flat_map T.bytes_of items.now) }
 {
-    for port in ports {
-        put_port(port, out)?;
-    }
-    Ok(())
-}
-
-fn put_ports_stats(stats: &[PortStats], out: &mut Bytes) -> Result<(), NoMemory>
-    ensures { OnOk result (out.new ≡ out.old ++ flat_map port_stats_bytes stats.now) }
-{
-    for port in stats {
-        put_port_stats(port, out)?;
+    for item in items {
+        item.put(out)?;
     }
     Ok(())
 }
@@ -59,7 +48,7 @@ pub fn put_port_desc_reply(more: bool, ports: &[PortDesc], out: &mut Bytes) -> R
     ensures { OnOk result (out.new ≡ out.old ++ port_desc_reply_bytes more ports.now) }
 {
     put_multipart_head(PORT_DESC, if more { 1 } else { 0 }, out)?;
-    put_ports(ports, out)
+    put_items(ports, out)
 }
 
 /// Writes the body of a reply with ports' counters.
@@ -71,7 +60,7 @@ pub fn put_port_stats_reply(
     ensures { OnOk result (out.new ≡ out.old ++ port_stats_reply_bytes more stats.now) }
 {
     put_multipart_head(PORT_STATS, if more { 1 } else { 0 }, out)?;
-    put_ports_stats(stats, out)
+    put_items(stats, out)
 }
 
 fn read_port_desc_request(body: &[u8]) -> Result<Message, PartRefused>
@@ -126,71 +115,26 @@ fn has_more(body: &[u8]) -> bool
     u16_at(body, 2) % 2 == 1
 }
 
-#[tactic(auto, unfolding(crate::specs::Decoding::port_step))]
-fn take_port(
-    alloc: Global,
-    past: PartFault,
-    ports: &mut PortDescs,
-    bytes: &[u8],
-) -> Result<usize, PartRefused>
-    ensures exact { (at : ℕ) → Gives (λ n. (ports.new, n)) result (port_step past ports.old at bytes.now) }
-    ensures taken { IfOk result (λ n. (4 ≤ n) × (n ≤ length bytes.now)) }
-{
-    if bytes.len() < 64 {
-        return Err(PartRefused::At(past));
-    }
-    ports.push(port_of(alloc, bytes)?)?;
-    Ok(64)
-}
-
-#[tactic(auto, unfolding(crate::specs::Decoding::stats_step))]
-fn take_stats(
-    past: PartFault,
-    stats: &mut PortStatsList,
-    bytes: &[u8],
-) -> Result<usize, PartRefused>
-    ensures exact { (at : ℕ) → Gives (λ n. (stats.new, n)) result (stats_step past stats.old at bytes.now) }
-    ensures taken { IfOk result (λ n. (4 ≤ n) × (n ≤ length bytes.now)) }
-{
-    if bytes.len() < 112 {
-        return Err(PartRefused::At(past));
-    }
-    stats.push(stats_of(bytes))?;
-    Ok(112)
-}
-
-/// Reads ports' descriptions up to the end of the bytes.
-#[tactic(auto, unfolding(crate::specs::Decoding::ports_at))]
-fn read_ports(alloc: Global, past: PartFault, bytes: &[u8]) -> Result<PortDescs, PartRefused>
-    ensures { Gives (λ p. p) result (ports_at past bytes.now) }
-{
-    let mut ports = PortDescs::new(alloc);
-    let mut rest = bytes;
-    while !rest.is_empty() {
-        let taken = take_port(alloc, past, &mut ports, rest)?;
-        let (_, after) = rest.split_at(taken);
-        rest = after;
-    }
-    Ok(ports)
-}
-
-/// Reads ports' counters up to the end of the bytes.
-#[tactic(auto, unfolding(crate::specs::Decoding::ports_stats_at))]
-fn read_ports_stats(
+/// Reads items up to the end of the bytes.
+fn read_items<T: Item>(
     alloc: Global,
     past: PartFault,
     bytes: &[u8],
-) -> Result<PortStatsList, PartRefused>
-    ensures { Gives (λ p. p) result (ports_stats_at past bytes.now) }
+) -> Result<Items<T>, PartRefused>
+    requires { 0 < T.SIZE }
+    ensures { Gives (λ x. x) result (items_at T.SIZE T.of past bytes.now) }
 {
-    let mut stats = PortStatsList::new(alloc);
+    let mut items = Items::new(alloc);
     let mut rest = bytes;
     while !rest.is_empty() {
-        let taken = take_stats(past, &mut stats, rest)?;
-        let (_, after) = rest.split_at(taken);
+        if rest.len() < T::SIZE {
+            return Err(PartRefused::At(past));
+        }
+        items.push(T::from_bytes(alloc, rest)?)?;
+        let (_, after) = rest.split_at(T::SIZE);
         rest = after;
     }
-    Ok(stats)
+    Ok(items)
 }
 
 fn read_port_desc_reply(alloc: Global, body: &[u8]) -> Result<Message, PartRefused>
@@ -199,7 +143,7 @@ fn read_port_desc_reply(alloc: Global, body: &[u8]) -> Result<Message, PartRefus
     ensures { Gives (λ m. m) result (port_desc_reply_at body.now) }
 {
     let (_, items) = body.split_at(8);
-    let ports = read_ports(alloc, short(body), items)?;
+    let ports = read_items(alloc, short(body), items)?;
     Ok(Message::PortDescReply {
         more: has_more(body),
         ports,
@@ -212,7 +156,7 @@ fn read_port_stats_reply(alloc: Global, body: &[u8]) -> Result<Message, PartRefu
     ensures { Gives (λ m. m) result (port_stats_reply_at body.now) }
 {
     let (_, items) = body.split_at(8);
-    let ports = read_ports_stats(alloc, short(body), items)?;
+    let ports = read_items(alloc, short(body), items)?;
     Ok(Message::PortStatsReply {
         more: has_more(body),
         ports,

@@ -1,4 +1,4 @@
-ghost use Rattle.std.specs.Prelude.{◌≡◌, ◌≤◌, ◌<◌, ◌+◌, ◌++◌, ◌^◌, length, OnOk, IfOk};
+ghost use Rattle.std.specs.Prelude.{◌≡◌, ◌≤◌, ◌<◌, ◌+◌, ◌++◌, ◌^◌, ℕ, List, length, OnOk, IfOk};
 ghost use Rattle.of_wire.specs.Reading.{Gives};
 ghost use Rattle.of13_codec.specs.Decoding.{port_of, port_status_at, stats_of};
 ghost use Rattle.std.specs.List.{flat_map};
@@ -115,6 +115,26 @@ pub fn put_port_stats(stats: &PortStats, out: &mut Bytes) -> Result<(), NoMemory
     put_number(out, u128::from(stats.nsec), 4)
 }
 
+/// An item of a multipart reply, which takes so many bytes.
+pub trait Item: Drop {
+    ghost SIZE: { ℕ };
+
+    const SIZE: usize;
+
+    ghost of: { List ℕ → Self };
+
+    ghost bytes_of: { Self → List ℕ };
+
+    /// The item that stands at the front of the bytes.
+    fn from_bytes(alloc: Global, bytes: &[u8]) -> Result<Self, NoMemory>
+        requires { SIZE ≤ length bytes.now }
+        ensures { IfOk result (λ item. item ≡ of bytes.now) };
+
+    /// Writes the item.
+    fn put(&self, out: &mut Bytes) -> Result<(), NoMemory>
+        ensures { OnOk result (out.new ≡ out.old ++ bytes_of self.now) };
+}
+
 /// The port that 64 bytes describe.
 #[tactic(auto, unfolding(crate::specs::Decoding::port_of))]
 pub fn port_of(alloc: Global, bytes: &[u8]) -> Result<PortDesc, NoMemory>
@@ -177,5 +197,41 @@ pub fn stats_of(bytes: &[u8]) -> PortStats
         ],
         sec: u32_at(bytes, 104),
         nsec: u32_at(bytes, 108),
+    }
+}
+
+impl Item for PortDesc {
+    ghost SIZE = { 64 };
+
+    const SIZE: usize = 64;
+
+    ghost of = { port_of };
+
+    ghost bytes_of = { port_bytes };
+
+    fn from_bytes(alloc: Global, bytes: &[u8]) -> Result<PortDesc, NoMemory> {
+        port_of(alloc, bytes)
+    }
+
+    fn put(&self, out: &mut Bytes) -> Result<(), NoMemory> {
+        put_port(self, out)
+    }
+}
+
+impl Item for PortStats {
+    ghost SIZE = { 112 };
+
+    const SIZE: usize = 112;
+
+    ghost of = { stats_of };
+
+    ghost bytes_of = { port_stats_bytes };
+
+    fn from_bytes(_alloc: Global, bytes: &[u8]) -> Result<PortStats, NoMemory> {
+        Ok(stats_of(bytes))
+    }
+
+    fn put(&self, out: &mut Bytes) -> Result<(), NoMemory> {
+        put_port_stats(self, out)
     }
 }
