@@ -6,6 +6,7 @@ mod acl;
 mod conf;
 mod datapath;
 pub mod first;
+pub mod laws;
 mod links;
 mod state;
 mod tally;
