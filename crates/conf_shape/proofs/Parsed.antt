@@ -4,7 +4,7 @@ use Rattle.std.specs.Prelude.{IfSome, IfNone, MatchOption}
 use Rattle.std.specs.Borrow.{Bor}
 use Rattle.net_base.specs.declared.address.Mac.{Mac}
 use Rattle.net_base.specs.Address.{SpellsMac, ip4_text, net4_text}
-use Rattle.net_base.specs.AddressReading.{◌>>=◌, IsMac, Cuts, mac_of, ip4_of, net4_of, cut_at}
+use Rattle.net_base.specs.AddressReading.{◌>>=◌, IsMac, Cuts, spelled_mac, ip4_of, net4_of, cut_at}
 use Rattle.net_base.proofs.Addresses.{ip4_again, ip4_ok, net4_again, net4_ok, mac_ok, mac_again}
 use Rattle.net_base.proofs.Cut.{cut_at_mark, cut_past}
 
@@ -28,11 +28,11 @@ net4_not text h = by (net4_of text) refl
     by None e = sym e
     by (Some net) e = let ok = net4_ok text net e in absurd (h net.0 net.1 ok.1 ok.2 ok.0)
 
-pub mac_parsed : (text : List ℕ) (found : Option Mac) → IfSome found (λ mac. SpellsMac text mac.0) → IfNone found ((bytes : List ℕ) → SpellsMac text bytes → ⊥) → IsMac found (mac_of text)
+pub mac_parsed : (text : List ℕ) (found : Option Mac) → IfSome found (λ mac. SpellsMac text mac.0) → IfNone found ((bytes : List ℕ) → SpellsMac text bytes → ⊥) → IsMac found (spelled_mac text)
 mac_parsed text (Some mac) found none = mac_again text mac.0 found
-mac_parsed text None found none = by (mac_of text) refl
+mac_parsed text None found none = by (spelled_mac text) refl
   where
-    by : (read : Option (List ℕ)) → mac_of text ≡ read → mac_of text ≡ None
+    by : (read : Option (List ℕ)) → spelled_mac text ≡ read → spelled_mac text ≡ None
     by None e = e
     by (Some bytes) e = absurd (none bytes (mac_ok text bytes e))
 

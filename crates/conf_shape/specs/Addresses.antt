@@ -3,7 +3,7 @@ use Rattle.std.specs.Prelude.{ℕ, ◌-◌, ◌%◌, ◌^◌, ◌==◌, Bool, tr
 use Rattle.std.specs.Char.{is_ascii_digit}
 use Rattle.std.specs.Int.{is_in_range}
 use Rattle.std.specs.List.{list_any, list_all}
-use Rattle.net_base.specs.AddressReading.{mac_of, ip4_of, net4_of, cut_at}
+use Rattle.net_base.specs.AddressReading.{spelled_mac, ip4_of, net4_of, cut_at}
 use Rattle.conf_shape.specs.declared.refused.ConfCause.{ConfCause}
 use Rattle.conf_shape.specs.declared.refused.ConfCause.TheVariants.{LeftOut, OutOfRange, BadText}
 
@@ -21,7 +21,7 @@ station_fault None = Some BadText
 station_fault (Some mac) = if is_group mac || is_zero mac then Some OutOfRange else None
 
 abbrev pub station_cause : List ℕ → Option ConfCause
-station_cause text = station_fault (mac_of text)
+station_cause text = station_fault (spelled_mac text)
 
 -- no bit of the value stands outside the mask
 abbrev pub is_masked : List ℕ → List ℕ → Bool
@@ -39,8 +39,8 @@ mac_fault None = Some BadText
 
 -- an address alone, or a value and a mask around a slash
 abbrev pub masked_parts : List ℕ → Option (List ℕ × List ℕ) → Option ConfCause
-masked_parts text None = mac_fault (mac_of text)
-masked_parts text (Some parts) = masked_fault (mac_of parts.0) (mac_of parts.1)
+masked_parts text None = mac_fault (spelled_mac text)
+masked_parts text (Some parts) = masked_fault (spelled_mac parts.0) (spelled_mac parts.1)
 
 abbrev pub masked_cause : List ℕ → Option ConfCause
 masked_cause text = masked_parts text (cut_at 47 text)

@@ -2,14 +2,14 @@ ghost use Rattle.std.specs.Prelude.{◌≡◌, ◌≤◌, IfSome};
 ghost use Rattle.std.specs.Char.{is_ascii_digit};
 ghost use Rattle.std.specs.Int.{is_in_range};
 ghost use Rattle.std.specs.List.{list_all};
-ghost use Rattle.net_base.specs.AddressReading.{IsMac, Cuts, mac_of, ip4_of, net4_of, cut_at};
+ghost use Rattle.net_base.specs.AddressReading.{IsMac, Cuts, spelled_mac, ip4_of, net4_of, cut_at};
 ghost use Rattle.conf_shape.specs.Addresses.{is_group, is_zero, is_masked, is_length, station_cause, masked_cause, mac_fault, masked_fault, has_colon, other_cause, vip_cause, destination_cause, gateway_cause, prefix_cause, network_fault, has_no_host_bits, long_behind};
 
 use crate::refused::ConfCause;
 use net_base::{Ip4, Mac, Net4};
 
 fn parse_mac(text: &str) -> Option<Mac>
-    ensures { IsMac result (mac_of text.now) }
+    ensures { IsMac result (spelled_mac text.now) }
 {
     Mac::parse(text)
 }
@@ -76,7 +76,7 @@ fn is_masked(value: &[u8], mask: &[u8]) -> bool
 }
 
 fn mac_fault(text: &str) -> Option<ConfCause>
-    ensures { result ≡ mac_fault (mac_of text.now) }
+    ensures { result ≡ mac_fault (spelled_mac text.now) }
 {
     match parse_mac(text) {
         Some(_) => None,
@@ -85,7 +85,7 @@ fn mac_fault(text: &str) -> Option<ConfCause>
 }
 
 fn masked_fault(value: &str, mask: &str) -> Option<ConfCause>
-    ensures { result ≡ masked_fault (mac_of value.now) (mac_of mask.now) }
+    ensures { result ≡ masked_fault (spelled_mac value.now) (spelled_mac mask.now) }
 {
     let Some(value) = parse_mac(value) else {
         return Some(ConfCause::BadText);
