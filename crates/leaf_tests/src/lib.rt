@@ -3,6 +3,8 @@
 #![tactic(auto)]
 
 #[cfg(test)]
+mod conf_shape_tests;
+#[cfg(test)]
 mod fg_outside_tests;
 #[cfg(test)]
 mod of13_codec_tests;
