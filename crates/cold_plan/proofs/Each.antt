@@ -1,7 +1,7 @@
 -- Lists whose items all meet a condition, and lists that rise by a number.
 use Rattle.std.proofs.Common.{ℕ, ◌<◌, Bool, true, false, cond, List, [], ◌∷◌, filter}
 use Rattle.std.specs.List.{AllByRecursion}
-use Rattle.conf_types.specs.Valid.{Rises}
+use Rattle.conf_types.specs.First.{Rises}
 
 pub each : {A : Type 0} {P Q : A → Type 0} → ((x : A) → P x → Q x) → (xs : List A) → AllByRecursion P xs → AllByRecursion Q xs
 each h [] all = tt

@@ -8,15 +8,15 @@ use Rattle.std.proofs.lemmas.Bool.{cases_order, ltb-true, leb-true, and_parts}
 use Rattle.of_match.specs.declared.entry.Entry.{Entry}
 use Rattle.of_match.specs.KeyOrder.{key_cmp}
 use Rattle.of_match.specs.FlowTables.{IsInKeyOrder}
-use Rattle.conf_types.specs.declared.conf.Conf.{Conf}
-use Rattle.conf_types.specs.declared.conf.Port.{Port}
-use Rattle.conf_types.specs.declared.conf.Vlan.{Vlan}
+use Rattle.conf_types.specs.declared.first.Conf.{Conf}
+use Rattle.conf_types.specs.declared.first.Port.{Port}
+use Rattle.conf_types.specs.declared.first.Vlan.{Vlan}
 use Rattle.cold_plan.specs.declared.cold.PortRow.{PortRow}
 use Rattle.cold_plan.specs.declared.cold.PortRow.TheVariants.{Accept, Admit, Miss}
 use Rattle.cold_plan.specs.declared.cold.VlanRow.{VlanRow}
 use Rattle.cold_plan.specs.declared.cold.VlanRow.TheVariants.{UnicastFlood, GroupFlood}
 use Rattle.cold_plan.specs.Cold.{port_entry, vlan_entry, drops, passes, has_member, port_entries, vlan_entries, cold}
-use Rattle.conf_types.specs.Valid.{Rises}
+use Rattle.conf_types.specs.First.{Rises}
 use Rattle.cold_plan.proofs.Each.{each, rises_filter}
 
 less : (m n : ℕ) → m < n → nat_cmp m n ≡ Less

@@ -6,7 +6,9 @@ use Rattle.std.proofs.lemmas.Bool.{eqb-true, eq-eqb, and_parts, or_parts}
 use Rattle.std.proofs.lemmas.List.{append-nil}
 use Rattle.std.proofs.lemmas.List.Elements.{Contains-append_cases}
 use Rattle.net_base.specs.declared.field.FieldId.TheVariants.{VlanVid, EthSrc, EthDst, EthType}
+use Rattle.net_base.specs.Address.{group_bit, is_group}
 use Rattle.net_base.specs.Field.{exact, bits}
+use Rattle.of_match.specs.declared.action.TheConstants.{CONTROLLER}
 use Rattle.of_match.specs.declared.entry.Entry.{Entry}
 use Rattle.of_match.specs.declared.packet.Tag.{Tag}
 use Rattle.of_match.specs.declared.packet.L4.{L4}
@@ -18,11 +20,12 @@ use Rattle.of_match.specs.declared.packet.Sent.{Sent}
 use Rattle.of_match.specs.Act.{act_sends, act_left, set_l4, set_upper, set_tags, pushed}
 use Rattle.of_match.specs.Hit.{vid_value}
 use Rattle.of_match.specs.Pipeline.{takes, IsBest, Misses, sends_by, goes_on}
-use Rattle.conf_types.specs.declared.conf.Conf.{Conf}
-use Rattle.conf_types.specs.declared.conf.Port.{Port}
-use Rattle.conf_types.specs.declared.conf.Vlan.{Vlan}
-use Rattle.conf_types.specs.Valid.{Rises, IsConf, IsNumbered, IsIdentified}
-use Rattle.packet_way.specs.Way.{Arrives, is_group, is_dropped, is_tagged, with_tag, learned, flooded, sent_by, sends}
+use Rattle.conf_types.specs.declared.first.Conf.{Conf}
+use Rattle.conf_types.specs.declared.first.Port.{Port}
+use Rattle.conf_types.specs.declared.first.Vlan.{Vlan}
+use Rattle.conf_types.specs.First.{Rises, IsConf, IsNumbered, IsIdentified}
+use Rattle.packet_way.specs.declared.way.TheConstants.{GATEWAY, BROADCAST, LLDP, PVST_GROUP, BRIDGE_GROUP}
+use Rattle.packet_way.specs.Way.{is_dropped, is_tagged, with_tag, learned, flooded, sent_by, sends}
 use Rattle.cold_plan.specs.declared.cold.PortRow.{PortRow}
 use Rattle.cold_plan.specs.declared.cold.PortRow.TheVariants.{Accept, Admit, Miss}
 use Rattle.cold_plan.specs.declared.cold.VlanRow.{VlanRow}
@@ -30,7 +33,7 @@ use Rattle.cold_plan.specs.declared.cold.VlanRow.TheVariants.{UnicastFlood, Grou
 use Rattle.cold_plan.specs.Cold.{port_entry, vlan_entry, drops, passes, members, has_member, to_port, flood, entry, cold}
 use Rattle.cold_plan.proofs.Parts.{head_of, tail_of, of_all, Found, found, not_found, by_parts, port_entry_in, drop_in, pass_in, flood_in, best_of}
 use Rattle.cold_plan.proofs.Runs.{Determined, Exactly, missed, stopped, went}
-use Rattle.cold_plan.proofs.Takes.{accepts, admits, misses_source, from_source, to_address, of_type, floods, and_true}
+use Rattle.cold_plan.proofs.Takes.{Arrives, accepts, admits, misses_source, from_source, to_address, of_type, floods, and_true}
 
 -- ---- numbers, and ports by their numbers
 
@@ -257,11 +260,11 @@ module _ (conf : Conf) (port : ℕ) (h : IsConf conf) where
       (λ e1. one_of _ _ e1 (Drops p)
       (λ e2. one_of _ _ e2 (Drops p)
       (λ e3. one_of _ _ e3 (Drops p)
-      (λ s. record { by = entry 1 30 (exact EthSrc 0x0e0000000001 ∷ []) [] None; within = (0, omega arith, refl); hits_it = from_source port p a 0x0e0000000001 (omega arith) ∙ s; above = omega arith })
-      (λ s. record { by = entry 1 31 (exact EthSrc 0xffffffffffff ∷ []) [] None; within = (1, omega arith, refl); hits_it = from_source port p a 0xffffffffffff (omega arith) ∙ s; above = omega arith }))
-      (λ t. record { by = entry 1 32 (exact EthType 0x88cc ∷ []) [] None; within = (2, omega arith, refl); hits_it = of_type port p a 0x88cc (omega arith) ∙ t; above = omega arith }))
-      (λ d. record { by = entry 1 33 (exact EthDst 0x01000ccccccd ∷ []) [] None; within = (3, omega arith, refl); hits_it = to_address port p a 0x01000ccccccd (omega arith) ∙ d; above = omega arith }))
-      (λ d. record { by = entry 1 33 (exact EthDst 0x0180c2000000 ∷ []) [] None; within = (4, omega arith, refl); hits_it = to_address port p a 0x0180c2000000 (omega arith) ∙ d; above = omega arith })
+      (λ s. record { by = entry 1 30 (exact EthSrc GATEWAY ∷ []) [] None; within = (0, omega arith, refl); hits_it = from_source port p a GATEWAY (omega arith) ∙ s; above = omega arith })
+      (λ s. record { by = entry 1 31 (exact EthSrc BROADCAST ∷ []) [] None; within = (1, omega arith, refl); hits_it = from_source port p a BROADCAST (omega arith) ∙ s; above = omega arith }))
+      (λ t. record { by = entry 1 32 (exact EthType LLDP ∷ []) [] None; within = (2, omega arith, refl); hits_it = of_type port p a LLDP (omega arith) ∙ t; above = omega arith }))
+      (λ d. record { by = entry 1 33 (exact EthDst PVST_GROUP ∷ []) [] None; within = (3, omega arith, refl); hits_it = to_address port p a PVST_GROUP (omega arith) ∙ d; above = omega arith }))
+      (λ d. record { by = entry 1 33 (exact EthDst BRIDGE_GROUP ∷ []) [] None; within = (4, omega arith, refl); hits_it = to_address port p a BRIDGE_GROUP (omega arith) ∙ d; above = omega arith })
 
   -- no entry that drops takes the packet
   none_drops : (p : Packet) → Arrives port p → is_dropped p ≡ false → AllByRecursion (λ e. takes 1 port p e ≡ false) drops
@@ -270,14 +273,14 @@ module _ (conf : Conf) (port : ℕ) (h : IsConf conf) where
       let p2 = or_parts _ _ p1.0 in
       let p3 = or_parts _ _ p2.0 in
       let p4 = or_parts _ _ p3.0 in (
-        from_source port p a 0x0e0000000001 (omega arith) ∙ p4.0,
+        from_source port p a GATEWAY (omega arith) ∙ p4.0,
         (
-          from_source port p a 0xffffffffffff (omega arith) ∙ p4.1,
+          from_source port p a BROADCAST (omega arith) ∙ p4.1,
           (
-            of_type port p a 0x88cc (omega arith) ∙ p3.1,
+            of_type port p a LLDP (omega arith) ∙ p3.1,
             (
-              to_address port p a 0x01000ccccccd (omega arith) ∙ p2.1,
-              (to_address port p a 0x0180c2000000 (omega arith) ∙ p1.1, tt),
+              to_address port p a PVST_GROUP (omega arith) ∙ p2.1,
+              (to_address port p a BRIDGE_GROUP (omega arith) ∙ p1.1, tt),
             ),
           ),
         ),
@@ -370,7 +373,7 @@ module _ (conf : Conf) (port : ℕ) (h : IsConf conf) where
 
   table_3_group : (p : Packet) → is_group p.src ≡ true → Determined (cold conf) port 3 p [] (Some (4, p))
   table_3_group p g =
-      let e0 = entry 3 40 (bits EthSrc 0x010000000000 ∷ []) [] (Some 4) in
+      let e0 = entry 3 40 (bits EthSrc group_bit ∷ []) [] (Some 4) in
       let taken : takes 3 port p e0 ≡ true = and_true _ ∙ g in
       let within : Contains (cold conf) e0 = pass_in conf e0 (0, omega arith, refl) in
       pick 3 p [] (Some (4, p)) e0 within taken
@@ -387,11 +390,11 @@ module _ (conf : Conf) (port : ℕ) (h : IsConf conf) where
       of_vlan GroupFlood v w t le hit = never hit
 
   table_3_learns : (p : Packet) → Arrives port p → is_group p.src ≡ false → (q : Port) → Found (λ (r : Port). r.no == port) conf.dp.ports q → vid_value p.tags ≡ 0x1000 + q.native
-      → Determined (cold conf) port 3 p (record { port = 0xfffffffd; packet = p } ∷ []) (Some (4, p))
+      → Determined (cold conf) port 3 p (record { port = CONTROLLER; packet = p } ∷ []) (Some (4, p))
   table_3_learns p a single q f vid =
-      pick 3 p (record { port = 0xfffffffd; packet = p } ∷ []) (Some (4, p)) (port_entry Miss q) (port_entry_in conf Miss q f.within)
+      pick 3 p (record { port = CONTROLLER; packet = p } ∷ []) (Some (4, p)) (port_entry Miss q) (port_entry_in conf Miss q f.within)
       (misses_source port p a q (numbered q f.within) (native_most q f.within) ∙ rw (eq-eqb port q.no (sym is_port)) (eq-eqb (vid_value p.tags) (0x1000 + q.native) vid))
-      (λ e b. by_parts conf (Says 3 p (record { port = 0xfffffffd; packet = p } ∷ []) (Some (4, p))) of_port
+      (λ e b. by_parts conf (Says 3 p (record { port = CONTROLLER; packet = p } ∷ []) (Some (4, p))) of_port
       (never, (never, (never, (never, (never, tt)))))
       ((λ hit. never (sym (and_true _ ∙ single) ∙ hit)), (never, (never, (never, (never, tt)))))
       of_vlan e b.is_entry b.hit)
@@ -399,15 +402,15 @@ module _ (conf : Conf) (port : ℕ) (h : IsConf conf) where
       is_port : q.no ≡ port
       is_port = eqb-true q.no port f.passes
 
-      no_controller : (0xfffffffd == port) ≡ false
-      no_controller = apart 0xfffffffd port (λ e. let n = (numbered q f.within).most in omega (arith, e, n, is_port))
+      no_controller : (CONTROLLER == port) ≡ false
+      no_controller = apart CONTROLLER port (λ e. let n = (numbered q f.within).most in omega (arith, e, n, is_port))
 
-      of_port : (row : PortRow) (r : Port) → Contains conf.dp.ports r → Says 3 p (record { port = 0xfffffffd; packet = p } ∷ []) (Some (4, p)) (port_entry row r)
+      of_port : (row : PortRow) (r : Port) → Contains conf.dp.ports r → Says 3 p (record { port = CONTROLLER; packet = p } ∷ []) (Some (4, p)) (port_entry row r)
       of_port Accept r w hit = never hit
       of_port Admit r w hit = never hit
       of_port Miss r w hit = (rw no_controller refl, refl)
 
-      of_vlan : (row : VlanRow) (v : Vlan) → Contains conf.vlans v → has_member v.vid conf.dp.ports ≡ true → Says 3 p (record { port = 0xfffffffd; packet = p } ∷ []) (Some (4, p)) (vlan_entry row conf.dp.ports v)
+      of_vlan : (row : VlanRow) (v : Vlan) → Contains conf.vlans v → has_member v.vid conf.dp.ports ≡ true → Says 3 p (record { port = CONTROLLER; packet = p } ∷ []) (Some (4, p)) (vlan_entry row conf.dp.ports v)
       of_vlan UnicastFlood v w t hit = never hit
       of_vlan GroupFlood v w t hit = never hit
 
@@ -456,7 +459,12 @@ module _ (conf : Conf) (port : ℕ) (h : IsConf conf) where
   -- ---- the whole way
 
   with_tag_arrives : (p : Packet) (q : Port) → Arrives port p → q.native ≤ 4094 → Arrives port (with_tag q.native p)
-  with_tag_arrives p q a most = record { port_fits = a.port_fits; dst_fits = a.dst_fits; src_fits = a.src_fits; type_fits = a.type_fits; tags_fit = (omega (arith, most), a.tags_fit) }
+  with_tag_arrives p q a most = 
+      let s = a.shaped in
+      record {
+        port_fits = a.port_fits;
+        shaped = record { dst = s.dst; src = s.src; tags = (record { tpid = inl refl; pcp = omega arith; vid = omega (arith, most) }, s.tags); eth_type = s.eth_type; upper = s.upper; numbers = s.numbers };
+      }
 
   -- from table 4 on a packet with its tag is flooded
   from_4 : (p : Packet) (q : Port) → Arrives port (with_tag q.native p) → Contains conf.dp.ports q → Exactly (cold conf) port 4 (with_tag q.native p) (flooded q.native port conf.dp.ports p)
@@ -474,9 +482,9 @@ module _ (conf : Conf) (port : ℕ) (h : IsConf conf) where
   from_3 p q a none f = by (is_group p.src) refl
     where
       by : (b : Bool) → is_group p.src ≡ b
-          → Exactly (cold conf) port 3 (with_tag q.native p) ((if b then [] else record { port = 0xfffffffd; packet = with_tag q.native p } ∷ []) ++ flooded q.native port conf.dp.ports p)
+          → Exactly (cold conf) port 3 (with_tag q.native p) ((if b then [] else record { port = CONTROLLER; packet = with_tag q.native p } ∷ []) ++ flooded q.native port conf.dp.ports p)
       by true g = went (cold conf) port 3 (with_tag q.native p) [] 4 (with_tag q.native p) _ (table_3_group (with_tag q.native p) g) (from_4 p q a f.within)
-      by false g = went (cold conf) port 3 (with_tag q.native p) (record { port = 0xfffffffd; packet = with_tag q.native p } ∷ []) 4 (with_tag q.native p) _ (table_3_learns (with_tag q.native p) a g q f refl) (from_4 p q a f.within)
+      by false g = went (cold conf) port 3 (with_tag q.native p) (record { port = CONTROLLER; packet = with_tag q.native p } ∷ []) 4 (with_tag q.native p) _ (table_3_learns (with_tag q.native p) a g q f refl) (from_4 p q a f.within)
 
   from_1 : (p : Packet) (q : Port) → Arrives port p → Found (λ (r : Port). r.no == port) conf.dp.ports q → Exactly (cold conf) port 1 p (sent_by (Some q) conf port p)
   from_1 p q a f = by (is_dropped p) (is_tagged p.tags) refl refl

@@ -4,15 +4,18 @@ use Rattle.std.specs.Prelude.{ℕ, ◌+◌, ◌==◌, Bool, List, [], ◌∷◌,
 use Rattle.std.specs.List.{list_any}
 use Rattle.net_base.specs.declared.field.FieldId.TheVariants.{InPort, EthDst, EthSrc, EthType, VlanVid}
 use Rattle.net_base.specs.declared.field.Field.{Field}
+use Rattle.net_base.specs.Address.{group_bit}
 use Rattle.net_base.specs.Field.{exact, bits}
+use Rattle.of_match.specs.declared.action.TheConstants.{CONTROLLER}
 use Rattle.of_match.specs.declared.action.Action.{Action}
 use Rattle.of_match.specs.declared.action.Action.TheVariants.{Output, PushVlan, PopVlan, Set}
 use Rattle.of_match.specs.declared.action.Instr.{Instr}
 use Rattle.of_match.specs.declared.action.Instr.TheVariants.{Goto, Apply}
 use Rattle.of_match.specs.declared.entry.Entry.{Entry}
-use Rattle.conf_types.specs.declared.conf.Conf.{Conf}
-use Rattle.conf_types.specs.declared.conf.Port.{Port}
-use Rattle.conf_types.specs.declared.conf.Vlan.{Vlan}
+use Rattle.conf_types.specs.declared.first.Conf.{Conf}
+use Rattle.conf_types.specs.declared.first.Port.{Port}
+use Rattle.conf_types.specs.declared.first.Vlan.{Vlan}
+use Rattle.packet_way.specs.declared.way.TheConstants.{GATEWAY, BROADCAST, LLDP, PVST_GROUP, BRIDGE_GROUP}
 use Rattle.cold_plan.specs.declared.cold.PortRow.{PortRow}
 use Rattle.cold_plan.specs.declared.cold.PortRow.TheVariants.{Accept, Admit, Miss}
 use Rattle.cold_plan.specs.declared.cold.VlanRow.{VlanRow}
@@ -45,15 +48,11 @@ tagged vid = exact VlanVid (0x1000 + vid)
 abbrev pub untagged : Field
 untagged = exact VlanVid 0
 
--- the bit of a group address (IEEE 802, 8.2.2)
-abbrev pub group_bit : ℕ
-group_bit = 0x010000000000
-
 -- ---- actions
 
 -- one whole copy to the controller (OpenFlow 1.3, 7.2.5: OFPP_CONTROLLER and OFPCML_NO_BUFFER)
 abbrev pub to_controller : Action
-to_controller = Output 0xfffffffd 0xffff
+to_controller = Output CONTROLLER 0xffff
 
 abbrev pub to_port : ℕ → Action
 to_port port = Output port 0
@@ -74,11 +73,11 @@ port_entry Miss p = entry 3 10 (in_port p.no ∷ tagged p.native ∷ []) (to_con
 -- broadcast address, LLDP, and bridge protocols (IEEE 802.1D and Cisco's)
 abbrev pub drops : List Entry
 drops =
-    entry 1 30 (exact EthSrc 0x0e0000000001 ∷ []) [] None
-    ∷ entry 1 31 (exact EthSrc 0xffffffffffff ∷ []) [] None
-    ∷ entry 1 32 (exact EthType 0x88cc ∷ []) [] None
-    ∷ entry 1 33 (exact EthDst 0x01000ccccccd ∷ []) [] None
-    ∷ entry 1 33 (exact EthDst 0x0180c2000000 ∷ []) [] None
+    entry 1 30 (exact EthSrc GATEWAY ∷ []) [] None
+    ∷ entry 1 31 (exact EthSrc BROADCAST ∷ []) [] None
+    ∷ entry 1 32 (exact EthType LLDP ∷ []) [] None
+    ∷ entry 1 33 (exact EthDst PVST_GROUP ∷ []) [] None
+    ∷ entry 1 33 (exact EthDst BRIDGE_GROUP ∷ []) [] None
     ∷ []
 
 -- tables 3 to 7: a group source is never learned; what no entry of tables 4 to 7 takes goes on

@@ -2,34 +2,14 @@ ghost use Rattle.std.specs.Prelude.{◌≡◌, ◌+◌, [], ◌∷◌, ◌++◌,
 ghost use Rattle.std.specs.List.{list_any};
 ghost use Rattle.cold_plan.specs.Cold.{entry, in_port, tagged, untagged, applied, gone_to, port_entry, drops, passes, flood, has_member, vlan_entry, cold, to_port, to_controller};
 
-use conf_types::{Conf, Port, Vlan};
-use net_base::{Field, FieldId, Fields, Items, NoMemory, Vid};
-use of_match::{Action, Actions, Entries, Entry, Instr, Instrs, Key};
+use conf_types::first::{Conf, Port, Vlan};
+use net_base::{Field, FieldId, Fields, GROUP_BIT, Items, NoMemory, Vid};
+use of_match::{Action, Actions, CONTROLLER, Entries, Entry, Instr, Instrs, Key};
+use packet_way::{BRIDGE_GROUP, BROADCAST, GATEWAY, LLDP, PVST_GROUP};
 use std::alloc::Global;
-
-/// The address that each VLAN's gateway has unless it is given another.
-const GATEWAY: u128 = 0x0e00_0000_0001;
-
-/// Ethernet's broadcast address.
-const BROADCAST: u128 = 0xffff_ffff_ffff;
-
-/// The bit that tells a group address from one of a single station.
-const GROUP_BIT: u128 = 0x0100_0000_0000;
-
-/// Where bridges speak their spanning tree protocol (IEEE 802.1D, 7.12.3).
-const BRIDGE_GROUP: u128 = 0x0180_c200_0000;
-
-/// The same for Cisco's per-VLAN protocol.
-const PVST_GROUP: u128 = 0x0100_0ccc_cccd;
-
-/// The EtherType of LLDP.
-const LLDP: u128 = 0x88cc;
 
 /// The EtherType of a VLAN tag (IEEE 802.1Q, 9.6).
 const VLAN_TAG: u16 = 0x8100;
-
-/// OpenFlow's port for the controller.
-const CONTROLLER: u32 = 0xffff_fffd;
 
 /// The packet whole, and not only its front.
 const WHOLE_PACKET: u16 = 0xffff;
@@ -134,7 +114,7 @@ fn push_drops(alloc: Global, out: &mut Entries) -> Result<(), NoMemory>
     out.push(make_entry(alloc, 1, 30, &[gateway], &[], None)?)?;
     let broadcast = Field::exact(FieldId::EthSrc, BROADCAST);
     out.push(make_entry(alloc, 1, 31, &[broadcast], &[], None)?)?;
-    let lldp = Field::exact(FieldId::EthType, LLDP);
+    let lldp = Field::exact(FieldId::EthType, u128::from(LLDP));
     out.push(make_entry(alloc, 1, 32, &[lldp], &[], None)?)?;
     let pvst = Field::exact(FieldId::EthDst, PVST_GROUP);
     out.push(make_entry(alloc, 1, 33, &[pvst], &[], None)?)?;

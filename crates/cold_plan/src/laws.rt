@@ -1,17 +1,18 @@
 //! Laws of the definitions: a function's contract is the law, and its body is at most a call of
 //! the laws that it rests on.
 
-ghost use Rattle.std.specs.Prelude.{◌≡◌, ℕ, List, [], ◌∷◌, map};
+ghost use Rattle.std.specs.Prelude.{◌≡◌, ℕ, ◌<◌, ◌^◌, List, [], ◌∷◌, map};
 ghost use Rattle.of_match.specs.FlowTables.{IsInKeyOrder};
 ghost use Rattle.of_match.specs.Pipeline.{Pipes};
+ghost use Rattle.of_match.specs.Shaped.{IsShaped};
 ghost use Rattle.of_match.specs.Settled.{SettlesInTurn};
 ghost use Rattle.of_match.specs.declared.entry.Command.TheVariants.{Add, DeleteAll};
 ghost use Rattle.of_match.specs.declared.entry.Entry.{Entry};
 ghost use Rattle.of_match.specs.declared.packet.Packet.{Packet};
 ghost use Rattle.of_match.specs.declared.packet.Sent.{Sent};
-ghost use Rattle.conf_types.specs.declared.conf.Conf.{Conf};
-ghost use Rattle.conf_types.specs.Valid.{IsConf};
-ghost use Rattle.packet_way.specs.Way.{Arrives, sends};
+ghost use Rattle.conf_types.specs.declared.first.Conf.{Conf};
+ghost use Rattle.conf_types.specs.First.{IsConf};
+ghost use Rattle.packet_way.specs.Way.{sends};
 ghost use Rattle.cold_plan.specs.Cold.{cold};
 
 /// The cold start of a configuration stands in key order, no two entries with one key.
@@ -33,8 +34,8 @@ pub fn an_opened_switch_holds_the_cold_start()
 /// The tables of the cold start send each packet exactly as the configuration describes, whichever
 /// of several entries of one priority a switch takes.
 pub fn the_cold_start_sends_each_packet_as_described()
-    ensures some { (conf : Conf) (port : ℕ) (p : Packet) → IsConf conf → Arrives port p
+    ensures some { (conf : Conf) (port : ℕ) (p : Packet) → IsConf conf → port < 2 ^ 32 → IsShaped p
         → Pipes (cold conf) port p (sends conf port p) }
-    ensures only { (conf : Conf) (port : ℕ) (p : Packet) (outs : List Sent) → IsConf conf → Arrives port p
+    ensures only { (conf : Conf) (port : ℕ) (p : Packet) (outs : List Sent) → IsConf conf → port < 2 ^ 32 → IsShaped p
         → Pipes (cold conf) port p outs → outs ≡ sends conf port p }
 {}

@@ -2,7 +2,7 @@
 
 use crate::make_cold;
 use crate::plain::plain_cold;
-use conf_types::{Conf, Dp, Port, Ports, Vlan, Vlans};
+use conf_types::first::{Conf, Dp, Port, Ports, Vlan, Vlans};
 use net_base::{Bytes, DpId, Mac, NoMemory, PortNo, Text, Vid};
 use of_match::{Packet, Sents, Tables, Tag, Tags, Upper, run};
 use packet_way::sends;

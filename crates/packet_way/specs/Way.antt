@@ -1,37 +1,23 @@
 -- The way of a packet through a datapath whose interfaces each have a native VLAN, as its configuration
 -- describes it. It knows no tables and no entries.
-use Rattle.std.specs.Prelude.{ℕ, ◌<◌, ◌^◌, Bool, true, false, not, ◌||◌, ◌&&◌, ◌==◌, if◌then◌else◌, List, [], ◌∷◌, ◌++◌, map, filter, Option, Some, None, bit_and}
-use Rattle.std.specs.List.{AllByRecursion, find}
-use Rattle.net_base.specs.declared.address.Mac.{Mac}
+use Rattle.std.specs.Prelude.{ℕ, Bool, true, false, not, ◌||◌, ◌&&◌, ◌==◌, if◌then◌else◌, List, [], ◌∷◌, ◌++◌, map, filter, Option, Some, None}
+use Rattle.std.specs.List.{find}
 use Rattle.of_match.specs.declared.packet.Tag.{Tag}
 use Rattle.of_match.specs.declared.packet.Packet.{Packet}
 use Rattle.of_match.specs.declared.packet.Sent.{Sent}
-use Rattle.net_base.specs.Address.{mac_value}
-use Rattle.conf_types.specs.declared.conf.Conf.{Conf}
-use Rattle.conf_types.specs.declared.conf.Port.{Port}
-
--- the parts of a packet, and the number of the port that it came in by, fit their headers
-pub record Arrives (port : ℕ) (p : Packet) : Type 0 where
-  pub port_fits : port < 2 ^ 32
-  pub dst_fits : mac_value p.dst < 2 ^ 48
-  pub src_fits : mac_value p.src < 2 ^ 48
-  pub type_fits : p.eth_type < 2 ^ 16
-  pub tags_fit : AllByRecursion (λ tag. tag.vid < 2 ^ 12) p.tags
+use Rattle.net_base.specs.Address.{mac_value, is_group}
+use Rattle.of_match.specs.declared.action.TheConstants.{CONTROLLER}
+use Rattle.conf_types.specs.declared.first.Conf.{Conf}
+use Rattle.conf_types.specs.declared.first.Port.{Port}
+use Rattle.packet_way.specs.declared.way.TheConstants.{GATEWAY, BROADCAST, LLDP, PVST_GROUP, BRIDGE_GROUP}
 
 -- ---- what is dropped
-
--- the bit of a group address (IEEE 802, 8.2.2)
-abbrev pub group_bit : ℕ
-group_bit = 0x010000000000
-
-abbrev pub is_group : Mac → Bool
-is_group address = bit_and (mac_value address) group_bit == group_bit
 
 -- packets that claim the gateway's own address or come from the broadcast address, LLDP, and what
 -- bridges say to each other (Cisco's, and IEEE 802.1D's)
 abbrev pub is_dropped : Packet → Bool
-is_dropped p = mac_value p.src == 0x0e0000000001 || mac_value p.src == 0xffffffffffff || p.eth_type == 0x88cc
-    || mac_value p.dst == 0x01000ccccccd || mac_value p.dst == 0x0180c2000000
+is_dropped p = mac_value p.src == GATEWAY || mac_value p.src == BROADCAST || p.eth_type == LLDP
+    || mac_value p.dst == PVST_GROUP || mac_value p.dst == BRIDGE_GROUP
 
 abbrev pub is_tagged : List Tag → Bool
 is_tagged [] = false
@@ -50,7 +36,7 @@ with_tag vid p = record p { tags = record { tpid = 0x8100; pcp = 0; dei = false;
 -- the controller learns the source from a copy with the tag of its VLAN (OFPP_CONTROLLER); a group
 -- address is no source to learn
 abbrev pub learned : ℕ → Packet → List Sent
-learned vid p = if is_group p.src then [] else record { port = 0xfffffffd; packet = with_tag vid p } ∷ []
+learned vid p = if is_group p.src then [] else record { port = CONTROLLER; packet = with_tag vid p } ∷ []
 
 -- every other port with the native VLAN gets the packet as it came
 abbrev pub flooded : ℕ → ℕ → List Port → Packet → List Sent

@@ -3,4 +3,4 @@
 
 mod way;
 
-pub use way::sends;
+pub use way::{BRIDGE_GROUP, BROADCAST, GATEWAY, LLDP, PVST_GROUP, sends};

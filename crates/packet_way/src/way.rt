@@ -1,67 +1,46 @@
-ghost use Rattle.std.specs.Prelude.{◌≡◌, ◌==◌, ◌++◌, ◌||◌, false, IfOk, OnOk, option_copied};
+ghost use Rattle.std.specs.Prelude.{◌≡◌, ◌==◌, ◌++◌, ◌||◌, IfOk, OnOk, option_copied};
 ghost use Rattle.std.specs.List.{find};
-ghost use Rattle.std.specs.Option.{option_map_or};
 ghost use Rattle.net_base.specs.Address.{mac_value};
-ghost use Rattle.of_match.specs.Hit.{value_of};
-ghost use Rattle.packet_way.specs.Way.{is_group, is_dropped, with_tag, learned, flooded, sends};
+ghost use Rattle.packet_way.specs.Way.{is_dropped, with_tag, learned, flooded, sends};
 
-use conf_types::{Conf, Port};
-use net_base::{FieldId, NoMemory, PortNo, TryCopy, Vid};
-use of_match::{CONTROLLER, Packet, Sent, Sents, Tag, value_of};
+use conf_types::first::{Conf, Port};
+use net_base::{NoMemory, PortNo, TryCopy, Vid};
+use of_match::{CONTROLLER, Packet, Sent, Sents, Tag};
 use std::alloc::Global;
 
 /// The address that each VLAN's gateway has unless it is given another.
-const GATEWAY: u128 = 0x0e00_0000_0001;
+pub const GATEWAY: u128 = 0x0e00_0000_0001;
 
 /// Ethernet's broadcast address.
-const BROADCAST: u128 = 0xffff_ffff_ffff;
+pub const BROADCAST: u128 = 0xffff_ffff_ffff;
 
 /// The EtherType of LLDP.
-const LLDP: u128 = 0x88cc;
+pub const LLDP: u16 = 0x88cc;
 
 /// Where Cisco's bridges speak their per-VLAN spanning tree protocol.
-const PVST_GROUP: u128 = 0x0100_0ccc_cccd;
+pub const PVST_GROUP: u128 = 0x0100_0ccc_cccd;
 
 /// Where bridges speak their spanning tree protocol (IEEE 802.1D, 7.12.3).
-const BRIDGE_GROUP: u128 = 0x0180_c200_0000;
-
-/// The bit that tells a group address from one of a single station.
-const GROUP_BIT: u128 = 0x0100_0000_0000;
+pub const BRIDGE_GROUP: u128 = 0x0180_c200_0000;
 
 /// The EtherType of a VLAN tag (IEEE 802.1Q, 9.6).
 const VLAN_TAG: u16 = 0x8100;
 
-fn has(id: FieldId, value: u128, port: PortNo, packet: &Packet) -> bool
-    ensures { result ≡ option_map_or (λ v. v == value) (value_of id port packet.now) false }
+fn has_dropped_source(packet: &Packet) -> bool
+    ensures { result ≡ mac_value packet.now.src == GATEWAY || mac_value packet.now.src == BROADCAST }
 {
-    match value_of(id, port, packet) {
-        Some(held) => held == value,
-        None => false,
-    }
+    let source = packet.src.value();
+    source == GATEWAY || source == BROADCAST
 }
 
-fn has_dropped_source(port: PortNo, packet: &Packet) -> bool
-    ensures { result ≡ mac_value packet.now.src == 0x0e0000000001 || mac_value packet.now.src == 0xffffffffffff }
-{
-    has(FieldId::EthSrc, GATEWAY, port, packet) || has(FieldId::EthSrc, BROADCAST, port, packet)
-}
-
-fn is_dropped(port: PortNo, packet: &Packet) -> bool
+fn is_dropped(packet: &Packet) -> bool
     ensures { result ≡ is_dropped packet.now }
 {
-    has_dropped_source(port, packet)
-        || has(FieldId::EthType, LLDP, port, packet)
-        || has(FieldId::EthDst, PVST_GROUP, port, packet)
-        || has(FieldId::EthDst, BRIDGE_GROUP, port, packet)
-}
-
-fn is_from_group(port: PortNo, packet: &Packet) -> bool
-    ensures { result ≡ is_group packet.now.src }
-{
-    match value_of(FieldId::EthSrc, port, packet) {
-        Some(source) => source & GROUP_BIT == GROUP_BIT,
-        None => false,
-    }
+    let target = packet.dst.value();
+    has_dropped_source(packet)
+        || packet.eth_type == LLDP
+        || target == PVST_GROUP
+        || target == BRIDGE_GROUP
 }
 
 /// The packet with a tag of the VLAN in front.
@@ -84,12 +63,11 @@ fn push_learned(
     alloc: Global,
     out: &mut Sents,
     vid: Vid,
-    port: PortNo,
     packet: &Packet,
 ) -> Result<(), NoMemory>
     ensures { OnOk result (out.new ≡ out.old ++ learned vid packet.now) }
 {
-    if is_from_group(port, packet) {
+    if packet.src.is_group() {
         return Ok(());
     }
     let copy = make_tagged(alloc, vid, packet)?;
@@ -137,10 +115,10 @@ pub fn sends(alloc: Global, conf: &Conf, port: PortNo, packet: &Packet) -> Resul
     let Some(ingress) = find_port(ports, port) else {
         return Ok(out);
     };
-    if is_dropped(port, packet) || !packet.tags.is_empty() {
+    if is_dropped(packet) || !packet.tags.is_empty() {
         return Ok(out);
     }
-    push_learned(alloc, &mut out, ingress.native, port, packet)?;
+    push_learned(alloc, &mut out, ingress.native, packet)?;
     push_flooded(alloc, &mut out, ingress.native, port, ports, packet)?;
     Ok(out)
 }
