@@ -3,4 +3,3 @@ pub mod Frame
 pub mod Numbers
 pub mod Packets
 pub mod Replies
-pub mod Shaped

@@ -2,6 +2,7 @@
 use Rattle.std.specs.Prelude.{ℕ, ◌+◌, ◌-◌, ◌%◌, ◌^◌, Bool, ◌==◌, ◌&&◌, not, nat_le, if◌then◌else◌, List, [], ◌∷◌, ◌++◌, Option, Some, None, length, take, drop, slice_index}
 use Rattle.net_base.specs.declared.address.Mac.{Mac}
 use Rattle.net_base.specs.declared.address.Ip4.{Ip4}
+use Rattle.net_base.specs.Address.{is_group}
 use Rattle.pkt_view.specs.Numbers.{number_at, number}
 use Rattle.pkt_view.specs.Checksum.{internet_checksum}
 use Rattle.pkt_view.specs.Frame.{UpperParts, Unknown, Arp, V4, FrameParts}
@@ -33,10 +34,6 @@ abbrev pub arp_reply : Mac → Ip4 → Mac → Ip4 → List ℕ
 arp_reply src spa dst tpa = untagged dst src 0x0806 (arp_packet 2 src spa dst tpa)
 
 -- ---- ICMP echo (RFC 792, Echo or Echo Reply Message)
-
--- whether an address names a group (IEEE 802, 8.2: the lowest bit of its first byte)
-abbrev pub is_group : Mac → Bool
-is_group mac = slice_index mac.0 0 % 2 == 1
 
 -- the total length of a packet, from its header (RFC 791, 3.1)
 abbrev pub total_len : List ℕ → ℕ

@@ -1,6 +1,6 @@
 ghost use Rattle.std.specs.Prelude.{◌≡◌, ◌+◌, ◌≤◌, ◌<◌, ◌^◌, ◌++◌, length, IsTrue, IfOk, OnOk};
 ghost use Rattle.pkt_view.specs.Frame.{shown};
-ghost use Rattle.pkt_view.specs.Replies.{is_group, total_len, carries_icmp, icmp_of, is_echo_request, is_echo_due, with_checksum, reply_header, reply_icmp, echo_frame, echo_reply};
+ghost use Rattle.pkt_view.specs.Replies.{total_len, carries_icmp, icmp_of, is_echo_request, is_echo_due, with_checksum, reply_header, reply_icmp, echo_frame, echo_reply};
 
 use crate::bytes::{put_u16, u16_at};
 use crate::frame::{FrameView, UpperView};
@@ -17,13 +17,6 @@ const VERSION_AND_LENGTH: u8 = 0x45;
 const TTL: u8 = 64;
 
 const ICMP: u8 = 1;
-
-// Whether the address names a group (IEEE 802, 8.2).
-fn is_group(mac: Mac) -> bool
-    ensures { result ≡ is_group mac }
-{
-    mac.0[0] % 2 == 1
-}
 
 // Whether a whole ICMP packet lies under the header, which is no fragment's and has a right checksum.
 #[tactic(auto, unfolding(crate::specs::Replies::carries_icmp))]
@@ -136,7 +129,7 @@ pub fn echo_reply(
     let UpperView::V4 { header, body } = request.upper else {
         return Ok(None);
     };
-    if is_group(request.src) || !carries_icmp(header, body) {
+    if request.src.is_group() || !carries_icmp(header, body) {
         return Ok(None);
     }
     let icmp = &body[..u16_at(header, 2) as usize - header.len()];

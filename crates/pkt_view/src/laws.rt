@@ -1,19 +1,19 @@
 //! Laws of the definitions: each function is empty, and its contract is the law.
 
-ghost use Rattle.std.specs.Prelude.{◌≡◌, ◌++◌, false, ◌≤◌, ◌<◌, ◌%◌, ◌-◌, ◌^◌, ℕ, List, All, IfSome, length, take, drop, sum};
+ghost use Rattle.std.specs.Prelude.{◌≡◌, ◌++◌, false, ◌≤◌, ◌<◌, ◌%◌, ◌-◌, ◌^◌, ℕ, List, All, IfSome, length, slice_index, take, drop, sum};
 ghost use Rattle.std.specs.List.{fold};
 ghost use Rattle.pkt_view.specs.Checksum.{carried, ones_complement, internet_checksum};
 ghost use Rattle.pkt_view.specs.Frame.{is_tag_type, parts};
 ghost use Rattle.pkt_view.specs.Numbers.{number};
 ghost use Rattle.pkt_view.specs.Packets.{packet};
 ghost use Rattle.pkt_view.specs.Replies.{reply_header, reply_icmp};
-ghost use Rattle.pkt_view.specs.Shaped.{IsShaped};
+ghost use Rattle.of_match.specs.Shaped.{IsShaped};
 
-/// The parts of a frame's packet agree with its EtherType and protocol, and its tags with IEEE
-/// 802.1Q.
+/// The parts of a frame's packet fit their headers, and agree with its EtherType and protocol, and its
+/// tags with IEEE 802.1Q.
 #[tactic(auto, using(crate::proofs::Shapes::packet_shaped))]
 pub fn packet_of_a_frame_is_shaped()
-    ensures { (frame : List ℕ) → IfSome (packet frame) IsShaped }
+    ensures { (frame : List ℕ) → ((i : ℕ) → slice_index frame i < 256) → IfSome (packet frame) IsShaped }
 {}
 
 /// A frame is its parts in a row: two addresses, the tags, the EtherType and the payload; and that

@@ -1,7 +1,7 @@
 ghost use Rattle.std.specs.Prelude.{◌≡◌, ◌≤◌, ◌++◌, length, take, drop, ◌↔◌, IsTrue, IsSome, IfOk, IfSome, OnOk};
 ghost use Rattle.pkt_view.specs.Frame.{shown, shown_upper, HasFixedPart, has_type};
 ghost use Rattle.pkt_view.specs.Packets.{tag_of, tags_of, l4_in, l4_of, l4_len, upper_of, rest_of, packet_of_parts, packet};
-ghost use Rattle.pkt_view.specs.Shaped.{IsShaped};
+ghost use Rattle.of_match.specs.Shaped.{IsShaped};
 
 use crate::bytes::{ip4_at, u16_at};
 use crate::frame::{FrameView, UpperView, view};
@@ -181,7 +181,6 @@ fn packet_from(alloc: Global, view: &FrameView<'_>) -> Result<Packet, NoMemory>
 }
 
 /// The packet that a frame shows; `None` exactly where the frame ends before its EtherType.
-#[tactic(auto, using(crate::proofs::Shapes::packet_shaped))]
 pub fn packet_of(alloc: Global, frame: &[u8]) -> Result<Option<Packet>, NoMemory>
     ensures packet { IfOk result (λ p. p ≡ packet frame.now) }
     ensures shaped { IfOk result (λ p. IfSome p IsShaped) }
