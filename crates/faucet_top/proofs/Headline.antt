@@ -17,7 +17,8 @@ use Rattle.of_match.specs.declared.packet.Packet.{Packet}
 use Rattle.of_match.specs.declared.packet.Sent.{Sent}
 use Rattle.of_match.specs.Pipeline.{Pipes}
 use Rattle.of_match.specs.Settled.{SettlesInTurn}
-use Rattle.packet_way.specs.Way.{Arrives, sends}
+use Rattle.of_match.specs.Shaped.{IsShaped}
+use Rattle.packet_way.specs.Way.{sends}
 use Rattle.cold_plan.specs.Cold.{cold}
 use Rattle.of13_codec.specs.Messages.{written}
 use Rattle.of13_codec.specs.Spelling.{Spells}
@@ -109,10 +110,10 @@ abbrev pub Holds : Type 0
 Holds = (conf : Conf) → IsConf conf → (held settled : List Entry) → SettlesInTurn held ((DeleteAll ∷ []) ∷ map Add (cold conf) ∷ []) settled → settled ≡ cold conf
 
 abbrev pub Goes : Type 0
-Goes = (conf : Conf) (port : ℕ) (p : Packet) → IsConf conf → Arrives port p → Pipes (cold conf) port p (sends conf port p)
+Goes = (conf : Conf) (port : ℕ) (p : Packet) → IsConf conf → port < 2 ^ 32 → IsShaped p → Pipes (cold conf) port p (sends conf port p)
 
 abbrev pub Only : Type 0
-Only = (conf : Conf) (port : ℕ) (p : Packet) (outs : List Sent) → IsConf conf → Arrives port p → Pipes (cold conf) port p outs → outs ≡ sends conf port p
+Only = (conf : Conf) (port : ℕ) (p : Packet) (outs : List Sent) → IsConf conf → port < 2 ^ 32 → IsShaped p → Pipes (cold conf) port p outs → outs ≡ sends conf port p
 
 module _ (number_len : NumberLen) (fields_len : FieldsLen) (match_len : MatchLen) (actions_len : ActionsLen) (grammar : OfGrammar) (spelled : Spelled) (holds : Holds) (goes : Goes) (only : Only) (text dp batch : List ℕ) where
   opens : (tree : Tree) (conf : Conf) → read_of text ≡ Ok tree → conf_of tree ≡ Some conf → conf.dp.name ≡ dp → opening (cold conf) ≡ batch → Opens text dp batch
@@ -132,8 +133,8 @@ module _ (number_len : NumberLen) (fields_len : FieldsLen) (match_len : MatchLen
             (spells_all spelled 1 (omega arith) (opening_messages (cold conf)) (opening_can (wipe_written number_len fields_len match_len actions_len) (cold conf) added));
         said = opening_said (cold conf) added;
         holds = holds conf valid;
-        goes = λ port p a. goes conf port p valid a;
-        only = λ port p outs a way. only conf port p outs valid a way;
+        goes = λ port p fits shaped. goes conf port p valid fits shaped;
+        only = λ port p outs fits shaped way. only conf port p outs valid fits shaped way;
       }
 
   by_name : (tree : Tree) (conf : Conf) → read_of text ≡ Ok tree → conf_of tree ≡ Some conf → (b : Bool) → bytes_eq conf.dp.name dp ≡ b

@@ -1,5 +1,5 @@
 -- What the bytes of an opening batch do to a switch that gets them.
-use Rattle.std.specs.Prelude.{◌≡◌, ℕ, ◌==◌, ◌&&◌, nat_lt, Bool, if◌then◌else◌, List, [], ◌∷◌, ◌++◌, length, Option, Some, None}
+use Rattle.std.specs.Prelude.{◌≡◌, ℕ, ◌<◌, ◌^◌, ◌==◌, ◌&&◌, nat_lt, Bool, if◌then◌else◌, List, [], ◌∷◌, ◌++◌, length, Option, Some, None}
 use Rattle.fg_outside.specs.Wrote.{appended}
 use Rattle.yaml_subset.specs.Grammar.{Reads}
 use Rattle.yaml_subset.specs.declared.tree.Tree.{Tree}
@@ -12,7 +12,8 @@ use Rattle.of_match.specs.declared.packet.Packet.{Packet}
 use Rattle.of_match.specs.declared.packet.Sent.{Sent}
 use Rattle.of_match.specs.Pipeline.{Pipes}
 use Rattle.of_match.specs.Settled.{SettlesInTurn}
-use Rattle.packet_way.specs.Way.{Arrives, sends}
+use Rattle.of_match.specs.Shaped.{IsShaped}
+use Rattle.packet_way.specs.Way.{sends}
 use Rattle.cold_plan.specs.Cold.{cold}
 use Rattle.of_wire.specs.Grammar.{Then}
 use Rattle.of13_codec.specs.Messages.{written}
@@ -82,8 +83,8 @@ pub record Opens (text dp batch : List ℕ) : Type 0 where
   pub spelled : SpellAll 1 messages batch
   pub said : Says messages commands
   pub holds : (held settled : List Entry) → SettlesInTurn held commands settled → settled ≡ cold conf
-  pub goes : (port : ℕ) (p : Packet) → Arrives port p → Pipes (cold conf) port p (sends conf port p)
-  pub only : (port : ℕ) (p : Packet) (outs : List Sent) → Arrives port p → Pipes (cold conf) port p outs → outs ≡ sends conf port p
+  pub goes : (port : ℕ) (p : Packet) → port < 2 ^ 32 → IsShaped p → Pipes (cold conf) port p (sends conf port p)
+  pub only : (port : ℕ) (p : Packet) (outs : List Sent) → port < 2 ^ 32 → IsShaped p → Pipes (cold conf) port p outs → outs ≡ sends conf port p
 
 -- what was written opens the datapath
 abbrev pub OpensBy : (text dp : List ℕ) → (before after : Option (List ℕ)) → Type 0
