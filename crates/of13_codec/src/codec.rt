@@ -1,4 +1,4 @@
-ghost use Rattle.std.specs.Prelude.{◌≡◌, ◌≤◌, ◌<◌, ◌++◌, ◌+◌, ◌^◌, ℕ, List, length, Ok, OnOk, OnErr, IfOk, MatchOption};
+ghost use Rattle.std.specs.Prelude.{◌≡◌, ◌≤◌, ◌<◌, ◌++◌, ◌+◌, ◌^◌, ℕ, List, length, take, Ok, OnOk, OnErr, IfOk, MatchOption};
 ghost use Rattle.of_wire.specs.Reading.{Gives};
 ghost use Rattle.of_wire.specs.Numbers.{number_in};
 ghost use Rattle.of13_codec.specs.Decoding.{error_at, other_at, bare_at, echo_request_at, echo_reply_at, body_at, is_version, decoded, Decodes};
@@ -63,9 +63,10 @@ fn put_body(message: &Message, out: &mut Bytes) -> Result<(), NoMemory>
     }
 }
 
-/// Writes a header, and a body behind it.
+/// Writes a header, and a body behind it; after `NoMemory` a part of it may stand behind what was there.
 fn put_framed(version: u8, kind: u8, xid: u32, body: &[u8], out: &mut Bytes) -> Result<(), NoMemory>
-    ensures { OnOk result (out.new ≡ out.old ++ framed version kind xid body.now) }
+    ensures ok { OnOk result (out.new ≡ out.old ++ framed version kind xid body.now) }
+    ensures kept { OnErr result (take (length out.old) out.new ≡ out.old) }
 {
     put_number(out, u128::from(version), 1)?;
     put_number(out, u128::from(kind), 1)?;
@@ -82,15 +83,13 @@ fn put_message(alloc: Global, message: &Message, xid: u32, out: &mut Bytes) -> R
 {
     let mut body = Bytes::new(alloc);
     put_body(message, &mut body)?;
-    let mut whole = Bytes::new(alloc);
-    put_framed(
-        message.version(),
-        message.kind(),
-        xid,
-        body.as_slice(),
-        &mut whole,
-    )?;
-    out.append(whole.as_slice())
+    let start = out.len();
+    let (version, kind) = (message.version(), message.kind());
+    if let Err(no_memory) = put_framed(version, kind, xid, body.as_slice(), out) {
+        out.truncate(start);
+        return Err(no_memory);
+    }
+    Ok(())
 }
 
 /// Adds a message with a transaction id to the end of `out` (OpenFlow 1.3, 7.1). After `NoMemory`
