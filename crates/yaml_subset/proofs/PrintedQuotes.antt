@@ -4,35 +4,16 @@ use Rattle.std.specs.Prelude.{codes, if◌then◌else◌}
 use Rattle.std.proofs.lemmas.Bool.{cases_lt, lt-leb}
 use Rattle.std.specs.Char.{is_ascii_control, digit_char}
 use Rattle.std.proofs.lemmas.Bool.Decides.{nat_tests}
-use Rattle.yaml_subset.specs.declared.quoted.Escape.TheVariants.{Outside, Hex}
+use Rattle.yaml_subset.specs.declared.quoted.Escape.TheVariants.{Outside}
 use Rattle.yaml_subset.specs.Characters.{is_kept}
-use Rattle.yaml_subset.specs.Quoted.{hex_digit, utf8_bytes, next_of_hex, double_step, double_from}
-use Rattle.yaml_subset.specs.Gives.{◌>>=◌}
+use Rattle.yaml_subset.specs.Quoted.{hex_digit, utf8_bytes, double_step, double_from}
+use Rattle.yaml_subset.specs.DoubleQuoted.{ShortEscape, backslash, quote, line_feed, tab, carriage_return, short, unicode}
 use Rattle.yaml_subset.specs.Printed.{escaped, all_escaped}
+use Rattle.yaml_subset.proofs.DoubleQuotes.{escape_reads}
 
 -- two characters that stand for one
-read_backslash : (out rest : List ℕ) → double_from Outside out (92 ∷ 92 ∷ rest) ≡ double_from Outside (out ++ 92 ∷ []) rest
-unfolding double_from double_step
-read_backslash out rest = ap (λ o. double_from Outside (o ++ 92 ∷ []) rest) (append-nil out)
-
-read_quote : (out rest : List ℕ) → double_from Outside out (92 ∷ 34 ∷ rest) ≡ double_from Outside (out ++ 34 ∷ []) rest
-unfolding double_from double_step
-read_quote out rest = ap (λ o. double_from Outside (o ++ 34 ∷ []) rest) (append-nil out)
-
-read_feed : (out rest : List ℕ) → double_from Outside out (92 ∷ 110 ∷ rest) ≡ double_from Outside (out ++ 10 ∷ []) rest
-unfolding double_from double_step
-read_feed out rest = ap (λ o. double_from Outside (o ++ 10 ∷ []) rest) (append-nil out)
-
-read_tab : (out rest : List ℕ) → double_from Outside out (92 ∷ 116 ∷ rest) ≡ double_from Outside (out ++ 9 ∷ []) rest
-unfolding double_from double_step
-read_tab out rest = ap (λ o. double_from Outside (o ++ 9 ∷ []) rest) (append-nil out)
-
-read_return : (out rest : List ℕ) → double_from Outside out (92 ∷ 114 ∷ rest) ≡ double_from Outside (out ++ 13 ∷ []) rest
-unfolding double_from double_step
-read_return out rest = ap (λ o. double_from Outside (o ++ 13 ∷ []) rest) (append-nil out)
-
-digit_at_least : (d : ℕ) → d < 16 → 48 ≤ digit_char d
-digit_at_least d h = grind (arith, nat_tests)
+read_short : (letter byte : ℕ) → ShortEscape letter byte → (out rest : List ℕ) → double_from Outside out (92 ∷ letter ∷ rest) ≡ double_from Outside (out ++ byte ∷ []) rest
+read_short letter byte s out rest = escape_reads (92 ∷ letter ∷ []) (byte ∷ []) (short letter byte s refl refl) out rest
 
 low_digit : (d : ℕ) → d < 10 → digit_char d ≡ 48 + d
 low_digit d h = rw (lt-ltb d 10 h) refl
@@ -53,30 +34,18 @@ digit_read d h = by_size (cases_lt d 10)
     by_size (inl l) = ap hex_digit (low_digit d l) ∙ hex_low (48 + d) (omega arith) (omega arith) ∙ ap Some (omega arith)
     by_size (inr l) = ap hex_digit (high_digit d l) ∙ hex_high (87 + d) (omega arith) (omega arith) ∙ ap Some (omega arith)
 
--- one hexadecimal digit
-read_digit : (left value d : ℕ) (out rest : List ℕ) → d < 16
-    → double_from (Hex left value) out (digit_char d ∷ rest) ≡ (next_of_hex left value (Some d) >>= λ s. double_from s.0 (out ++ s.1) rest)
-unfolding double_from double_step
-read_digit left value d out rest h =
-    let e : (digit_char d == 34) ≡ false = ne_eqb _ _ (λ p. let l = digit_at_least d h in absurd (omega arith)) in
-    rw (e, digit_read d h) refl
-
 utf8_small : (n : ℕ) → n < 128 → utf8_bytes n ≡ n ∷ []
 utf8_small n h = rw (lt-ltb n 128 h) refl
 
 read_code : (b : ℕ) (out rest : List ℕ) → b < 128
     → double_from Outside out (92 ∷ 117 ∷ 48 ∷ 48 ∷ digit_char (b / 16) ∷ digit_char (b % 16) ∷ rest) ≡ double_from Outside (out ++ b ∷ []) rest
-unfolding double_from double_step
 read_code b out rest h =
-    let o : List ℕ = (((out ++ []) ++ []) ++ []) ++ [] in
-    let v : ℕ = (0 * 16 + b / 16) % 65536 in
-    let same : (v * 16 + b % 16) % 65536 ≡ b = omega arith in
-    let bytes : utf8_bytes ((v * 16 + b % 16) % 65536) ≡ b ∷ [] = ap utf8_bytes same ∙ utf8_small b h in
-    let front : o ++ [] ≡ out = simp append-nil in
-    read_digit 2 0 (b / 16) o (digit_char (b % 16) ∷ rest) (omega arith)
-    ∙ read_digit 1 v (b % 16) (o ++ []) rest (omega arith)
-    ∙ ap (λ bs. double_from Outside ((o ++ []) ++ bs) rest) bytes
-    ∙ ap (λ bs. double_from Outside (bs ++ b ∷ []) rest) front
+    let high = digit_read (b / 16) (omega arith) in
+    let low_ = digit_read (b % 16) (omega arith) in
+    let same : ((0 * 16 + 0) * 16 + b / 16) * 16 + b % 16 ≡ b = omega arith in
+    escape_reads (92 ∷ 117 ∷ 48 ∷ 48 ∷ digit_char (b / 16) ∷ digit_char (b % 16) ∷ []) (b ∷ [])
+    (unicode 48 48 (digit_char (b / 16)) (digit_char (b % 16)) 0 0 (b / 16) (b % 16) refl refl high low_ (inl (omega (arith, same, h))) refl (sym (ap utf8_bytes same ∙ utf8_small b h)))
+    out rest
 
 read_kept : (b : ℕ) (out rest : List ℕ) → (b == 92) ≡ false → (b == 34) ≡ false → is_kept b ≡ true
     → double_from Outside out (b ∷ rest) ≡ double_from Outside (out ++ b ∷ []) rest
@@ -93,11 +62,11 @@ by_tests : (b : ℕ) (out rest : List ℕ) (t1 t2 t3 t4 t5 t6 : Bool) → (b == 
     → double_from Outside out ((if t1 then codes "\\\\" else if t2 then codes "\\\"" else if t3 then codes "\\n" else if t4 then codes "\\t" else if t5 then codes "\\r"
     else if t6 then codes "\\u00" ++ digit_char (b / 16) ∷ digit_char (b % 16) ∷ [] else b ∷ []) ++ rest)
     ≡ double_from Outside (out ++ b ∷ []) rest
-by_tests b out rest true t2 t3 t4 t5 t6 e1 e2 e3 e4 e5 e6 = let p : b ≡ 92 = eqb-true b 92 e1 in rw p (read_backslash out rest)
-by_tests b out rest false true t3 t4 t5 t6 e1 e2 e3 e4 e5 e6 = let p : b ≡ 34 = eqb-true b 34 e2 in rw p (read_quote out rest)
-by_tests b out rest false false true t4 t5 t6 e1 e2 e3 e4 e5 e6 = let p : b ≡ 10 = eqb-true b 10 e3 in rw p (read_feed out rest)
-by_tests b out rest false false false true t5 t6 e1 e2 e3 e4 e5 e6 = let p : b ≡ 9 = eqb-true b 9 e4 in rw p (read_tab out rest)
-by_tests b out rest false false false false true t6 e1 e2 e3 e4 e5 e6 = let p : b ≡ 13 = eqb-true b 13 e5 in rw p (read_return out rest)
+by_tests b out rest true t2 t3 t4 t5 t6 e1 e2 e3 e4 e5 e6 = let p : b ≡ 92 = eqb-true b 92 e1 in rw p (read_short 92 92 backslash out rest)
+by_tests b out rest false true t3 t4 t5 t6 e1 e2 e3 e4 e5 e6 = let p : b ≡ 34 = eqb-true b 34 e2 in rw p (read_short 34 34 quote out rest)
+by_tests b out rest false false true t4 t5 t6 e1 e2 e3 e4 e5 e6 = let p : b ≡ 10 = eqb-true b 10 e3 in rw p (read_short 110 10 line_feed out rest)
+by_tests b out rest false false false true t5 t6 e1 e2 e3 e4 e5 e6 = let p : b ≡ 9 = eqb-true b 9 e4 in rw p (read_short 116 9 tab out rest)
+by_tests b out rest false false false false true t6 e1 e2 e3 e4 e5 e6 = let p : b ≡ 13 = eqb-true b 13 e5 in rw p (read_short 114 13 carriage_return out rest)
 by_tests b out rest false false false false false true e1 e2 e3 e4 e5 e6 = read_code b out rest (control_small b e6)
 by_tests b out rest false false false false false false e1 e2 e3 e4 e5 e6 = read_kept b out rest e1 e2 (kept_unless b e6)
 

@@ -45,7 +45,7 @@ pub fn levels_bound_how_deep_a_tree_is()
 {}
 
 /// A text has a tree by the grammar or a fault, and never both; it has one fault at most.
-pub fn a_text_has_a_tree_or_one_fault()
+pub fn a_text_is_refused_with_its_first_fault()
     ensures one { (text : List ℕ) (f g : YamlFault) → IsFault text f → IsFault text g → f ≡ g }
     ensures either { (text : List ℕ) → HasTreeOrItsFault text }
 {}
