@@ -12,11 +12,11 @@ use Rattle.yaml_subset.specs.declared.tree.Tree.TheOpen.{Tree-F}
 use Rattle.yaml_subset.specs.declared.tree.Tree.TheOpen as tree
 use Rattle.yaml_subset.specs.declared.tree.Key.{Key}
 use Rattle.yaml_subset.specs.declared.tree.Key.TheVariants as key
-use Rattle.conf_types.specs.declared.conf.Conf.{Conf}
-use Rattle.conf_types.specs.declared.conf.Dp.{Dp}
-use Rattle.conf_types.specs.declared.conf.Port.{Port}
-use Rattle.conf_types.specs.declared.conf.Vlan.{Vlan}
-use Rattle.conf_types.specs.Valid.{Rises, IsConf, IsNumbered, IsIdentified}
+use Rattle.conf_types.specs.declared.first.Conf.{Conf}
+use Rattle.conf_types.specs.declared.first.Dp.{Dp}
+use Rattle.conf_types.specs.declared.first.Port.{Port}
+use Rattle.conf_types.specs.declared.first.Vlan.{Vlan}
+use Rattle.conf_types.specs.First.{Rises, IsConf, IsNumbered, IsIdentified}
 use Rattle.faucet_top.specs.Form.{conf_of, dp_of, ports_of, vlans_of, names_distinct, port_of, vlan_of, port_number, between, number_in, vid_of, vlan_name, name_at, text_at, map_with, dp_name, number_at, text_or, map_at, only_one, at, collected, placed}
 use Rattle.faucet_top.proofs.Ordered.{collected_rises, put, put-insert, all_put, if_none}
 

@@ -13,10 +13,10 @@ use Rattle.of_match.specs.declared.action.Instr.TheVariants.{Goto, Apply}
 use Rattle.of_match.specs.declared.entry.Entry.{Entry}
 use Rattle.net_base.specs.WellFormed.{Fits, has_prerequisite}
 use Rattle.net_base.specs.FieldId.{number_of}
-use Rattle.conf_types.specs.declared.conf.Conf.{Conf}
-use Rattle.conf_types.specs.declared.conf.Port.{Port}
-use Rattle.conf_types.specs.declared.conf.Vlan.{Vlan}
-use Rattle.conf_types.specs.Valid.{IsConf, IsNumbered, IsIdentified}
+use Rattle.conf_types.specs.declared.first.Conf.{Conf}
+use Rattle.conf_types.specs.declared.first.Port.{Port}
+use Rattle.conf_types.specs.declared.first.Vlan.{Vlan}
+use Rattle.conf_types.specs.First.{IsConf, IsNumbered, IsIdentified}
 use Rattle.cold_plan.specs.declared.cold.PortRow.{PortRow}
 use Rattle.cold_plan.specs.declared.cold.PortRow.TheVariants.{Accept, Admit, Miss}
 use Rattle.cold_plan.specs.declared.cold.VlanRow.{VlanRow}

@@ -9,8 +9,8 @@ use Rattle.yaml_subset.specs.Grammar.{Reads}
 use Rattle.yaml_subset.specs.Reading.{read_of}
 use Rattle.yaml_subset.specs.declared.fault.YamlFault.{YamlFault}
 use Rattle.yaml_subset.specs.declared.tree.Tree.{Tree}
-use Rattle.conf_types.specs.declared.conf.Conf.{Conf}
-use Rattle.conf_types.specs.Valid.{IsConf}
+use Rattle.conf_types.specs.declared.first.Conf.{Conf}
+use Rattle.conf_types.specs.First.{IsConf}
 use Rattle.of_match.specs.declared.entry.Command.TheVariants.{Add, DeleteAll}
 use Rattle.of_match.specs.declared.entry.Entry.{Entry}
 use Rattle.of_match.specs.declared.packet.Packet.{Packet}

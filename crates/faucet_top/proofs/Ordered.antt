@@ -4,7 +4,7 @@ use Rattle.std.specs.List.{AllByRecursion, insert, take_while, prefix_len, list_
 use Rattle.std.proofs.lemmas.Bool.{cases_lt, cases_order, lt-ltb, le-ltb, eq-eqb}
 use Rattle.std.proofs.lemmas.Option.{option_and_then_some, none-some, same_Some}
 use Rattle.yaml_subset.specs.declared.tree.Pair.{Pair}
-use Rattle.conf_types.specs.Valid.{Rises}
+use Rattle.conf_types.specs.First.{Rises}
 use Rattle.faucet_top.specs.Form.{placed, collected}
 
 -- ---- lists that rise by a number

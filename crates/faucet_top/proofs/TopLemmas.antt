@@ -9,7 +9,7 @@ use Rattle.yaml_subset.specs.Reading.{read_of}
 use Rattle.yaml_subset.specs.declared.fault.YamlFault.{YamlFault}
 use Rattle.yaml_subset.specs.declared.tree.Tree.{Tree}
 use Rattle.faucet_top.specs.Form.{conf_of}
-use Rattle.conf_types.specs.declared.conf.Conf.{Conf}
+use Rattle.conf_types.specs.declared.first.Conf.{Conf}
 use Rattle.faucet_top.specs.declared.plan.PlanRefused.{PlanRefused}
 use Rattle.faucet_top.specs.declared.plan.PlanRefused.TheVariants.{Unread, Refused, NotOfForm, Unresolved, Memory}
 use Rattle.faucet_top.specs.Answer.{Answer, Delivers, Makes, MakesSome, planned, planned_file, batch_of, batch_of_text, plan_answer, usage, answer, job_answer}

@@ -8,7 +8,7 @@ use Rattle.yaml_subset.specs.Reading.{read_of}
 use Rattle.yaml_subset.specs.Fault.{cause_text}
 use Rattle.yaml_subset.specs.declared.fault.YamlFault.{YamlFault}
 use Rattle.yaml_subset.specs.declared.tree.Tree.{Tree}
-use Rattle.conf_types.specs.declared.conf.Conf.{Conf}
+use Rattle.conf_types.specs.declared.first.Conf.{Conf}
 use Rattle.faucet_top.specs.declared.plan.PlanRefused.{PlanRefused}
 use Rattle.faucet_top.specs.declared.plan.PlanRefused.TheVariants.{Unread, Refused, NotOfForm, Unresolved, Memory}
 use Rattle.cold_plan.specs.Cold.{cold}

@@ -10,10 +10,10 @@ use Rattle.yaml_subset.specs.declared.tree.Pair.{Pair}
 use Rattle.yaml_subset.specs.declared.tree.Tree.{Tree, out-Tree}
 use Rattle.yaml_subset.specs.declared.tree.Tree.TheOpen.{Tree-F}
 use Rattle.yaml_subset.specs.declared.tree.Tree.TheOpen as tree
-use Rattle.conf_types.specs.declared.conf.Conf.{Conf}
-use Rattle.conf_types.specs.declared.conf.Dp.{Dp}
-use Rattle.conf_types.specs.declared.conf.Port.{Port}
-use Rattle.conf_types.specs.declared.conf.Vlan.{Vlan}
+use Rattle.conf_types.specs.declared.first.Conf.{Conf}
+use Rattle.conf_types.specs.declared.first.Dp.{Dp}
+use Rattle.conf_types.specs.declared.first.Port.{Port}
+use Rattle.conf_types.specs.declared.first.Vlan.{Vlan}
 
 infixl 10 ◌>>=◌
 abbrev pub ◌>>=◌ : {A B : Type 0} → Option A → (A → Option B) → Option B

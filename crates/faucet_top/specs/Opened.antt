@@ -3,7 +3,7 @@ use Rattle.std.specs.Prelude.{◌≡◌, ℕ, ◌<◌, ◌^◌, ◌==◌, ◌&&�
 use Rattle.fg_outside.specs.Wrote.{appended}
 use Rattle.yaml_subset.specs.Grammar.{Reads}
 use Rattle.yaml_subset.specs.declared.tree.Tree.{Tree}
-use Rattle.conf_types.specs.declared.conf.Conf.{Conf}
+use Rattle.conf_types.specs.declared.first.Conf.{Conf}
 use Rattle.of_match.specs.declared.entry.Command.{Command}
 use Rattle.of_match.specs.declared.entry.Command.TheVariants.{Add, DeleteStrict, DeleteAll}
 use Rattle.of_match.specs.declared.entry.Entry.{Entry}

@@ -3,8 +3,8 @@
 
 ghost use Rattle.std.specs.Prelude.{◌≡◌, ℕ, List, Some, Ok};
 ghost use Rattle.yaml_subset.specs.declared.tree.Tree.{Tree};
-ghost use Rattle.conf_types.specs.declared.conf.Conf.{Conf};
-ghost use Rattle.conf_types.specs.Valid.{IsConf};
+ghost use Rattle.conf_types.specs.declared.first.Conf.{Conf};
+ghost use Rattle.conf_types.specs.First.{IsConf};
 ghost use Rattle.faucet_top.specs.Answer.{planned};
 ghost use Rattle.faucet_top.specs.Form.{conf_of};
 ghost use Rattle.faucet_top.specs.Opened.{Opens};

@@ -5,13 +5,13 @@ ghost use Rattle.std.specs.Option.{option_copied};
 ghost use Rattle.faucet_top.specs.declared.shape.FormRefused.TheVariants.{Memory};
 ghost use Rattle.faucet_top.specs.Form.{vlan_name, number_at, port_number, vid_of, vlan_of, port_of, as_name, placed, collected, names_distinct, ports_of, vlans_of, dp_name, dp_of, only_one, conf_of};
 ghost use Rattle.faucet_top.specs.Shaped.{Gives, Takes};
-ghost use Rattle.conf_types.specs.declared.conf.Vlan.{Vlan};
+ghost use Rattle.conf_types.specs.declared.first.Vlan.{Vlan};
 ghost use Rattle.yaml_subset.specs.declared.tree.Pair.{Pair};
 
 use crate::form::{
     as_map_with, entries_at, in_range, int_at, name_or, to_name, words_at, words_or,
 };
-use conf_types::{Conf, Dp, Port, Ports, Vlan, Vlans};
+use conf_types::first::{Conf, Dp, Port, Ports, Vlan, Vlans};
 use net_base::{DpId, Items, NoMemory, PortNo, Text, Vid};
 use std::alloc::Global;
 use yaml_subset::{Key, Pair, Tree};
