@@ -6,6 +6,7 @@ mod addresses;
 mod faults;
 mod keys;
 mod kinds;
+pub mod laws;
 mod refused;
 mod scalars;
 mod tables;
