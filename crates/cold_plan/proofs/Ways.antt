@@ -459,7 +459,7 @@ module _ (conf : Conf) (port : ℕ) (h : IsConf conf) where
   -- ---- the whole way
 
   with_tag_arrives : (p : Packet) (q : Port) → Arrives port p → q.native ≤ 4094 → Arrives port (with_tag q.native p)
-  with_tag_arrives p q a most = 
+  with_tag_arrives p q a most =
       let s = a.shaped in
       record {
         port_fits = a.port_fits;

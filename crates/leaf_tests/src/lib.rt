@@ -7,8 +7,16 @@ mod conf_shape_tests;
 #[cfg(test)]
 mod fg_outside_tests;
 #[cfg(test)]
+mod net_base_tests;
+#[cfg(test)]
 mod of13_codec_tests;
 #[cfg(test)]
+mod of_match_tests;
+#[cfg(test)]
 mod of_wire_tests;
+#[cfg(test)]
+mod pkt_view_tests;
+#[cfg(test)]
+mod stack_paths_tests;
 #[cfg(test)]
 mod yaml_tests;

@@ -38,7 +38,10 @@ pub enum Prerequisite {
     /// A VLAN identifier that isn't 0, whatever its mask.
     Tagged,
     /// The field with just this value, no bit of it masked out.
-    Exactly { id: FieldId, value: u128 },
+    Exactly {
+        id: FieldId,
+        value: u128,
+    },
     /// The field with one of these two values, no bit of it masked out.
     Either {
         id: FieldId,

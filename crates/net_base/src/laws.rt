@@ -45,7 +45,7 @@ pub fn a_number_has_one_field()
 pub fn a_prefix_takes_what_the_network_holds()
     ensures { (id : FieldId) (ip net len : ℕ) → ip < 2 ^ 32 → net < 2 ^ 32 → len ≤ 32
         → (let field = prefix id net len in
-            (ip / 2 ^ (32 - len) ≡ net / 2 ^ (32 - len)) ↔ (bit_and ip field.mask ≡ bit_and field.value field.mask)) }
+        (ip / 2 ^ (32 - len) ≡ net / 2 ^ (32 - len)) ↔ (bit_and ip field.mask ≡ bit_and field.value field.mask)) }
 {}
 
 /// Where the equality of elements is exact, that of lists is.

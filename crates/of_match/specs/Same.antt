@@ -41,9 +41,10 @@ entry_same e f = eq_by_cmp key_cmp e.key f.key && pointwise instr_same e.instrs 
 
 pub field_exact : (f g : Field) → Decides (field_same f g) (f ≡ g)
 field_exact f g =
-    let d = Decides-and _ _ (Decides-eqb (number_of f.id) (number_of g.id)) (Decides-and _ _ (Decides-eqb f.value g.value) (Decides-eqb f.mask g.mask)) in
-    (λ t. (let e = d.0 t in λ i. record { id = exact_numbers f.id g.id e.0 i; value = e.1.0 i; mask = e.1.1 i }),
-     λ e. d.1 (ap (λ (h : Field). number_of h.id) e, (ap (λ (h : Field). h.value) e, ap (λ (h : Field). h.mask) e)))
+    let d = Decides-and _ _ (Decides-eqb (number_of f.id) (number_of g.id)) (Decides-and _ _ (Decides-eqb f.value g.value) (Decides-eqb f.mask g.mask)) in (
+      λ t. (let e = d.0 t in λ i. record { id = exact_numbers f.id g.id e.0 i; value = e.1.0 i; mask = e.1.1 i }),
+      λ e. d.1 (ap (λ (h : Field). number_of h.id) e, (ap (λ (h : Field). h.value) e, ap (λ (h : Field). h.mask) e)),
+    )
 
 -- a test that tells only what is equal, and tells each of itself
 exact : {X : Type 0} (same : X → X → Bool) → ((a b : X) → same a b ≡ true → a ≡ b) → ((a : X) → same a a ≡ true) → (a b : X) → Decides (same a b) (a ≡ b)
@@ -88,9 +89,10 @@ key_exact = exact (eq_by_cmp key_cmp) (λ a b t. exact_keys a b ((Equal-is (key_
 
 pub entry_exact : (e f : Entry) → Decides (entry_same e f) (e ≡ f)
 entry_exact e f =
-    let d = Decides-and _ _ (key_exact e.key f.key) (slice_eq-Decides instr_exact e.instrs f.instrs _ refl) in
-    (λ t. (let s = d.0 t in λ i. record { key = s.0 i; instrs = s.1 i }),
-     λ s. d.1 (ap (λ (x : Entry). x.key) s, ap (λ (x : Entry). x.instrs) s))
+    let d = Decides-and _ _ (key_exact e.key f.key) (slice_eq-Decides instr_exact e.instrs f.instrs _ refl) in (
+      λ t. (let s = d.0 t in λ i. record { key = s.0 i; instrs = s.1 i }),
+      λ s. d.1 (ap (λ (x : Entry). x.key) s, ap (λ (x : Entry). x.instrs) s),
+    )
 
 -- ---- so they are equivalences
 

@@ -63,9 +63,7 @@ impl Eq for Action {
 fn is_same_field(field: &Field, other: &Field) -> bool
     ensures { result ≡ field_same field.now other.now }
 {
-    field.id.number() == other.id.number()
-        && field.value == other.value
-        && field.mask == other.mask
+    field.id.number() == other.id.number() && field.value == other.value && field.mask == other.mask
 }
 
 /// Actions, in the order in which they are done.

@@ -19,6 +19,3 @@ pub use packet::{Acted, L4, Packet, Sent, Sents, Tag, Tags, Upper};
 pub use perform::act;
 pub use pipeline::run;
 pub use tables::{Tables, TablesIter, apply};
-
-#[cfg(test)]
-mod tests;

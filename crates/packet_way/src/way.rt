@@ -59,12 +59,7 @@ fn make_tagged(alloc: Global, vid: Vid, packet: &Packet) -> Result<Packet, NoMem
 }
 
 /// The copy from which the controller learns the source.
-fn push_learned(
-    alloc: Global,
-    out: &mut Sents,
-    vid: Vid,
-    packet: &Packet,
-) -> Result<(), NoMemory>
+fn push_learned(alloc: Global, out: &mut Sents, vid: Vid, packet: &Packet) -> Result<(), NoMemory>
     ensures { OnOk result (out.new ≡ out.old ++ learned vid packet.now) }
 {
     if packet.src.is_group() {

@@ -129,8 +129,8 @@ upper_fits eth_type payload all =
     let bytes = front (header_len payload) payload all in
     by_if P (is_arp eth_type payload) _ _ (λ _. (fits_2 6 payload all, fits_4 14 payload all, fits_4 24 payload all))
     (λ _. by_if P (is_ipv4 eth_type payload) _ _
-      (λ _. (fits_4 12 header bytes, fits_4 16 header bytes, bytes 9, bytes 8, l4_of_fits header (drop (header_len payload) payload) (behind (header_len payload) payload all)))
-      (λ _. tt))
+    (λ _. (fits_4 12 header bytes, fits_4 16 header bytes, bytes 9, bytes 8, l4_of_fits header (drop (header_len payload) payload) (behind (header_len payload) payload all)))
+    (λ _. tt))
 
 -- ---- the whole
 
@@ -142,13 +142,13 @@ packet_shaped frame all =
     let payload = drop (at + 2) frame in
     by_if (λ (o : Option FrameParts). IfSome (option_map packet_of_parts o) IsShaped) (has_type frame) (Some (parts_with at frame)) None
     (λ there.
-      let within = leb-true (at + 2) (length frame) (and_left _ _ there) in
-      record {
-        dst = six 0 frame (omega (arith, within)) all;
-        src = six 6 frame (omega (arith, within)) all;
-        tags = tags_all (drop 12 frame) (at - 12) (omega arith);
-        eth_type = fits_2 at frame all;
-        upper = upper_agrees eth_type payload;
-        numbers = upper_fits eth_type payload (behind (at + 2) frame all);
-      })
+    let within = leb-true (at + 2) (length frame) (and_left _ _ there) in
+    record {
+      dst = six 0 frame (omega (arith, within)) all;
+      src = six 6 frame (omega (arith, within)) all;
+      tags = tags_all (drop 12 frame) (at - 12) (omega arith);
+      eth_type = fits_2 at frame all;
+      upper = upper_agrees eth_type payload;
+      numbers = upper_fits eth_type payload (behind (at + 2) frame all);
+    })
     (λ _. tt)

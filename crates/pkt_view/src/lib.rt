@@ -15,6 +15,3 @@ pub use echo::echo_reply;
 pub use frame::{FrameView, UpperView, view};
 pub use packet::packet_of;
 pub use sum::checksum;
-
-#[cfg(test)]
-mod tests;

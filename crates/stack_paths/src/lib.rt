@@ -13,6 +13,3 @@ mod ways;
 
 pub use paths::Paths;
 pub use stack::is_stack;
-
-#[cfg(test)]
-mod tests;

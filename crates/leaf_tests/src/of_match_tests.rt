@@ -1,10 +1,10 @@
-//! Rows worked out by hand from the OpenFlow Switch Specification 1.3.
+//! The calls of of_match: rows worked out by hand from the OpenFlow Switch Specification 1.3.
 
-use crate::{
+use net_base::{Bytes, Field, FieldId, Fields, Ip4, Items, Mac, NoMemory, PortNo, TryCopy};
+use of_match::{
     Action, Actions, Command, Entry, IN_PORT, Instr, Instrs, Key, L4, Packet, Sents, Tables, Tag,
     Upper, act, apply, hits, run,
 };
-use net_base::{Bytes, Field, FieldId, Fields, Ip4, Items, Mac, NoMemory, PortNo, TryCopy};
 use std::alloc::Global;
 use std::process::Abort;
 use std::test::Fail;
@@ -547,5 +547,33 @@ fn entries_stand_in_key_order(rt: HostRuntime) -> Result<(), Fail> {
         ports.push(sends_to(Some(entry)).unwrap_or(0))?;
     }
     assert_eq!(rt; ports.as_slice(), [1, 2, 3, 4, 5, 6, 7, 8, 9].as_slice());
+    Ok(())
+}
+
+#[test]
+fn entries_are_compared_part_by_part(rt: HostRuntime) -> Result<(), Fail> {
+    let output = |port: u32| Action::Output { port, max_len: 0 };
+    let entry_with = |priority: u16, action: Action| -> Result<Entry, NoMemory> {
+        let mut instrs = Instrs::new(rt.alloc());
+        instrs.push(Instr::Apply(Actions::from_slice(rt.alloc(), &[action])?))?;
+        instrs.push(Instr::Goto(1))?;
+        let key = Key {
+            table: 0,
+            priority,
+            fields: Fields::new(rt.alloc()),
+        };
+        Ok(Entry { key, instrs })
+    };
+    let one = entry_with(5, output(1))?;
+    assert_eq!(rt; one, one.copy(rt.alloc())?);
+    for (priority, action) in [
+        (6, output(1)),
+        (5, output(2)),
+        (5, Action::PopVlan),
+        (5, Action::PushVlan(0x8100)),
+        (5, Action::Set(field!(VlanVid, 0x1001, 0xffff))),
+    ] {
+        assert_ne!(rt; one, entry_with(priority, action)?);
+    }
     Ok(())
 }

@@ -1,5 +1,7 @@
-use crate::{Paths, is_stack};
+//! The calls of stack_paths.
+
 use net_base::{DpId, NoMemory, Node, PortNo, StackLink};
+use stack_paths::{Paths, is_stack};
 use std::alloc::Global;
 use std::process::Abort;
 use std::test::Fail;

@@ -1,6 +1,10 @@
-use crate::{FrameView, UpperView, arp_reply, arp_request, checksum, echo_reply, packet_of, view};
+//! The calls of pkt_view.
+
 use net_base::{Bytes, Ip4, Mac, NoMemory};
 use of_match::{L4, Tag, Upper};
+use pkt_view::{
+    FrameView, UpperView, arp_reply, arp_request, checksum, echo_reply, packet_of, view,
+};
 use std::alloc::Global;
 use std::test::Fail;
 
