@@ -15,7 +15,8 @@ use Rattle.of_wire.specs.declared.fault.PartRefused.{PartRefused}
 use Rattle.of_wire.specs.Causes.{cause_number}
 use Rattle.of_wire.specs.Numbers.{number_in}
 use Rattle.of_wire.specs.Parts.{up_to_8}
-use Rattle.of_wire.specs.Reading.{◌>>=◌, Gives, fault_at, padding_at, field_named, has_mask, payload_len, field_value, sized_at, set_named, set_at, output_at, push_at, bare_at, action_of, action_at, action_step, actions_at}
+use Rattle.of_wire.specs.Answers.{Gives, fault_at}
+use Rattle.of_wire.specs.Reading.{◌>>=◌, padding_at, field_named, has_mask, payload_len, field_value, sized_at, set_named, set_at, output_at, push_at, bare_at, action_of, action_at, action_step, actions_at}
 use Rattle.of_wire.specs.Faults.{ComesFirst, EndsEarly, type_of, IsSized, NamesNone, Names, SetFault, no_room, set_length, set_unknown, set_mask, set_value, set_padding, ActionFault, unknown_action, action_length, in_set, EachAction, WrongAction, ActionsFault, FaultInActions, FaultInActionsAt, OrShort, Behind, EndsIn, CutsOff, TellsFirst, SpelledOrFaulty}
 use Rattle.of_wire.proofs.Grammars.{AreBytes}
 use Rattle.of_wire.proofs.FieldNames.{named, unnamed, same_id}

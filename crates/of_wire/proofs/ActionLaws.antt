@@ -7,7 +7,8 @@ use Rattle.of_match.specs.declared.action.Action.TheVariants.{Output, PushVlan, 
 use Rattle.of_wire.specs.declared.fault.PartFault.{PartFault}
 use Rattle.of_wire.specs.declared.fault.PartCause.TheVariants.{BadLength}
 use Rattle.of_wire.specs.Numbers.{number_in}
-use Rattle.of_wire.specs.Reading.{fault_at, sized_at, output_at, push_at, bare_at, action_of, action_at}
+use Rattle.of_wire.specs.Answers.{fault_at}
+use Rattle.of_wire.specs.Reading.{sized_at, output_at, push_at, bare_at, action_of, action_at}
 use Rattle.of_wire.specs.Grammar.{◌▷◌, Number, Ignored}
 use Rattle.of_wire.specs.Spelling.{SpellsAction}
 use Rattle.of_wire.proofs.Grammars.{AreBytes, bytes_take, number_then, number_again, number_of_take, number_of_front}

@@ -10,7 +10,7 @@ use Rattle.net_base.specs.FieldId.{number_of}
 use Rattle.net_base.specs.declared.field.Prerequisite.{Prerequisite}
 use Rattle.net_base.specs.declared.field.Prerequisite.TheVariants.{Tagged, Exactly, Either}
 use Rattle.net_base.specs.WellFormed.{is_whole, meets, has_prerequisite}
-use Rattle.of_wire.specs.Reading.{placed, placed_at, first_above, stands}
+use Rattle.of_wire.specs.Spelling.{placed, placed_at, first_above, stands}
 
 abbrev pub AreBelow : ℕ → List Field → Type 0
 AreBelow n fields = AllByRecursion (λ g. number_of g.id < n) fields

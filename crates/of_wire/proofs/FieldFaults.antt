@@ -10,8 +10,9 @@ use Rattle.of_wire.specs.declared.fault.PartFault.{PartFault}
 use Rattle.of_wire.specs.declared.fault.PartCause.{PartCause}
 use Rattle.of_wire.specs.declared.fault.PartCause.TheVariants.{BadClass, BadLength, Repeated, Prerequisite}
 use Rattle.of_wire.specs.Numbers.{number_in}
-use Rattle.of_wire.specs.Reading.{◌>>=◌, fault_at, field_named, has_mask, payload_len, wanted_len, field_value, stands, placed, known_field, known_step, unknown_step, named_step, field_step}
-use Rattle.of_wire.specs.Spelling.{known, SpellsItem, SpellsUnknown}
+use Rattle.of_wire.specs.Answers.{fault_at}
+use Rattle.of_wire.specs.Reading.{◌>>=◌, field_named, has_mask, payload_len, wanted_len, field_value, known_field, known_step, unknown_step, named_step, field_step}
+use Rattle.of_wire.specs.Spelling.{stands, placed, known, SpellsItem, SpellsUnknown}
 use Rattle.of_wire.specs.Faults.{ComesFirst, NamesNone, Names, FieldEndsEarly, FieldFault, unknown_field, field_again, unprepared, value_length, mask_length}
 use Rattle.of_wire.proofs.Grammars.{number_again}
 use Rattle.of_wire.proofs.FieldNames.{named, unnamed, unnamed_again, same_id}

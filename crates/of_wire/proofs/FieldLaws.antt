@@ -9,8 +9,9 @@ use Rattle.net_base.specs.WellFormed.{has_prerequisite}
 use Rattle.of_wire.specs.declared.fault.PartFault.{PartFault}
 use Rattle.of_wire.specs.declared.fault.PartCause.TheVariants.{BadLength, BadClass, Repeated, Prerequisite}
 use Rattle.of_wire.specs.Numbers.{number_in}
-use Rattle.of_wire.specs.Reading.{◌>>=◌, fault_at, field_named, has_mask, payload_len, wanted_len, field_value, stands, placed, known_field, known_step, unknown_step, named_step, field_step}
-use Rattle.of_wire.specs.Spelling.{SpellsPlain, SpellsMasked, SpellsField, SpellsUnknown, SpellsItem, MayStand, known}
+use Rattle.of_wire.specs.Answers.{fault_at}
+use Rattle.of_wire.specs.Reading.{◌>>=◌, field_named, has_mask, payload_len, wanted_len, field_value, known_field, known_step, unknown_step, named_step, field_step}
+use Rattle.of_wire.specs.Spelling.{stands, placed, SpellsPlain, SpellsMasked, SpellsField, SpellsUnknown, SpellsItem, MayStand, known}
 use Rattle.of_wire.proofs.Grammars.{AreBytes, bytes_take, has_number, number_then, number_again, number_ends, number_of_take, number_of_front}
 use Rattle.of_wire.proofs.Chosen.{bind_ok, passed, held, one_answer}
 use Rattle.of_wire.proofs.FieldNames.{named, named_again, unnamed, unnamed_again, one_byte}

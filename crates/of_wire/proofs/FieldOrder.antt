@@ -9,8 +9,7 @@ use Rattle.net_base.specs.declared.field.FieldId.{FieldId}
 use Rattle.net_base.specs.FieldId.{number_of, prerequisite_of}
 use Rattle.net_base.specs.declared.field.Prerequisite.{Prerequisite}
 use Rattle.net_base.specs.WellFormed.{meets, has_prerequisite}
-use Rattle.of_wire.specs.Reading.{placed, placed_at, first_above, stands}
-use Rattle.of_wire.specs.Spelling.{known, in_order, in_order_onto}
+use Rattle.of_wire.specs.Spelling.{placed, placed_at, first_above, stands, known, in_order, in_order_onto}
 
 or_last : (a b c : Bool) → (a || (b || c)) ≡ ((a || c) || b)
 or_last true b c = refl

@@ -1,5 +1,5 @@
 -- What reading instructions answers is the first fault that stands in their bytes.
-use Rattle.std.proofs.Common.{◌≡◌, ◌≢◌, ℕ, ◌+◌, ◌-◌, ◌≤◌, ◌<◌, Bool, true, false, not, cond, eqb, ltb, List, [], ◌∷◌, ◌++◌, length, drop, get_or, Result, Ok, Err, refl, ap, ◌∙◌, subst, arith, inl, inr}
+use Rattle.std.proofs.Common.{◌≡◌, ◌≢◌, ℕ, ◌+◌, ◌-◌, ◌≤◌, ◌<◌, Bool, true, false, not, cond, eqb, ltb, List, [], ◌∷◌, ◌++◌, length, drop, get_or, Result, Ok, Err, refl, ap, ◌∙◌, arith, inl, inr}
 use Rattle.std.proofs.lemmas.Bool.{lt-ltb, le-ltb}
 use Rattle.std.proofs.lemmas.List.{length-append, length-drop, length-take}
 use Rattle.of_match.specs.declared.action.Action.{Action}
@@ -10,12 +10,13 @@ use Rattle.of_wire.specs.declared.fault.PartCause.{PartCause}
 use Rattle.of_wire.specs.declared.fault.PartCause.TheVariants.{Short, BadLength, Repeated, UnknownInstr}
 use Rattle.of_wire.specs.declared.fault.PartRefused.{PartRefused}
 use Rattle.of_wire.specs.Numbers.{number_in}
-use Rattle.of_wire.specs.Reading.{◌>>=◌, Gives, fault_at, past_end, actions_at, has_goto, has_apply, goto_at, applied_at, apply_at, instr_of, instr_at, instr_step, instrs_at}
+use Rattle.of_wire.specs.Answers.{Gives, fault_at}
+use Rattle.of_wire.specs.Reading.{◌>>=◌, past_end, actions_at, goto_at, applied_at, apply_at, instr_of, instr_at, instr_step, instrs_at}
 use Rattle.of_wire.specs.Faults.{ComesFirst, Behind, EndsIn, CutsOff, EndsEarly, TellsFirst, From, SpelledOrFaulty, EachAction, WrongAction, ActionsFault, applied, GotoFault, goto_again, goto_length, ApplyFault, apply_again, apply_late, apply_empty, apply_cut, in_action, InstrFault, unknown_instr, in_goto, in_apply, EachInstr, InstrsFault, FaultInInstrs}
 use Rattle.of_wire.proofs.Grammars.{AreBytes, bytes_take, bytes_drop}
 use Rattle.of_wire.proofs.Chosen.{one_answer}
 use Rattle.of_wire.proofs.InstrLaws.{instr_complete, step_sound, step_complete, instrs_sound}
-use Rattle.of_wire.specs.Spelling.{SpellsInstrs}
+use Rattle.of_wire.specs.Spelling.{has_goto, has_apply, SpellsInstrs}
 use Rattle.of_wire.proofs.Verdicts.{Verdict, Steps, many_verdict, cut_ends, comes_first_after}
 use Rattle.of_wire.proofs.Told.{by_equal, by_other, by_less, by_not_less, by_test, Told, told_ok, told_fault, told_end, told_map, told_as, tells_first, spelled_or_faulty}
 use Rattle.of_wire.proofs.ActionFaults.{some_bytes, actions_told}

@@ -8,8 +8,9 @@ use Rattle.of_match.specs.declared.action.Instr.TheVariants.{Goto, Apply}
 use Rattle.of_wire.specs.declared.fault.PartFault.{PartFault}
 use Rattle.of_wire.specs.declared.fault.PartCause.TheVariants.{Short, BadLength, Repeated, UnknownInstr}
 use Rattle.of_wire.specs.Numbers.{number_in}
-use Rattle.of_wire.specs.Reading.{◌>>=◌, fault_at, past_end, actions_at, has_goto, has_apply, goto_at, applied_at, apply_at, instr_of, instr_at, instr_step, instrs_at}
-use Rattle.of_wire.specs.Spelling.{SpellsActions, SpellsInstr, SpellsInstrs, MayFollow}
+use Rattle.of_wire.specs.Answers.{fault_at}
+use Rattle.of_wire.specs.Reading.{◌>>=◌, past_end, actions_at, goto_at, applied_at, apply_at, instr_of, instr_at, instr_step, instrs_at}
+use Rattle.of_wire.specs.Spelling.{has_goto, has_apply, SpellsActions, SpellsInstr, SpellsInstrs, MayFollow}
 use Rattle.of_wire.proofs.Grammars.{AreBytes, bytes_take, bytes_drop, number_then, ignored_then, number_again, ignored_again, number_of_take, number_of_front}
 use Rattle.of_wire.proofs.Chosen.{bind_ok, bind_from, passed, one_answer, choose}
 use Rattle.of_wire.proofs.MatchLaws.{outer}

@@ -5,7 +5,8 @@ use Rattle.std.proofs.lemmas.List.{length-drop}
 use Rattle.of_wire.specs.declared.fault.PartFault.{PartFault}
 use Rattle.of_wire.specs.declared.fault.PartRefused.{PartRefused}
 use Rattle.of_wire.specs.declared.fault.PartRefused.TheVariants.{At, Memory}
-use Rattle.of_wire.specs.Reading.{Fails, many}
+use Rattle.of_wire.specs.Answers.{Fails}
+use Rattle.of_wire.specs.Reading.{many}
 use Rattle.of_wire.proofs.Joining.{one_more, no_more}
 
 -- what is still to be read gives what reading all gives

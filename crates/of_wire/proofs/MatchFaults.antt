@@ -1,5 +1,5 @@
 -- What reading a match answers is the first fault that stands in its bytes.
-use Rattle.std.proofs.Common.{◌≡◌, ◌≢◌, ℕ, ◌+◌, ◌-◌, ◌≤◌, ◌<◌, Bool, not, cond, eqb, ltb, List, [], ◌++◌, length, take, drop, get_or, Result, Ok, Err, refl, sym, ap, ◌∙◌, subst, arith, inl, inr}
+use Rattle.std.proofs.Common.{◌≡◌, ◌≢◌, ℕ, ◌+◌, ◌-◌, ◌≤◌, ◌<◌, Bool, not, cond, eqb, ltb, List, [], ◌++◌, length, take, drop, get_or, Result, Ok, Err, refl, sym, ap, ◌∙◌, arith, inl, inr}
 use Rattle.std.proofs.lemmas.List.{length-append, length-drop, length-take, take-append-drop}
 use Rattle.net_base.specs.declared.field.Field.{Field}
 use Rattle.of_wire.specs.declared.fault.PartFault.{PartFault}
@@ -8,7 +8,8 @@ use Rattle.of_wire.specs.declared.fault.PartCause.TheVariants.{Short, BadClass, 
 use Rattle.of_wire.specs.declared.fault.PartRefused.{PartRefused}
 use Rattle.of_wire.specs.Numbers.{number_in}
 use Rattle.of_wire.specs.Parts.{up_to_8}
-use Rattle.of_wire.specs.Reading.{◌>>=◌, Gives, fault_at, many, past_end, padding_at, field_step, fields_at, sized_match_at, match_at}
+use Rattle.of_wire.specs.Answers.{Gives, fault_at}
+use Rattle.of_wire.specs.Reading.{◌>>=◌, many, past_end, padding_at, field_step, fields_at, sized_match_at, match_at}
 use Rattle.of_wire.specs.Spelling.{SpellsItem, SpellsAnyMatch}
 use Rattle.of_wire.proofs.MatchLaws.{match_sound}
 use Rattle.of_wire.specs.Faults.{ComesFirst, Behind, EndsIn, CutsOff, TellsFirst, From, SpelledOrFaulty, FieldEndsEarly, FieldFault, FieldsFault, fields_of, MatchFault, match_type, match_length, match_cut, in_field, match_padding, PaddedEndsEarly, FaultInMatch}

@@ -7,7 +7,8 @@ use Rattle.of_wire.specs.declared.fault.PartFault.{PartFault}
 use Rattle.of_wire.specs.declared.fault.PartCause.TheVariants.{Short, BadLength, BadClass}
 use Rattle.of_wire.specs.Numbers.{number_in}
 use Rattle.of_wire.specs.Parts.{up_to_8}
-use Rattle.of_wire.specs.Reading.{◌>>=◌, fault_at, many, past_end, padding_at, field_step, fields_at, sized_match_at, match_at}
+use Rattle.of_wire.specs.Answers.{fault_at}
+use Rattle.of_wire.specs.Reading.{◌>>=◌, many, past_end, padding_at, field_step, fields_at, sized_match_at, match_at}
 use Rattle.of_wire.specs.Grammar.{Zeros, Joined}
 use Rattle.of_wire.specs.Spelling.{SpellsItem, SpellsAnyMatch}
 use Rattle.of_wire.proofs.Grammars.{AreBytes, bytes_take, bytes_drop, number_then, front_then, number_again, front_again, number_of_take, number_of_front}

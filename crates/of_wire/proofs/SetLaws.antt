@@ -11,7 +11,8 @@ use Rattle.of_wire.specs.declared.fault.PartFault.{PartFault}
 use Rattle.of_wire.specs.declared.fault.PartCause.TheVariants.{BadLength, UnknownAction}
 use Rattle.of_wire.specs.Numbers.{number_in}
 use Rattle.of_wire.specs.Parts.{up_to_8}
-use Rattle.of_wire.specs.Reading.{◌>>=◌, fault_at, padding_at, field_named, has_mask, payload_len, field_value, set_named, set_at, output_at, push_at, bare_at, action_of, action_at, action_step, actions_at}
+use Rattle.of_wire.specs.Answers.{fault_at}
+use Rattle.of_wire.specs.Reading.{◌>>=◌, padding_at, field_named, has_mask, payload_len, field_value, set_named, set_at, output_at, push_at, bare_at, action_of, action_at, action_step, actions_at}
 use Rattle.of_wire.specs.Grammar.{Zeros}
 use Rattle.of_wire.specs.Spelling.{SpellsPlain, SpellsSet, SpellsAction, SpellsActions}
 use Rattle.of_wire.proofs.Grammars.{AreBytes, bytes_take, bytes_drop, number_then, front_then, number_again, front_again, number_of_take, number_of_front}

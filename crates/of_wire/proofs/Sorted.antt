@@ -7,8 +7,7 @@ use Rattle.net_base.specs.declared.field.Field.{Field}
 use Rattle.net_base.specs.FieldId.{number_of}
 use Rattle.net_base.specs.WellFormed.{AreAscending}
 use Rattle.of_wire.specs.Grammar.{Joined}
-use Rattle.of_wire.specs.Reading.{placed, placed_at, first_above, stands}
-use Rattle.of_wire.specs.Spelling.{SpellsItem, SpellsAnyMatch, known}
+use Rattle.of_wire.specs.Spelling.{placed, placed_at, first_above, stands, SpellsItem, SpellsAnyMatch, known}
 use Rattle.of_wire.proofs.FieldOrder.{view, view_some, view_none, stands_in_order, any_in_order}
 
 abbrev above : ℕ → Field → Bool

@@ -8,7 +8,8 @@ use Rattle.of_match.specs.declared.action.Instr.{Instr}
 use Rattle.of_wire.specs.declared.fault.PartFault.{PartFault}
 use Rattle.of_wire.specs.declared.fault.PartCause.TheVariants.{Short}
 use Rattle.of_wire.specs.declared.fault.PartRefused.{PartRefused}
-use Rattle.of_wire.specs.Reading.{Gives, fault_at, match_at, actions_at, instrs_at}
+use Rattle.of_wire.specs.Answers.{Gives, fault_at}
+use Rattle.of_wire.specs.Reading.{match_at, actions_at, instrs_at}
 use Rattle.of_wire.specs.Spelling.{SpellsAnyMatch, SpellsActions, SpellsInstrs}
 use Rattle.of_wire.proofs.Chosen.{one_answer}
 use Rattle.of_wire.proofs.MatchLaws.{match_sound, match_complete}

@@ -11,7 +11,8 @@ use Rattle.of_wire.specs.declared.fault.PartCause.TheVariants.{Short, BadClass, 
 use Rattle.of_wire.specs.declared.fault.PartRefused.{PartRefused}
 use Rattle.of_wire.specs.declared.fault.PartRefused.TheVariants.{At, Memory}
 use Rattle.of_wire.specs.Causes.{cause_number}
-use Rattle.of_wire.specs.Reading.{◌>>=◌, Gives, fault_at, padded_to, padding_at, first_nonzero}
+use Rattle.of_wire.specs.Answers.{Gives, fault_at}
+use Rattle.of_wire.specs.Reading.{◌>>=◌, padded_to, padding_at, first_nonzero}
 use Rattle.of_wire.specs.Faults.{ComesFirst, IsFirst, TellsFirst, SpelledOrFaulty, OrShort, From, OrCut}
 use Rattle.of_wire.proofs.Verdicts.{Verdict, comes_first_after}
 

@@ -4,7 +4,8 @@ use Rattle.std.proofs.lemmas.Bool.{cases_eq}
 use Rattle.std.proofs.lemmas.List.{length-append, append-nil, drop_at, take_at}
 use Rattle.of_wire.specs.declared.fault.PartFault.{PartFault}
 use Rattle.of_wire.specs.declared.fault.PartCause.{PartCause}
-use Rattle.of_wire.specs.Reading.{◌>>=◌, fault_at, many}
+use Rattle.of_wire.specs.Answers.{fault_at}
+use Rattle.of_wire.specs.Reading.{◌>>=◌, many}
 use Rattle.of_wire.specs.Grammar.{Joined}
 use Rattle.of_wire.specs.Faults.{ComesFirst, Behind, FaultOf, EndsIn, CutsOff}
 use Rattle.of_wire.proofs.Grammars.{AreBytes, bytes_back}

@@ -18,8 +18,7 @@ use Rattle.of_wire.specs.Causes.{cause_number}
 use Rattle.of_wire.specs.Numbers.{number_in}
 use Rattle.of_wire.specs.Parts.{up_to_8}
 use Rattle.of_wire.specs.Grammar.{Joined}
-use Rattle.of_wire.specs.Reading.{has_goto, has_apply, stands}
-use Rattle.of_wire.specs.Spelling.{known, SpellsItem, SpellsAction, SpellsInstr, MayFollow}
+use Rattle.of_wire.specs.Spelling.{stands, has_goto, has_apply, known, SpellsItem, SpellsAction, SpellsInstr, MayFollow}
 
 -- ---- the first fault
 

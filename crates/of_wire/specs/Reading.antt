@@ -1,8 +1,7 @@
 -- How the private readers go: parts from the front of bytes, with the fault that is met. What the
 -- public calls answer is fixed by Spelling and Faults alone. A fault's place counts from the first
 -- byte of what the part stands in, so `at` is the place of the first byte given here.
-use Rattle.std.specs.Prelude.{◌≡◌, ℕ, zero, suc, ◌+◌, ◌-◌, ◌*◌, ◌/◌, ◌%◌, min, Bool, true, false, not, ◌&&◌, ◌||◌, ◌==◌, nat_lt, if◌then◌else◌, List, [], ◌∷◌, ◌++◌, length, take, drop, insert, position, Option, Some, None, slice_range, Result, Ok, Err}
-use Rattle.std.specs.List.{list_any}
+use Rattle.std.specs.Prelude.{ℕ, zero, suc, ◌+◌, ◌-◌, ◌*◌, ◌/◌, ◌%◌, min, Bool, not, ◌&&◌, ◌||◌, ◌==◌, nat_lt, if◌then◌else◌, List, [], ◌∷◌, ◌++◌, length, take, drop, position, Option, Some, None, slice_range, Result, Ok, Err}
 use Rattle.net_base.specs.declared.field.Field.{Field}
 use Rattle.net_base.specs.declared.field.FieldId.{FieldId}
 use Rattle.net_base.specs.declared.field.FieldId.TheVariants.{InPort, EthDst, EthSrc, EthType, VlanVid, VlanPcp, IpProto, Ipv4Src, Ipv4Dst, TcpSrc, TcpDst, UdpSrc, UdpDst, Icmpv4Type, Icmpv4Code, ArpOp, ArpSpa, ArpTpa}
@@ -13,12 +12,11 @@ use Rattle.of_match.specs.declared.action.Instr.{Instr}
 use Rattle.of_match.specs.declared.action.Instr.TheVariants.{Goto, Apply}
 use Rattle.net_base.specs.WellFormed.{has_prerequisite}
 use Rattle.of_wire.specs.declared.fault.PartFault.{PartFault}
-use Rattle.of_wire.specs.declared.fault.PartCause.{PartCause}
 use Rattle.of_wire.specs.declared.fault.PartCause.TheVariants.{Short, BadClass, BadLength, BadPad, Repeated, Prerequisite, UnknownAction, UnknownInstr}
-use Rattle.of_wire.specs.declared.fault.PartRefused.{PartRefused}
-use Rattle.of_wire.specs.declared.fault.PartRefused.TheVariants.{At, Memory}
 use Rattle.of_wire.specs.Numbers.{number_in}
 use Rattle.of_wire.specs.Parts.{up_to_8}
+use Rattle.of_wire.specs.Spelling.{stands, placed, has_goto, has_apply}
+pub use Rattle.of_wire.specs.Answers.{Fails, Gives, fault_at}
 
 -- ---- what reading gives
 
@@ -26,18 +24,6 @@ infixl 10 ◌>>=◌
 abbrev pub ◌>>=◌ : {A B : Type 0} → Result A PartFault → (A → Result B PartFault) → Result B PartFault
 (Ok x) >>= f = f x
 (Err e) >>= f = Err e
-
--- what a call answered is what reading gives, unless memory ran out
-abbrev pub Fails : {Y : Type 0} → PartRefused → Result Y PartFault → Type 0
-Fails Memory read = Unit {0}
-Fails (At f) read = read ≡ Err f
-
-abbrev pub Gives : {X Y : Type 0} → (X → Y) → Result X PartRefused → Result Y PartFault → Type 0
-Gives view (Ok x) read = read ≡ Ok (view x)
-Gives view (Err e) read = Fails e read
-
-abbrev pub fault_at : ℕ → PartCause → PartFault
-fault_at at cause = record { at = at; cause = cause }
 
 -- parts one behind the other, up to the end of the bytes. A step reads one part and says how many
 -- bytes it takes, at least one: so as many steps as there are bytes are enough.
@@ -100,22 +86,6 @@ field_value id bytes = record {
   value = number_in 4 (byte_len_of id) bytes;
   mask = (if has_mask bytes then number_in (4 + byte_len_of id) (byte_len_of id) bytes else all_ones id);
 }
-
--- whether a field stands there already
-abbrev pub stands : FieldId → List Field → Bool
-stands id fields = list_any (λ f. number_of f.id == number_of id) fields
-
--- the place of the first field above a number
-abbrev pub first_above : ℕ → List Field → Option ℕ
-first_above number fields = position (λ g. nat_lt number (number_of g.id)) fields
-
-abbrev pub placed_at : Option ℕ → Field → List Field → List Field
-placed_at (Some at) f fields = insert fields at f
-placed_at None f fields = fields ++ f ∷ []
-
--- a field in its place among fields in ascending order of their numbers
-unfoldable pub placed : Field → List Field → List Field
-placed f fields = placed_at (first_above (number_of f.id) fields) f fields
 
 -- a known field: its length is that of its value, and of its mask where it has one
 unfoldable pub known_field : PartFault → FieldId → ℕ → List ℕ → Result Field PartFault
@@ -220,20 +190,6 @@ unfoldable pub actions_at : PartFault → ℕ → List ℕ → Result (List Acti
 actions_at past at bytes = many (action_step past) (length bytes) [] at bytes
 
 -- ---- instructions (7.2.4)
-
-abbrev pub is_goto : Instr → Bool
-is_goto (Goto table) = true
-is_goto (Apply actions) = false
-
-abbrev pub has_goto : List Instr → Bool
-has_goto instrs = list_any is_goto instrs
-
-abbrev pub is_apply : Instr → Bool
-is_apply (Goto table) = false
-is_apply (Apply actions) = true
-
-abbrev pub has_apply : List Instr → Bool
-has_apply instrs = list_any is_apply instrs
 
 -- GOTO_TABLE, once
 unfoldable pub goto_at : PartFault → List Instr → (len at : ℕ) → List ℕ → Result (Instr × ℕ) PartFault

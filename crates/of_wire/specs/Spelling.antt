@@ -1,5 +1,6 @@
 -- What bytes spell a match, actions and instructions (OpenFlow 1.3, 7.2).
-use Rattle.std.specs.Prelude.{◌≡◌, ℕ, ◌+◌, ◌-◌, ◌*◌, ◌/◌, ◌<◌, Bool, true, false, List, [], ◌∷◌, length, Option, Some, None, ◌⊎◌}
+use Rattle.std.specs.Prelude.{◌≡◌, ℕ, ◌+◌, ◌-◌, ◌*◌, ◌/◌, ◌<◌, Bool, true, false, ◌==◌, nat_lt, List, [], ◌∷◌, ◌++◌, length, insert, position, Option, Some, None, ◌⊎◌}
+use Rattle.std.specs.List.{list_any}
 use Rattle.net_base.specs.declared.field.Field.{Field}
 use Rattle.net_base.specs.declared.field.FieldId.{FieldId}
 use Rattle.net_base.specs.FieldId.{number_of, byte_len_of, all_ones}
@@ -9,7 +10,6 @@ use Rattle.of_match.specs.declared.action.Instr.{Instr}
 use Rattle.of_match.specs.declared.action.Instr.TheVariants.{Goto, Apply}
 use Rattle.net_base.specs.WellFormed.{has_prerequisite}
 use Rattle.of_wire.specs.Parts.{up_to_8}
-use Rattle.of_wire.specs.Reading.{stands, has_goto, has_apply, placed}
 use Rattle.of_wire.specs.Grammar.{◌▷◌, Number, Ignored, Zeros, Joined}
 
 -- ---- fields of a match (7.2.3.2)
@@ -40,6 +40,22 @@ abbrev pub known : List (Option Field) → List Field
 known [] = []
 known (Some f ∷ more) = f ∷ known more
 known (None ∷ more) = known more
+
+-- whether a field stands there already
+abbrev pub stands : FieldId → List Field → Bool
+stands id fields = list_any (λ f. number_of f.id == number_of id) fields
+
+-- the place of the first field above a number
+abbrev pub first_above : ℕ → List Field → Option ℕ
+first_above number fields = position (λ g. nat_lt number (number_of g.id)) fields
+
+abbrev pub placed_at : Option ℕ → Field → List Field → List Field
+placed_at (Some at) f fields = insert fields at f
+placed_at None f fields = fields ++ f ∷ []
+
+-- a field in its place among fields in ascending order of their numbers
+unfoldable pub placed : Field → List Field → List Field
+placed f fields = placed_at (first_above (number_of f.id) fields) f fields
 
 -- fields in ascending order of their numbers
 abbrev pub in_order_onto : List Field → List Field → List Field
@@ -98,6 +114,21 @@ SpellsActions actions bytes = Joined (λ before a. SpellsAction a) [] actions by
 abbrev pub SpellsInstr : Instr → List ℕ → Type 0
 SpellsInstr (Goto table) bytes = (Number 2 1 ▷ Number 2 8 ▷ Number 1 table ▷ Ignored 3) bytes
 SpellsInstr (Apply actions) bytes = (Number 2 4 ▷ Number 2 (length bytes) ▷ Ignored 4 ▷ SpellsActions actions) bytes × (0 < length actions)
+
+-- what stands among instructions
+abbrev pub is_goto : Instr → Bool
+is_goto (Goto table) = true
+is_goto (Apply actions) = false
+
+abbrev pub has_goto : List Instr → Bool
+has_goto instrs = list_any is_goto instrs
+
+abbrev pub is_apply : Instr → Bool
+is_apply (Goto table) = false
+is_apply (Apply actions) = true
+
+abbrev pub has_apply : List Instr → Bool
+has_apply instrs = list_any is_apply instrs
 
 -- each comes once, and APPLY_ACTIONS before GOTO_TABLE
 abbrev pub MayFollow : List Instr → Instr → Type 0

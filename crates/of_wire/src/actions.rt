@@ -4,7 +4,8 @@ ghost use Rattle.of_wire.specs.Parts.{bare_action, set_bytes, action_bytes};
 ghost use Rattle.of_match.specs.declared.action.Action.{Action};
 ghost use Rattle.of_wire.specs.Spelling.{SpellsActions};
 ghost use Rattle.of_wire.specs.Faults.{TellsFirst, FaultInActions, FaultInActionsAt};
-ghost use Rattle.of_wire.specs.Reading.{Gives, fault_at, payload_len, set_named, set_at, sized_at, output_at, push_at, bare_at, action_of, action_at, action_step, actions_at};
+ghost use Rattle.of_wire.specs.Answers.{Gives, fault_at};
+ghost use Rattle.of_wire.specs.Reading.{payload_len, set_named, set_at, sized_at, output_at, push_at, bare_at, action_of, action_at, action_step, actions_at};
 
 use crate::fault::{PartCause, PartFault, PartRefused};
 use crate::matches::{field_len, field_named, field_value, has_mask, put_field};

@@ -3,8 +3,9 @@ ghost use Rattle.std.specs.List.{flat_map};
 ghost use Rattle.of_wire.specs.Parts.{instr_bytes};
 ghost use Rattle.of_wire.specs.Numbers.{number_in};
 ghost use Rattle.of_match.specs.declared.action.Instr.{Instr};
-ghost use Rattle.of_wire.specs.Spelling.{SpellsInstrs};
-ghost use Rattle.of_wire.specs.Reading.{Gives, is_goto, has_goto, is_apply, has_apply, goto_at, applied_at, apply_at, instr_of, instr_at, instr_step, instrs_at};
+ghost use Rattle.of_wire.specs.Spelling.{is_goto, has_goto, is_apply, has_apply, SpellsInstrs};
+ghost use Rattle.of_wire.specs.Answers.{Gives};
+ghost use Rattle.of_wire.specs.Reading.{goto_at, applied_at, apply_at, instr_of, instr_at, instr_step, instrs_at};
 ghost use Rattle.of_wire.specs.Faults.{TellsFirst, From, FaultInInstrs};
 
 use crate::actions::{actions_len, put_actions, read_each_action};

@@ -1,10 +1,11 @@
 ghost use Rattle.std.specs.Prelude.{◌≡◌, ◌≤◌, ◌<◌, ◌+◌, ◌++◌, ◌^◌, ℕ, length, take, List, [], true, false, Ok, OnOk, OnErr, IfOk, IfSome};
 ghost use Rattle.std.specs.List.{flat_map};
 ghost use Rattle.of_wire.specs.Parts.{field_bytes, match_bytes};
-ghost use Rattle.of_wire.specs.Spelling.{SpellsMatch, SpellsMatchSeen};
+ghost use Rattle.of_wire.specs.Spelling.{stands, first_above, placed, SpellsMatch, SpellsMatchSeen};
 ghost use Rattle.of_wire.specs.Faults.{TellsFirst, From, FaultInMatch};
 ghost use Rattle.net_base.specs.declared.field.Field.{Field};
-ghost use Rattle.of_wire.specs.Reading.{Gives, fault_at, field_numbered, field_named, has_mask, payload_len, wanted_len, field_value, stands, first_above, placed, known_field, known_step, unknown_step, field_step, many, fields_at, sized_match_at, match_at};
+ghost use Rattle.of_wire.specs.Answers.{Gives, fault_at};
+ghost use Rattle.of_wire.specs.Reading.{field_numbered, field_named, has_mask, payload_len, wanted_len, field_value, known_field, known_step, unknown_step, field_step, many, fields_at, sized_match_at, match_at};
 
 use crate::fault::{PartCause, PartFault, PartRefused};
 use crate::number::{number_at, put_number, put_zeros, u8_at, u16_at};
@@ -174,7 +175,7 @@ fn first_above(number: u8, fields: &[Field]) -> Option<usize>
 }
 
 /// Puts a field into its place among fields in ascending order of their numbers.
-#[tactic(auto, unfolding(crate::specs::Reading::placed))]
+#[tactic(auto, unfolding(crate::specs::Spelling::placed))]
 fn place(field: Field, fields: &mut Fields) -> Result<(), NoMemory>
     ensures { OnOk result (fields.new ≡ placed field fields.old) }
 {

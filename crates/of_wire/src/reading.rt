@@ -1,6 +1,7 @@
 ghost use Rattle.std.specs.Prelude.{◌≡◌, ◌≤◌, ◌<◌, ◌+◌, ◌^◌, length, IfOk, IfSome};
 ghost use Rattle.of_wire.specs.Parts.{up_to_8};
-ghost use Rattle.of_wire.specs.Reading.{Gives, fault_at, past_end, padding_at, first_nonzero};
+ghost use Rattle.of_wire.specs.Answers.{Gives, fault_at};
+ghost use Rattle.of_wire.specs.Reading.{past_end, padding_at, first_nonzero};
 
 use crate::fault::{PartCause, PartFault, PartRefused};
 

@@ -1,6 +1,6 @@
 use Rattle.std.proofs.Common.{length, arith}
 use Rattle.of_wire.specs.declared.fault.PartCause.TheVariants.{Short}
-use Rattle.of_wire.specs.Reading.{fault_at}
+use Rattle.of_wire.specs.Answers.{fault_at}
 use Rattle.of_wire.proofs.Spelled.{actions_spelled, actions_read}
 use Rattle.of_wire.proofs.ActionFaults.{actions_tell_first}
 use Rattle.of_wire.proofs.actions.get_actions.Goals as goal

@@ -1,6 +1,7 @@
 use Rattle.std.proofs.Common.{◌+◌, length, [], refl, arith}
 use Rattle.std.proofs.lemmas.Result.{err_from_is_err_and}
-use Rattle.of_wire.specs.Reading.{instr_step, instrs_at, fault_at}
+use Rattle.of_wire.specs.Answers.{fault_at}
+use Rattle.of_wire.specs.Reading.{instr_step, instrs_at}
 use Rattle.of_wire.specs.declared.fault.PartCause.TheVariants.{Short}
 use Rattle.of_wire.proofs.Many.{starts, goes, ends, is_done, is_some, is_none}
 use Rattle.of_wire.proofs.instructions.read_each_instr.Goals as goal

@@ -1,5 +1,6 @@
 use Rattle.std.proofs.Common.{◌≡◌, ◌+◌, length}
-use Rattle.of_wire.specs.Reading.{instr_step, instrs_at, fault_at}
+use Rattle.of_wire.specs.Answers.{fault_at}
+use Rattle.of_wire.specs.Reading.{instr_step, instrs_at}
 use Rattle.of_wire.specs.declared.fault.PartCause.TheVariants.{Short}
 use Rattle.of_wire.proofs.Many.{Left}
 use Rattle.of_wire.proofs.instructions.read_each_instr.Given as goal
