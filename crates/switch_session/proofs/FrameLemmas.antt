@@ -1,11 +1,15 @@
 -- Frames at the front of bytes.
 use Rattle.std.proofs.Common.{◌≡◌, ℕ, ◌+◌, ◌-◌, ◌<◌, ◌≤◌, List, [], ◌∷◌, ◌++◌, length, take, drop, get_or, refl, sym, ap, ◌∙◌, subst, arith, append_assoc, length-append, length-drop}
 use Rattle.std.specs.List.{concat, AllByRecursion}
-use Rattle.std.proofs.lemmas.List.{drop-append-le, drop-drop, take-append-drop, append-nil, length-take-le}
+use Rattle.std.proofs.lemmas.List.{drop-append-le, drop-drop, take-append-drop, append-nil, length-take-le, take_more}
 use Rattle.std.proofs.Math.ListN.{get_or-append}
 use Rattle.std.proofs.Math.Seq.{take-append_seam, drop-append_seam, take-length}
+use Rattle.std.proofs.lemmas.List.Folds.{concat-append}
 use Rattle.of_wire.specs.Numbers.{number_in}
-use Rattle.switch_session.specs.Frames.{told, IsFrame, IsBegun, IsBad, HasNoFrame, Splits, Calls, none, feed, next}
+use Rattle.switch_session.specs.declared.stream.Frame.{Frame as Lent}
+use Rattle.switch_session.specs.declared.stream.Got.{Got}
+use Rattle.switch_session.specs.declared.stream.Got.TheVariants.{NotYet, Frame, Bad}
+use Rattle.switch_session.specs.Frames.{told, IsFrame, IsBegun, IsBad, HasNoFrame, Splits, Cuts, Calls, none, feed, next}
 
 -- what stands behind a header doesn't change the length that it tells
 pub told-append : (a b : List ℕ) → 8 ≤ length a → told (a ++ b) ≡ told a
@@ -101,3 +105,46 @@ bad_none bytes bad frame rest is e =
     let here : told bytes ≡ length frame = ap told e ∙ front_told frame rest is in
     let least : 8 ≤ length frame = is.header in
     omega (arith, bad.small)
+
+-- ---- Reading a stream
+
+all_more : (frames : List (List ℕ)) (frame : List ℕ) → AllByRecursion IsFrame frames → IsFrame frame → AllByRecursion IsFrame (frames ++ frame ∷ [])
+all_more [] frame all is = (is, tt)
+all_more (f ∷ frames) frame all is = (all.0, all_more frames frame all.1 is)
+
+concat_more : (frames : List (List ℕ)) (frame : List ℕ) → concat (frames ++ frame ∷ []) ≡ concat frames ++ frame
+concat_more frames frame = concat-append frames (frame ∷ []) ∙ ap (λ l. concat frames ++ l) (append-nil frame)
+
+-- a frame that was taken, and a copy of it
+pub one_more : (frames more : List (List ℕ)) (frame copy before after : List ℕ) → more ≡ frames ++ copy ∷ [] → copy ≡ frame
+    → IsFrame frame × (before ≡ frame ++ after)
+    → (concat more ++ after ≡ concat frames ++ before) × (AllByRecursion IsFrame frames → AllByRecursion IsFrame more) × (length after < length before)
+one_more frames more frame copy before after is same cut =
+    let all : more ≡ frames ++ frame ∷ [] = is ∙ ap (λ x. frames ++ x ∷ []) same in
+    let least : 8 ≤ length frame = cut.0.header in (
+      ap (λ l. concat l ++ after) all ∙ ap (λ l. l ++ after) (concat_more frames frame) ∙ append_assoc (concat frames) frame after ∙ ap (λ l. concat frames ++ l) (sym cut.1),
+      λ each. subst (AllByRecursion IsFrame) (sym all) (all_more frames frame each cut.0),
+      omega (arith, ap length cut.1, length-append frame after),
+    )
+
+pub no_more : (got : Got) (before after : List ℕ) → ((frame : Lent) → got ≡ Frame frame → ⊥) → Cuts got before after
+    → (after ≡ before) × HasNoFrame after
+no_more NotYet before after not cuts = (cuts.1, begun_none after (subst IsBegun (sym cuts.1) cuts.0))
+no_more (Frame frame) before after not cuts = absurd (not frame refl)
+no_more Bad before after not cuts = (cuts.1, bad_none after (subst IsBad (sym cuts.1) cuts.0))
+
+pub nothing_yet : (frames : List (List ℕ)) (rest : List ℕ) → frames ≡ [] → rest ≡ []
+    → ([] ≡ concat frames ++ rest) × AllByRecursion IsFrame frames × HasNoFrame rest
+nothing_yet frames rest e f = (
+  sym (ap (λ l. concat l ++ rest) e ∙ f),
+  subst (AllByRecursion IsFrame) (sym e) tt,
+  subst HasNoFrame (sym f) (begun_none [] (λ h. absurd (omega arith))),
+)
+
+-- one more piece
+pub piece_more : (pieces : List (List ℕ)) (i : ℕ) (now fed : List ℕ) (frames more : List (List ℕ)) (piece : List ℕ) (rest : List ℕ)
+    → i < length pieces → piece ≡ get_or pieces i piece → concat (take i pieces) ≡ concat frames ++ rest → fed ≡ rest ++ piece
+    → concat more ++ now ≡ concat frames ++ fed → concat (take (i + 1) pieces) ≡ concat more ++ now
+piece_more pieces i now fed frames more piece rest below is so e f =
+    ap concat (take_more pieces i piece below) ∙ ap (λ x. concat (take i pieces ++ x ∷ [])) (sym is) ∙ concat_more (take i pieces) piece
+    ∙ ap (λ l. l ++ piece) so ∙ append_assoc (concat frames) rest piece ∙ ap (λ l. concat frames ++ l) (sym e) ∙ sym f

@@ -3,6 +3,7 @@
 
 mod closing;
 pub mod laws;
+mod pieces;
 mod ports;
 mod quiet;
 mod session;
@@ -10,6 +11,7 @@ mod state;
 mod stream;
 
 pub use closing::Closing;
+pub use pieces::{Split, frames_of};
 pub use ports::PortTold;
 pub use quiet::Quiet;
 pub use session::Session;
