@@ -7,7 +7,7 @@ use crate::message::Message;
 use crate::sizes::short;
 use net_base::{Bytes, NoMemory};
 use of_wire::{
-    PartCause, PartFault, PartRefused, put_number, refused, take_padding, u16_at, u32_at,
+    PartCause, PartFault, PartRefused, put_number, refused, take_padding, u16_at, u32_at, up_to_8,
 };
 
 /// The type of the element that has a bitmap of versions (OpenFlow 1.3, 7.5.1).
@@ -56,7 +56,7 @@ fn read_element(
     if len < 4 || (u128::from(kind) == VERSION_BITMAP && len < 8) {
         return Err(refused(at + 2, PartCause::BadLength));
     }
-    let taken = take_padding(past, at, len, len + (8 - len % 8) % 8, bytes)?;
+    let taken = take_padding(past, at, len, up_to_8(len), bytes)?;
     Ok((first_bitmap(bitmap, kind, bytes), taken))
 }
 
