@@ -6,8 +6,6 @@ use Rattle.std.proofs.lemmas.Bool.Decides.{eqb_tells}
 use Rattle.std.proofs.lemmas.List.{append_assoc, append-nil}
 use Rattle.std.proofs.lemmas.Slice.Eq.{bytes_eq-Decides}
 use Rattle.yaml_subset.specs.Grammar.{Reads}
-use Rattle.yaml_subset.specs.Reading.{read_of}
-use Rattle.yaml_subset.specs.declared.fault.YamlFault.{YamlFault}
 use Rattle.yaml_subset.specs.declared.tree.Tree.{Tree}
 use Rattle.conf_types.specs.declared.first.Conf.{Conf}
 use Rattle.conf_types.specs.First.{IsConf}
@@ -27,7 +25,7 @@ use Rattle.of13_codec.specs.declared.message.Message.{Message}
 use Rattle.of13_codec.specs.declared.message.Message.TheVariants as messages
 use Rattle.faucet_top.specs.declared.plan.PlanRefused.{PlanRefused}
 use Rattle.faucet_top.specs.declared.plan.PlanRefused.TheVariants.{Unresolved}
-use Rattle.faucet_top.specs.Answer.{batch_of, batch_of_text, planned}
+use Rattle.faucet_top.specs.Answer.{batch_of, Plans, by_tree, by_fault}
 use Rattle.faucet_top.specs.Form.{conf_of}
 use Rattle.faucet_top.specs.Messages.{add, delete_all, adds, next_xid, xid_after, opening}
 use Rattle.faucet_top.specs.Opened.{command_in, Says, nothing, barrier, command, written_from, SpellAll, Opens}
@@ -103,9 +101,6 @@ abbrev ok_or : {A E : Type 0} → A → Result A E → A
 ok_or d (Ok x) = x
 ok_or d (Err e) = d
 
-abbrev pub OfGrammar : Type 0
-OfGrammar = (text : List ℕ) (t : Tree) → read_of text ≡ Ok t → Reads text t
-
 abbrev pub Holds : Type 0
 Holds = (conf : Conf) → IsConf conf → (held settled : List Entry) → SettlesInTurn held ((DeleteAll ∷ []) ∷ map Add (cold conf) ∷ []) settled → settled ≡ cold conf
 
@@ -115,8 +110,8 @@ Goes = (conf : Conf) (port : ℕ) (p : Packet) → IsConf conf → port < 2 ^ 32
 abbrev pub Only : Type 0
 Only = (conf : Conf) (port : ℕ) (p : Packet) (outs : List Sent) → IsConf conf → port < 2 ^ 32 → IsShaped p → Pipes (cold conf) port p outs → outs ≡ sends conf port p
 
-module _ (number_len : NumberLen) (fields_len : FieldsLen) (match_len : MatchLen) (actions_len : ActionsLen) (grammar : OfGrammar) (spelled : Spelled) (holds : Holds) (goes : Goes) (only : Only) (text dp batch : List ℕ) where
-  opens : (tree : Tree) (conf : Conf) → read_of text ≡ Ok tree → conf_of tree ≡ Some conf → conf.dp.name ≡ dp → opening (cold conf) ≡ batch → Opens text dp batch
+module _ (number_len : NumberLen) (fields_len : FieldsLen) (match_len : MatchLen) (actions_len : ActionsLen) (spelled : Spelled) (holds : Holds) (goes : Goes) (only : Only) (text dp batch : List ℕ) where
+  opens : (tree : Tree) (conf : Conf) → Reads text tree → conf_of tree ≡ Some conf → conf.dp.name ≡ dp → opening (cold conf) ≡ batch → Opens text dp batch
   opens tree conf read accepted named made =
       let valid = is_conf tree conf accepted in
       let added = cold_written number_len fields_len match_len actions_len conf valid in
@@ -125,7 +120,7 @@ module _ (number_len : NumberLen) (fields_len : FieldsLen) (match_len : MatchLen
         conf = conf;
         messages = opening_messages (cold conf);
         commands = (DeleteAll ∷ []) ∷ map Add (cold conf) ∷ [];
-        reads = grammar text tree read;
+        reads = read;
         accepted = accepted;
         named = named;
         sent = sym made ∙ opening_written (cold conf);
@@ -137,18 +132,15 @@ module _ (number_len : NumberLen) (fields_len : FieldsLen) (match_len : MatchLen
         only = λ port p outs fits shaped way. only conf port p outs valid fits shaped way;
       }
 
-  by_name : (tree : Tree) (conf : Conf) → read_of text ≡ Ok tree → conf_of tree ≡ Some conf → (b : Bool) → bytes_eq conf.dp.name dp ≡ b
+  by_name : (tree : Tree) (conf : Conf) → Reads text tree → conf_of tree ≡ Some conf → (b : Bool) → bytes_eq conf.dp.name dp ≡ b
       → ◌≡◌ {A = Result (List ℕ) PlanRefused} (if b then Ok (opening (cold conf)) else Err Unresolved) (Ok batch) → Opens text dp batch
   by_name tree conf read accepted true same made = opens tree conf read accepted ((bytes_eq-Decides conf.dp.name dp).0 same) (ap (λ (m : Result (List ℕ) PlanRefused). ok_or batch m) made)
   by_name tree conf read accepted false same made = absurd cc
 
-  by_conf : (tree : Tree) → read_of text ≡ Ok tree → (c : Option Conf) → conf_of tree ≡ c → batch_of c dp ≡ Ok batch → Opens text dp batch
+  by_conf : (tree : Tree) → Reads text tree → (c : Option Conf) → conf_of tree ≡ c → batch_of c dp ≡ Ok batch → Opens text dp batch
   by_conf tree read None none made = absurd cc
   by_conf tree read (Some conf) accepted made = by_name tree conf read accepted (bytes_eq conf.dp.name dp) refl made
 
-  by_text : (r : Result Tree YamlFault) → read_of text ≡ r → batch_of_text r dp ≡ Ok batch → Opens text dp batch
-  by_text (Err fault) read made = absurd cc
-  by_text (Ok tree) read made = by_conf tree read (conf_of tree) refl made
-
-  pub planned_opens : planned text dp ≡ Ok batch → Opens text dp batch
-  planned_opens made = by_text (read_of text) refl made
+  pub planned_opens : Plans text dp (Ok batch) → Opens text dp batch
+  planned_opens (by_tree tree read made) = by_conf tree read (conf_of tree) refl (sym made)
+  planned_opens (by_fault fault there made) = absurd cc

@@ -1,264 +1,248 @@
--- From what was made of the file to what is promised of the whole call.
-use Rattle.std.proofs.Common.{◌≡◌, ◌≢◌, ℕ, zero, suc, Bool, true, false, ◌⊎◌, inl, inr, List, [], length, take, Option, Some, None, Result, Ok, Err, refl, sym, ap, subst, ◌∙◌, arith}
+-- From the reply that was given to what each status says.
+use Rattle.std.proofs.Common.{◌≡◌, ◌≢◌, ℕ, ◌≤◌, Bool, true, false, ◌⊎◌, inl, inr, List, [], Option, Some, None, Result, Ok, Err, refl, sym, ap, subst, ◌∙◌, arith}
 use Rattle.std.specs.Prelude.{if◌then◌else◌}
 use Rattle.std.specs.Str.{bytes_eq}
-use Rattle.std.proofs.Math.Seq.{take-length}
-use Rattle.fg_outside.specs.Contents.{Contents, Tells, told}
-use Rattle.fg_outside.specs.Wrote.{appended, AppendsFront}
-use Rattle.yaml_subset.specs.Reading.{read_of}
-use Rattle.yaml_subset.specs.declared.fault.YamlFault.{YamlFault}
-use Rattle.yaml_subset.specs.declared.tree.Tree.{Tree}
-use Rattle.faucet_top.specs.Form.{conf_of}
+use Rattle.fg_outside.specs.Contents.{Contents, Tells}
+use Rattle.fg_outside.specs.Counts.{Rose}
+use Rattle.fg_outside.proofs.SinkLemmas.{appended-nil, AppendsFront-none}
 use Rattle.conf_types.specs.declared.first.Conf.{Conf}
+use Rattle.cold_plan.specs.Cold.{cold}
 use Rattle.faucet_top.specs.declared.plan.PlanRefused.{PlanRefused}
 use Rattle.faucet_top.specs.declared.plan.PlanRefused.TheVariants.{Unread, Refused, NotOfForm, Unresolved, Memory}
-use Rattle.faucet_top.specs.Answer.{Answer, Delivers, Makes, MakesSome, planned, planned_file, batch_of, batch_of_text, plan_answer, usage, answer, job_answer}
+use Rattle.faucet_top.specs.Answer.{Answer, batch_of, Plans, by_tree, by_fault, PlansFile, plan_answer, usage, out_of_memory, AnswersJob, Answers}
+use Rattle.faucet_top.specs.Ends.{Ends}
+use Rattle.faucet_top.specs.Form.{conf_of}
+use Rattle.faucet_top.specs.Status.{number_of_status}
+use Rattle.faucet_top.specs.declared.deliver.Status.{Status}
+use Rattle.faucet_top.specs.declared.deliver.Status.TheVariants.{Usage}
+use Rattle.faucet_top.specs.Messages.{opening}
+use Rattle.faucet_top.specs.Given.{AsTold, Makes, planned, unread, memory, RepliesJob, Replies, Delivers, Gives, IsRefused}
 use Rattle.faucet_top.specs.Opened.{Opens, OpensBy}
-use Rattle.faucet_top.specs.Top.{PlanAnswered, AnswersSome, IsGiven, IsRefusal, now_held}
 use Rattle.faucet_top.specs.Words.{Job, Plan, meaning}
+use Rattle.faucet_top.proofs.PlanLemmas.{Made, OneTree, OneFault, Either, plans_file_one}
 
-abbrev Made : Type 0
-Made = Result (List ℕ) PlanRefused
+-- ---- the statuses of `plan`
 
-abbrev failed : PlanRefused → Made
-failed why = Err why
+module _ (config dp : List ℕ) where
+  abbrev status_for : Made → ℕ
+  status_for made = (plan_answer config dp made).status
 
--- what may have been made where a configuration was refused
-abbrev TwoCause : Made → Type 0
-TwoCause made = ((why : YamlFault) × (made ≡ failed (Refused why))) ⊎ ((made ≡ failed NotOfForm) ⊎ (made ≡ failed Unresolved))
+  refused_status : (why : PlanRefused) → (2 ≤ status_for (Err why)) × (status_for (Err why) ≡ 4 → ⊥)
+  refused_status Unread = (omega arith, λ e. omega arith)
+  refused_status (Refused fault) = (omega arith, λ e. omega arith)
+  refused_status NotOfForm = (omega arith, λ e. omega arith)
+  refused_status Unresolved = (omega arith, λ e. omega arith)
+  refused_status Memory = (omega arith, λ e. omega arith)
 
--- ---- one stream
+  not_four : (made : Made) → status_for made ≡ 4 → ⊥
+  not_four (Ok batch) s = omega arith
+  not_four (Err why) s = (refused_status why).1 s
 
--- the whole is a front of itself
-whole_front : (o0 o1 : Option (List ℕ)) (bytes : List ℕ) → o1 ≡ appended o0 bytes → AppendsFront o0 o1 bytes
-whole_front o0 o1 bytes e = record { count = length bytes; within = omega arith; front = e ∙ ap (appended o0) (sym (take-length bytes)) }
+  not_one : (made : Made) → status_for made ≡ 1 → ⊥
+  not_one (Ok batch) s = omega arith
+  not_one (Err why) s = let above = (refused_status why).0 in omega (arith, above, s)
 
--- nothing is a front of anything
-nothing_front : (o0 o1 : Option (List ℕ)) (bytes : List ℕ) → o1 ≡ appended o0 [] → AppendsFront o0 o1 bytes
-nothing_front o0 o1 bytes e = record { count = 0; within = omega arith; front = e }
+  named_status : (b : Bool) (batch : List ℕ) (made : Made) → made ≡ (if b then Ok batch else Err Unresolved) → status_for made ≤ 2
+  named_status true batch made is = rw is (omega arith)
+  named_status false batch made is = rw is (omega arith)
 
-abbrev nothing : List ℕ
-nothing = []
+  tree_status : (conf : Option Conf) (made : Made) → made ≡ batch_of conf dp → status_for made ≤ 2
+  tree_status None made is = rw is (omega arith)
+  tree_status (Some conf) made is = named_status (bytes_eq conf.dp.name dp) (opening (cold conf)) made is
 
-take-nil : (n : ℕ) → take n nothing ≡ nothing
-take-nil zero = refl
-take-nil (suc n) = refl
+  -- the status for what a text plans
+  text_status : (text : List ℕ) (made : Made) → Plans text dp made → status_for made ≤ 2
+  text_status text made (by_tree tree reads is) = tree_status (conf_of tree) made is
+  text_status text made (by_fault fault there is) = rw is (omega arith)
 
-empty_front : (o0 o1 : Option (List ℕ)) (bytes : List ℕ) → AppendsFront o0 o1 [] → AppendsFront o0 o1 bytes
-empty_front o0 o1 bytes f = nothing_front o0 o1 bytes (f.front ∙ ap (appended o0) (take-nil f.count))
+  refusal : (text : List ℕ) (made : Made) → status_for made ≡ 2 → Plans text dp made → IsRefused text dp
+  refusal text (Ok batch) s plans = absurd (omega arith)
+  refusal text (Err why) s plans = (why, plans)
 
-module _ (status : ℕ) (o0 o1 e0 e1 : Option (List ℕ)) (wf : Type 0) where
-  delivered_front : (a : Answer) → Delivers a status o0 o1 e0 e1 wf → AppendsFront o0 o1 a.out
-  delivered_front a (inl h) = whole_front o0 o1 a.out h.1
-  delivered_front a (inr h) = h.1
+  batch_planned : (text : List ℕ) (made : Made) → status_for made ≡ 0 → Plans text dp made → (batch : List ℕ) × (made ≡ Ok batch) × Plans text dp (Ok batch)
+  batch_planned text (Ok batch) s plans = (batch, refl, plans)
+  batch_planned text (Err why) s plans = let above = (refused_status why).0 in absurd (omega (arith, above, s))
 
-  delivered : (a : Answer) → Delivers a status o0 o1 e0 e1 wf → IsGiven a status o0 o1 e0 e1 ⊎ wf
-  delivered a (inl h) = inl h
-  delivered a (inr h) = inr h.3
+  status_unread : (made : Made) → made ≡ Err Unread → status_for made ≡ 3
+  status_unread made is = ap status_for is
 
-  -- ---- the status for what was made
+  status_memory : (made : Made) → made ≡ Err Memory → status_for made ≡ 8
+  status_memory made is = ap status_for is
 
-  not_one : (config dp : List ℕ) (made : Made) → Delivers (plan_answer config dp made) status o0 o1 e0 e1 wf → status ≡ 1 → ⊥
-  not_one config dp (Ok batch) (inl h) s = omega (arith, h.0)
-  not_one config dp (Err Unread) (inl h) s = omega (arith, h.0)
-  not_one config dp (Err NotOfForm) (inl h) s = omega (arith, h.0)
-  not_one config dp (Err (Refused why)) (inl h) s = omega (arith, h.0)
-  not_one config dp (Err Unresolved) (inl h) s = omega (arith, h.0)
-  not_one config dp (Err Memory) (inl h) s = omega (arith, h.0)
-  not_one config dp made (inr h) s = omega (arith, h.0)
+-- ---- what a status says, where a reply was delivered
 
-  at_zero : (config dp : List ℕ) (made : Made) → Delivers (plan_answer config dp made) status o0 o1 e0 e1 wf → status ≡ 0 → (batch : List ℕ) × (made ≡ Ok batch) × (o1 ≡ appended o0 batch)
-  at_zero config dp (Ok batch) (inl h) s = (batch, refl, h.1)
-  at_zero config dp (Err Unread) (inl h) s = absurd (omega (arith, h.0))
-  at_zero config dp (Err NotOfForm) (inl h) s = absurd (omega (arith, h.0))
-  at_zero config dp (Err (Refused why)) (inl h) s = absurd (omega (arith, h.0))
-  at_zero config dp (Err Unresolved) (inl h) s = absurd (omega (arith, h.0))
-  at_zero config dp (Err Memory) (inl h) s = absurd (omega (arith, h.0))
-  at_zero config dp made (inr h) s = absurd (omega (arith, h.0))
+module _ (words : List (List ℕ)) (contents : Option Contents) (absence fault : Type 0) (status : ℕ) (o0 o1 e0 e1 : Option (List ℕ)) (m0 m1 n0 n1 : ℕ)
+    (gives : Gives words contents absence fault status o0 o1 e0 e1 m0 m1 n0 n1) where
+  abbrev Delivered : Answer → Type 0
+  Delivered a = Delivers a status o0 o1 e0 e1 m0 m1 n0 n1
 
-  at_two : (config dp : List ℕ) (made : Made) → Delivers (plan_answer config dp made) status o0 o1 e0 e1 wf → status ≡ 2 → TwoCause made
-  at_two config dp (Ok batch) (inl h) s = absurd (omega (arith, h.0))
-  at_two config dp (Err Unread) (inl h) s = absurd (omega (arith, h.0))
-  at_two config dp (Err (Refused why)) (inl h) s = inl (why, refl)
-  at_two config dp (Err NotOfForm) (inl h) s = inr (inl refl)
-  at_two config dp (Err Unresolved) (inl h) s = inr (inr refl)
-  at_two config dp (Err Memory) (inl h) s = absurd (omega (arith, h.0))
-  at_two config dp made (inr h) s = absurd (omega (arith, h.0))
+  ended : (a : Answer) → Delivered a → (status ≡ a.status) ⊎ (status ≡ 4)
+  ended a (inl whole) = inl whole.0
+  ended a (inr front) = inr front.0
 
-  at_three : (config dp : List ℕ) (made : Made) → Delivers (plan_answer config dp made) status o0 o1 e0 e1 wf → status ≡ 3 → made ≡ failed Unread
-  at_three config dp (Ok batch) (inl h) s = absurd (omega (arith, h.0))
-  at_three config dp (Err Unread) (inl h) s = refl
-  at_three config dp (Err NotOfForm) (inl h) s = absurd (omega (arith, h.0))
-  at_three config dp (Err (Refused why)) (inl h) s = absurd (omega (arith, h.0))
-  at_three config dp (Err Unresolved) (inl h) s = absurd (omega (arith, h.0))
-  at_three config dp (Err Memory) (inl h) s = absurd (omega (arith, h.0))
-  at_three config dp made (inr h) s = absurd (omega (arith, h.0))
+  fault_at_four : (a : Answer) → (a.status ≡ 4 → ⊥) → Delivered a → status ≡ 4 → Rose m0 m1 ⊎ Rose n0 n1
+  fault_at_four a other (inl whole) s = absurd (other (sym whole.0 ∙ s))
+  fault_at_four a other (inr front) s = front.3
 
-  at_four : (config dp : List ℕ) (made : Made) → Delivers (plan_answer config dp made) status o0 o1 e0 e1 wf → status ≡ 4 → wf
-  at_four config dp (Ok batch) (inl h) s = absurd (omega (arith, h.0))
-  at_four config dp (Err Unread) (inl h) s = absurd (omega (arith, h.0))
-  at_four config dp (Err NotOfForm) (inl h) s = absurd (omega (arith, h.0))
-  at_four config dp (Err (Refused why)) (inl h) s = absurd (omega (arith, h.0))
-  at_four config dp (Err Unresolved) (inl h) s = absurd (omega (arith, h.0))
-  at_four config dp (Err Memory) (inl h) s = absurd (omega (arith, h.0))
-  at_four config dp made (inr h) s = h.3
+  pub kept : (status ≡ 4 → ⊥) → (m1 ≡ m0) × (n1 ≡ n0)
+  kept other = elim gives.2 [ inl whole ↦ (whole.3, whole.4) | inr front ↦ absurd (other front.0) ]
 
-  usage_four : Delivers usage status o0 o1 e0 e1 wf → status ≡ 4 → wf
-  usage_four (inl h) s = absurd (omega (arith, h.0))
-  usage_four (inr h) s = h.3
+  replied : (m : Option Job) → meaning words ≡ m → RepliesJob m contents absence fault gives.0
+  replied m is = subst (λ (j : Option Job). RepliesJob j contents absence fault gives.0) is gives.1
 
-  usage_three : Delivers usage status o0 o1 e0 e1 wf → status ≡ 3 → ⊥
-  usage_three (inl h) s = omega (arith, h.0)
-  usage_three (inr h) s = omega (arith, h.0)
+  -- what `plan` made and delivered
+  plan_delivered : (config dp : List ℕ) → meaning words ≡ Some (Plan config dp) → (made : Made) × Makes contents config dp absence fault made × Delivered (plan_answer config dp made)
+  plan_delivered config dp is =
+      let reply = replied (Some (Plan config dp)) is in
+      (reply.0, reply.1, subst Delivered reply.2 gives.2)
 
--- ---- what a told file wants
+  usage_delivered : meaning words ≡ None → Delivered usage
+  usage_delivered is = subst Delivered (replied None is) gives.2
 
-never_unread : (b : Bool) (batch : List ℕ) → (if b then Ok batch else failed Unresolved) ≡ failed Unread → ⊥
-never_unread true batch e = cc
-never_unread false batch e = cc
+  pub no_meaning : meaning words ≡ None → (status ≡ 1) ⊎ (status ≡ 4)
+  no_meaning is = ended usage (usage_delivered is)
 
-batch_not_unread : (conf : Option Conf) (dp : List ℕ) → batch_of conf dp ≡ Err Unread → ⊥
-batch_not_unread None dp e = cc
-batch_not_unread (Some conf) dp e = never_unread (bytes_eq conf.dp.name dp) _ e
-
-text_not_unread : (read : Result Tree YamlFault) (dp : List ℕ) → batch_of_text read dp ≡ Err Unread → ⊥
-text_not_unread (Ok tree) dp e = batch_not_unread (conf_of tree) dp e
-text_not_unread (Err why) dp e = cc
-
--- nothing is refused of a file that isn't there
-fault_of_none : (why : YamlFault) → failed Unread ≡ failed (Refused why) → ⊥
-fault_of_none why e = cc
-
-form_of_none : failed Unread ≡ failed NotOfForm → ⊥
-form_of_none e = cc
-
-dp_of_none : failed Unread ≡ failed Unresolved → ⊥
-dp_of_none e = cc
-
-module _ (words : List (List ℕ)) (status : ℕ) (contents : Option Contents) (fault absence : Type 0) (o0 o1 e0 e1 : Option (List ℕ)) (wf : Type 0)
-    (no_meaning : meaning words ≡ None → Delivers usage status o0 o1 e0 e1 wf)
-    (plan : (config dp : List ℕ) → meaning words ≡ Some (Plan config dp) → PlanAnswered config dp status contents fault absence o0 o1 e0 e1 wf) where
-  usage_only_by : (m : Option Job) → meaning words ≡ m → status ≡ 1 → meaning words ≡ None
-  usage_only_by None e s = e
-  usage_only_by (Some (Plan config dp)) e s = let p = plan config dp e in absurd (not_one status o0 o1 e0 e1 wf config dp p.made p.given s)
+  usage_by : (m : Option Job) → meaning words ≡ m → status ≡ 1 → meaning words ≡ None
+  usage_by None is s = is
+  usage_by (Some (Plan config dp)) is s =
+      let did = plan_delivered config dp is in
+      elim (ended (plan_answer config dp did.0) did.2) [
+        | inl same ↦ absurd (not_one config dp did.0 (sym same ∙ s))
+        | inr four ↦ absurd (omega arith)
+      ]
 
   pub usage_only : status ≡ 1 → meaning words ≡ None
-  usage_only s = usage_only_by (meaning words) refl s
+  usage_only s = usage_by (meaning words) refl s
 
-  unread_by : (m : Option Job) → meaning words ≡ m → status ≡ 3 → absence ⊎ fault
-  unread_by None e s = absurd (usage_three status o0 o1 e0 e1 wf (no_meaning e) s)
-  unread_by (Some (Plan config dp)) e s = let p = plan config dp e in p.unread (at_three status o0 o1 e0 e1 wf config dp p.made p.given s)
+  write_fault_by : (m : Option Job) → meaning words ≡ m → status ≡ 4 → Rose m0 m1 ⊎ Rose n0 n1
+  write_fault_by None is s = fault_at_four usage (λ e. omega arith) (usage_delivered is) s
+  write_fault_by (Some (Plan config dp)) is s =
+      let did = plan_delivered config dp is in
+      fault_at_four (plan_answer config dp did.0) (not_four config dp did.0) did.2 s
 
-  pub unread : status ≡ 3 → absence ⊎ fault
-  unread s = unread_by (meaning words) refl s
-
-  write_fault_by : (m : Option Job) → meaning words ≡ m → status ≡ 4 → wf
-  write_fault_by None e s = usage_four status o0 o1 e0 e1 wf (no_meaning e) s
-  write_fault_by (Some (Plan config dp)) e s = let p = plan config dp e in at_four status o0 o1 e0 e1 wf config dp p.made p.given s
-
-  pub write_fault : status ≡ 4 → wf
+  pub write_fault : status ≡ 4 → Rose m0 m1 ⊎ Rose n0 n1
   write_fault s = write_fault_by (meaning words) refl s
 
-  pub refused : (config dp text : List ℕ) → meaning words ≡ Some (Plan config dp) → Tells contents config (Some text) → status ≡ 2 → IsRefusal (planned text dp)
-  refused config dp text e t s =
-      let p = plan config dp e in
-      let made_so = p.told (Some text) t in
-      elim (at_two status o0 o1 e0 e1 wf config dp p.made p.given s) [
-        | inl is ↦ inl (is.0, subst (λ (m : Made). Makes fault m (planned text dp)) is.1 made_so)
-        | inr is ↦ inr (elim is [
-          | inl form ↦ inl (subst (λ (m : Made). Makes fault m (planned text dp)) form made_so)
-          | inr name ↦ inr (subst (λ (m : Made). Makes fault m (planned text dp)) name made_so)
-        ])
-      ]
+  -- at a status other than 4, what was made has it
+  of_status : (config dp : List ℕ) (made : Made) (n : ℕ) → status ≡ n → (n ≡ 4 → ⊥) → Delivered (plan_answer config dp made) → (plan_answer config dp made).status ≡ n
+  of_status config dp made n s other given =
+      elim (ended (plan_answer config dp made) given) [ inl same ↦ sym same ∙ s | inr four ↦ absurd (other (sym s ∙ four)) ]
 
-  pub opened : ((text dp batch : List ℕ) → planned text dp ≡ Ok batch → Opens text dp batch)
+  told_plans : (config dp text : List ℕ) (made : Made) → Tells contents config (Some text) → (held : List ℕ → Option (List ℕ)) → AsTold contents held → PlansFile (held config) dp made → Plans text dp made
+  told_plans config dp text made tells held told plans = subst (λ (f : Option (List ℕ)). PlansFile f dp made) (told config (Some text) tells) plans
+
+  -- what was made of a told text, at a status of such
+  from_text : (config dp text : List ℕ) (made : Made) → Tells contents config (Some text) → Makes contents config dp absence fault made → (plan_answer config dp made).status ≤ 2 → Plans text dp made
+  from_text config dp text made tells (planned held told plans counted) low = told_plans config dp text made tells held told plans
+  from_text config dp text made tells (unread failed is) low = let at = status_unread config dp made is in absurd (omega (arith, at, low))
+  from_text config dp text made tells (memory is) low = let at = status_memory config dp made is in absurd (omega (arith, at, low))
+
+  pub refused : (config dp text : List ℕ) → meaning words ≡ Some (Plan config dp) → Tells contents config (Some text) → status ≡ 2 → IsRefused text dp
+  refused config dp text is tells s =
+      let did = plan_delivered config dp is in
+      let two = of_status config dp did.0 2 s (λ e. omega arith) did.2 in
+      refusal config dp text did.0 two (from_text config dp text did.0 tells did.1 (omega (arith, two)))
+
+  pub opened : ((text dp batch : List ℕ) → Plans text dp (Ok batch) → Opens text dp batch)
       → (config dp text : List ℕ) → meaning words ≡ Some (Plan config dp) → Tells contents config (Some text) → status ≡ 0 → OpensBy text dp o0 o1
-  opened law config dp text e t s =
-      let p = plan config dp e in
-      let done = at_zero status o0 o1 e0 e1 wf config dp p.made p.given s in
-      (done.0, done.2, law text dp done.0 (subst (λ (m : Made). Makes fault m (planned text dp)) done.1 (p.told (Some text) t)))
+  opened law config dp text is tells s =
+      let did = plan_delivered config dp is in
+      let none = of_status config dp did.0 0 s (λ e. omega arith) did.2 in
+      let batch = batch_planned config dp text did.0 none (from_text config dp text did.0 tells did.1 (omega (arith, none))) in
+      let given : Delivered (plan_answer config dp (Ok batch.0)) = subst (λ (m : Made). Delivered (plan_answer config dp m)) batch.1 did.2 in
+      elim given [ inl whole ↦ (batch.0, whole.1, law text dp batch.0 batch.2) | inr front ↦ absurd (omega (arith, front.0, s)) ]
 
-  pub refused_there : (config dp : List ℕ) → meaning words ≡ Some (Plan config dp) → Tells contents config None → status ≡ 2 → ⊥
-  refused_there config dp e t s =
-      let p = plan config dp e in
-      let made_so = p.told None t in
-      elim (at_two status o0 o1 e0 e1 wf config dp p.made p.given s) [
-        | inl is ↦ fault_of_none is.0 (subst (λ (m : Made). Makes fault m (failed Unread)) is.1 made_so)
-        | inr is ↦ elim is [
-          | inl form ↦ form_of_none (subst (λ (m : Made). Makes fault m (failed Unread)) form made_so)
-          | inr name ↦ dp_of_none (subst (λ (m : Made). Makes fault m (failed Unread)) name made_so)
-        ]
-      ]
+  unread_fault : (config dp text : List ℕ) (made : Made) → Tells contents config (Some text) → Makes contents config dp absence fault made → (plan_answer config dp made).status ≡ 3 → fault
+  unread_fault config dp text made tells (planned held told plans counted) s =
+      let low = text_status config dp text made (told_plans config dp text made tells held told plans) in
+      absurd (omega (arith, low, s))
+  unread_fault config dp text made tells (unread failed is) s = failed
+  unread_fault config dp text made tells (memory is) s = let at = status_memory config dp made is in absurd (omega (arith, at, s))
 
   pub unread_there : (config dp text : List ℕ) → meaning words ≡ Some (Plan config dp) → Tells contents config (Some text) → status ≡ 3 → fault
-  unread_there config dp text e t s =
-      let p = plan config dp e in
-      let made_so : Makes fault (failed Unread) (planned text dp) = subst (λ (m : Made). Makes fault m (planned text dp)) (at_three status o0 o1 e0 e1 wf config dp p.made p.given s) (p.told (Some text) t) in
-      elim made_so [ inl never ↦ absurd (text_not_unread (read_of text) dp never) | inr f ↦ f ]
+  unread_there config dp text is tells s =
+      let did = plan_delivered config dp is in
+      unread_fault config dp text did.0 tells did.1 (of_status config dp did.0 3 s (λ e. omega arith) did.2)
 
-  -- the answer for what was made is that for what was wanted
-  as_wanted : (config dp : List ℕ) (made wanted : Made) → wanted ≡ made → IsGiven (plan_answer config dp made) status o0 o1 e0 e1 ⊎ wf → IsGiven (plan_answer config dp wanted) status o0 o1 e0 e1 ⊎ (fault ⊎ wf)
-  as_wanted config dp made wanted e (inl h) = inl (subst (λ (m : Made). IsGiven (plan_answer config dp m) status o0 o1 e0 e1) (sym e) h)
-  as_wanted config dp made wanted e (inr w) = inr (inr w)
+  file_unread : (file : Option (List ℕ)) (dp : List ℕ) (config : List ℕ) (made : Made) → PlansFile file dp made → (file ≡ None → absence) → (plan_answer config dp made).status ≡ 3 → absence
+  file_unread None dp config made plans counted s = counted refl
+  file_unread (Some text) dp config made plans counted s = let low = text_status config dp text made plans in absurd (omega (arith, low, s))
 
-  answered : (config dp : List ℕ) (made wanted : Made) → Makes fault made wanted → Delivers (plan_answer config dp made) status o0 o1 e0 e1 wf → status ≢ 8
-      → IsGiven (plan_answer config dp wanted) status o0 o1 e0 e1 ⊎ (fault ⊎ wf)
-  answered config dp (Ok batch) wanted so given ne = as_wanted config dp (Ok batch) wanted so (delivered status o0 o1 e0 e1 wf (plan_answer config dp (Ok batch)) given)
-  answered config dp (Err NotOfForm) wanted so given ne = as_wanted config dp (Err NotOfForm) wanted so (delivered status o0 o1 e0 e1 wf (plan_answer config dp (Err NotOfForm)) given)
-  answered config dp (Err (Refused why)) wanted so given ne = as_wanted config dp (Err (Refused why)) wanted so (delivered status o0 o1 e0 e1 wf (plan_answer config dp (Err (Refused why))) given)
-  answered config dp (Err Unresolved) wanted so given ne = as_wanted config dp (Err Unresolved) wanted so (delivered status o0 o1 e0 e1 wf (plan_answer config dp (Err Unresolved)) given)
-  answered config dp (Err Unread) wanted (inl so) given ne = as_wanted config dp (Err Unread) wanted so (delivered status o0 o1 e0 e1 wf (plan_answer config dp (Err Unread)) given)
-  answered config dp (Err Unread) wanted (inr f) given ne = inr (inl f)
-  answered config dp (Err Memory) wanted so (inl h) ne = absurd (ne h.0)
-  answered config dp (Err Memory) wanted so (inr h) ne = inr (inr h.3)
+  unread_made : (config dp : List ℕ) (made : Made) → Makes contents config dp absence fault made → (plan_answer config dp made).status ≡ 3 → absence ⊎ fault
+  unread_made config dp made (planned held told plans counted) s = inl (file_unread (held config) dp config made plans counted s)
+  unread_made config dp made (unread failed is) s = inr failed
+  unread_made config dp made (memory is) s = let at = status_memory config dp made is in absurd (omega (arith, at, s))
 
-  -- what is held under a name is told
-  tells : (held : Contents) → contents ≡ Some held → (name : List ℕ) → Tells contents name (held 0 name)
-  tells held e name = ap (λ (c : Option Contents). told c name) e
+  unread_by : (m : Option Job) → meaning words ≡ m → status ≡ 3 → absence ⊎ fault
+  unread_by None is s = elim (no_meaning is) [ inl one ↦ absurd (omega arith) | inr four ↦ absurd (omega arith) ]
+  unread_by (Some (Plan config dp)) is s =
+      let did = plan_delivered config dp is in
+      unread_made config dp did.0 did.1 (of_status config dp did.0 3 s (λ e. omega arith) did.2)
 
-  answer_by : (held : Contents) → contents ≡ Some held → status ≢ 8 → (m : Option Job) → meaning words ≡ m → IsGiven (job_answer m (now_held held)) status o0 o1 e0 e1 ⊎ (fault ⊎ wf)
-  answer_by held t ne None e =
-      elim (delivered status o0 o1 e0 e1 wf usage (no_meaning e)) [ inl h ↦ inl h | inr w ↦ inr (inr w) ]
-  answer_by held t ne (Some (Plan config dp)) e =
-      let p = plan config dp e in
-      answered config dp p.made (planned_file (held 0 config) dp) (p.told (held 0 config) (tells held t config)) p.given ne
+  pub unread_only : status ≡ 3 → absence ⊎ fault
+  unread_only s = unread_by (meaning words) refl s
 
-  pub answer_given : (held : Contents) → contents ≡ Some held → status ≢ 8 → IsGiven (answer words (now_held held)) status o0 o1 e0 e1 ⊎ (fault ⊎ wf)
-  answer_given held t ne = answer_by held t ne (meaning words) refl
+  absent_made : (config dp : List ℕ) (made : Made) → Tells contents config None → Makes contents config dp absence fault made → ((plan_answer config dp made).status ≡ 3) ⊎ ((plan_answer config dp made).status ≡ 8)
+  absent_made config dp made tells (planned held told plans counted) = inl (status_unread config dp made (subst (λ (f : Option (List ℕ)). PlansFile f dp made) (told config None tells) plans))
+  absent_made config dp made tells (unread failed is) = inl (status_unread config dp made is)
+  absent_made config dp made tells (memory is) = inr (status_memory config dp made is)
 
-  -- what was written for what was made is a front of what is written for what was wanted
-  made_front : (config dp : List ℕ) (made wanted : Made) → Makes fault made wanted → AppendsFront o0 o1 (plan_answer config dp made).out → AppendsFront o0 o1 (plan_answer config dp wanted).out
-  made_front config dp (Ok batch) wanted so f = subst (λ (m : Made). AppendsFront o0 o1 (plan_answer config dp m).out) (sym so) f
-  made_front config dp (Err Unread) wanted so f = empty_front o0 o1 (plan_answer config dp wanted).out f
-  made_front config dp (Err NotOfForm) wanted so f = empty_front o0 o1 (plan_answer config dp wanted).out f
-  made_front config dp (Err (Refused why)) wanted so f = empty_front o0 o1 (plan_answer config dp wanted).out f
-  made_front config dp (Err Unresolved) wanted so f = empty_front o0 o1 (plan_answer config dp wanted).out f
-  made_front config dp (Err Memory) wanted so f = empty_front o0 o1 (plan_answer config dp wanted).out f
+  pub absent : (config dp : List ℕ) → meaning words ≡ Some (Plan config dp) → Tells contents config None → (status ≡ 3) ⊎ ((status ≡ 4) ⊎ (status ≡ 8))
+  absent config dp is tells =
+      let did = plan_delivered config dp is in
+      elim (ended (plan_answer config dp did.0) did.2) [
+        | inr four ↦ inr (inl four)
+        | inl same ↦ elim (absent_made config dp did.0 tells did.1) [ inl three ↦ inl (same ∙ three) | inr eight ↦ inr (inr (same ∙ eight)) ]
+      ]
 
-  front_by : (held : Contents) → contents ≡ Some held → (m : Option Job) → meaning words ≡ m → AppendsFront o0 o1 (job_answer m (now_held held)).out
-  front_by held t None e = delivered_front status o0 o1 e0 e1 wf usage (no_meaning e)
-  front_by held t (Some (Plan config dp)) e =
-      let p = plan config dp e in
-      made_front config dp p.made (planned_file (held 0 config) dp) (p.told (held 0 config) (tells held t config)) (delivered_front status o0 o1 e0 e1 wf (plan_answer config dp p.made) p.given)
+-- ---- the reply that was given
 
-  pub front : (held : Contents) → contents ≡ Some held → AppendsFront o0 o1 (answer words (now_held held)).out
-  front held t = front_by held t (meaning words) refl
+module _ (words : List (List ℕ)) (contents : Option Contents) (absence fault : Type 0) (o0 o1 e0 e1 : Option (List ℕ)) (m0 m1 n0 n1 : ℕ) where
+  pub usage_given : (ended : Status) → meaning words ≡ None → Ends Usage usage.err e0 e1 n0 n1 ended
+      → Gives words contents absence fault (number_of_status ended) o0 o0 e0 e1 m0 m0 n0 n1
+  usage_given ended none ends = (
+    usage,
+    subst (λ (m : Option Job). RepliesJob m contents absence fault usage) (sym none) refl,
+    elim ends [
+      | inl whole ↦ inl (ap number_of_status whole.0, sym (appended-nil o0), whole.1, refl, whole.2)
+      | inr front ↦ inr (ap number_of_status front.0, AppendsFront-none o0 [], front.1, inr front.2)
+    ],
+  )
 
-  -- one answer was given, for some content
-  has_meaning : (config dp : List ℕ) → meaning words ≡ Some (Plan config dp) → meaning words ≢ None
-  has_meaning config dp e none = cc
+  pub plan_given : (status : ℕ) (config dp : List ℕ) (made : Made) → meaning words ≡ Some (Plan config dp) → Makes contents config dp absence fault made
+      → Delivers (plan_answer config dp made) status o0 o1 e0 e1 m0 m1 n0 n1 → Gives words contents absence fault status o0 o1 e0 e1 m0 m1 n0 n1
+  plan_given status config dp made is makes delivers =
+      (plan_answer config dp made, subst (λ (m : Option Job). RepliesJob m contents absence fault (plan_answer config dp made)) (sym is) (made, makes, refl), delivers)
 
-  given_for_some : (config dp : List ℕ) → meaning words ≡ Some (Plan config dp) → (made : Made) → MakesSome made dp → Delivers (plan_answer config dp made) status o0 o1 e0 e1 wf → AnswersSome words status o0 o1 e0 e1 wf
-  given_for_some config dp e made (inl out) given = inr (has_meaning config dp e, subst (λ (m : Made). Delivers (plan_answer config dp m) status o0 o1 e0 e1 wf) out given)
-  given_for_some config dp e made (inr is) given =
-      inl (
-        (λ name. is.0),
-        subst (λ (m : Option Job). Delivers (job_answer m (λ name. is.0)) status o0 o1 e0 e1 wf) (sym e) (subst (λ (m : Made). Delivers (plan_answer config dp m) status o0 o1 e0 e1 wf) is.1 given),
-      )
+-- ---- one answer
 
-  delivered_by : (m : Option Job) → meaning words ≡ m → AnswersSome words status o0 o1 e0 e1 wf
-  delivered_by None e = inl ((λ name. None), subst (λ (m : Option Job). Delivers (job_answer m (λ name. None)) status o0 o1 e0 e1 wf) (sym e) (no_meaning e))
-  delivered_by (Some (Plan config dp)) e = let p = plan config dp e in given_for_some config dp e p.made p.some p.given
+module _ (one_tree : OneTree) (one_fault : OneFault) (either : Either) where
+  answers_one : (m : Option Job) (held : List ℕ → Option (List ℕ)) (a b : Answer) → AnswersJob m held a → AnswersJob m held b → a ≡ b
+  answers_one None held a b p q = p ∙ sym q
+  answers_one (Some (Plan config dp)) held a b p q =
+      p.2 ∙ ap (plan_answer config dp) (plans_file_one one_tree one_fault either (held config) dp p.0 q.0 p.1 q.1) ∙ sym q.2
 
-  pub delivered_some : AnswersSome words status o0 o1 e0 e1 wf
-  delivered_some = delivered_by (meaning words) refl
+  pub one_answer : (words : List (List ℕ)) (held : List ℕ → Option (List ℕ)) (a b : Answer) → Answers words held a → Answers words held b → a ≡ b
+  one_answer words held a b p q = answers_one (meaning words) held a b p q
+
+-- ---- what is replied, where the files tell
+
+plan_replied : (config dp : List ℕ) (held : Contents) (absence fault : Type 0) (made : Made) → Makes (Some held) config dp absence fault made
+    → PlansFile (held 0 config) dp made ⊎ (((plan_answer config dp made).out ≡ []) × ((plan_answer config dp made ≡ out_of_memory) ⊎ fault))
+plan_replied config dp held absence fault made (planned other told plans counted) = inl (subst (λ (f : Option (List ℕ)). PlansFile f dp made) (told config (held 0 config) refl) plans)
+plan_replied config dp held absence fault made (unread failed is) = inr (ap (λ (m : Made). (plan_answer config dp m).out) is, inr failed)
+plan_replied config dp held absence fault made (memory is) = inr (ap (λ (m : Made). (plan_answer config dp m).out) is, inl (ap (plan_answer config dp) is))
+
+abbrev OrNothing : Type 0 → Answer → Type 0 → Type 0
+OrNothing answered a fault = answered ⊎ ((a.out ≡ []) × ((a ≡ out_of_memory) ⊎ fault))
+
+job_replied : (m : Option Job) (held : Contents) (absence fault : Type 0) (a : Answer) → RepliesJob m (Some held) absence fault a → OrNothing (AnswersJob m (held 0) a) a fault
+job_replied None held absence fault a is = inl is
+job_replied (Some (Plan config dp)) held absence fault a reply =
+    elim (plan_replied config dp held absence fault reply.0 reply.1) [
+      | inl plans ↦ inl (reply.0, plans, reply.2)
+      | inr none ↦ inr (subst (λ (b : Answer). (b.out ≡ []) × ((b ≡ out_of_memory) ⊎ fault)) (sym reply.2) none)
+    ]
+
+pub told_replied : (words : List (List ℕ)) (held : Contents) (absence fault : Type 0) (a : Answer) → Replies words (Some held) absence fault a → Answers words (held 0) a ⊎ ((a.out ≡ []) × ((a ≡ out_of_memory) ⊎ fault))
+told_replied words held absence fault a reply = job_replied (meaning words) held absence fault a reply

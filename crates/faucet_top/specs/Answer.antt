@@ -1,10 +1,10 @@
 -- What the program answers: what it writes on its two streams, and its status.
-use Rattle.std.specs.Prelude.{◌≡◌, ℕ, if◌then◌else◌, ◌⊎◌, List, [], ◌∷◌, ◌++◌, Option, Some, None, Result, Ok, Err, codes}
+use Rattle.std.specs.Prelude.{◌≡◌, ℕ, if◌then◌else◌, List, [], ◌∷◌, ◌++◌, Option, Some, None, Result, Ok, Err, codes}
 use Rattle.std.specs.Fmt.{decimal}
 use Rattle.std.specs.List.{concat}
 use Rattle.std.specs.Str.{bytes_eq}
-use Rattle.fg_outside.specs.Wrote.{appended, AppendsFront}
-use Rattle.yaml_subset.specs.Reading.{read_of}
+use Rattle.yaml_subset.specs.Grammar.{Reads}
+use Rattle.yaml_subset.specs.TextFault.{IsFault}
 use Rattle.yaml_subset.specs.Fault.{cause_text}
 use Rattle.yaml_subset.specs.declared.fault.YamlFault.{YamlFault}
 use Rattle.yaml_subset.specs.declared.tree.Tree.{Tree}
@@ -23,19 +23,15 @@ abbrev pub batch_of : Option Conf → List ℕ → Result (List ℕ) PlanRefused
 batch_of None dp = Err NotOfForm
 batch_of (Some conf) dp = if bytes_eq conf.dp.name dp then Ok (opening (cold conf)) else Err Unresolved
 
--- the same of a text that was read, or of its fault
-abbrev pub batch_of_text : Result Tree YamlFault → List ℕ → Result (List ℕ) PlanRefused
-batch_of_text (Err fault) dp = Err (Refused fault)
-batch_of_text (Ok tree) dp = batch_of (conf_of tree) dp
-
--- the same of the bytes of a file
-abbrev pub planned : List ℕ → List ℕ → Result (List ℕ) PlanRefused
-planned text dp = batch_of_text (read_of text) dp
+-- what a text plans for a datapath: the batch by its tree, or its fault
+pub data Plans (text dp : List ℕ) (made : Result (List ℕ) PlanRefused) : Type 0 where
+  by_tree : (tree : Tree) → Reads text tree → made ≡ batch_of (conf_of tree) dp → Plans text dp made
+  by_fault : (fault : YamlFault) → IsFault text fault → made ≡ Err (Refused fault) → Plans text dp made
 
 -- the same, of a file that may not be there
-abbrev pub planned_file : Option (List ℕ) → List ℕ → Result (List ℕ) PlanRefused
-planned_file None dp = Err Unread
-planned_file (Some text) dp = planned text dp
+abbrev pub PlansFile : Option (List ℕ) → List ℕ → Result (List ℕ) PlanRefused → Type 0
+PlansFile None dp made = made ≡ Err Unread
+PlansFile (Some text) dp made = Plans text dp made
 
 -- ---- answers
 
@@ -63,31 +59,11 @@ plan_answer config dp (Err NotOfForm) = record { out = []; err = line (config �
 plan_answer config dp (Err Unresolved) = record { out = []; err = line (config ∷ codes ": dps." ∷ dp ∷ codes ": Unresolved" ∷ []); status = 2 }
 plan_answer config dp (Err Memory) = out_of_memory
 
-abbrev pub job_answer : Option Job → (List ℕ → Option (List ℕ)) → Answer
-job_answer None held = usage
-job_answer (Some (Plan config dp)) held = plan_answer config dp (planned_file (held config) dp)
+-- the answer to a job, where these files are held
+abbrev pub AnswersJob : Option Job → (List ℕ → Option (List ℕ)) → Answer → Type 0
+AnswersJob None held a = a ≡ usage
+AnswersJob (Some (Plan config dp)) held a = (made : Result (List ℕ) PlanRefused) × PlansFile (held config) dp made × (a ≡ plan_answer config dp made)
 
--- the answer to these words, where these files are held: what is answered where nothing fails
-abbrev pub answer : List (List ℕ) → (List ℕ → Option (List ℕ)) → Answer
-answer words held = job_answer (meaning words) held
-
--- ---- what a call did
-
--- The answer was given, or a write failed, the status says so, and a front of the answer was written.
-abbrev pub Delivers : Answer → (status : ℕ) → (out_old out_new err_old err_new : Option (List ℕ)) → (fault : Type 0) → Type 0
-Delivers a status out_old out_new err_old err_new fault =
-    ((status ≡ a.status) × (out_new ≡ appended out_old a.out) × (err_new ≡ appended err_old a.err))
-    ⊎ ((status ≡ 4) × AppendsFront out_old out_new a.out × AppendsFront err_old err_new a.err × fault)
-
--- What was made of a file is what was wanted, unless memory ran out or a read failed.
-abbrev pub Makes : (fault : Type 0) → (made wanted : Result (List ℕ) PlanRefused) → Type 0
-Makes fault (Ok batch) wanted = wanted ≡ Ok batch
-Makes fault (Err Unread) wanted = (wanted ≡ Err Unread) ⊎ fault
-Makes fault (Err (Refused why)) wanted = wanted ≡ Err (Refused why)
-Makes fault (Err NotOfForm) wanted = wanted ≡ Err NotOfForm
-Makes fault (Err Unresolved) wanted = wanted ≡ Err Unresolved
-Makes fault (Err Memory) wanted = Unit {0}
-
--- What was made is what some file wants, or memory ran out.
-abbrev pub MakesSome : (made : Result (List ℕ) PlanRefused) → (dp : List ℕ) → Type 0
-MakesSome made dp = (made ≡ Err Memory) ⊎ ((file : Option (List ℕ)) × (made ≡ planned_file file dp))
+-- this is the answer to these words, where these files are held: what is answered where nothing fails
+abbrev pub Answers : List (List ℕ) → (List ℕ → Option (List ℕ)) → Answer → Type 0
+Answers words held a = AnswersJob (meaning words) held a

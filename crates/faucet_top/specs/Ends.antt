@@ -1,5 +1,6 @@
 -- How a call ends that writes once.
 use Rattle.std.specs.Prelude.{◌≡◌, ℕ, ◌⊎◌, List, [], Option, Err}
+use Rattle.fg_outside.specs.Counts.{Rose}
 use Rattle.fg_outside.specs.Wrote.{appended, AppendsFront}
 use Rattle.faucet_top.specs.declared.deliver.Status.{Status}
 use Rattle.faucet_top.specs.declared.deliver.Status.TheVariants as statuses
@@ -8,10 +9,11 @@ use Rattle.faucet_top.specs.declared.plan.PlanRefused.TheVariants.{Unread, Refus
 use Rattle.yaml_subset.specs.declared.fault.YamlFault.{YamlFault}
 use Rattle.faucet_top.specs.Answer.{plan_answer}
 
--- the bytes were written, with the status, or the write failed behind a front of them
-abbrev pub Ends : Status → List ℕ → (old new : Option (List ℕ)) → (fault : Type 0) → Status → Type 0
-Ends status bytes old new fault ended =
-    ((ended ≡ status) × (new ≡ appended old bytes)) ⊎ ((ended ≡ statuses.WriteFault) × AppendsFront old new bytes × fault)
+-- the bytes were written with no failed write, and the status is this; or a write failed behind a front of them
+abbrev pub Ends : Status → List ℕ → (old new : Option (List ℕ)) → (faults_old faults_new : ℕ) → Status → Type 0
+Ends status bytes old new faults_old faults_new ended =
+    ((ended ≡ status) × (new ≡ appended old bytes) × (faults_new ≡ faults_old))
+    ⊎ ((ended ≡ statuses.WriteFault) × AppendsFront old new bytes × Rose faults_old faults_new)
 
 -- the status where there is no batch
 abbrev pub refused_status : PlanRefused → Status

@@ -1,7 +1,7 @@
-ghost use Rattle.std.specs.Prelude.{◌≡◌, ◌≤◌, ◌⊎◌, [], ◌∷◌, Result, codes};
-ghost use Rattle.fg_outside.specs.Counts.{Rose};
-ghost use Rattle.fg_outside.specs.Wrote.{appended, AppendsFront, line_of};
-ghost use Rattle.faucet_top.specs.Answer.{Delivers, plan_answer, usage, line};
+ghost use Rattle.std.specs.Prelude.{◌≡◌, ◌≤◌, [], ◌∷◌, Result, codes};
+ghost use Rattle.fg_outside.specs.Wrote.{line_of};
+ghost use Rattle.faucet_top.specs.Answer.{plan_answer, usage, out_of_memory, line};
+ghost use Rattle.faucet_top.specs.Given.{Delivers};
 ghost use Rattle.faucet_top.specs.Status.{number_of_status};
 ghost use Rattle.faucet_top.specs.Ends.{Ends, refused_status, refusal_line, fault_line};
 
@@ -41,7 +41,7 @@ impl Status {
 
 /// Writes bytes, and ends with this status.
 fn end_with_bytes<O: Sink>(out: &mut O, bytes: &[u8], status: Status) -> Status
-    ensures ends { Ends status bytes.now (O.wrote out.old) (O.wrote out.new) (Rose (O.faults out.old) (O.faults out.new)) result }
+    ensures ends { Ends status bytes.now (O.wrote out.old) (O.wrote out.new) (O.faults out.old) (O.faults out.new) result }
     ensures faults { O.faults out.old ≤ O.faults out.new }
 {
     match write_all(out, bytes) {
@@ -52,7 +52,7 @@ fn end_with_bytes<O: Sink>(out: &mut O, bytes: &[u8], status: Status) -> Status
 
 /// Writes a line of these pieces, and ends with this status.
 fn end_with_line<E: Sink>(err: &mut E, pieces: &[&str], status: Status) -> Status
-    ensures ends { Ends status (line_of pieces.now) (E.wrote err.old) (E.wrote err.new) (Rose (E.faults err.old) (E.faults err.new)) result }
+    ensures ends { Ends status (line_of pieces.now) (E.wrote err.old) (E.wrote err.new) (E.faults err.old) (E.faults err.new) result }
     ensures faults { E.faults err.old ≤ E.faults err.new }
 {
     match write_line(err, pieces) {
@@ -63,10 +63,18 @@ fn end_with_line<E: Sink>(err: &mut E, pieces: &[&str], status: Status) -> Statu
 
 /// Says that the words have no meaning.
 pub fn deliver_usage<E: Sink>(err: &mut E) -> Status
-    ensures ends { Ends Status.Usage usage.err (E.wrote err.old) (E.wrote err.new) (Rose (E.faults err.old) (E.faults err.new)) result }
+    ensures ends { Ends Status.Usage usage.err (E.wrote err.old) (E.wrote err.new) (E.faults err.old) (E.faults err.new) result }
     ensures faults { E.faults err.old ≤ E.faults err.new }
 {
     end_with_line(err, &[USAGE], Status::Usage)
+}
+
+/// Says that memory ran out.
+pub fn deliver_out_of_memory<E: Sink>(err: &mut E) -> Status
+    ensures ends { Ends Status.Memory out_of_memory.err (E.wrote err.old) (E.wrote err.new) (E.faults err.old) (E.faults err.new) result }
+    ensures faults { E.faults err.old ≤ E.faults err.new }
+{
+    end_with_line(err, &["out of memory"], Status::Memory)
 }
 
 /// Says in which line a text was refused, and the cause in two pieces.
@@ -78,7 +86,7 @@ fn deliver_cause<E: Sink>(
     form: &str,
 ) -> Status
     ensures ends { Ends Status.Refused (line (config.now ∷ codes ": line " ∷ number.now ∷ codes ": " ∷ cause.now ∷ form.now ∷ []))
-        (E.wrote err.old) (E.wrote err.new) (Rose (E.faults err.old) (E.faults err.new)) result }
+        (E.wrote err.old) (E.wrote err.new) (E.faults err.old) (E.faults err.new) result }
     ensures faults { E.faults err.old ≤ E.faults err.new }
 {
     let pieces = [config, ": line ", number, ": ", cause, form];
@@ -87,7 +95,7 @@ fn deliver_cause<E: Sink>(
 
 /// Says where and why a text was refused.
 fn deliver_fault<E: Sink>(err: &mut E, config: &str, fault: YamlFault) -> Status
-    ensures ends { Ends Status.Refused (fault_line config.now fault) (E.wrote err.old) (E.wrote err.new) (Rose (E.faults err.old) (E.faults err.new)) result }
+    ensures ends { Ends Status.Refused (fault_line config.now fault) (E.wrote err.old) (E.wrote err.new) (E.faults err.old) (E.faults err.new) result }
     ensures faults { E.faults err.old ≤ E.faults err.new }
 {
     let mut buffer = Buffer::new();
@@ -98,7 +106,7 @@ fn deliver_fault<E: Sink>(err: &mut E, config: &str, fault: YamlFault) -> Status
 
 /// Says why there is no batch.
 fn deliver_refusal<E: Sink>(err: &mut E, config: &str, dp: &str, why: PlanRefused) -> Status
-    ensures ends { Ends (refused_status why) (refusal_line config.now dp.now why) (E.wrote err.old) (E.wrote err.new) (Rose (E.faults err.old) (E.faults err.new)) result }
+    ensures ends { Ends (refused_status why) (refusal_line config.now dp.now why) (E.wrote err.old) (E.wrote err.new) (E.faults err.old) (E.faults err.new) result }
     ensures faults { E.faults err.old ≤ E.faults err.new }
 {
     match why {
@@ -111,7 +119,7 @@ fn deliver_refusal<E: Sink>(err: &mut E, config: &str, dp: &str, why: PlanRefuse
             let pieces = [config, ": dps.", dp, ": Unresolved"];
             end_with_line(err, &pieces, Status::Refused)
         }
-        PlanRefused::Memory => end_with_line(err, &["out of memory"], Status::Memory),
+        PlanRefused::Memory => deliver_out_of_memory(err),
     }
 }
 
@@ -125,7 +133,7 @@ pub fn deliver_plan<O: Sink, E: Sink>(
 ) -> Status
     ensures answer { Delivers (plan_answer config.now dp.now made) (number_of_status result)
         (O.wrote out.old) (O.wrote out.new) (E.wrote err.old) (E.wrote err.new)
-        (Rose (O.faults out.old) (O.faults out.new) ⊎ Rose (E.faults err.old) (E.faults err.new)) }
+        (O.faults out.old) (O.faults out.new) (E.faults err.old) (E.faults err.new) }
     ensures out_faults { O.faults out.old ≤ O.faults out.new }
     ensures err_faults { E.faults err.old ≤ E.faults err.new }
 {

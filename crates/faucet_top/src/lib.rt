@@ -10,7 +10,7 @@ mod shape;
 mod top;
 mod words;
 
-pub use top::faucet;
+pub use top::{faucet, refuse_for_memory};
 
 #[cfg(test)]
 mod tests;

@@ -1,8 +1,8 @@
-ghost use Rattle.std.specs.Prelude.{◌≡◌, ◌≤◌, List, Option, ℕ, IsErrOf, ◌⊎◌};
+ghost use Rattle.std.specs.Prelude.{◌≡◌, ◌≤◌, ◌⊎◌, IsErrOf};
 ghost use Rattle.fg_outside.specs.Counts.{Rose};
-ghost use Rattle.fg_outside.specs.Contents.{Tells};
 ghost use Rattle.faucet_top.specs.declared.plan.PlanRefused.TheVariants.{Memory, NotOfForm, Unread};
-ghost use Rattle.faucet_top.specs.Answer.{planned, planned_file, Makes, MakesSome};
+ghost use Rattle.faucet_top.specs.Answer.{Plans};
+ghost use Rattle.faucet_top.specs.Given.{Makes};
 ghost use Rattle.faucet_top.specs.Refusals.{unread_or_memory, form_or_memory, fault_or_memory};
 
 use crate::messages::make_opening;
@@ -74,7 +74,7 @@ impl From<FormRefused> for PlanRefused {
 
 /// The opening batch for a datapath of a configuration file's text.
 fn make_batch_of(alloc: Global, text: &[u8], dp: &str) -> Result<Bytes, PlanRefused>
-    ensures { Makes ⊥ result (planned text.now dp.now) }
+    ensures { IsErrOf result PlanRefused.Memory ⊎ Plans text.now dp.now result }
 {
     let tree = read_yaml(alloc, text)?;
     let conf = make_conf(alloc, &tree)?;
@@ -92,11 +92,8 @@ pub fn make_batch<F: Files>(
     config: &str,
     dp: &str,
 ) -> Result<Bytes, PlanRefused>
-    ensures made { (file : Option (List ℕ)) → Tells (F.contents files.old) config.now file
-        → Makes (Rose (F.faults files.old) (F.faults files.new)) result (planned_file file dp.now) }
-    ensures some { MakesSome result dp.now }
-    ensures unread { IsErrOf result PlanRefused.Unread
-        → Rose (F.absences files.old) (F.absences files.new) ⊎ Rose (F.faults files.old) (F.faults files.new) }
+    ensures made { Makes (F.contents files.old) config.now dp.now
+        (Rose (F.absences files.old) (F.absences files.new)) (Rose (F.faults files.old) (F.faults files.new)) result }
 
     ensures contents { F.contents files.new ≡ F.contents files.old }
     ensures faults { F.faults files.old ≤ F.faults files.new }
