@@ -23,8 +23,12 @@ pub struct RealFiles<'a, R: rt::Files> {
     absences: u64,
 }
 
-impl<'a, R: rt::Files> RealFiles<'a, R> {
-    pub fn new(rt: &'a R) -> RealFiles<'a, R> {
+impl<'a, R: rt::Files + AllocGlobal> RealFiles<'a, R> {
+    /// No file is open, no call has failed, and none was found absent.
+    pub fn new(rt: &'a R) -> RealFiles<'a, R>
+        ensures faults { ⟦<RealFiles<'a, R> as Files>⟧.faults result ≡ 0 }
+        ensures absences { ⟦<RealFiles<'a, R> as Files>⟧.absences result ≡ 0 }
+    {
         RealFiles {
             rt,
             open: None,

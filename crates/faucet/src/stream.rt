@@ -1,4 +1,4 @@
-ghost use Rattle.std.specs.Prelude.{None};
+ghost use Rattle.std.specs.Prelude.{◌≡◌, None};
 
 use fg_outside::{Failed, Sink};
 use std::io::Write;
@@ -11,7 +11,10 @@ pub struct Stream<W> {
 }
 
 impl<W: Write> Stream<W> {
-    pub fn new(writer: W) -> Stream<W> {
+    /// No write has failed yet.
+    pub fn new(writer: W) -> Stream<W>
+        ensures { ⟦<Stream<W> as Sink>⟧.faults result ≡ 0 }
+    {
         Stream { writer, faults: 0 }
     }
 }
