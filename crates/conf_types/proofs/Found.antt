@@ -19,6 +19,19 @@ all_found P p (y ∷ ys) x all is =
       | false ↦ λ e. all_found P p ys x all.1 e
     ] is
 
+-- and of the one at a place
+pub all_at : {X : Type 0} (P : X → Type 0) (xs : List X) → AllByRecursion P xs → (i : ℕ) (d : X) → i < length xs → P (get_or xs i d)
+all_at P [] all i d lt = absurd (omega arith)
+all_at P (x ∷ xs) all zero d lt = all.0
+all_at P (x ∷ xs) all (suc i) d lt = all_at P xs all.1 i d (omega arith)
+
+-- each stands so to those behind it, by places
+pub before_at : {X : Type 0} (R : X → X → Type 0) (xs : List X) → EachBefore R xs → (i j : ℕ) (d : X) → i < j → j < length xs → R (get_or xs i d) (get_or xs j d)
+before_at R [] r i j d lt within = absurd (omega arith)
+before_at R (x ∷ xs) r i zero d lt within = absurd (omega arith)
+before_at R (x ∷ xs) r zero (suc j) d lt within = all_at (R x) xs r.0 j d (omega arith)
+before_at R (x ∷ xs) r (suc i) (suc j) d lt within = before_at R xs r.1 i j d (omega arith) (omega arith)
+
 -- ---- comparisons of numbers
 
 unequal : (a b : ℕ) → (a ≡ b → ⊥) → (a == b) ≡ false
@@ -45,24 +58,12 @@ module _ {X : Type 0} (key : X → ℕ) where
   abbrev Rises : List X → Type 0
   Rises = EachBefore (λ x y. key x < key y)
 
-  -- the first comes before each behind it
-  above_first : (n : ℕ) (xs : List X) → AllByRecursion (λ y. n < key y) xs → (i : ℕ) (d : X) → i < length xs → n < key (get_or xs i d)
-  above_first n [] all i d lt = absurd (omega arith)
-  above_first n (x ∷ xs) all zero d lt = all.0
-  above_first n (x ∷ xs) all (suc i) d lt = above_first n xs all.1 i d (omega arith)
-
-  rises_at : (xs : List X) → Rises xs → (i j : ℕ) (d : X) → i < j → j < length xs → key (get_or xs i d) < key (get_or xs j d)
-  rises_at [] r i j d lt within = absurd (omega arith)
-  rises_at (x ∷ xs) r i zero d lt within = absurd (omega arith)
-  rises_at (x ∷ xs) r zero (suc j) d lt within = above_first (key x) xs r.0 j d (omega arith)
-  rises_at (x ∷ xs) r (suc i) (suc j) d lt within = rises_at xs r.1 i j d (omega arith) (omega arith)
-
   -- where a number that rises is met, it is the first with it
   found_here : (n : ℕ) (xs : List X) → Rises xs → (i : ℕ) (d : X) → i < length xs → key (get_or xs i d) ≡ n → find (λ x. key x == n) xs ≡ Some (get_or xs i d)
   found_here n [] r i d lt is = absurd (omega arith)
   found_here n (x ∷ xs) r zero d lt is = ap (λ b. cond b (Some x) (find (λ x. key x == n) xs)) (eq-eqb (key x) n is)
   found_here n (x ∷ xs) r (suc i) d lt is =
-      let below : key x < key (get_or xs i d) = above_first (key x) xs r.0 i d (omega arith) in
+      let below : key x < key (get_or xs i d) = all_at (λ y. key x < key y) xs r.0 i d (omega arith) in
       ap (λ b. cond b (Some x) (find (λ x. key x == n) xs)) (differs (key x) n (omega arith)) ∙ found_here n xs r.1 i d (omega arith) is
 
   not_found : (n : ℕ) (xs : List X) → ((i : ℕ) (d : X) → i < length xs → key (get_or xs i d) ≡ n → ⊥) → find (λ x. key x == n) xs ≡ None
@@ -72,7 +73,7 @@ module _ {X : Type 0} (key : X → ℕ) where
 
   -- the comparisons with a number rise, as a binary search asks
   comparisons_rise : (n : ℕ) (xs : List X) → Rises xs → IsNonDecreasingBy (λ x. ordering_index (nat_cmp (key x) n)) xs
-  comparisons_rise n xs r = searchable_from_sorted nat_cmp_total key xs n (λ k d low high. not_less _ _ (rises_at xs r k (k + 1) d (omega arith) high))
+  comparisons_rise n xs r = searchable_from_sorted nat_cmp_total key xs n (λ k d low high. not_less _ _ (before_at (λ x y. key x < key y) xs r k (k + 1) d (omega arith) high))
 
   -- what a binary search for a number answers
   abbrev IsFound : ℕ → List X → Result ℕ ℕ → Type 0

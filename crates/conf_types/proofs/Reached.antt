@@ -12,7 +12,7 @@ use Rattle.conf_types.specs.declared.datapath.StackEnd.{StackEnd}
 use Rattle.conf_types.specs.Configuration.{Configuration}
 use Rattle.conf_types.specs.Groups.{IsDp, IsLinked, Walk, IsJoined, IsGroup, leads_to, is_reached, least_id, group_of}
 
-same_id : (a b : DpId) → a.0 ≡ b.0 → a ≡ b
+pub same_id : (a b : DpId) → a.0 ≡ b.0 → a ≡ b
 same_id a b e = let made : ℕ → DpId = λ n. record { 0 = n } in ap made e
 
 -- ---- counting
@@ -48,7 +48,7 @@ module _ {X : Type 0} where
       omega (arith, here, more)
 
 -- the default doesn't matter below the length
-at_place : {X : Type 0} (xs : List X) (k : ℕ) (d : X) → k < length xs → get_or xs k (get_or xs k d) ≡ get_or xs k d
+pub at_place : {X : Type 0} (xs : List X) (k : ℕ) (d : X) → k < length xs → get_or xs k (get_or xs k d) ≡ get_or xs k d
 at_place [] k d lt = absurd (omega arith)
 at_place (x ∷ xs) zero d lt = refl
 at_place (x ∷ xs) (suc k) d lt = at_place xs k d (omega arith)
@@ -105,12 +105,12 @@ module _ (a : DpId) (q : Dp → Bool) where
 
 module _ (conf : Configuration) where
   -- a walk goes on
-  extend : (a c b : DpId) (n : ℕ) → Walk conf a c n → IsLinked conf c b → IsDp conf b → Walk conf a b (suc n)
+  pub extend : (a c b : DpId) (n : ℕ) → Walk conf a c n → IsLinked conf c b → IsDp conf b → Walk conf a b (suc n)
   extend a c b zero w link end = (b, subst (λ x. IsLinked conf x b) (sym w.1) link, (end, refl))
   extend a c b (suc n) w link end = (w.0, w.1, extend w.0 c b n w.2 link end)
 
   -- what a test says of a datapath's links
-  leads_from_test : (d : Dp) (b : DpId) → Contains conf.dps d → leads_to d b ≡ true → IsLinked conf d.id b
+  pub leads_from_test : (d : Dp) (b : DpId) → Contains conf.dps d → leads_to d b ≡ true → IsLinked conf d.id b
   leads_from_test d b here leads =
       let found = Any-from_list_any (λ (p : Port). option_map_or (λ far. far.dp.0 == b.0) p.stack false) d.ports leads in
       let p : Port = found.1 in
@@ -128,7 +128,7 @@ module _ (conf : Configuration) where
         }
       ] refl found.4
 
-  test_from_link : (a b : DpId) (link : IsLinked conf a b) → leads_to link.dp b ≡ true
+  pub test_from_link : (a b : DpId) (link : IsLinked conf a b) → leads_to link.dp b ≡ true
   test_from_link a b link =
       let has = link.has in
       list_any_at (λ (p : Port). option_map_or (λ far. far.dp.0 == b.0) p.stack false) link.dp.ports has.0 link.port has.1

@@ -4,6 +4,7 @@ pub mod Count
 pub mod First
 pub mod Groups
 pub mod Links
+pub mod Marks
 pub mod Lists
 pub mod Membership
 pub mod Networks

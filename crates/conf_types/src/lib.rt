@@ -6,6 +6,8 @@ mod acl;
 mod conf;
 mod datapath;
 pub mod first;
+mod fresh;
+mod group;
 pub mod laws;
 mod links;
 mod state;
