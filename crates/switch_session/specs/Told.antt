@@ -1,6 +1,6 @@
 -- What a switch told of its ports (OpenFlow 1.3, 7.2.1), in the order in which it told them first.
-use Rattle.std.specs.Prelude.{ℕ, Bool, not, ◌&&◌, ◌||◌, ◌==◌, nat_lt, nat_le, if◌then◌else◌, List, [], ◌∷◌, ◌++◌, length, map, filter, Option, Some, None, bit_and}
-use Rattle.std.specs.List.{list_any}
+use Rattle.std.specs.Prelude.{◌≢◌, ◌≤◌, ℕ, Bool, not, ◌&&◌, ◌||◌, ◌==◌, nat_lt, nat_le, if◌then◌else◌, List, [], ◌∷◌, ◌++◌, length, map, filter, Option, Some, None, bit_and}
+use Rattle.std.specs.List.{list_any, AllByRecursion}
 use Rattle.of13_codec.specs.declared.ports.PortDesc.{PortDesc}
 use Rattle.switch_session.specs.declared.ports.PortTold.{PortTold}
 
@@ -45,3 +45,13 @@ tell_if ports (Some port) = tell ports port
 abbrev pub tell_all : List PortTold → List PortDesc → List PortTold
 tell_all ports [] = ports
 tell_all ports (port ∷ more) = tell_all (tell_if ports (told_of port)) more
+
+-- no two ports have one number
+abbrev pub AreApart : List PortTold → Type 0
+AreApart [] = Unit {0}
+AreApart (port ∷ ports) = AllByRecursion (λ other. other.no ≢ port.no) ports × AreApart ports
+
+-- what a session keeps of its ports
+pub record AreTold (ports : List PortTold) : Type 0 where
+  pub most : length ports ≤ 4096
+  pub apart : AreApart ports

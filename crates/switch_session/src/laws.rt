@@ -2,6 +2,9 @@
 
 ghost use Rattle.std.specs.Prelude.{◌≡◌, ℕ, List, []};
 ghost use Rattle.std.specs.List.{concat};
+ghost use Rattle.of13_codec.specs.declared.message.Message.{Message};
+ghost use Rattle.switch_session.specs.Stages.{State, leads};
+ghost use Rattle.switch_session.specs.Told.{AreTold};
 ghost use Rattle.switch_session.specs.Frames.{IsBegun, IsBad, HasNoFrame, Splits, Calls};
 
 /// However a stream is cut into pieces, calls of `feed` and `next` in any order that end at `NotYet`
@@ -13,4 +16,9 @@ pub fn any_pieces_give_the_frames_of_the_stream()
         → Splits stream frames rest → Splits stream others other → (frames ≡ others) × (rest ≡ other) }
     ensures not_yet { (bytes : List ℕ) → IsBegun bytes → HasNoFrame bytes }
     ensures bad { (bytes : List ℕ) → IsBad bytes → HasNoFrame bytes }
+{}
+
+/// Whatever is heard, at most 4,096 ports are told, no two of one number.
+pub fn ports_are_told_once()
+    ensures { (s : State) (message : Message) (xid : ℕ) → AreTold s.ports → AreTold (leads s message xid).0.ports }
 {}
