@@ -1,6 +1,6 @@
 //! What the commands write, over files and streams in memory.
 
-use crate::faucet;
+use crate::{faucet, refuse_for_memory};
 use fg_outside::{CallNos, Folder, Folders, HeldFile, HeldFiles, MemFiles, MemSink, NoHub};
 use net_base::{Bytes, Names, NoMemory, Text};
 use std::alloc::Global;
@@ -171,6 +171,17 @@ fn each_failing_call_has_its_status(rt: HostRuntime) -> Result<(), Fail> {
     let ran = run(alloc, &words, "", outside)?;
     assert_eq!(rt; ran.status, 4);
     assert_eq!(rt; ran.err.as_slice(), b"f.yaml".as_slice());
+    Ok(())
+}
+
+#[test]
+fn without_memory_for_the_words_there_is_one_line(rt: HostRuntime) -> Result<(), Fail> {
+    let alloc = rt.alloc();
+    for (failing, status, line) in [(0, 8, "out of memory\n"), (1, 4, ""), (2, 4, "out of memory")] {
+        let mut err = MemSink::new(alloc, 100, CallNos::from_slice(alloc, &[failing])?)?;
+        assert_eq!(rt; refuse_for_memory(&mut err), status);
+        assert_eq!(rt; err.as_slice(), line.as_bytes());
+    }
     Ok(())
 }
 
