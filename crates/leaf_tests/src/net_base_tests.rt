@@ -119,34 +119,34 @@ fn addresses_as_numbers(rt: HostRuntime) {
     assert!(rt; Mac([0xff; 6]).is_group());
 }
 
-// The numbers of oxm_ofb_match_fields (OpenFlow 1.3, 7.2.3.7), and the bytes of each.
+// The numbers of oxm_ofb_match_fields (OpenFlow 1.3, 7.2.3.7), and the bits of each.
 const FIELDS: [(u8, FieldId, u32); 18] = [
-    (0, FieldId::InPort, 4),
-    (3, FieldId::EthDst, 6),
-    (4, FieldId::EthSrc, 6),
-    (5, FieldId::EthType, 2),
-    (6, FieldId::VlanVid, 2),
-    (7, FieldId::VlanPcp, 1),
-    (10, FieldId::IpProto, 1),
-    (11, FieldId::Ipv4Src, 4),
-    (12, FieldId::Ipv4Dst, 4),
-    (13, FieldId::TcpSrc, 2),
-    (14, FieldId::TcpDst, 2),
-    (15, FieldId::UdpSrc, 2),
-    (16, FieldId::UdpDst, 2),
-    (19, FieldId::Icmpv4Type, 1),
-    (20, FieldId::Icmpv4Code, 1),
-    (21, FieldId::ArpOp, 2),
-    (22, FieldId::ArpSpa, 4),
-    (23, FieldId::ArpTpa, 4),
+    (0, FieldId::InPort, 32),
+    (3, FieldId::EthDst, 48),
+    (4, FieldId::EthSrc, 48),
+    (5, FieldId::EthType, 16),
+    (6, FieldId::VlanVid, 16),
+    (7, FieldId::VlanPcp, 8),
+    (10, FieldId::IpProto, 8),
+    (11, FieldId::Ipv4Src, 32),
+    (12, FieldId::Ipv4Dst, 32),
+    (13, FieldId::TcpSrc, 16),
+    (14, FieldId::TcpDst, 16),
+    (15, FieldId::UdpSrc, 16),
+    (16, FieldId::UdpDst, 16),
+    (19, FieldId::Icmpv4Type, 8),
+    (20, FieldId::Icmpv4Code, 8),
+    (21, FieldId::ArpOp, 16),
+    (22, FieldId::ArpSpa, 32),
+    (23, FieldId::ArpTpa, 32),
 ];
 
 #[test]
 fn fields_by_number(rt: HostRuntime) {
-    for (number, id, bytes) in FIELDS {
+    for (number, id, bits) in FIELDS {
         assert_eq!(rt; FieldId::of_number(number), Some(id));
         assert_eq!(rt; id.number(), number);
-        assert_eq!(rt; id.all_ones().count_ones(), 8 * bytes);
+        assert_eq!(rt; id.all_ones().count_ones(), bits);
     }
     for number in [1, 2, 8, 9, 17, 18, 24, 255] {
         assert_eq!(rt; FieldId::of_number(number), None, "{number}");
