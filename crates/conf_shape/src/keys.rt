@@ -27,7 +27,7 @@ pub fn key_text(alloc: Global, key: &Key) -> Result<Text, NoMemory>
     }
 }
 
-pub fn is_key(name: &str, key: &Key) -> bool
+fn is_key(name: &str, key: &Key) -> bool
     ensures { result ≡ is_key name.now key.now }
 {
     match key {

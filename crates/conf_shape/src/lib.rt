@@ -7,8 +7,6 @@ mod faults;
 mod keys;
 mod kinds;
 pub mod laws;
-mod raw;
-mod reads;
 mod refused;
 mod scalars;
 mod tables;
