@@ -19,4 +19,6 @@ mod pkt_view_tests;
 #[cfg(test)]
 mod stack_paths_tests;
 #[cfg(test)]
+mod switch_session_tests;
+#[cfg(test)]
 mod yaml_tests;
