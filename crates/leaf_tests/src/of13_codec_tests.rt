@@ -1,12 +1,12 @@
 //! Messages: their bytes both ways, what is refused and where, headers and copies.
 
 use net_base::{Bytes, DpId, Field, FieldId, Items, Mac, NoMemory, TryCopy};
+use of_match::{Action, Instr};
+use of_wire::{PartCause, PartFault, put_zeros};
 use of13_codec::{
     FeaturesReply, FlowMod, FrameHead, Message, PacketIn, PacketOut, PortDesc, PortStats,
     WireRefused, decode, encode, header,
 };
-use of_match::{Action, Instr};
-use of_wire::{PartCause, PartFault, put_zeros};
 use std::alloc::Global;
 use std::test::Fail;
 
