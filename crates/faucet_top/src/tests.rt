@@ -177,7 +177,11 @@ fn each_failing_call_has_its_status(rt: HostRuntime) -> Result<(), Fail> {
 #[test]
 fn without_memory_for_the_words_there_is_one_line(rt: HostRuntime) -> Result<(), Fail> {
     let alloc = rt.alloc();
-    for (failing, status, line) in [(0, 8, "out of memory\n"), (1, 4, ""), (2, 4, "out of memory")] {
+    for (failing, status, line) in [
+        (0, 8, "out of memory\n"),
+        (1, 4, ""),
+        (2, 4, "out of memory"),
+    ] {
         let mut err = MemSink::new(alloc, 100, CallNos::from_slice(alloc, &[failing])?)?;
         assert_eq!(rt; refuse_for_memory(&mut err), status);
         assert_eq!(rt; err.as_slice(), line.as_bytes());
