@@ -5,6 +5,8 @@
 #[cfg(test)]
 mod conf_shape_tests;
 #[cfg(test)]
+mod conf_types_tests;
+#[cfg(test)]
 mod fg_outside_tests;
 #[cfg(test)]
 mod net_base_tests;
