@@ -5,8 +5,6 @@
 #[cfg(test)]
 mod conf_shape_tests;
 #[cfg(test)]
-mod conf_types_tests;
-#[cfg(test)]
 mod fg_outside_tests;
 #[cfg(test)]
 mod net_base_tests;
@@ -20,7 +18,5 @@ mod of_wire_tests;
 mod pkt_view_tests;
 #[cfg(test)]
 mod stack_paths_tests;
-#[cfg(test)]
-mod switch_session_tests;
 #[cfg(test)]
 mod yaml_tests;
