@@ -1,27 +1,56 @@
 #!/bin/sh
-# Compares the keys that docs/reference/configuration.md lists, map by map, with the tables of conf_shape.
+# Compares the keys that docs/reference/configuration.md lists, map by map, and what stands where they
+# are not given, with the tables of conf_shape.
 cd "$(dirname "$0")/.." || exit 1
+# A row that takes several lines, as one.
 of_code() {
-    awk '
+    awk '/row!\($/ { row = $0; next }
+        row != "" { sub(/^ +/, " "); row = row $0; if (/^ \)/) { gsub(/\( /, "(", row); gsub(/ \)/, ")", row); print row; row = "" }; next }
+        { print }' crates/conf_shape/src/tables.rt | awk '
         /^const [A-Z_]+: Table/ { map = $2; sub(":", "", map); part = "key" }
         /left_out: &\[/ { part = "left out" }
         /spellings: &\[/ { part = "spelling" }
         /^};/ { map = "" }
         map == "" { next }
+        part == "key" && match($0, /(Always|Never|UnlessNumbered),? ?/) {
+            given = substr($0, RSTART + RLENGTH)
+        }
+        part == "key" && given ~ /\)/ {
+            sub(/\)[],]*$/, "", given)
+            sub(/^Count\(/, "", given)
+            sub(/^Spelled\("/, "", given)
+            sub(/"?\)$/, "", given)
+            print map, "default", given
+        }
+        { given = "" }
         part == "key" && !/row!\("|^ +"/ { next }
+        part == "key" { sub(/(Always|Never|UnlessNumbered).*/, "") }
         {
             rest = $0
             while (match(rest, /"[^"]*"/)) {
                 print map, part, substr(rest, RSTART + 1, RLENGTH - 2)
                 rest = substr(rest, RSTART + RLENGTH)
             }
-        }' crates/conf_shape/src/tables.rt
+        }'
 }
 of_document() {
     awk '
         /^### / { map = toupper(substr($0, 5)); gsub(" ", "_", map); next }
         map == "" { next }
-        /^\| `/ { part = "key"; $0 = substr($0, 1, index(substr($0, 4), "`") + 3) }
+        /^\| `/ {
+            given = $0
+            sub(/ *\|$/, "", given)
+            sub(/.*\| ?/, "", given)
+            if (given == "`true`") given = "On"
+            if (given == "`false`") given = "Off"
+            if (given == "its key") given = "OwnKey"
+            if (given == "its name") given = "OwnName"
+            if (given == "") given = "Nothing"
+            gsub("`", "", given)
+            print map, "default", given
+            part = "key"
+            $0 = substr($0, 1, index(substr($0, 4), "`") + 3)
+        }
         /^Left out: / { part = "left out" }
         /^Other spellings: / { part = "spelling" }
         {

@@ -10,14 +10,27 @@ use Rattle.conf_shape.specs.declared.kinds.MapKind.{MapKind}
 use Rattle.conf_shape.specs.declared.kinds.MapKind.TheVariants.{Top, Datapaths, Datapath, DatapathStack, Interfaces, Interface, PortStack, Vlans, Vlan, RouteItem, Route, Acls, RuleItem, Rule, Actions, Output, Routers, Router}
 use Rattle.conf_shape.specs.declared.kinds.Need.{Need}
 use Rattle.conf_shape.specs.declared.kinds.Need.TheVariants.{Always, UnlessNumbered, Never}
+use Rattle.conf_shape.specs.declared.kinds.DefaultValue.{DefaultValue}
+use Rattle.conf_shape.specs.declared.kinds.DefaultValue.TheVariants as defaults
 use Rattle.conf_shape.specs.declared.tables.Row.{Row}
 use Rattle.conf_shape.specs.declared.tables.Table.{Table}
 
--- a key that is read, what its value has to be, and whether it has to be there
+-- what stands where a key isn't given: nothing, a flag, a number, a text, the map's own key, or its name
+pub data KeyDefault : Type 0 where
+  Nothing : KeyDefault
+  On : KeyDefault
+  Off : KeyDefault
+  Count : ℕ → KeyDefault
+  Spelled : List ℕ → KeyDefault
+  OwnKey : KeyDefault
+  OwnName : KeyDefault
+
+-- a key that is read, what its value has to be, whether it has to be there, and its default
 pub record KeyRow : Type 0 where
   pub key : List ℕ
   pub kind : Kind
   pub need : Need
+  pub default : KeyDefault
 
 -- the keys of a map: those that are read, those that are left out, other spellings with their keys, and
 -- what is wrong with any other
@@ -27,17 +40,17 @@ pub record Keys : Type 0 where
   pub spellings : List (List ℕ × List ℕ)
   pub unlisted : ConfCause
 
-abbrev pub row : List ℕ → Kind → Need → KeyRow
-row key kind need = record { key = key; kind = kind; need = need }
+abbrev pub row : List ℕ → Kind → Need → KeyDefault → KeyRow
+row key kind need default = record { key = key; kind = kind; need = need; default = default }
 
 abbrev pub top_keys : Keys
 top_keys = record {
   rows =
-      row (codes "dps") (Map Datapaths) Always ∷
-      row (codes "vlans") (Map Vlans) Never ∷
-      row (codes "acls") (Map Acls) Never ∷
-      row (codes "routers") (Map Routers) Never ∷
-      row (codes "version") (One (Number 2 2)) Never ∷
+      row (codes "dps") (Map Datapaths) Always Nothing ∷
+      row (codes "vlans") (Map Vlans) Never Nothing ∷
+      row (codes "acls") (Map Acls) Never Nothing ∷
+      row (codes "routers") (Map Routers) Never Nothing ∷
+      row (codes "version") (One (Number 2 2)) Never Nothing ∷
       [];
   left_out =
       codes "include" ∷ codes "include-optional" ∷ codes "meters" ∷ [];
@@ -49,30 +62,30 @@ top_keys = record {
 abbrev pub datapath_keys : Keys
 datapath_keys = record {
   rows =
-      row (codes "dp_id") (One (Number 0 (2 ^ 64 - 1))) Always ∷
-      row (codes "interfaces") (Map Interfaces) Always ∷
-      row (codes "name") (One Name) Never ∷
-      row (codes "description") (One Name) Never ∷
-      row (codes "hardware") (One Words) Never ∷
-      row (codes "timeout") (One (Number 1 604800)) Never ∷
-      row (codes "arp_neighbor_timeout") (One (Number 1 604800)) Never ∷
-      row (codes "stack") (Map DatapathStack) Never ∷
-      row (codes "drop_spoofed_faucet_mac") (One Flag) Never ∷
-      row (codes "drop_broadcast_source_address") (One Flag) Never ∷
-      row (codes "drop_bpdu") (One Flag) Never ∷
-      row (codes "drop_lldp") (One Flag) Never ∷
-      row (codes "learn_ban_timeout") (One NoEffect) Never ∷
-      row (codes "learn_jitter") (One NoEffect) Never ∷
-      row (codes "ignore_learn_ins") (One NoEffect) Never ∷
-      row (codes "packetin_pps") (One NoEffect) Never ∷
-      row (codes "slowpath_pps") (One NoEffect) Never ∷
-      row (codes "max_resolve_backoff_time") (One NoEffect) Never ∷
-      row (codes "max_host_fib_retry_count") (One NoEffect) Never ∷
-      row (codes "max_hosts_per_resolve_cycle") (One NoEffect) Never ∷
-      row (codes "metrics_rate_limit_sec") (One NoEffect) Never ∷
-      row (codes "ofchannel_log") (One NoEffect) Never ∷
-      row (codes "combinatorial_port_flood") (One NoEffect) Never ∷
-      row (codes "cache_update_guard_time") (One NoEffect) Never ∷
+      row (codes "dp_id") (One (Number 0 (2 ^ 64 - 1))) Always Nothing ∷
+      row (codes "interfaces") (Map Interfaces) Always Nothing ∷
+      row (codes "name") (One Name) Never OwnKey ∷
+      row (codes "description") (One Name) Never OwnName ∷
+      row (codes "hardware") (One Words) Never (Spelled (codes "Open vSwitch")) ∷
+      row (codes "timeout") (One (Number 1 604800)) Never (Count 300) ∷
+      row (codes "arp_neighbor_timeout") (One (Number 1 604800)) Never (Count 30) ∷
+      row (codes "stack") (Map DatapathStack) Never Nothing ∷
+      row (codes "drop_spoofed_faucet_mac") (One Flag) Never On ∷
+      row (codes "drop_broadcast_source_address") (One Flag) Never On ∷
+      row (codes "drop_bpdu") (One Flag) Never On ∷
+      row (codes "drop_lldp") (One Flag) Never On ∷
+      row (codes "learn_ban_timeout") (One NoEffect) Never Nothing ∷
+      row (codes "learn_jitter") (One NoEffect) Never Nothing ∷
+      row (codes "ignore_learn_ins") (One NoEffect) Never Nothing ∷
+      row (codes "packetin_pps") (One NoEffect) Never Nothing ∷
+      row (codes "slowpath_pps") (One NoEffect) Never Nothing ∷
+      row (codes "max_resolve_backoff_time") (One NoEffect) Never Nothing ∷
+      row (codes "max_host_fib_retry_count") (One NoEffect) Never Nothing ∷
+      row (codes "max_hosts_per_resolve_cycle") (One NoEffect) Never Nothing ∷
+      row (codes "metrics_rate_limit_sec") (One NoEffect) Never Nothing ∷
+      row (codes "ofchannel_log") (One NoEffect) Never Nothing ∷
+      row (codes "combinatorial_port_flood") (One NoEffect) Never Nothing ∷
+      row (codes "cache_update_guard_time") (One NoEffect) Never Nothing ∷
       [];
   left_out =
       codes "interface_ranges" ∷ codes "lldp_beacon" ∷ codes "dot1x" ∷ codes "egress_pipeline" ∷
@@ -89,7 +102,7 @@ datapath_keys = record {
 abbrev pub datapath_stack_keys : Keys
 datapath_stack_keys = record {
   rows =
-      row (codes "priority") (One (Number 0 (2 ^ 32 - 1))) Never ∷
+      row (codes "priority") (One (Number 0 (2 ^ 32 - 1))) Never Nothing ∷
       [];
   left_out =
       [];
@@ -101,22 +114,22 @@ datapath_stack_keys = record {
 abbrev pub interface_keys : Keys
 interface_keys = record {
   rows =
-      row (codes "number") (Given 1 0xffffff00) UnlessNumbered ∷
-      row (codes "name") (One Name) Never ∷
-      row (codes "description") (One Name) Never ∷
-      row (codes "enabled") (One Flag) Never ∷
-      row (codes "unicast_flood") (One Flag) Never ∷
-      row (codes "opstatus_reconf") (One Flag) Never ∷
-      row (codes "output_only") (One Flag) Never ∷
-      row (codes "hairpin") (One Flag) Never ∷
-      row (codes "permanent_learn") (One Flag) Never ∷
-      row (codes "native_vlan") (One (Reference 1 4094)) Never ∷
-      row (codes "tagged_vlans") (Several (Reference 1 4094)) Never ∷
-      row (codes "acl_in") (One Label) Never ∷
-      row (codes "acls_in") (Several Label) Never ∷
-      row (codes "max_hosts") (One (Number 1 16384)) Never ∷
-      row (codes "mirror") (OneOrSeveral (Reference 1 0xffffff00)) Never ∷
-      row (codes "stack") (Map PortStack) Never ∷
+      row (codes "number") (Given 1 0xffffff00) UnlessNumbered OwnKey ∷
+      row (codes "name") (One Name) Never OwnKey ∷
+      row (codes "description") (One Name) Never OwnName ∷
+      row (codes "enabled") (One Flag) Never On ∷
+      row (codes "unicast_flood") (One Flag) Never On ∷
+      row (codes "opstatus_reconf") (One Flag) Never On ∷
+      row (codes "output_only") (One Flag) Never Off ∷
+      row (codes "hairpin") (One Flag) Never Off ∷
+      row (codes "permanent_learn") (One Flag) Never Off ∷
+      row (codes "native_vlan") (One (Reference 1 4094)) Never Nothing ∷
+      row (codes "tagged_vlans") (Several (Reference 1 4094)) Never Nothing ∷
+      row (codes "acl_in") (One Label) Never Nothing ∷
+      row (codes "acls_in") (Several Label) Never Nothing ∷
+      row (codes "max_hosts") (One (Number 1 16384)) Never (Count 255) ∷
+      row (codes "mirror") (OneOrSeveral (Reference 1 0xffffff00)) Never Nothing ∷
+      row (codes "stack") (Map PortStack) Never Nothing ∷
       [];
   left_out =
       codes "acls_out" ∷ codes "dot1x" ∷ codes "dot1x_acl" ∷ codes "dot1x_mab" ∷ codes "lacp" ∷
@@ -131,8 +144,8 @@ interface_keys = record {
 abbrev pub port_stack_keys : Keys
 port_stack_keys = record {
   rows =
-      row (codes "dp") (One Words) Always ∷
-      row (codes "port") (One (Reference 1 0xffffff00)) Always ∷
+      row (codes "dp") (One Words) Always Nothing ∷
+      row (codes "port") (One (Reference 1 0xffffff00)) Always Nothing ∷
       [];
   left_out =
       [];
@@ -144,16 +157,16 @@ port_stack_keys = record {
 abbrev pub vlan_keys : Keys
 vlan_keys = record {
   rows =
-      row (codes "vid") (Given 1 4094) UnlessNumbered ∷
-      row (codes "name") (One Name) Never ∷
-      row (codes "description") (One Name) Never ∷
-      row (codes "acl_in") (One Label) Never ∷
-      row (codes "acls_in") (Several Label) Never ∷
-      row (codes "faucet_mac") (One StationMac) Never ∷
-      row (codes "faucet_vips") (Several Vip) Never ∷
-      row (codes "routes") (Maps RouteItem) Never ∷
-      row (codes "max_hosts") (One (Number 1 16384)) Never ∷
-      row (codes "unicast_flood") (One Flag) Never ∷
+      row (codes "vid") (Given 1 4094) UnlessNumbered OwnKey ∷
+      row (codes "name") (One Name) Never OwnKey ∷
+      row (codes "description") (One Name) Never OwnName ∷
+      row (codes "acl_in") (One Label) Never Nothing ∷
+      row (codes "acls_in") (Several Label) Never Nothing ∷
+      row (codes "faucet_mac") (One StationMac) Never (Spelled (codes "0e:00:00:00:00:01")) ∷
+      row (codes "faucet_vips") (Several Vip) Never Nothing ∷
+      row (codes "routes") (Maps RouteItem) Never Nothing ∷
+      row (codes "max_hosts") (One (Number 1 16384)) Never (Count 255) ∷
+      row (codes "unicast_flood") (One Flag) Never On ∷
       [];
   left_out =
       codes "acls_out" ∷ codes "targeted_gw_resolution" ∷ codes "minimum_ip_size_check" ∷
@@ -166,7 +179,7 @@ vlan_keys = record {
 abbrev pub route_item_keys : Keys
 route_item_keys = record {
   rows =
-      row (codes "route") (Map Route) Always ∷
+      row (codes "route") (Map Route) Always Nothing ∷
       [];
   left_out =
       [];
@@ -178,8 +191,8 @@ route_item_keys = record {
 abbrev pub route_keys : Keys
 route_keys = record {
   rows =
-      row (codes "ip_dst") (One Destination) Always ∷
-      row (codes "ip_gw") (One Gateway) Always ∷
+      row (codes "ip_dst") (One Destination) Always Nothing ∷
+      row (codes "ip_gw") (One Gateway) Always Nothing ∷
       [];
   left_out =
       [];
@@ -191,7 +204,7 @@ route_keys = record {
 abbrev pub rule_item_keys : Keys
 rule_item_keys = record {
   rows =
-      row (codes "rule") (Map Rule) Always ∷
+      row (codes "rule") (Map Rule) Always Nothing ∷
       [];
   left_out =
       [];
@@ -203,25 +216,25 @@ rule_item_keys = record {
 abbrev pub rule_keys : Keys
 rule_keys = record {
   rows =
-      row (codes "actions") (Map Actions) Always ∷
-      row (codes "description") (One Words) Never ∷
-      row (codes "eth_src") (One MaskedMac) Never ∷
-      row (codes "eth_dst") (One MaskedMac) Never ∷
-      row (codes "eth_type") (One (Number 0 0xffff)) Never ∷
-      row (codes "vlan_vid") (One (Number 1 4094)) Never ∷
-      row (codes "vlan_pcp") (One (Number 0 7)) Never ∷
-      row (codes "ip_proto") (One (Number 0 255)) Never ∷
-      row (codes "ipv4_src") (One Prefix) Never ∷
-      row (codes "ipv4_dst") (One Prefix) Never ∷
-      row (codes "tcp_src") (One (Number 0 0xffff)) Never ∷
-      row (codes "tcp_dst") (One (Number 0 0xffff)) Never ∷
-      row (codes "udp_src") (One (Number 0 0xffff)) Never ∷
-      row (codes "udp_dst") (One (Number 0 0xffff)) Never ∷
-      row (codes "icmpv4_type") (One (Number 0 255)) Never ∷
-      row (codes "icmpv4_code") (One (Number 0 255)) Never ∷
-      row (codes "arp_op") (One (Number 0 0xffff)) Never ∷
-      row (codes "arp_spa") (One Prefix) Never ∷
-      row (codes "arp_tpa") (One Prefix) Never ∷
+      row (codes "actions") (Map Actions) Always Nothing ∷
+      row (codes "description") (One Words) Never Nothing ∷
+      row (codes "eth_src") (One MaskedMac) Never Nothing ∷
+      row (codes "eth_dst") (One MaskedMac) Never Nothing ∷
+      row (codes "eth_type") (One (Number 0 0xffff)) Never Nothing ∷
+      row (codes "vlan_vid") (One (Number 1 4094)) Never Nothing ∷
+      row (codes "vlan_pcp") (One (Number 0 7)) Never Nothing ∷
+      row (codes "ip_proto") (One (Number 0 255)) Never Nothing ∷
+      row (codes "ipv4_src") (One Prefix) Never Nothing ∷
+      row (codes "ipv4_dst") (One Prefix) Never Nothing ∷
+      row (codes "tcp_src") (One (Number 0 0xffff)) Never Nothing ∷
+      row (codes "tcp_dst") (One (Number 0 0xffff)) Never Nothing ∷
+      row (codes "udp_src") (One (Number 0 0xffff)) Never Nothing ∷
+      row (codes "udp_dst") (One (Number 0 0xffff)) Never Nothing ∷
+      row (codes "icmpv4_type") (One (Number 0 255)) Never Nothing ∷
+      row (codes "icmpv4_code") (One (Number 0 255)) Never Nothing ∷
+      row (codes "arp_op") (One (Number 0 0xffff)) Never Nothing ∷
+      row (codes "arp_spa") (One Prefix) Never Nothing ∷
+      row (codes "arp_tpa") (One Prefix) Never Nothing ∷
       [];
   left_out =
       codes "cookie" ∷ codes "in_port" ∷ codes "ip_dscp" ∷ codes "ip_ecn" ∷ codes "ipv6_src" ∷ codes "ipv6_dst" ∷
@@ -237,9 +250,9 @@ rule_keys = record {
 abbrev pub actions_keys : Keys
 actions_keys = record {
   rows =
-      row (codes "allow") (One Permission) Never ∷
-      row (codes "mirror") (One (Reference 1 0xffffff00)) Never ∷
-      row (codes "output") (MapOrMaps Output) Never ∷
+      row (codes "allow") (One Permission) Never Off ∷
+      row (codes "mirror") (One (Reference 1 0xffffff00)) Never Nothing ∷
+      row (codes "output") (MapOrMaps Output) Never Nothing ∷
       [];
   left_out =
       codes "meter" ∷ codes "ct" ∷ codes "force_port_vlan" ∷ [];
@@ -251,8 +264,8 @@ actions_keys = record {
 abbrev pub output_keys : Keys
 output_keys = record {
   rows =
-      row (codes "port") (One (Reference 1 0xffffff00)) Never ∷
-      row (codes "ports") (Several (Reference 1 0xffffff00)) Never ∷
+      row (codes "port") (One (Reference 1 0xffffff00)) Never Nothing ∷
+      row (codes "ports") (Several (Reference 1 0xffffff00)) Never Nothing ∷
       [];
   left_out =
       codes "set_fields" ∷ codes "vlan_vid" ∷ codes "vlan_vids" ∷ codes "pop_vlans" ∷ codes "swap_vid" ∷
@@ -265,7 +278,7 @@ output_keys = record {
 abbrev pub router_keys : Keys
 router_keys = record {
   rows =
-      row (codes "vlans") (Several (Reference 1 4094)) Always ∷
+      row (codes "vlans") (Several (Reference 1 4094)) Always Nothing ∷
       [];
   left_out =
       codes "bgp" ∷ [];
@@ -299,8 +312,17 @@ keys_of Acls = no_keys
 keys_of Routers = no_keys
 
 -- the code's tables as these
+abbrev pub seen_default : DefaultValue → KeyDefault
+seen_default defaults.Nothing = Nothing
+seen_default defaults.On = On
+seen_default defaults.Off = Off
+seen_default (defaults.Count n) = Count n
+seen_default (defaults.Spelled text) = Spelled text.now
+seen_default defaults.OwnKey = OwnKey
+seen_default defaults.OwnName = OwnName
+
 abbrev pub seen_row : Row → KeyRow
-seen_row r = record { key = r.key.now; kind = r.kind; need = r.need }
+seen_row r = record { key = r.key.now; kind = r.kind; need = r.need; default = seen_default r.default }
 
 abbrev pub seen_pair : Bor (List ℕ) × Bor (List ℕ) → List ℕ × List ℕ
 seen_pair p = (p.0.now, p.1.now)

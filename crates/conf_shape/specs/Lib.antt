@@ -1,5 +1,9 @@
 pub mod Addresses
 pub mod Faults
 pub mod Keys
+pub mod Raw
+pub mod Reads
+pub mod Refused
 pub mod Scalars
 pub mod Sections
+pub mod Values

@@ -8,13 +8,13 @@ ghost use Rattle.conf_shape.specs.Addresses.{is_group, is_zero, is_masked, is_le
 use crate::refused::ConfCause;
 use net_base::{Ip4, Mac, Net4};
 
-fn parse_mac(text: &str) -> Option<Mac>
+pub fn parse_mac(text: &str) -> Option<Mac>
     ensures { IsMac result (spelled_mac text.now) }
 {
     Mac::parse(text)
 }
 
-fn parse_ip4(text: &str) -> Option<u32>
+pub fn parse_ip4(text: &str) -> Option<u32>
     ensures { result ≡ ip4_of text.now }
 {
     match Ip4::parse(text) {
@@ -24,7 +24,7 @@ fn parse_ip4(text: &str) -> Option<u32>
 }
 
 /// The address and the length of a network.
-fn parse_net4(text: &str) -> Option<(u32, u8)>
+pub fn parse_net4(text: &str) -> Option<(u32, u8)>
     ensures value { result ≡ net4_of text.now }
     ensures range { IfSome result (λ net. net.1 ≤ 32) }
 {
@@ -35,7 +35,7 @@ fn parse_net4(text: &str) -> Option<(u32, u8)>
 }
 
 /// What stands before the first slash, and behind it.
-fn parts_of(text: &str) -> Option<(&str, &str)>
+pub fn parts_of(text: &str) -> Option<(&str, &str)>
     ensures { Cuts result (cut_at 47 text.now) }
 {
     text.split_once('/')

@@ -27,7 +27,7 @@ pub fn key_text(alloc: Global, key: &Key) -> Result<Text, NoMemory>
     }
 }
 
-fn is_key(name: &str, key: &Key) -> bool
+pub fn is_key(name: &str, key: &Key) -> bool
     ensures { result ≡ is_key name.now key.now }
 {
     match key {
@@ -48,7 +48,7 @@ fn canonical<'a>(spellings: &[(&'static str, &'static str)], text: &'a str) -> &
     text
 }
 
-fn row_at(name: &str, rows: &[Row]) -> Option<Row>
+pub fn row_at(name: &str, rows: &[Row]) -> Option<Row>
     ensures { option_map seen_row result ≡ row_at name.now (map seen_row rows.now) }
 {
     for row in rows {
@@ -71,7 +71,7 @@ fn is_listed(text: &str, names: &[&'static str]) -> bool
 }
 
 /// Whether a key is this one, in any of its spellings.
-fn spells(spellings: &[(&'static str, &'static str)], name: &str, key: &Key) -> bool
+pub fn spells(spellings: &[(&'static str, &'static str)], name: &str, key: &Key) -> bool
     ensures { result ≡ spells (map seen_pair spellings.now) name.now key.now }
 {
     match key {

@@ -91,3 +91,21 @@ pub enum Need {
     UnlessNumbered,
     Never,
 }
+
+/// What stands where a key isn't given.
+#[derive(Clone, Copy)]
+pub enum DefaultValue {
+    /// No value, or an empty list.
+    Nothing,
+    /// `true`.
+    On,
+    /// `false`.
+    Off,
+    Count(u32),
+    /// The value that this text spells.
+    Spelled(&'static str),
+    /// The map's own key.
+    OwnKey,
+    /// What stands for the map's `name`.
+    OwnName,
+}

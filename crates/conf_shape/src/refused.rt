@@ -51,3 +51,12 @@ pub struct ConfFault {
     pub path: Text,
     pub cause: ConfCause,
 }
+
+/// Why a document gives no configuration.
+#[derive(Debug, Drop)]
+pub enum ConfRefused {
+    /// Its first fault.
+    At(ConfFault),
+    /// Memory ran out.
+    Memory,
+}

@@ -1,6 +1,7 @@
 ghost use Rattle.std.specs.Prelude.{◌≡◌};
 ghost use Rattle.conf_shape.specs.Keys.{seen_table, keys_of};
 
+use crate::kinds::DefaultValue::{Count, Nothing, Off, On, OwnKey, OwnName, Spelled};
 use crate::kinds::Kind::{Given, Map, MapOrMaps, Maps, One, OneOrSeveral, Several};
 use crate::kinds::MapKind::{
     Acls, Actions, DatapathStack, Datapaths, Interfaces, Output, PortStack, Route, RouteItem,
@@ -11,7 +12,7 @@ use crate::kinds::Scalar::{
     Destination, Flag, Gateway, Label, MaskedMac, Name, NoEffect, Number, Permission, Prefix,
     Reference, StationMac, Vip, Words,
 };
-use crate::kinds::{Kind, MapKind, Need, Scalar};
+use crate::kinds::{DefaultValue, Kind, MapKind, Need, Scalar};
 use crate::refused::ConfCause;
 
 /// A key that a map may have.
@@ -20,6 +21,8 @@ pub struct Row {
     pub key: &'static str,
     pub kind: Kind,
     pub need: Need,
+    /// What stands where the key isn't given.
+    pub default: DefaultValue,
 }
 
 /// The keys of a kind of map.
@@ -36,11 +39,12 @@ pub struct Table {
 }
 
 macro_rules! row {
-    ($key:literal, $kind:expr, $need:expr) => {
+    ($key:literal, $kind:expr, $need:expr, $default:expr) => {
         Row {
             key: $key,
             kind: $kind,
             need: $need,
+            default: $default,
         }
     };
 }
@@ -65,11 +69,11 @@ const PORT_NAMED: Scalar = Reference {
 
 const TOP: Table = Table {
     rows: &[
-        row!("dps", Map(Datapaths), Always),
-        row!("vlans", Map(Vlans), Never),
-        row!("acls", Map(Acls), Never),
-        row!("routers", Map(Routers), Never),
-        row!("version", One(number!(2, 2)), Never),
+        row!("dps", Map(Datapaths), Always, Nothing),
+        row!("vlans", Map(Vlans), Never, Nothing),
+        row!("acls", Map(Acls), Never, Nothing),
+        row!("routers", Map(Routers), Never, Nothing),
+        row!("version", One(number!(2, 2)), Never, Nothing),
     ],
     left_out: &["include", "include-optional", "meters"],
     spellings: &[],
@@ -78,30 +82,35 @@ const TOP: Table = Table {
 
 const DATAPATH: Table = Table {
     rows: &[
-        row!("dp_id", One(number!(0, u64::MAX)), Always),
-        row!("interfaces", Map(Interfaces), Always),
-        row!("name", One(Name), Never),
-        row!("description", One(Name), Never),
-        row!("hardware", One(Words), Never),
-        row!("timeout", One(number!(1, 604_800)), Never),
-        row!("arp_neighbor_timeout", One(number!(1, 604_800)), Never),
-        row!("stack", Map(DatapathStack), Never),
-        row!("drop_spoofed_faucet_mac", One(Flag), Never),
-        row!("drop_broadcast_source_address", One(Flag), Never),
-        row!("drop_bpdu", One(Flag), Never),
-        row!("drop_lldp", One(Flag), Never),
-        row!("learn_ban_timeout", One(NoEffect), Never),
-        row!("learn_jitter", One(NoEffect), Never),
-        row!("ignore_learn_ins", One(NoEffect), Never),
-        row!("packetin_pps", One(NoEffect), Never),
-        row!("slowpath_pps", One(NoEffect), Never),
-        row!("max_resolve_backoff_time", One(NoEffect), Never),
-        row!("max_host_fib_retry_count", One(NoEffect), Never),
-        row!("max_hosts_per_resolve_cycle", One(NoEffect), Never),
-        row!("metrics_rate_limit_sec", One(NoEffect), Never),
-        row!("ofchannel_log", One(NoEffect), Never),
-        row!("combinatorial_port_flood", One(NoEffect), Never),
-        row!("cache_update_guard_time", One(NoEffect), Never),
+        row!("dp_id", One(number!(0, u64::MAX)), Always, Nothing),
+        row!("interfaces", Map(Interfaces), Always, Nothing),
+        row!("name", One(Name), Never, OwnKey),
+        row!("description", One(Name), Never, OwnName),
+        row!("hardware", One(Words), Never, Spelled("Open vSwitch")),
+        row!("timeout", One(number!(1, 604_800)), Never, Count(300)),
+        row!(
+            "arp_neighbor_timeout",
+            One(number!(1, 604_800)),
+            Never,
+            Count(30)
+        ),
+        row!("stack", Map(DatapathStack), Never, Nothing),
+        row!("drop_spoofed_faucet_mac", One(Flag), Never, On),
+        row!("drop_broadcast_source_address", One(Flag), Never, On),
+        row!("drop_bpdu", One(Flag), Never, On),
+        row!("drop_lldp", One(Flag), Never, On),
+        row!("learn_ban_timeout", One(NoEffect), Never, Nothing),
+        row!("learn_jitter", One(NoEffect), Never, Nothing),
+        row!("ignore_learn_ins", One(NoEffect), Never, Nothing),
+        row!("packetin_pps", One(NoEffect), Never, Nothing),
+        row!("slowpath_pps", One(NoEffect), Never, Nothing),
+        row!("max_resolve_backoff_time", One(NoEffect), Never, Nothing),
+        row!("max_host_fib_retry_count", One(NoEffect), Never, Nothing),
+        row!("max_hosts_per_resolve_cycle", One(NoEffect), Never, Nothing),
+        row!("metrics_rate_limit_sec", One(NoEffect), Never, Nothing),
+        row!("ofchannel_log", One(NoEffect), Never, Nothing),
+        row!("combinatorial_port_flood", One(NoEffect), Never, Nothing),
+        row!("cache_update_guard_time", One(NoEffect), Never, Nothing),
     ],
     left_out: &[
         "interface_ranges",
@@ -133,7 +142,7 @@ const DATAPATH: Table = Table {
 };
 
 const DATAPATH_STACK: Table = Table {
-    rows: &[row!("priority", One(number!(0, 0xffff_ffff)), Never)],
+    rows: &[row!("priority", One(number!(0, 0xffff_ffff)), Never, Nothing)],
     left_out: &[],
     spellings: &[],
     unlisted: ConfCause::LeftOut,
@@ -147,23 +156,24 @@ const INTERFACE: Table = Table {
                 low: 1,
                 high: 0xffff_ff00
             },
-            UnlessNumbered
+            UnlessNumbered,
+            OwnKey
         ),
-        row!("name", One(Name), Never),
-        row!("description", One(Name), Never),
-        row!("enabled", One(Flag), Never),
-        row!("unicast_flood", One(Flag), Never),
-        row!("opstatus_reconf", One(Flag), Never),
-        row!("output_only", One(Flag), Never),
-        row!("hairpin", One(Flag), Never),
-        row!("permanent_learn", One(Flag), Never),
-        row!("native_vlan", One(VLAN_NAMED), Never),
-        row!("tagged_vlans", Several(VLAN_NAMED), Never),
-        row!("acl_in", One(Label), Never),
-        row!("acls_in", Several(Label), Never),
-        row!("max_hosts", One(number!(1, 16_384)), Never),
-        row!("mirror", OneOrSeveral(PORT_NAMED), Never),
-        row!("stack", Map(PortStack), Never),
+        row!("name", One(Name), Never, OwnKey),
+        row!("description", One(Name), Never, OwnName),
+        row!("enabled", One(Flag), Never, On),
+        row!("unicast_flood", One(Flag), Never, On),
+        row!("opstatus_reconf", One(Flag), Never, On),
+        row!("output_only", One(Flag), Never, Off),
+        row!("hairpin", One(Flag), Never, Off),
+        row!("permanent_learn", One(Flag), Never, Off),
+        row!("native_vlan", One(VLAN_NAMED), Never, Nothing),
+        row!("tagged_vlans", Several(VLAN_NAMED), Never, Nothing),
+        row!("acl_in", One(Label), Never, Nothing),
+        row!("acls_in", Several(Label), Never, Nothing),
+        row!("max_hosts", One(number!(1, 16_384)), Never, Count(255)),
+        row!("mirror", OneOrSeveral(PORT_NAMED), Never, Nothing),
+        row!("stack", Map(PortStack), Never, Nothing),
     ],
     left_out: &[
         "acls_out",
@@ -186,8 +196,8 @@ const INTERFACE: Table = Table {
 
 const PORT_STACK: Table = Table {
     rows: &[
-        row!("dp", One(Words), Always),
-        row!("port", One(PORT_NAMED), Always),
+        row!("dp", One(Words), Always, Nothing),
+        row!("port", One(PORT_NAMED), Always, Nothing),
     ],
     left_out: &[],
     spellings: &[],
@@ -196,16 +206,21 @@ const PORT_STACK: Table = Table {
 
 const VLAN: Table = Table {
     rows: &[
-        row!("vid", Given { low: 1, high: 4094 }, UnlessNumbered),
-        row!("name", One(Name), Never),
-        row!("description", One(Name), Never),
-        row!("acl_in", One(Label), Never),
-        row!("acls_in", Several(Label), Never),
-        row!("faucet_mac", One(StationMac), Never),
-        row!("faucet_vips", Several(Vip), Never),
-        row!("routes", Maps(RouteItem), Never),
-        row!("max_hosts", One(number!(1, 16_384)), Never),
-        row!("unicast_flood", One(Flag), Never),
+        row!("vid", Given { low: 1, high: 4094 }, UnlessNumbered, OwnKey),
+        row!("name", One(Name), Never, OwnKey),
+        row!("description", One(Name), Never, OwnName),
+        row!("acl_in", One(Label), Never, Nothing),
+        row!("acls_in", Several(Label), Never, Nothing),
+        row!(
+            "faucet_mac",
+            One(StationMac),
+            Never,
+            Spelled("0e:00:00:00:00:01")
+        ),
+        row!("faucet_vips", Several(Vip), Never, Nothing),
+        row!("routes", Maps(RouteItem), Never, Nothing),
+        row!("max_hosts", One(number!(1, 16_384)), Never, Count(255)),
+        row!("unicast_flood", One(Flag), Never, On),
     ],
     left_out: &[
         "acls_out",
@@ -219,7 +234,7 @@ const VLAN: Table = Table {
 };
 
 const ROUTE_ITEM: Table = Table {
-    rows: &[row!("route", Map(Route), Always)],
+    rows: &[row!("route", Map(Route), Always, Nothing)],
     left_out: &[],
     spellings: &[],
     unlisted: ConfCause::UnknownKey,
@@ -227,8 +242,8 @@ const ROUTE_ITEM: Table = Table {
 
 const ROUTE: Table = Table {
     rows: &[
-        row!("ip_dst", One(Destination), Always),
-        row!("ip_gw", One(Gateway), Always),
+        row!("ip_dst", One(Destination), Always, Nothing),
+        row!("ip_gw", One(Gateway), Always, Nothing),
     ],
     left_out: &[],
     spellings: &[],
@@ -236,7 +251,7 @@ const ROUTE: Table = Table {
 };
 
 const RULE_ITEM: Table = Table {
-    rows: &[row!("rule", Map(Rule), Always)],
+    rows: &[row!("rule", Map(Rule), Always, Nothing)],
     left_out: &[],
     spellings: &[],
     unlisted: ConfCause::UnknownKey,
@@ -244,25 +259,25 @@ const RULE_ITEM: Table = Table {
 
 const RULE: Table = Table {
     rows: &[
-        row!("actions", Map(Actions), Always),
-        row!("description", One(Words), Never),
-        row!("eth_src", One(MaskedMac), Never),
-        row!("eth_dst", One(MaskedMac), Never),
-        row!("eth_type", One(number!(0, 0xffff)), Never),
-        row!("vlan_vid", One(number!(1, 4094)), Never),
-        row!("vlan_pcp", One(number!(0, 7)), Never),
-        row!("ip_proto", One(number!(0, 255)), Never),
-        row!("ipv4_src", One(Prefix), Never),
-        row!("ipv4_dst", One(Prefix), Never),
-        row!("tcp_src", One(number!(0, 0xffff)), Never),
-        row!("tcp_dst", One(number!(0, 0xffff)), Never),
-        row!("udp_src", One(number!(0, 0xffff)), Never),
-        row!("udp_dst", One(number!(0, 0xffff)), Never),
-        row!("icmpv4_type", One(number!(0, 255)), Never),
-        row!("icmpv4_code", One(number!(0, 255)), Never),
-        row!("arp_op", One(number!(0, 0xffff)), Never),
-        row!("arp_spa", One(Prefix), Never),
-        row!("arp_tpa", One(Prefix), Never),
+        row!("actions", Map(Actions), Always, Nothing),
+        row!("description", One(Words), Never, Nothing),
+        row!("eth_src", One(MaskedMac), Never, Nothing),
+        row!("eth_dst", One(MaskedMac), Never, Nothing),
+        row!("eth_type", One(number!(0, 0xffff)), Never, Nothing),
+        row!("vlan_vid", One(number!(1, 4094)), Never, Nothing),
+        row!("vlan_pcp", One(number!(0, 7)), Never, Nothing),
+        row!("ip_proto", One(number!(0, 255)), Never, Nothing),
+        row!("ipv4_src", One(Prefix), Never, Nothing),
+        row!("ipv4_dst", One(Prefix), Never, Nothing),
+        row!("tcp_src", One(number!(0, 0xffff)), Never, Nothing),
+        row!("tcp_dst", One(number!(0, 0xffff)), Never, Nothing),
+        row!("udp_src", One(number!(0, 0xffff)), Never, Nothing),
+        row!("udp_dst", One(number!(0, 0xffff)), Never, Nothing),
+        row!("icmpv4_type", One(number!(0, 255)), Never, Nothing),
+        row!("icmpv4_code", One(number!(0, 255)), Never, Nothing),
+        row!("arp_op", One(number!(0, 0xffff)), Never, Nothing),
+        row!("arp_spa", One(Prefix), Never, Nothing),
+        row!("arp_tpa", One(Prefix), Never, Nothing),
     ],
     left_out: &[
         "cookie",
@@ -290,9 +305,9 @@ const RULE: Table = Table {
 
 const ACTIONS: Table = Table {
     rows: &[
-        row!("allow", One(Permission), Never),
-        row!("mirror", One(PORT_NAMED), Never),
-        row!("output", MapOrMaps(Output), Never),
+        row!("allow", One(Permission), Never, Off),
+        row!("mirror", One(PORT_NAMED), Never, Nothing),
+        row!("output", MapOrMaps(Output), Never, Nothing),
     ],
     left_out: &["meter", "ct", "force_port_vlan"],
     spellings: &[],
@@ -301,8 +316,8 @@ const ACTIONS: Table = Table {
 
 const OUTPUT: Table = Table {
     rows: &[
-        row!("port", One(PORT_NAMED), Never),
-        row!("ports", Several(PORT_NAMED), Never),
+        row!("port", One(PORT_NAMED), Never, Nothing),
+        row!("ports", Several(PORT_NAMED), Never, Nothing),
     ],
     left_out: &[
         "set_fields",
@@ -318,7 +333,7 @@ const OUTPUT: Table = Table {
 };
 
 const ROUTER: Table = Table {
-    rows: &[row!("vlans", Several(VLAN_NAMED), Always)],
+    rows: &[row!("vlans", Several(VLAN_NAMED), Always, Nothing)],
     left_out: &["bgp"],
     spellings: &[],
     unlisted: ConfCause::UnknownKey,

@@ -1,6 +1,9 @@
-//! The first fault of configurations, by their texts.
+//! The first fault of configurations, by their texts, and what the others say.
 
-use conf_shape::find_fault;
+use conf_shape::{
+    ConfRefused, OneOrList, RawConf, RawField, RawPort, RawRule, VlanRef, find_fault, shape,
+};
+use conf_types::PortRef;
 use net_base::NoMemory;
 use std::alloc::Global;
 use std::test::Fail;
@@ -323,4 +326,400 @@ const SECTIONS: [(&str, &str); 8] = [
 #[test]
 fn sections(rt: HostRuntime) -> Result<(), Fail> {
     all_told(&rt, rt.alloc(), "dps: {}\n", &SECTIONS)
+}
+
+/// What stands around the entries of a map, and the path that leads there.
+#[derive(Clone, Copy)]
+struct Place {
+    before: &'static str,
+    behind: &'static str,
+    path: &'static str,
+}
+
+const TOP: Place = Place {
+    before: "{",
+    behind: "}",
+    path: "",
+};
+
+const DATAPATH: Place = Place {
+    before: "dps: {a: {",
+    behind: "}}",
+    path: "dps.a.",
+};
+
+const INTERFACE: Place = Place {
+    before: "dps: {a: {interfaces: {1: {",
+    behind: "}}}}",
+    path: "dps.a.interfaces.1.",
+};
+
+const VLAN: Place = Place {
+    before: "vlans: {1: {",
+    behind: "}}",
+    path: "vlans.1.",
+};
+
+const RULE: Place = Place {
+    before: "acls: {a: [{rule: {",
+    behind: "}}]}",
+    path: "acls.a.0.rule.",
+};
+
+const ACTIONS: Place = Place {
+    before: "acls: {a: [{rule: {actions: {",
+    behind: "}}}]}",
+    path: "acls.a.0.rule.actions.",
+};
+
+/// Keys of a map, a value, and what is wrong with it at each of them.
+const VALUES: [(Place, &str, &str, &str); 30] = [
+    (TOP, "dps vlans acls routers", "[]", "WrongType"),
+    (TOP, "dps vlans acls routers", "1", "WrongType"),
+    (TOP, "version", "a", "WrongType"),
+    (
+        DATAPATH,
+        "dp_id timeout arp_neighbor_timeout",
+        "a",
+        "WrongType",
+    ),
+    (
+        DATAPATH,
+        "dp_id timeout arp_neighbor_timeout",
+        "true",
+        "WrongType",
+    ),
+    (DATAPATH, "timeout arp_neighbor_timeout", "0", "OutOfRange"),
+    (
+        DATAPATH,
+        "timeout arp_neighbor_timeout",
+        "604801",
+        "OutOfRange",
+    ),
+    (DATAPATH, "interfaces stack", "a", "WrongType"),
+    (DATAPATH, "interfaces stack", "~", "WrongType"),
+    (DATAPATH, "name description hardware", "1", "WrongType"),
+    (DATAPATH, "name description", "\"\"", "OutOfRange"),
+    (
+        DATAPATH,
+        "drop_spoofed_faucet_mac drop_broadcast_source_address drop_bpdu drop_lldp",
+        "0",
+        "WrongType",
+    ),
+    (
+        DATAPATH,
+        "learn_ban_timeout learn_jitter ignore_learn_ins packetin_pps slowpath_pps metrics_rate_limit_sec",
+        "{}",
+        "WrongType",
+    ),
+    (INTERFACE, "number max_hosts", "a", "WrongType"),
+    (INTERFACE, "name description", "true", "WrongType"),
+    (
+        INTERFACE,
+        "enabled unicast_flood opstatus_reconf output_only hairpin permanent_learn",
+        "1",
+        "WrongType",
+    ),
+    (INTERFACE, "native_vlan acl_in mirror", "true", "WrongType"),
+    (INTERFACE, "native_vlan mirror", "0", "OutOfRange"),
+    (INTERFACE, "tagged_vlans acls_in", "1", "WrongType"),
+    (INTERFACE, "tagged_vlans acls_in stack", "~", "WrongType"),
+    (VLAN, "vid max_hosts", "a", "WrongType"),
+    (VLAN, "name description faucet_mac", "1", "WrongType"),
+    (VLAN, "acls_in faucet_vips routes", "a", "WrongType"),
+    (VLAN, "acl_in unicast_flood", "[]", "WrongType"),
+    (
+        RULE,
+        "description eth_src eth_dst ipv4_src ipv4_dst arp_spa arp_tpa",
+        "1",
+        "WrongType",
+    ),
+    (
+        RULE,
+        "eth_type tcp_src tcp_dst udp_src udp_dst arp_op",
+        "65536",
+        "OutOfRange",
+    ),
+    (
+        RULE,
+        "ip_proto icmpv4_type icmpv4_code",
+        "256",
+        "OutOfRange",
+    ),
+    (
+        RULE,
+        "vlan_vid dl_vlan vlan_pcp dl_vlan_pcp",
+        "-1",
+        "OutOfRange",
+    ),
+    (
+        RULE,
+        "eth_type vlan_vid ip_proto tcp_src",
+        "'1'",
+        "WrongType",
+    ),
+    (ACTIONS, "allow mirror output", "[1]", "WrongType"),
+];
+
+#[test]
+fn values(rt: HostRuntime) -> Result<(), Fail> {
+    for (place, keys, value, cause) in VALUES {
+        for key in keys.split(' ') {
+            let text = format!(in rt.alloc(); "{}{key}: {value}{}", place.before, place.behind)?;
+            let found = told(rt.alloc(), text.as_str())?;
+            let fault = match (key, cause) {
+                ("output", _) => format!(in rt.alloc(); "{}output.0 WrongType", place.path)?,
+                _ => format!(in rt.alloc(); "{}{key} {cause}", place.path)?,
+            };
+            assert_eq!(rt; found.as_str(), fault.as_str(), "{text}");
+        }
+    }
+    Ok(())
+}
+
+#[test]
+fn as_deep_as_a_text_may_be(rt: HostRuntime) -> Result<(), Fail> {
+    let open = "[".repeat(rt.alloc(), 27)?;
+    let close = "]".repeat(rt.alloc(), 27)?;
+    let text = format!(in rt.alloc();
+        "dps: {{a: {{interfaces: {{1: {{mirror: {open}{close}}}}}}}}}"
+    )?;
+    let found = told(rt.alloc(), text.as_str())?;
+    assert_eq!(rt; found.as_str(), "dps.a.interfaces.1.mirror.0 WrongType");
+    Ok(())
+}
+
+/// The raw configuration of a text that is right.
+fn raw(alloc: Global, text: &str) -> Result<RawConf, Fail> {
+    let tree = read_yaml(alloc, text.as_bytes()).ok().ok_or("no tree")?;
+    match shape(alloc, &tree) {
+        Ok(raw) => Ok(raw),
+        Err(ConfRefused::At(_)) => Err("a fault")?,
+        Err(ConfRefused::Memory) => Err("no memory")?,
+    }
+}
+
+const LEAST: &str =
+    "{vlans: {7: , office: {vid: 100}}, dps: {0x10: {dp_id: 5, interfaces: {3: }}}}";
+
+fn first_port(raw: &RawConf) -> Option<&RawPort> {
+    raw.dps.get(0)?.ports.get(0)
+}
+
+#[test]
+fn what_stands_for_keys_that_are_not_given(rt: HostRuntime) -> Result<(), Fail> {
+    let raw = raw(rt.alloc(), LEAST)?;
+    let dp = raw.dps.get(0).ok_or("no datapath")?;
+    assert_eq!(rt; dp.id.0, 5);
+    assert_eq!(rt; dp.names.key.as_str(), "16");
+    assert_eq!(rt; dp.names.name.as_str(), "16");
+    assert_eq!(rt; dp.names.description.as_str(), "16");
+    assert!(rt; !dp.names.has_name);
+    assert_eq!(rt; dp.hardware.as_str(), "Open vSwitch");
+    assert_eq!(rt; dp.timeout, 300);
+    assert_eq!(rt; dp.arp_timeout, 30);
+    assert_eq!(rt; dp.stack_priority, None);
+    assert!(rt; dp.drops.spoofed && dp.drops.broadcast && dp.drops.bpdu && dp.drops.lldp);
+    let port = first_port(&raw).ok_or("no interface")?;
+    assert_eq!(rt; port.no.get(), 3);
+    assert_eq!(rt; port.names.description.as_str(), "3");
+    assert!(rt; !port.has_number && port.stack.is_none() && port.native.is_none());
+    assert!(rt; port.flags.enabled && port.flags.unicast_flood && port.flags.opstatus_reconf);
+    assert!(rt; !port.flags.output_only && !port.flags.hairpin && !port.flags.permanent_learn);
+    assert_eq!(rt; port.max_hosts, 255);
+    assert_eq!(rt; port.tagged.len(), 0);
+    assert!(rt; matches!(&port.mirror, OneOrList::List(ports) if ports.is_empty()));
+    assert!(rt; port.acls.one.is_none() && port.acls.list.is_none());
+    Ok(())
+}
+
+#[test]
+fn what_stands_for_keys_of_vlans_that_are_not_given(rt: HostRuntime) -> Result<(), Fail> {
+    let raw = raw(rt.alloc(), LEAST)?;
+    let vlan = raw.vlans.get(0).ok_or("no VLAN")?;
+    assert_eq!(rt; vlan.vid.get(), 7);
+    assert_eq!(rt; vlan.names.name.as_str(), "7");
+    assert_eq!(rt; vlan.mac.0, [0x0e, 0, 0, 0, 0, 1]);
+    assert_eq!(rt; vlan.max_hosts, 255);
+    assert!(rt; vlan.unicast_flood && vlan.vips.is_empty() && vlan.routes.is_empty());
+    let office = raw.vlans.get(1).ok_or("no second VLAN")?;
+    assert_eq!(rt; office.vid.get(), 100);
+    assert!(rt; office.has_vid && !vlan.has_vid);
+    assert_eq!(rt; office.names.description.as_str(), "office");
+    assert!(rt; raw.acls.is_empty() && raw.routers.is_empty());
+    Ok(())
+}
+
+const INTERFACE_KEYS: &str = "
+dps:
+  sw1:
+    dp_id: 0xffffffffffffffff
+    name: one
+    hardware: ''
+    timeout: 604800
+    stack: {priority: 4294967295}
+    drop_lldp: false
+    interfaces:
+      up:
+        number: 4294967040
+        description: uplink
+        enabled: false
+        hairpin: true
+        native_vlan: office
+        tagged_vlans: [4094, guests]
+        acl_in: 7
+        acls_in: [a, 8]
+        max_hosts: 1
+        mirror: 2
+        stack: {dp: sw2, port: 4}
+";
+
+#[test]
+fn what_an_interface_says(rt: HostRuntime) -> Result<(), Fail> {
+    let raw = raw(rt.alloc(), INTERFACE_KEYS)?;
+    let dp = raw.dps.get(0).ok_or("no datapath")?;
+    assert_eq!(rt; dp.id.0, u64::MAX);
+    assert_eq!(rt; dp.names.key.as_str(), "sw1");
+    assert_eq!(rt; dp.names.description.as_str(), "one");
+    assert_eq!(rt; dp.hardware.as_str(), "");
+    assert_eq!(rt; dp.timeout, 604_800);
+    assert_eq!(rt; dp.stack_priority, Some(4_294_967_295));
+    assert!(rt; dp.drops.bpdu && !dp.drops.lldp);
+    let port = first_port(&raw).ok_or("no interface")?;
+    assert_eq!(rt; port.no.get(), 4_294_967_040);
+    assert!(rt; port.has_number && !port.names.has_name);
+    assert_eq!(rt; port.names.name.as_str(), "up");
+    assert_eq!(rt; port.names.description.as_str(), "uplink");
+    assert!(rt; !port.flags.enabled && port.flags.hairpin);
+    assert_eq!(rt; port.max_hosts, 1);
+    assert!(rt; matches!(&port.native, Some(VlanRef::Name(name)) if name.is("office")));
+    assert!(rt; matches!(port.tagged.get(0), Some(VlanRef::Vid(vid)) if vid.get() == 4094));
+    assert!(rt; matches!(port.tagged.get(1), Some(VlanRef::Name(name)) if name.is("guests")));
+    assert!(rt; matches!(&port.acls.one, Some(name) if name.is("7")));
+    let names = port.acls.list.as_ref().ok_or("no ACLs")?;
+    assert!(rt; matches!(names.get(1), Some(name) if name.is("8")));
+    assert!(rt; matches!(&port.mirror, OneOrList::One(PortRef::No(no)) if no.get() == 2));
+    let end = port.stack.as_ref().ok_or("no stack")?;
+    assert_eq!(rt; end.dp.as_str(), "sw2");
+    assert!(rt; matches!(&end.port, PortRef::No(no) if no.get() == 4));
+    Ok(())
+}
+
+const VLAN_KEYS: &str = "
+vlans:
+  100:
+    faucet_mac: 0e:00:00:00:01:00
+    faucet_vips: [10.0.1.254/24]
+    routes: [{route: {ip_dst: 10.2.0.0/16, ip_gw: 10.0.1.1}}]
+    unicast_flood: false
+dps: {}
+routers: {8: {vlans: [100, office]}}
+";
+
+#[test]
+fn what_a_vlan_says(rt: HostRuntime) -> Result<(), Fail> {
+    let raw = raw(rt.alloc(), VLAN_KEYS)?;
+    let vlan = raw.vlans.get(0).ok_or("no VLAN")?;
+    assert_eq!(rt; vlan.mac.0, [0x0e, 0, 0, 0, 1, 0]);
+    let vip = vlan.vips.get(0).ok_or("no VIP")?;
+    assert_eq!(rt; (vip.ip.0, vip.len), (0x0a00_01fe, 24));
+    let route = vlan.routes.get(0).ok_or("no route")?;
+    assert_eq!(rt; (route.dst.ip.0, route.dst.len), (0x0a02_0000, 16));
+    assert_eq!(rt; route.gw.0, 0x0a00_0101);
+    assert!(rt; !vlan.unicast_flood);
+    let router = raw.routers.get(0).ok_or("no router")?;
+    assert_eq!(rt; router.name.as_str(), "8");
+    assert!(rt; matches!(router.vlans.get(0), Some(VlanRef::Vid(vid)) if vid.get() == 100));
+    assert!(rt; matches!(router.vlans.get(1), Some(VlanRef::Name(name)) if name.is("office")));
+    Ok(())
+}
+
+/// Match keys of a rule, and its fields: keys, numbers of fields, values, masks.
+const FIELDS: [(&str, &str); 9] = [
+    ("dl_type: 0x0800", "dl_type 5 0x800/0xffff"),
+    ("vlan_vid: 100", "vlan_vid 6 0x1064/0xffff"),
+    (
+        "tcp_dst: 80, eth_type: 1",
+        "eth_type 5 0x1/0xffff; tcp_dst 14 0x50/0xffff",
+    ),
+    (
+        "eth_dst: '01:00:00:00:00:02', eth_src: '0e:00:00:00:00:00/ff:00:00:00:00:00'",
+        "eth_src 4 0xe0000000000/0xff0000000000; eth_dst 3 0x10000000002/0xffffffffffff",
+    ),
+    ("eth_src: '00:00:00:00:00:00/00:00:00:00:00:00'", ""),
+    ("nw_src: 10.1.0.0/16", "nw_src 11 0xa010000/0xffff0000"),
+    ("ipv4_dst: 10.1.0.1", "ipv4_dst 12 0xa010001/0xffffffff"),
+    ("arp_tpa: 10.1.0.1/32", "arp_tpa 23 0xa010001/0xffffffff"),
+    ("arp_spa: 0.0.0.0/0, arp_op: 2", "arp_op 21 0x2/0xffff"),
+];
+
+fn first_rule(raw: &RawConf) -> Option<&RawRule> {
+    raw.acls.get(0)?.rules.get(0)
+}
+
+fn written(alloc: Global, fields: &[RawField]) -> Result<String, NoMemory> {
+    let mut out = String::new(alloc);
+    for (i, it) in fields.iter().enumerate() {
+        let joint = if i == 0 { "" } else { "; " };
+        let (number, value, mask) = (it.field.id.number(), it.field.value, it.field.mask);
+        write!(
+            out,
+            "{joint}{} {number} {value:#x}/{mask:#x}",
+            it.key.as_str()
+        )?;
+    }
+    Ok(out)
+}
+
+#[test]
+fn what_match_keys_say(rt: HostRuntime) -> Result<(), Fail> {
+    for (keys, fields) in FIELDS {
+        let text = format!(in rt.alloc();
+            "acls: {{a: [{{rule: {{{keys}, actions: {{}}}}}}]}}\ndps: {{}}"
+        )?;
+        let raw = raw(rt.alloc(), text.as_str())?;
+        let rule = first_rule(&raw).ok_or("no rule")?;
+        let found = written(rt.alloc(), rule.fields.as_slice())?;
+        assert_eq!(rt; found.as_str(), fields, "{keys}");
+    }
+    Ok(())
+}
+
+const ACTION_KEYS: &str = "
+dps: {}
+acls:
+  9:
+    - rule: {actions: {allow: 1, mirror: m, output: {ports: [2, b], port: 1}}}
+    - rule: {actions: {output: [{port: 3}, {ports: []}]}}
+";
+
+#[test]
+fn what_actions_say(rt: HostRuntime) -> Result<(), Fail> {
+    let raw = raw(rt.alloc(), ACTION_KEYS)?;
+    let acl = raw.acls.get(0).ok_or("no ACL")?;
+    assert_eq!(rt; acl.name.as_str(), "9");
+    let rule = acl.rules.get(0).ok_or("no rule")?;
+    assert!(rt; rule.allow && rule.fields.is_empty());
+    assert!(rt; matches!(&rule.mirror, Some(PortRef::Name(name)) if name.is("m")));
+    assert!(rt;
+        matches!(&rule.output, OneOrList::One(to) if to.port.is_some() && to.ports.len() == 2)
+    );
+    let rule = acl.rules.get(1).ok_or("no second rule")?;
+    assert!(rt; !rule.allow && rule.mirror.is_none());
+    assert!(rt; matches!(&rule.output, OneOrList::List(to) if to.len() == 2));
+    Ok(())
+}
+
+#[test]
+fn a_refusal_has_the_first_fault(rt: HostRuntime) -> Result<(), Fail> {
+    let tree = read_yaml(rt.alloc(), b"{dps: {a: {timeout: 0}}, b: 1}")
+        .ok()
+        .ok_or("no tree")?;
+    match shape(rt.alloc(), &tree) {
+        Err(ConfRefused::At(fault)) => {
+            assert_eq!(rt; fault.path.as_str(), "dps.a.timeout");
+        }
+        _ => assert!(rt; false, "no fault"),
+    }
+    Ok(())
 }

@@ -5,15 +5,15 @@
 #[cfg(test)]
 mod conf_shape_tests;
 #[cfg(test)]
+mod conf_types_tests;
+#[cfg(test)]
 mod fg_outside_tests;
+#[cfg(test)]
+mod host_learn_tests;
 #[cfg(test)]
 mod net_base_tests;
 #[cfg(test)]
-mod of13_codec_tests;
-#[cfg(test)]
 mod of_match_tests;
-#[cfg(test)]
-mod of_wire_tests;
 #[cfg(test)]
 mod pkt_view_tests;
 #[cfg(test)]

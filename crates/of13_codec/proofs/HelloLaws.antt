@@ -1,23 +1,20 @@
 -- The body of a HELLO is read exactly where it is spelled.
-use Rattle.std.proofs.Common.{◌≡◌, ℕ, ◌+◌, ◌-◌, ◌≤◌, true, false, ◌&&◌, ◌||◌, eqb, ltb, List, [], ◌∷◌, ◌++◌, length, take, drop, replicate, Option, Some, None, Result, Ok, refl, sym, ap, ◌∙◌, subst, arith, inl, inr}
-use Rattle.std.proofs.lemmas.Bool.{ltb-false, eqb-false, le-ltb, eq-eqb, ne_eqb, or_parts, or_from, and_cases, and_left, and_right, cases_eq}
+use Rattle.std.proofs.Common.{◌≡◌, ℕ, ◌+◌, ◌-◌, ◌≤◌, true, false, ◌&&◌, ◌||◌, eqb, ltb, List, [], ◌∷◌, ◌++◌, length, take, drop, replicate, Option, Some, None, Ok, refl, sym, ap, ◌∙◌, arith, inl, inr}
+use Rattle.std.proofs.lemmas.Bool.{le-ltb, eq-eqb, ne_eqb, or_from, and_left, and_right, cases_eq}
 use Rattle.std.proofs.lemmas.List.{length-drop, length-take-le, length-append, take-append-drop, take-append-le, take_all, drop-append-le, length-replicate}
 use Rattle.of_wire.specs.declared.fault.PartFault.{PartFault}
-use Rattle.of_wire.specs.declared.fault.PartCause.TheVariants.{BadLength}
 use Rattle.of_wire.specs.Numbers.{number_in}
 use Rattle.of_wire.specs.Parts.{up_to_8}
-use Rattle.of_wire.specs.Reading.{◌>>=◌, fault_at, many, padding_at}
+use Rattle.of_wire.specs.Reading.{many, padding_at}
 use Rattle.of_wire.specs.Grammar.{Zeros}
 use Rattle.of_wire.proofs.Grammars.{AreBytes, bytes_take, number_then, front_then, number_again, front_again, number_of_front, number_of_take, number_at_drop}
-use Rattle.of_wire.proofs.Chosen.{bind_ok, passed, one_answer}
-use Rattle.of_wire.proofs.Padding.{padding_sound, padding_complete}
+use Rattle.of_wire.proofs.Padding.{padding_complete}
 use Rattle.of_wire.proofs.MatchLaws.{inner, outer}
-use Rattle.of_wire.proofs.Joining.{Part, IsRead, read_joined, joined_read}
-use Rattle.of13_codec.specs.declared.message.Message.{Message}
+use Rattle.of_wire.proofs.Joining.{Part, IsRead, joined_read}
 use Rattle.of13_codec.specs.declared.message.Message.TheVariants.{Hello}
 use Rattle.of13_codec.specs.Decoding.{short, first_bitmap, element_at, hello_step, hello_at}
+use Rattle.of13_codec.specs.Faults.{EachElement}
 use Rattle.of13_codec.specs.Spelling.{Raw, Element, SpellsElement, SpellsHello, bitmap_of}
-use Rattle.of13_codec.proofs.Bodies.{Is, is_at}
 
 -- ---- the bitmap so far
 
@@ -44,65 +41,46 @@ first_is_kept None e bytes h = elim (cases_eq e.kind 1) [
 first_is : (before : List Element) (e : Element) (bytes : List ℕ) → (e.kind ≡ 1 → number_in 4 4 bytes ≡ number_in 0 4 e.content) → first_bitmap (bitmap_of before) e.kind bytes ≡ bitmap_of (before ++ e ∷ [])
 first_is before e bytes h = first_is_kept (bitmap_of before) e bytes h ∙ sym (bitmap_push before e)
 
-abbrev pub spells : List Element → Element → List ℕ → Type 0
-spells before e bytes = SpellsElement e bytes
-
 inside : (len : ℕ) (bytes : List ℕ) → 8 ≤ len → len ≤ length bytes → number_in 4 4 bytes ≡ number_in 0 4 (take (len - 4) (drop 4 bytes))
 inside len bytes h k = number_at_drop 4 4 bytes ∙ sym (number_of_take 0 4 (len - 4) (drop 4 bytes) (omega arith) (omega (arith, length-drop 4 bytes)))
 
-element_sound : (past : PartFault) (before : List Element) (kind len at : ℕ) (bytes : List ℕ) (y : Option ℕ × ℕ) → AreBytes bytes → number_in 0 2 bytes ≡ kind → number_in 2 2 bytes ≡ len
-    → element_at past (bitmap_of before) kind len at bytes ≡ Ok y → Part spells bitmap_of before bytes y
-unfolding element_at
-element_sound past before kind len at bytes y h is_kind is_len e =
+pub element_part : (before : List Element) (bytes : List ℕ) → AreBytes bytes → 4 ≤ number_in 2 2 bytes → (number_in 0 2 bytes ≡ 1 → 8 ≤ number_in 2 2 bytes) → up_to_8 (number_in 2 2 bytes) ≤ length bytes
+    → take (up_to_8 (number_in 2 2 bytes) - number_in 2 2 bytes) (drop (number_in 2 2 bytes) bytes) ≡ replicate (up_to_8 (number_in 2 2 bytes) - number_in 2 2 bytes) 0
+    → Part EachElement bitmap_of before bytes (first_bitmap (bitmap_of before) (number_in 0 2 bytes) bytes, up_to_8 (number_in 2 2 bytes))
+element_part before bytes h least eight room zeros =
+    let kind = number_in 0 2 bytes in
+    let len = number_in 2 2 bytes in
     let up = up_to_8 len in
-    let next : ℕ → Result (Option ℕ × ℕ) PartFault = λ taken. Ok (first_bitmap (bitmap_of before) kind bytes, taken) in
-    let read = padding_at past at len up bytes in
-    let wrong = ltb len 4 || (eqb kind 1 && ltb len 8) in
-    let a = passed wrong (fault_at (at + 2) BadLength) (read >>= next) y e in
-    let b = bind_ok read next y a.1 in
-    let c = or_parts (ltb len 4) (eqb kind 1 && ltb len 8) a.0 in
-    let least : 4 ≤ len = ltb-false _ _ c.0 in
-    let eight : kind ≡ 1 → 8 ≤ len = λ one. elim (and_cases (eqb kind 1) (ltb len 8) c.1) [
-      | inl other ↦ absurd (eqb-false kind 1 other one)
-      | inr large ↦ ltb-false _ _ large
-    ] in
     let more : len ≤ up = omega arith in
-    let p = padding_sound past at len up bytes b.value more b.first in
     let xs = take up bytes in
     let hx = bytes_take up bytes h in
-    let lx : length xs ≡ up = length-take-le up bytes p.1 in
+    let lx : length xs ≡ up = length-take-le up bytes room in
     let content = take (len - 4) (drop 4 bytes) in
-    let size : length content ≡ len - 4 = length-take-le (len - 4) (drop 4 bytes) (omega (arith, length-drop 4 bytes, p.1)) in
+    let size : length content ≡ len - 4 = length-take-le (len - 4) (drop 4 bytes) (omega (arith, length-drop 4 bytes)) in
     let element : Element = record { kind = kind; content = content } in
     let split : 4 + (len - 4) ≡ len = omega arith in
-    let tail : drop (4 + (len - 4)) xs ≡ replicate (up - len) 0 = ap (λ k. drop k xs) split ∙ outer len up bytes more ∙ p.2 in
+    let tail : drop (4 + (len - 4)) xs ≡ replicate (up - len) 0 = ap (λ k. drop k xs) split ∙ outer len up bytes more ∙ zeros in
     let body : take (len - 4) (drop 4 xs) ≡ content = inner 4 (len - 4) up bytes (omega arith) in
-    let spelled : SpellsElement element xs = record {
-      len = len;
-      parts =
-          number_then 0 2 kind _ xs hx (omega arith) (number_of_take 0 2 up bytes (omega arith) p.1 ∙ is_kind) (
-          number_then 2 2 len _ xs hx (omega arith) (number_of_take 2 2 up bytes (omega arith) p.1 ∙ is_len) (
-          front_then (Raw (len - 4) content) (Zeros (up - len)) 4 (len - 4) xs (ap length body ∙ size, body) tail));
-      head = least;
-      bitmap = eight;
-    } in
-    let taken = p.0 in
-    let r : Result (Option ℕ × ℕ) PartFault = Ok (first_bitmap (bitmap_of before) kind bytes, b.value) in
-    let out : (first_bitmap (bitmap_of before) kind bytes, b.value) ≡ y = one_answer r _ y refl b.then_ in
-    let part : Part spells bitmap_of before bytes (first_bitmap (bitmap_of before) kind bytes, b.value) = record {
+    record {
       part = element;
-      parts = record { first = xs; rest = drop up bytes; whole = sym (take-append-drop up bytes); in_front = spelled; behind = omega arith };
-      size = lx ∙ taken;
-      seen = first_is before element bytes (λ one. inside len bytes (eight one) (omega (arith, p.1)));
-    } in
-    subst (λ (z : Option ℕ × ℕ). Part spells bitmap_of before bytes z) out part
-
-pub step_sound : (past : PartFault) (before : List Element) (at : ℕ) (bytes : List ℕ) (y : Option ℕ × ℕ) → AreBytes bytes → hello_step past (bitmap_of before) at bytes ≡ Ok y
-    → Part spells bitmap_of before bytes y
-unfolding hello_step
-step_sound past before at bytes y h e =
-    let a = passed (ltb (length bytes) 4) past (element_at past (bitmap_of before) (number_in 0 2 bytes) (number_in 2 2 bytes) at bytes) y e in
-    element_sound past before (number_in 0 2 bytes) (number_in 2 2 bytes) at bytes y h refl refl a.1
+      parts = record {
+        first = xs;
+        rest = drop up bytes;
+        whole = sym (take-append-drop up bytes);
+        in_front = record {
+          len = len;
+          parts =
+              number_then 0 2 kind _ xs hx (omega arith) (number_of_take 0 2 up bytes (omega arith) room) (
+              number_then 2 2 len _ xs hx (omega arith) (number_of_take 2 2 up bytes (omega arith) room) (
+              front_then (Raw (len - 4) content) (Zeros (up - len)) 4 (len - 4) xs (ap length body ∙ size, body) tail));
+          head = least;
+          bitmap = eight;
+        };
+        behind = omega arith;
+      };
+      size = lx;
+      seen = first_is before element bytes (λ one. inside len bytes (eight one) (omega arith));
+    }
 
 pub step_complete : (past : PartFault) (before : List Element) (el : Element) (at : ℕ) (first rest : List ℕ) → SpellsElement el first → IsRead bitmap_of (hello_step past) before el at first rest
 unfolding hello_step element_at
@@ -139,22 +117,9 @@ step_complete past before el at first rest p =
     let out : up ≡ length first = sym size in
     record { read = rw (long, kind, is_len, right, pad, seen, out) refl; some = omega arith }
 
-pub hello_sound : (version : ℕ) (body : List ℕ) (m : Message) → AreBytes body → hello_at version body ≡ Ok m → Is version 0 body m
-unfolding hello_at
-hello_sound version body m h e =
-    let read = many (hello_step (short body)) (length body) None 8 body in
-    let next : Option ℕ → Result Message PartFault = λ bitmap. Ok (Hello version bitmap) in
-    let b = bind_ok read next m e in
-    let r = read_joined spells bitmap_of (hello_step (short body)) (step_sound (short body)) (length body) [] 8 body b.value h (omega arith) b.first in
-    is_at version 0 body (Hello version b.value) m (next b.value) refl b.then_ (record {
-      spelled = record { elements = r.all; parts = r.joined; first = r.seen };
-      kind_is = refl;
-      version_is = refl;
-    })
-
 pub hello_complete : (version : ℕ) (bitmap : Option ℕ) (body : List ℕ) → SpellsHello bitmap body → hello_at version body ≡ Ok (Hello version bitmap)
 unfolding hello_at
 hello_complete version bitmap body p =
     let read : many (hello_step (short body)) (length body) None 8 body ≡ Ok bitmap =
-    joined_read spells bitmap_of (hello_step (short body)) (step_complete (short body)) p.elements (length body) [] 8 body (omega arith) p.parts ∙ ap Ok (sym p.first) in
+    joined_read EachElement bitmap_of (hello_step (short body)) (step_complete (short body)) p.elements (length body) [] 8 body (omega arith) p.parts ∙ ap Ok (sym p.first) in
     rw read refl

@@ -1,6 +1,6 @@
 -- What decoding answers, against the grammar.
-use Rattle.std.proofs.Common.{◌≡◌, ℕ, ◌≤◌, ◌<◌, ◌++◌, List, [], length, get_or, Result, Ok, Err, arith}
-use Rattle.std.specs.Result.{IfOk, OnOk}
+use Rattle.std.proofs.Common.{◌≡◌, ℕ, ◌≤◌, ◌++◌, List, [], length, Result, Ok, Err, arith}
+use Rattle.std.specs.Result.{OnOk}
 use Rattle.std.proofs.lemmas.List.{length-append, nil_from_length}
 use Rattle.of_wire.specs.Numbers.{number_in}
 use Rattle.of_wire.proofs.Chosen.{one_answer}
@@ -12,11 +12,7 @@ use Rattle.of13_codec.specs.Decoding.{decoded, Decodes}
 use Rattle.of13_codec.specs.Messages.{version_of, kind_of}
 use Rattle.of13_codec.specs.Spelling.{Spells}
 use Rattle.of13_codec.specs.Faults.{Answers}
-use Rattle.of13_codec.proofs.DecodeLaws.{decode_sound, decode_complete}
-
-pub frame_spelled : (frame : List ℕ) (r : Result (Message × ℕ) WireRefused) → ((i : ℕ) → get_or frame i 0 < 256) → Decodes r (decoded frame) → IfOk r (λ x. Spells x.0 x.1 frame)
-frame_spelled frame (Ok x) h e = decode_sound frame x.0 x.1 (record { small = h }) e
-frame_spelled frame (Err f) h e = tt
+use Rattle.of13_codec.proofs.DecodeLaws.{decode_complete}
 
 refused_and_read : {A : Type 0} (frame : List ℕ) (f : WireRefused) (m : Message) (xid : ℕ) → decoded frame ≡ Err f → Spells m xid frame → A
 refused_and_read frame f m xid e p = let read = decode_complete m xid frame p in absurd (cc)

@@ -1,32 +1,21 @@
 -- Actions are read exactly where they are spelled.
-use Rattle.std.proofs.Common.{◌≡◌, ℕ, ◌+◌, ◌≤◌, true, false, not, cond, eqb, ltb, List, ◌++◌, length, take, Result, Ok, Err, refl, ◌∙◌, subst, arith}
-use Rattle.std.proofs.lemmas.Bool.{ltb-false, eqb-true, le-ltb, eq-eqb, not-false}
-use Rattle.std.proofs.lemmas.List.{length-drop, length-take-le, length-append}
-use Rattle.of_match.specs.declared.action.Action.{Action}
+use Rattle.std.proofs.Common.{◌≡◌, ℕ, ◌+◌, ◌≤◌, true, false, eqb, ltb, List, [], ◌∷◌, ◌++◌, length, take, drop, Ok, refl, sym, ◌∙◌, arith}
+use Rattle.std.proofs.lemmas.Bool.{le-ltb, eq-eqb}
+use Rattle.std.proofs.lemmas.List.{length-drop, length-take-le, length-append, take-append-drop}
 use Rattle.of_match.specs.declared.action.Action.TheVariants.{Output, PushVlan, PopVlan, DecTtl}
 use Rattle.of_wire.specs.declared.fault.PartFault.{PartFault}
-use Rattle.of_wire.specs.declared.fault.PartCause.TheVariants.{BadLength}
 use Rattle.of_wire.specs.Numbers.{number_in}
-use Rattle.of_wire.specs.Answers.{fault_at}
 use Rattle.of_wire.specs.Reading.{sized_at, output_at, push_at, bare_at, action_of, action_at}
 use Rattle.of_wire.specs.Grammar.{◌▷◌, Number, Ignored}
 use Rattle.of_wire.specs.Spelling.{SpellsAction}
 use Rattle.of_wire.proofs.Grammars.{AreBytes, bytes_take, number_then, number_again, number_of_take, number_of_front}
-use Rattle.of_wire.proofs.Chosen.{bind_ok, passed, one_answer}
+use Rattle.of_wire.proofs.Joining.{Part}
 
 -- the bytes begin with a part that is spelled
 pub record Front (spells : List ℕ → Type 0) (n : ℕ) (bytes : List ℕ) : Type 0 where
   pub room : n ≤ length bytes
   pub some : 1 ≤ n
   pub spelled : spells (take n bytes)
-
-sized_sound : (past : PartFault) (size len at : ℕ) (bytes : List ℕ) (n : ℕ) → sized_at past size len at bytes ≡ Ok n → (len ≡ size) × (size ≤ length bytes) × (size ≡ n)
-unfolding sized_at
-sized_sound past size len at bytes n e =
-    let r : Result ℕ PartFault = Ok size in
-    let a = passed (not (eqb len size)) (fault_at (at + 2) BadLength) (cond (ltb (length bytes) size) (Err past) r) n e in
-    let b = passed (ltb (length bytes) size) past r n a.1 in
-    (eqb-true _ _ (not-false _ a.0), ltb-false _ _ b.0, one_answer r size n refl b.1)
 
 sized_complete : (past : PartFault) (size at : ℕ) (bytes : List ℕ) → size ≤ length bytes → sized_at past size size at bytes ≡ Ok size
 unfolding sized_at
@@ -35,66 +24,59 @@ sized_complete past size at bytes l =
     let s : ltb (length bytes) size ≡ false = le-ltb _ _ l in
     rw (t, s) refl
 
-pub output_sound : (past : PartFault) (len at : ℕ) (bytes : List ℕ) (y : Action × ℕ) → AreBytes bytes → number_in 0 2 bytes ≡ 0 → number_in 2 2 bytes ≡ len
-    → output_at past len at bytes ≡ Ok y → Front (SpellsAction y.0) y.1 bytes
-unfolding output_at
-output_sound past len at bytes y h k l e =
-    let b = bind_ok (sized_at past 16 len at bytes) (λ n. Ok (Output (number_in 4 4 bytes) (number_in 8 2 bytes), n)) y e in
-    let s = sized_sound past 16 len at bytes b.value b.first in
+pub front_part : {A : Type 0} (spells : List A → A → List ℕ → Type 0) (before : List A) (a : A) (n : ℕ) (bytes : List ℕ) → Front (spells before a) n bytes → Part spells (λ l. l) before bytes (before ++ a ∷ [], n)
+front_part spells before a n bytes f = record {
+  part = a;
+  parts = record { first = take n bytes; rest = drop n bytes; whole = sym (take-append-drop n bytes); in_front = f.spelled; behind = f.some };
+  size = length-take-le n bytes f.room;
+  seen = refl;
+}
+
+-- what stands at the front is spelled where its type and its length are right
+pub output_front : (bytes : List ℕ) → AreBytes bytes → number_in 0 2 bytes ≡ 0 → number_in 2 2 bytes ≡ 16 → 16 ≤ length bytes → Front (SpellsAction (Output (number_in 4 4 bytes) (number_in 8 2 bytes))) 16 bytes
+output_front bytes h kind len room =
     let xs = take 16 bytes in
     let hx = bytes_take 16 bytes h in
-    let lx : length xs ≡ 16 = length-take-le 16 bytes s.1 in
-    let r : Result (Action × ℕ) PartFault = Ok (Output (number_in 4 4 bytes) (number_in 8 2 bytes), b.value) in
-    let is : (Output (number_in 4 4 bytes) (number_in 8 2 bytes), b.value) ≡ y = one_answer r _ y refl b.then_ in
-    let spelled : SpellsAction (Output (number_in 4 4 bytes) (number_in 8 2 bytes)) xs =
-    number_then 0 2 0 _ xs hx (omega arith) (number_of_take 0 2 16 bytes (omega arith) s.1 ∙ k) (
-    number_then 2 2 16 _ xs hx (omega arith) (number_of_take 2 2 16 bytes (omega arith) s.1 ∙ l ∙ s.0) (
-    number_then 4 4 (number_in 4 4 bytes) _ xs hx (omega arith) (number_of_take 4 4 16 bytes (omega arith) s.1) (
-    number_then 8 2 (number_in 8 2 bytes) _ xs hx (omega arith) (number_of_take 8 2 16 bytes (omega arith) s.1) (
-    omega (arith, length-drop 10 xs))))) in
-    let front : Front (SpellsAction (Output (number_in 4 4 bytes) (number_in 8 2 bytes))) b.value bytes =
-    subst (λ n. Front (SpellsAction (Output (number_in 4 4 bytes) (number_in 8 2 bytes))) n bytes) s.2 (record { room = s.1; some = omega arith; spelled = spelled }) in
-    subst (λ (z : Action × ℕ). Front (SpellsAction z.0) z.1 bytes) is front
+    let lx : length xs ≡ 16 = length-take-le 16 bytes room in
+    record {
+      room = room;
+      some = omega arith;
+      spelled =
+          number_then 0 2 0 _ xs hx (omega arith) (number_of_take 0 2 16 bytes (omega arith) room ∙ kind) (
+          number_then 2 2 16 _ xs hx (omega arith) (number_of_take 2 2 16 bytes (omega arith) room ∙ len) (
+          number_then 4 4 (number_in 4 4 bytes) _ xs hx (omega arith) (number_of_take 4 4 16 bytes (omega arith) room) (
+          number_then 8 2 (number_in 8 2 bytes) _ xs hx (omega arith) (number_of_take 8 2 16 bytes (omega arith) room) (
+          omega (arith, length-drop 10 xs)))));
+    }
 
-pub push_sound : (past : PartFault) (len at : ℕ) (bytes : List ℕ) (y : Action × ℕ) → AreBytes bytes → number_in 0 2 bytes ≡ 17 → number_in 2 2 bytes ≡ len
-    → push_at past len at bytes ≡ Ok y → Front (SpellsAction y.0) y.1 bytes
-unfolding push_at
-push_sound past len at bytes y h k l e =
-    let b = bind_ok (sized_at past 8 len at bytes) (λ n. Ok (PushVlan (number_in 4 2 bytes), n)) y e in
-    let s = sized_sound past 8 len at bytes b.value b.first in
+pub push_front : (bytes : List ℕ) → AreBytes bytes → number_in 0 2 bytes ≡ 17 → number_in 2 2 bytes ≡ 8 → 8 ≤ length bytes → Front (SpellsAction (PushVlan (number_in 4 2 bytes))) 8 bytes
+push_front bytes h kind len room =
     let xs = take 8 bytes in
     let hx = bytes_take 8 bytes h in
-    let lx : length xs ≡ 8 = length-take-le 8 bytes s.1 in
-    let r : Result (Action × ℕ) PartFault = Ok (PushVlan (number_in 4 2 bytes), b.value) in
-    let is : (PushVlan (number_in 4 2 bytes), b.value) ≡ y = one_answer r _ y refl b.then_ in
-    let spelled : SpellsAction (PushVlan (number_in 4 2 bytes)) xs =
-    number_then 0 2 17 _ xs hx (omega arith) (number_of_take 0 2 8 bytes (omega arith) s.1 ∙ k) (
-    number_then 2 2 8 _ xs hx (omega arith) (number_of_take 2 2 8 bytes (omega arith) s.1 ∙ l ∙ s.0) (
-    number_then 4 2 (number_in 4 2 bytes) _ xs hx (omega arith) (number_of_take 4 2 8 bytes (omega arith) s.1) (
-    omega (arith, length-drop 6 xs)))) in
-    let front : Front (SpellsAction (PushVlan (number_in 4 2 bytes))) b.value bytes =
-    subst (λ n. Front (SpellsAction (PushVlan (number_in 4 2 bytes))) n bytes) s.2 (record { room = s.1; some = omega arith; spelled = spelled }) in
-    subst (λ (z : Action × ℕ). Front (SpellsAction z.0) z.1 bytes) is front
+    let lx : length xs ≡ 8 = length-take-le 8 bytes room in
+    record {
+      room = room;
+      some = omega arith;
+      spelled =
+          number_then 0 2 17 _ xs hx (omega arith) (number_of_take 0 2 8 bytes (omega arith) room ∙ kind) (
+          number_then 2 2 8 _ xs hx (omega arith) (number_of_take 2 2 8 bytes (omega arith) room ∙ len) (
+          number_then 4 2 (number_in 4 2 bytes) _ xs hx (omega arith) (number_of_take 4 2 8 bytes (omega arith) room) (
+          omega (arith, length-drop 6 xs))));
+    }
 
-pub bare_sound : (past : PartFault) (a : Action) (kind len at : ℕ) (bytes : List ℕ) (y : Action × ℕ)
-    → ((xs : List ℕ) → (Number 2 kind ▷ Number 2 8 ▷ Ignored 4) xs → SpellsAction a xs)
-    → AreBytes bytes → number_in 0 2 bytes ≡ kind → number_in 2 2 bytes ≡ len
-    → bare_at past a len at bytes ≡ Ok y → Front (SpellsAction y.0) y.1 bytes
-unfolding bare_at
-bare_sound past a kind len at bytes y spells h k l e =
-    let b = bind_ok (sized_at past 8 len at bytes) (λ n. Ok (a, n)) y e in
-    let s = sized_sound past 8 len at bytes b.value b.first in
+pub bare_front : (kind : ℕ) (bytes : List ℕ) → AreBytes bytes → number_in 0 2 bytes ≡ kind → number_in 2 2 bytes ≡ 8 → 8 ≤ length bytes → Front (Number 2 kind ▷ Number 2 8 ▷ Ignored 4) 8 bytes
+bare_front kind bytes h is len room =
     let xs = take 8 bytes in
     let hx = bytes_take 8 bytes h in
-    let lx : length xs ≡ 8 = length-take-le 8 bytes s.1 in
-    let r : Result (Action × ℕ) PartFault = Ok (a, b.value) in
-    let is : (a, b.value) ≡ y = one_answer r _ y refl b.then_ in
-    let spelled : SpellsAction a xs = spells xs (
-    number_then 0 2 kind _ xs hx (omega arith) (number_of_take 0 2 8 bytes (omega arith) s.1 ∙ k) (
-    number_then 2 2 8 _ xs hx (omega arith) (number_of_take 2 2 8 bytes (omega arith) s.1 ∙ l ∙ s.0) (
-    omega (arith, length-drop 4 xs)))) in
-    let front : Front (SpellsAction a) b.value bytes = subst (λ n. Front (SpellsAction a) n bytes) s.2 (record { room = s.1; some = omega arith; spelled = spelled }) in
-    subst (λ (z : Action × ℕ). Front (SpellsAction z.0) z.1 bytes) is front
+    let lx : length xs ≡ 8 = length-take-le 8 bytes room in
+    record {
+      room = room;
+      some = omega arith;
+      spelled =
+          number_then 0 2 kind _ xs hx (omega arith) (number_of_take 0 2 8 bytes (omega arith) room ∙ is) (
+          number_then 2 2 8 _ xs hx (omega arith) (number_of_take 2 2 8 bytes (omega arith) room ∙ len) (
+          omega (arith, length-drop 4 xs)));
+    }
 
 -- what is spelled at the front is read, whatever follows
 pub output_complete : (past : PartFault) (port max_len at : ℕ) (first rest : List ℕ) → SpellsAction (Output port max_len) first

@@ -12,12 +12,13 @@ use Rattle.of_wire.specs.declared.fault.PartCause.TheVariants.{BadClass, BadLeng
 use Rattle.of_wire.specs.Numbers.{number_in}
 use Rattle.of_wire.specs.Answers.{fault_at}
 use Rattle.of_wire.specs.Reading.{◌>>=◌, field_named, has_mask, payload_len, wanted_len, field_value, known_field, known_step, unknown_step, named_step, field_step}
-use Rattle.of_wire.specs.Spelling.{stands, placed, known, SpellsItem, SpellsUnknown}
+use Rattle.of_wire.specs.Spelling.{stands, placed, known, MayStand, SpellsItem, SpellsUnknown}
 use Rattle.of_wire.specs.Faults.{ComesFirst, NamesNone, Names, FieldEndsEarly, FieldFault, unknown_field, field_again, unprepared, value_length, mask_length}
-use Rattle.of_wire.proofs.Grammars.{number_again}
+use Rattle.of_wire.proofs.Grammars.{AreBytes, number_again}
+use Rattle.of_wire.proofs.Joining.{Part}
 use Rattle.of_wire.proofs.FieldNames.{named, unnamed, unnamed_again, same_id}
 use Rattle.of_wire.proofs.FieldOrder.{view, stands_in_order, prerequisites_in_order}
-use Rattle.of_wire.proofs.FieldLaws.{plain_again, masked_again, step_sound, step_complete}
+use Rattle.of_wire.proofs.FieldLaws.{plain_again, masked_again, known_part, unknown_part, step_complete}
 use Rattle.of_wire.proofs.Verdicts.{Steps}
 use Rattle.of_wire.proofs.Told.{by_equal, by_less, by_test, Told, told_ok, told_fault, told_end, told_map}
 
@@ -30,6 +31,10 @@ some_header strict before bytes q d (field_again h id n t) = h
 some_header strict before bytes q d (unprepared h t id n p) = h
 some_header strict before bytes q d (value_length h id n e l) = h
 some_header strict before bytes q d (mask_length h id n e l) = h
+
+-- what a step gives where it reads a field: its part of the bytes
+abbrev FieldPart : (strict : Bool) → List (Option Field) → List ℕ → List Field × ℕ → Type 0
+FieldPart strict before bytes y = Part (SpellsItem strict) view before bytes y
 
 -- ---- a field that isn't known
 
@@ -47,13 +52,13 @@ passed_over before bytes strict lax none q d (unprepared h t id n p) = none id n
 passed_over before bytes strict lax none q d (value_length h id n e l) = none id n.0 n.1
 passed_over before bytes strict lax none q d (mask_length h id n e l) = none id n.0 n.1
 
-unknown_told : (strict : Bool) (past : PartFault) (before : List (Option Field)) (at : ℕ) (bytes : List ℕ) → 4 ≤ length bytes → field_named bytes ≡ None
-    → Told past at (FieldFault strict before bytes) (FieldEndsEarly bytes) bytes (unknown_step strict past (view before) at bytes)
+unknown_told : (strict : Bool) (past : PartFault) (before : List (Option Field)) (at : ℕ) (bytes : List ℕ) → AreBytes bytes → 4 ≤ length bytes → field_named bytes ≡ None
+    → Told (FieldPart strict before bytes) past at (FieldFault strict before bytes) (FieldEndsEarly bytes) bytes (unknown_step strict past (view before) at bytes)
 unfolding unknown_step
-unknown_told strict past before at bytes head name =
+unknown_told strict past before at bytes h head name =
     let own = FieldFault strict before bytes in
     let early = FieldEndsEarly bytes in
-    let P = λ (r : Result (List Field × ℕ) PartFault). Told past at own early bytes r in
+    let P = λ (r : Result (List Field × ℕ) PartFault). Told (FieldPart strict before bytes) past at own early bytes r in
     let n = 4 + payload_len bytes in
     let out : Result (List Field × ℕ) PartFault = Ok (view before, n) in
     let wrong : Result (List Field × ℕ) PartFault = Err (fault_at at BadClass) in
@@ -62,7 +67,7 @@ unknown_told strict past before at bytes head name =
     (λ t. told_fault past at own early bytes wrong 0 BadClass (ap (λ k. Err (fault_at k BadClass)) (omega arith)) (omega arith) (unknown_field head t none) (class_first strict before bytes))
     (λ lax. by_less P (length bytes) n (Err past) out
     (λ few. told_end past at own early bytes (Err past) refl (omega arith) (inr few) (passed_over before bytes strict lax none))
-    (λ room. told_ok past at own early bytes out (view before, n) refl (passed_over before bytes strict lax none)
+    (λ room. told_ok past at own early bytes out (view before, n) refl (unknown_part strict before bytes h name lax room) (passed_over before bytes strict lax none)
     (λ ends. elim ends [ inl lt ↦ omega (arith, lt) | inr lt ↦ omega (arith, lt, room) ])))
 
 -- ---- a known field
@@ -122,30 +127,30 @@ module _ (strict : Bool) (before : List (Option Field)) (bytes : List ℕ) (id :
         value_length head id name (omega arith) (λ e. ne (e ∙ sym wanted))
   ]
 
-  known_told : (past : PartFault) (at : ℕ) → 4 ≤ length bytes → Told past at (FieldFault strict before bytes) (FieldEndsEarly bytes) bytes (known_field past id at bytes)
+  known_told : (past : PartFault) (at : ℕ) → 4 ≤ length bytes → Told (λ f. (f ≡ field_value id bytes) × (payload_len bytes ≡ wanted_len id (has_mask bytes)) × (4 + payload_len bytes ≤ length bytes)) past at (FieldFault strict before bytes) (FieldEndsEarly bytes) bytes (known_field past id at bytes)
   unfolding known_field
   known_told past at head =
       let own = FieldFault strict before bytes in
       let early = FieldEndsEarly bytes in
-      let P = λ (r : Result Field PartFault). Told past at own early bytes r in
+      let P = λ (r : Result Field PartFault). Told (λ f. (f ≡ field_value id bytes) × (payload_len bytes ≡ wanted_len id (has_mask bytes)) × (4 + payload_len bytes ≤ length bytes)) past at own early bytes r in
       let n = 4 + payload_len bytes in
       let out : Result Field PartFault = Ok (field_value id bytes) in
       let wrong : Result Field PartFault = Err (fault_at (at + 3) BadLength) in
       by_equal P (payload_len bytes) (wanted_len id (has_mask bytes)) (cond (ltb (length bytes) n) (Err past) out) wrong
       (λ e. by_less P (length bytes) n (Err past) out
       (λ few. told_end past at own early bytes (Err past) refl (omega arith) (inr few) (right_length e))
-      (λ room. told_ok past at own early bytes out (field_value id bytes) refl (right_length e)
+      (λ room. told_ok past at own early bytes out (field_value id bytes) refl (refl, e, room) (right_length e)
       (λ ends. elim ends [ inl lt ↦ omega (arith, lt) | inr lt ↦ omega (arith, lt, room) ])))
       (λ ne. told_fault past at own early bytes wrong 3 BadLength refl (omega arith) (wrong_length head ne)
       (only_length (ComesFirst 3 BadLength) (λ even l. inr (refl, omega arith)) (λ odd l. inr (refl, omega arith))))
 
-known_step_told : (strict : Bool) (past : PartFault) (before : List (Option Field)) (id : FieldId) (at : ℕ) (bytes : List ℕ) → 4 ≤ length bytes → field_named bytes ≡ Some id
-    → Told past at (FieldFault strict before bytes) (FieldEndsEarly bytes) bytes (known_step strict past id (view before) at bytes)
-unfolding known_step
-known_step_told strict past before id at bytes head is =
+known_step_told : (strict : Bool) (past : PartFault) (before : List (Option Field)) (id : FieldId) (at : ℕ) (bytes : List ℕ) → AreBytes bytes → 4 ≤ length bytes → field_named bytes ≡ Some id
+    → Told (FieldPart strict before bytes) past at (FieldFault strict before bytes) (FieldEndsEarly bytes) bytes (known_step strict past id (view before) at bytes)
+unfolding known_step field_value
+known_step_told strict past before id at bytes h head is =
     let own = FieldFault strict before bytes in
     let early = FieldEndsEarly bytes in
-    let P = λ (r : Result (List Field × ℕ) PartFault). Told past at own early bytes r in
+    let P = λ (r : Result (List Field × ℕ) PartFault). Told (FieldPart strict before bytes) past at own early bytes r in
     let fs = view before in
     let name : Names 0 id bytes = named bytes id is in
     let make : Field → List Field × ℕ = λ f. (placed f fs, 4 + payload_len bytes) in
@@ -168,23 +173,26 @@ known_step_told strict past before id at bytes head is =
       | inl lax ↦ false_true strict lax s
       | inr met ↦ sym (prerequisites_in_order id (known before)) ∙ not-false _ met
     ] in
-    told_map past at (length bytes) own _ early read make (known_told strict before bytes id name once prepared past at head)))))
+    let may : MayStand strict (known before) (field_value id bytes) = record { once = once; prerequisites = prepared } in
+    told_map past at (length bytes) own _ early read make
+    (λ f p. subst (λ g. FieldPart strict before bytes (placed g fs, 4 + payload_len bytes)) (sym p.0) (known_part strict id before bytes h is may p.1 p.2))
+    (known_told strict before bytes id name once prepared past at head)))))
 
-named_told : (strict : Bool) (past : PartFault) (before : List (Option Field)) (o : Option FieldId) (at : ℕ) (bytes : List ℕ) → 4 ≤ length bytes → field_named bytes ≡ o
-    → Told past at (FieldFault strict before bytes) (FieldEndsEarly bytes) bytes (named_step o strict past (view before) at bytes)
-named_told strict past before (Some id) at bytes head name = known_step_told strict past before id at bytes head name
-named_told strict past before None at bytes head name = unknown_told strict past before at bytes head name
+named_told : (strict : Bool) (past : PartFault) (before : List (Option Field)) (o : Option FieldId) (at : ℕ) (bytes : List ℕ) → AreBytes bytes → 4 ≤ length bytes → field_named bytes ≡ o
+    → Told (FieldPart strict before bytes) past at (FieldFault strict before bytes) (FieldEndsEarly bytes) bytes (named_step o strict past (view before) at bytes)
+named_told strict past before (Some id) at bytes h head name = known_step_told strict past before id at bytes h head name
+named_told strict past before None at bytes h head name = unknown_told strict past before at bytes h head name
 
-field_told : (strict : Bool) (past : PartFault) (before : List (Option Field)) (at : ℕ) (bytes : List ℕ) → 0 < length bytes
-    → Told past at (FieldFault strict before bytes) (FieldEndsEarly bytes) bytes (field_step strict past (view before) at bytes)
+field_told : (strict : Bool) (past : PartFault) (before : List (Option Field)) (at : ℕ) (bytes : List ℕ) → AreBytes bytes → 0 < length bytes
+    → Told (FieldPart strict before bytes) past at (FieldFault strict before bytes) (FieldEndsEarly bytes) bytes (field_step strict past (view before) at bytes)
 unfolding field_step
-field_told strict past before at bytes some =
+field_told strict past before at bytes h some =
     let own = FieldFault strict before bytes in
     let early = FieldEndsEarly bytes in
-    let P = λ (r : Result (List Field × ℕ) PartFault). Told past at own early bytes r in
+    let P = λ (r : Result (List Field × ℕ) PartFault). Told (FieldPart strict before bytes) past at own early bytes r in
     by_less P (length bytes) 4 (Err past) (named_step (field_named bytes) strict past (view before) at bytes)
     (λ few. told_end past at own early bytes (Err past) refl some (inl few) (λ q d f. (let l = some_header strict before bytes q d f in omega arith)))
-    (λ head. named_told strict past before (field_named bytes) at bytes head refl)
+    (λ head. named_told strict past before (field_named bytes) at bytes h head refl)
 
 -- ---- bytes spell one field
 
@@ -222,8 +230,7 @@ one_field strict before None None bytes p q = refl
 
 pub field_steps : (strict : Bool) (past : PartFault) → Steps (SpellsItem strict) view (field_step strict past) past FieldEndsEarly (FieldFault strict)
 field_steps strict past = record {
-  verdict = λ before at bytes h some. field_told strict past before at bytes some;
-  sound = step_sound strict past;
+  verdict = field_told strict past;
   complete = step_complete strict past;
   same = one_field strict;
   some = λ before bytes q d f. (let l = some_header strict before bytes q d f in omega arith);

@@ -1,19 +1,16 @@
 -- Fields of a match are read exactly where they are spelled.
-use Rattle.std.proofs.Common.{◌≡◌, ℕ, ◌+◌, ◌*◌, ◌/◌, ◌%◌, ◌≤◌, Bool, true, false, not, ◌&&◌, cond, eqb, ltb, List, ◌++◌, length, take, drop, Option, Some, None, Result, Ok, Err, refl, sym, ap, ◌∙◌, subst, arith, inl, inr}
-use Rattle.std.proofs.lemmas.Bool.{ltb-false, eqb-true, eqb-false, le-ltb, eq-eqb, ne_eqb, not-false, and_cases, cases_Bool}
+use Rattle.std.proofs.Common.{◌≡◌, ℕ, ◌+◌, ◌*◌, ◌/◌, ◌%◌, ◌≤◌, Bool, true, false, not, ◌&&◌, eqb, ltb, List, ◌++◌, length, take, drop, Option, Some, None, Ok, refl, sym, ap, ◌∙◌, subst, arith, inl, inr}
+use Rattle.std.proofs.lemmas.Bool.{eqb-true, eqb-false, le-ltb, eq-eqb, ne_eqb, cases_Bool}
 use Rattle.std.proofs.lemmas.List.{length-drop, length-take-le, length-append, take-append-drop}
 use Rattle.net_base.specs.declared.field.Field.{Field}
 use Rattle.net_base.specs.declared.field.FieldId.{FieldId}
 use Rattle.net_base.specs.FieldId.{number_of, byte_len_of, all_ones}
 use Rattle.net_base.specs.WellFormed.{has_prerequisite}
 use Rattle.of_wire.specs.declared.fault.PartFault.{PartFault}
-use Rattle.of_wire.specs.declared.fault.PartCause.TheVariants.{BadLength, BadClass, Repeated, Prerequisite}
 use Rattle.of_wire.specs.Numbers.{number_in}
-use Rattle.of_wire.specs.Answers.{fault_at}
-use Rattle.of_wire.specs.Reading.{◌>>=◌, field_named, has_mask, payload_len, wanted_len, field_value, known_field, known_step, unknown_step, named_step, field_step}
+use Rattle.of_wire.specs.Reading.{field_named, has_mask, payload_len, wanted_len, field_value, known_field, known_step, unknown_step, field_step}
 use Rattle.of_wire.specs.Spelling.{stands, placed, SpellsPlain, SpellsMasked, SpellsField, SpellsUnknown, SpellsItem, MayStand, known}
 use Rattle.of_wire.proofs.Grammars.{AreBytes, bytes_take, has_number, number_then, number_again, number_ends, number_of_take, number_of_front}
-use Rattle.of_wire.proofs.Chosen.{bind_ok, passed, held, one_answer}
 use Rattle.of_wire.proofs.FieldNames.{named, named_again, unnamed, unnamed_again, one_byte}
 use Rattle.of_wire.proofs.FieldOrder.{view, view_some, view_none, stands_in_order, prerequisites_in_order}
 use Rattle.of_wire.proofs.Joining.{Part, IsRead}
@@ -71,10 +68,6 @@ masked_sound id bytes h name flag len room =
     (number_of_take 3 1 w bytes (omega arith) room ∙ len)
     (number_of_take 4 (byte_len_of id) w bytes (omega arith) room)
     (number_of_take (4 + byte_len_of id) (byte_len_of id) w bytes (omega arith) room))
-
-record Sized (id : FieldId) (bytes : List ℕ) : Type 0 where
-  pub room : 4 + payload_len bytes ≤ length bytes
-  pub spelled : SpellsField (field_value id bytes) (take (4 + payload_len bytes) bytes)
 
 field_sound : (id : FieldId) (bytes : List ℕ) → AreBytes bytes → field_named bytes ≡ Some id → payload_len bytes ≡ wanted_len id (has_mask bytes) → 4 + payload_len bytes ≤ length bytes
     → SpellsField (field_value id bytes) (take (4 + payload_len bytes) bytes)
@@ -152,48 +145,22 @@ masked_again f first rest p =
 
 -- ---- a known field among others
 
-known_sound : (strict : Bool) (past : PartFault) (id : FieldId) (before : List (Option Field)) (at : ℕ) (bytes : List ℕ) (y : List Field × ℕ) → AreBytes bytes → field_named bytes ≡ Some id
-    → known_step strict past id (view before) at bytes ≡ Ok y → Part (SpellsItem strict) view before bytes y
-unfolding known_step known_field field_value
-known_sound strict past id before at bytes y h name e =
-    let fs = view before in
-    let read = known_field past id at bytes in
+pub known_part : (strict : Bool) (id : FieldId) (before : List (Option Field)) (bytes : List ℕ) → AreBytes bytes → field_named bytes ≡ Some id → MayStand strict (known before) (field_value id bytes)
+    → payload_len bytes ≡ wanted_len id (has_mask bytes) → 4 + payload_len bytes ≤ length bytes → Part (SpellsItem strict) view before bytes (placed (field_value id bytes) (view before), 4 + payload_len bytes)
+known_part strict id before bytes h name may len room =
     let f = field_value id bytes in
     let n = 4 + payload_len bytes in
-    let next = λ (f : Field). Ok (placed f fs, 4 + payload_len bytes) in
-    let a = passed (stands id fs) (fault_at at Repeated) (cond (strict && not (has_prerequisite id fs)) (Err (fault_at at Prerequisite)) (read >>= next)) y e in
-    let b = passed (strict && not (has_prerequisite id fs)) (fault_at at Prerequisite) (read >>= next) y a.1 in
-    let c = bind_ok read next y b.1 in
-    let r : Result Field PartFault = Ok f in
-    let d = held (eqb (payload_len bytes) (wanted_len id (has_mask bytes))) (fault_at (at + 3) BadLength) (cond (ltb (length bytes) n) (Err past) r) c.value c.first in
-    let g = passed (ltb (length bytes) n) past r c.value d.1 in
-    let is : f ≡ c.value = one_answer r f c.value refl g.1 in
-    let room : n ≤ length bytes = ltb-false _ _ g.0 in
-    let spelled = field_sound id bytes h name (eqb-true _ _ d.0) room in
-    let q : Result (List Field × ℕ) PartFault = Ok (placed c.value fs, n) in
-    let out : (placed c.value fs, n) ≡ y = one_answer q _ y refl c.then_ in
-    let once : stands id (known before) ≡ false = sym (stands_in_order id (known before)) ∙ a.0 in
-    let met : strict ≡ true → not (has_prerequisite id fs) ≡ false = λ t. elim (and_cases strict (not (has_prerequisite id fs)) b.0) [ inl lax ↦ absurd (cc) | inr holds ↦ holds ] in
-    let may : MayStand strict (known before) f = record { once = once; prerequisites = λ t. sym (prerequisites_in_order id (known before)) ∙ not-false _ (met t) } in
-    let size : length (take n bytes) ≡ n = length-take-le n bytes room in
-    let part : Part (SpellsItem strict) view before bytes (placed c.value fs, n) = record {
+    record {
       part = Some f;
-      parts = record { first = take n bytes; rest = drop n bytes; whole = sym (take-append-drop n bytes); in_front = (spelled, may); behind = omega arith };
-      size = size;
-      seen = ap (λ g. placed g fs) (sym is) ∙ sym (view_some before f);
-    } in
-    subst (λ (z : List Field × ℕ). Part (SpellsItem strict) view before bytes z) out part
+      parts = record { first = take n bytes; rest = drop n bytes; whole = sym (take-append-drop n bytes); in_front = (field_sound id bytes h name len room, may); behind = omega arith };
+      size = length-take-le n bytes room;
+      seen = sym (view_some before f);
+    }
 
-unknown_sound : (strict : Bool) (past : PartFault) (before : List (Option Field)) (at : ℕ) (bytes : List ℕ) (y : List Field × ℕ) → AreBytes bytes → field_named bytes ≡ None
-    → unknown_step strict past (view before) at bytes ≡ Ok y → Part (SpellsItem strict) view before bytes y
-unfolding unknown_step
-unknown_sound strict past before at bytes y h name e =
+pub unknown_part : (strict : Bool) (before : List (Option Field)) (bytes : List ℕ) → AreBytes bytes → field_named bytes ≡ None → strict ≡ false → 4 + payload_len bytes ≤ length bytes
+    → Part (SpellsItem strict) view before bytes (view before, 4 + payload_len bytes)
+unknown_part strict before bytes h name lax room =
     let n = 4 + payload_len bytes in
-    let r : Result (List Field × ℕ) PartFault = Ok (view before, n) in
-    let a = passed strict (fault_at at BadClass) (cond (ltb (length bytes) n) (Err past) r) y e in
-    let b = passed (ltb (length bytes) n) past r y a.1 in
-    let out : (view before, n) ≡ y = one_answer r _ y refl b.1 in
-    let room : n ≤ length bytes = ltb-false _ _ b.0 in
     let xs = take n bytes in
     let hx = bytes_take n bytes h in
     let size : length xs ≡ n = length-take-le n bytes room in
@@ -208,25 +175,12 @@ unknown_sound strict past before at bytes y h name e =
           omega (arith, length-drop 4 xs))));
       unknown = λ id c k. unnamed bytes id name c k;
     } in
-    let part : Part (SpellsItem strict) view before bytes (view before, n) = record {
+    record {
       part = None;
-      parts = record { first = xs; rest = drop n bytes; whole = sym (take-append-drop n bytes); in_front = (spelled, a.0); behind = omega arith };
+      parts = record { first = xs; rest = drop n bytes; whole = sym (take-append-drop n bytes); in_front = (spelled, lax); behind = omega arith };
       size = size;
       seen = sym (view_none before);
-    } in
-    subst (λ (z : List Field × ℕ). Part (SpellsItem strict) view before bytes z) out part
-
-named_sound : (strict : Bool) (past : PartFault) (o : Option FieldId) (before : List (Option Field)) (at : ℕ) (bytes : List ℕ) (y : List Field × ℕ) → AreBytes bytes → field_named bytes ≡ o
-    → named_step o strict past (view before) at bytes ≡ Ok y → Part (SpellsItem strict) view before bytes y
-named_sound strict past (Some id) before at bytes y h name e = known_sound strict past id before at bytes y h name e
-named_sound strict past None before at bytes y h name e = unknown_sound strict past before at bytes y h name e
-
-pub step_sound : (strict : Bool) (past : PartFault) (before : List (Option Field)) (at : ℕ) (bytes : List ℕ) (y : List Field × ℕ) → AreBytes bytes
-    → field_step strict past (view before) at bytes ≡ Ok y → Part (SpellsItem strict) view before bytes y
-unfolding field_step
-step_sound strict past before at bytes y h e =
-    let a = passed (ltb (length bytes) 4) past (named_step (field_named bytes) strict past (view before) at bytes) y e in
-    named_sound strict past (field_named bytes) before at bytes y h refl a.1
+    }
 
 known_complete : (strict masked : Bool) (past : PartFault) (before : List (Option Field)) (f : Field) (at : ℕ) (first rest : List ℕ)
     → FieldAgain f masked (first ++ rest) (length first) → MayStand strict (known before) f

@@ -1,5 +1,5 @@
 -- What reading instructions answers is the first fault that stands in their bytes.
-use Rattle.std.proofs.Common.{◌≡◌, ◌≢◌, ℕ, ◌+◌, ◌-◌, ◌≤◌, ◌<◌, Bool, true, false, not, cond, eqb, ltb, List, [], ◌∷◌, ◌++◌, length, drop, get_or, Result, Ok, Err, refl, ap, ◌∙◌, arith, inl, inr}
+use Rattle.std.proofs.Common.{◌≡◌, ◌≢◌, ℕ, ◌+◌, ◌-◌, ◌≤◌, ◌<◌, Bool, true, false, not, cond, eqb, ltb, List, [], ◌∷◌, ◌++◌, length, drop, get_or, Result, Ok, Err, refl, sym, ap, ◌∙◌, subst, arith, inl, inr}
 use Rattle.std.proofs.lemmas.Bool.{lt-ltb, le-ltb}
 use Rattle.std.proofs.lemmas.List.{length-append, length-drop, length-take}
 use Rattle.of_match.specs.declared.action.Action.{Action}
@@ -15,14 +15,20 @@ use Rattle.of_wire.specs.Reading.{◌>>=◌, past_end, actions_at, goto_at, appl
 use Rattle.of_wire.specs.Faults.{ComesFirst, Behind, EndsIn, CutsOff, EndsEarly, TellsFirst, From, SpelledOrFaulty, EachAction, WrongAction, ActionsFault, applied, GotoFault, goto_again, goto_length, ApplyFault, apply_again, apply_late, apply_empty, apply_cut, in_action, InstrFault, unknown_instr, in_goto, in_apply, EachInstr, InstrsFault, FaultInInstrs}
 use Rattle.of_wire.proofs.Grammars.{AreBytes, bytes_take, bytes_drop}
 use Rattle.of_wire.proofs.Chosen.{one_answer}
-use Rattle.of_wire.proofs.InstrLaws.{instr_complete, step_sound, step_complete, instrs_sound}
+use Rattle.of_wire.proofs.InstrLaws.{goto_front, apply_front, instr_complete, step_complete}
 use Rattle.of_wire.specs.Spelling.{has_goto, has_apply, SpellsInstrs}
+use Rattle.of_wire.proofs.ActionLaws.{Front, front_part}
+use Rattle.of_wire.proofs.Joining.{Parts}
 use Rattle.of_wire.proofs.Verdicts.{Verdict, Steps, many_verdict, cut_ends, comes_first_after}
-use Rattle.of_wire.proofs.Told.{by_equal, by_other, by_less, by_not_less, by_test, Told, told_ok, told_fault, told_end, told_map, told_as, tells_first, spelled_or_faulty}
+use Rattle.of_wire.proofs.Told.{by_equal, by_other, by_less, by_not_less, by_test, Told, told_ok, told_fault, told_end, told_map, told_as, told_spelled, told_value, tells_first, spelled_or_faulty}
 use Rattle.of_wire.proofs.ActionFaults.{some_bytes, actions_told}
 
 false_true : {A : Type 0} (b : Bool) → b ≡ false → b ≡ true → A
 false_true b e t = absurd (cc)
+
+-- what reading an instruction gives: it stands at the front, and may stand there
+abbrev InstrFront : List Instr → List ℕ → Instr × ℕ → Type 0
+InstrFront before bytes y = Front (EachInstr before y.0) y.1 bytes
 
 -- ---- GOTO_TABLE
 
@@ -38,13 +44,13 @@ no_goto_fault : (before : List Instr) (bytes : List ℕ) → has_goto before ≡
 no_goto_fault before bytes once e q d (goto_again t) = false_true (has_goto before) once t
 no_goto_fault before bytes once e q d (goto_length ne) = ne e
 
-goto_told : (past : PartFault) (before : List Instr) (at : ℕ) (bytes : List ℕ) → 4 ≤ length bytes → Told past at (GotoFault before bytes) (EndsEarly bytes) bytes (goto_at past before (number_in 2 2 bytes) at bytes)
+goto_told : (past : PartFault) (before : List Instr) (at : ℕ) (bytes : List ℕ) → AreBytes bytes → number_in 0 2 bytes ≡ 1 → 4 ≤ length bytes → Told (InstrFront before bytes) past at (GotoFault before bytes) (EndsEarly bytes) bytes (goto_at past before (number_in 2 2 bytes) at bytes)
 unfolding goto_at
-goto_told past before at bytes head =
+goto_told past before at bytes h kind head =
     let len = number_in 2 2 bytes in
     let own = GotoFault before bytes in
     let early = EndsEarly bytes in
-    let P = λ (r : Result (Instr × ℕ) PartFault). Told past at own early bytes r in
+    let P = λ (r : Result (Instr × ℕ) PartFault). Told (InstrFront before bytes) past at own early bytes r in
     let out : Result (Instr × ℕ) PartFault = Ok (Goto (number_in 4 1 bytes), 8) in
     let wrong : Result (Instr × ℕ) PartFault = Err (fault_at (at + 2) BadLength) in
     let again : Result (Instr × ℕ) PartFault = Err (fault_at at Repeated) in
@@ -54,7 +60,7 @@ goto_told past before at bytes head =
     (λ ne. told_fault past at own early bytes wrong 2 BadLength refl (omega arith) (goto_length ne) (length_first before bytes once))
     (λ e. by_less P (length bytes) 8 (Err past) out
     (λ few. told_end past at own early bytes (Err past) refl (omega arith) (inr (omega (arith, e, few))) (no_goto_fault before bytes once e))
-    (λ room. told_ok past at own early bytes out (Goto (number_in 4 1 bytes), 8) refl (no_goto_fault before bytes once e)
+    (λ room. told_ok past at own early bytes out (Goto (number_in 4 1 bytes), 8) refl (goto_front before bytes h kind e room once) (no_goto_fault before bytes once e)
     (λ ends. elim ends [ inl lt ↦ omega (arith, lt) | inr lt ↦ omega (arith, lt, e, room) ]))))
 
 -- ---- APPLY_ACTIONS
@@ -107,7 +113,7 @@ next bytes past actions = cond (ltb (length bytes) (number_in 2 2 bytes)) (Err p
 
 -- the bytes end before the length: what is wrong inside comes first
 short_told : (past : PartFault) (before : List Instr) (at : ℕ) (bytes : List ℕ) → AreBytes bytes → 8 ≤ length bytes → Alone before → 8 < number_in 2 2 bytes → length bytes < number_in 2 2 bytes
-    → Told past at (ApplyFault before bytes) (EndsEarly bytes) bytes (actions_at past (at + 8) (applied bytes) >>= next bytes past)
+    → Told (InstrFront before bytes) past at (ApplyFault before bytes) (EndsEarly bytes) bytes (actions_at past (at + 8) (applied bytes) >>= next bytes past)
 short_told past before at bytes h head a large few =
     let len = number_in 2 2 bytes in
     let own = ApplyFault before bytes in
@@ -130,9 +136,9 @@ short_told past before at bytes h head a large few =
     ]
 
 -- the length ends in the bytes: where it cuts off an action it is wrong
-whole_told : (past : PartFault) (before : List Instr) (at : ℕ) (bytes : List ℕ) → AreBytes bytes → 8 ≤ length bytes → Alone before → 8 < number_in 2 2 bytes → number_in 2 2 bytes ≤ length bytes
-    → Told past at (ApplyFault before bytes) (EndsEarly bytes) bytes (actions_at (fault_at (at + 2) BadLength) (at + 8) (applied bytes) >>= next bytes past)
-whole_told past before at bytes h head a large fits =
+whole_told : (past : PartFault) (before : List Instr) (at : ℕ) (bytes : List ℕ) → AreBytes bytes → number_in 0 2 bytes ≡ 4 → 8 ≤ length bytes → Alone before → 8 < number_in 2 2 bytes → number_in 2 2 bytes ≤ length bytes
+    → Told (InstrFront before bytes) past at (ApplyFault before bytes) (EndsEarly bytes) bytes (actions_at (fault_at (at + 2) BadLength) (at + 8) (applied bytes) >>= next bytes past)
+whole_told past before at bytes h kind head a large fits =
     let len = number_in 2 2 bytes in
     let own = ApplyFault before bytes in
     let early = EndsEarly bytes in
@@ -146,7 +152,7 @@ whole_told past before at bytes h head a large fits =
     elim (actions_told wrong (at + 8) region (bytes_take (len - 8) (drop 8 bytes) (bytes_drop 8 bytes h))) [
       | inl p ↦
           let ends : next bytes past p.value ≡ Ok (Apply p.value, len) = rw t refl in
-          told_ok past at own early bytes r (Apply p.value, len) (ap bind p.is ∙ ends)
+          told_ok past at own early bytes r (Apply p.value, len) (ap bind p.is ∙ ends) (apply_front before p.value bytes h kind large fits p.spelled (a.once, a.leads))
           (only_inside before bytes a large (λ q d. ⊥) (λ le b. p.whole (cut_ends EachAction EndsEarly WrongAction [] region b)) p.none)
           (λ ends. elim ends [ inl lt ↦ omega (arith, lt) | inr lt ↦ omega (arith, lt) ])
       | inr (inl f) ↦ told_fault past at own early bytes r (8 + f.place) f.cause (ap bind f.is ∙ ap (λ n. Err (fault_at n f.cause)) (omega arith)) (omega (arith, f.inside, size)) (in_action f.place f.cause f.there)
@@ -154,14 +160,14 @@ whole_told past before at bytes h head a large fits =
       | inr (inr e) ↦ told_fault past at own early bytes r 2 BadLength (ap bind e.is) (omega arith) (apply_cut fits e.early) (apply_length_first before bytes a)
     ]
 
-applied_told : (past : PartFault) (before : List Instr) (at : ℕ) (bytes : List ℕ) → AreBytes bytes → 8 ≤ length bytes → Alone before → 8 < number_in 2 2 bytes
-    → Told past at (ApplyFault before bytes) (EndsEarly bytes) bytes (applied_at past (number_in 2 2 bytes) at bytes)
+applied_told : (past : PartFault) (before : List Instr) (at : ℕ) (bytes : List ℕ) → AreBytes bytes → number_in 0 2 bytes ≡ 4 → 8 ≤ length bytes → Alone before → 8 < number_in 2 2 bytes
+    → Told (InstrFront before bytes) past at (ApplyFault before bytes) (EndsEarly bytes) bytes (applied_at past (number_in 2 2 bytes) at bytes)
 unfolding applied_at past_end
-applied_told past before at bytes h head a large =
+applied_told past before at bytes h kind head a large =
     let len = number_in 2 2 bytes in
     let wrong = fault_at (at + 2) BadLength in
-    let P = λ (inside : PartFault). Told past at (ApplyFault before bytes) (EndsEarly bytes) bytes (actions_at inside (at + 8) (applied bytes) >>= next bytes past) in
-    by_less P (length bytes) len past wrong (short_told past before at bytes h head a large) (whole_told past before at bytes h head a large)
+    let P = λ (inside : PartFault). Told (InstrFront before bytes) past at (ApplyFault before bytes) (EndsEarly bytes) bytes (actions_at inside (at + 8) (applied bytes) >>= next bytes past) in
+    by_less P (length bytes) len past wrong (short_told past before at bytes h head a large) (whole_told past before at bytes h kind head a large)
 
 no_bytes_inside : (before : List Instr) (bytes : List ℕ) → Alone before → 8 < number_in 2 2 bytes → length bytes < 8 → (q : ℕ) (d : PartCause) → ApplyFault before bytes q d → ⊥
 no_bytes_inside before bytes a large few =
@@ -169,13 +175,13 @@ no_bytes_inside before bytes a large few =
     let none : length (applied bytes) ≡ 0 = omega (arith, length-take (len - 8) (drop 8 bytes), length-drop 8 bytes) in
     only_inside before bytes a large (λ q d. ⊥) (λ le b. omega arith) (λ q d o. omega (arith, none, some_inside (applied bytes) q d o))
 
-apply_told : (past : PartFault) (before : List Instr) (at : ℕ) (bytes : List ℕ) → AreBytes bytes → 4 ≤ length bytes → Told past at (ApplyFault before bytes) (EndsEarly bytes) bytes (apply_at past before (number_in 2 2 bytes) at bytes)
+apply_told : (past : PartFault) (before : List Instr) (at : ℕ) (bytes : List ℕ) → AreBytes bytes → number_in 0 2 bytes ≡ 4 → 4 ≤ length bytes → Told (InstrFront before bytes) past at (ApplyFault before bytes) (EndsEarly bytes) bytes (apply_at past before (number_in 2 2 bytes) at bytes)
 unfolding apply_at
-apply_told past before at bytes h head =
+apply_told past before at bytes h kind head =
     let len = number_in 2 2 bytes in
     let own = ApplyFault before bytes in
     let early = EndsEarly bytes in
-    let P = λ (r : Result (Instr × ℕ) PartFault). Told past at own early bytes r in
+    let P = λ (r : Result (Instr × ℕ) PartFault). Told (InstrFront before bytes) past at own early bytes r in
     let again : Result (Instr × ℕ) PartFault = Err (fault_at at Repeated) in
     let late : Result (Instr × ℕ) PartFault = Err (fault_at at UnknownInstr) in
     let wrong : Result (Instr × ℕ) PartFault = Err (fault_at (at + 2) BadLength) in
@@ -192,7 +198,7 @@ apply_told past before at bytes h head =
     (λ small. told_fault past at own early bytes wrong 2 BadLength refl (omega arith) (apply_empty small) (apply_length_first before bytes a))
     (λ large. by_less P (length bytes) 8 (Err past) four
     (λ few. told_end past at own early bytes (Err past) refl (omega arith) (inr (omega (arith, few, large))) (no_bytes_inside before bytes a large few))
-    (λ room. applied_told past before at bytes h room a large)))))
+    (λ room. applied_told past before at bytes h kind room a large)))))
 
 -- ---- an instruction
 
@@ -216,23 +222,23 @@ some_header before bytes q d (unknown_instr h one four) = h
 some_header before bytes q d (in_goto h e place cause f) = h
 some_header before bytes q d (in_apply h e place cause f) = h
 
-instr_told : (past : PartFault) (before : List Instr) (at : ℕ) (bytes : List ℕ) → AreBytes bytes → 0 < length bytes → Told past at (InstrFault before bytes) (EndsEarly bytes) bytes (instr_at past before at bytes)
+instr_told : (past : PartFault) (before : List Instr) (at : ℕ) (bytes : List ℕ) → AreBytes bytes → 0 < length bytes → Told (InstrFront before bytes) past at (InstrFault before bytes) (EndsEarly bytes) bytes (instr_at past before at bytes)
 unfolding instr_at instr_of
 instr_told past before at bytes h some =
     let kind = number_in 0 2 bytes in
     let len = number_in 2 2 bytes in
     let own = InstrFault before bytes in
     let early = EndsEarly bytes in
-    let P = λ (r : Result (Instr × ℕ) PartFault). Told past at own early bytes r in
+    let P = λ (r : Result (Instr × ℕ) PartFault). Told (InstrFront before bytes) past at own early bytes r in
     let none : Result (Instr × ℕ) PartFault = Err (fault_at at UnknownInstr) in
     let goto = goto_at past before len at bytes in
     let apply = apply_at past before len at bytes in
     by_less P (length bytes) 4 (Err past) (cond (eqb kind 1) goto (cond (eqb kind 4) apply none))
     (λ few. told_end past at own early bytes (Err past) refl some (inl few) (λ q d f. (let l = some_header before bytes q d f in omega arith)))
     (λ head. by_equal P kind 1 goto (cond (eqb kind 4) apply none)
-    (λ e. told_as past at (GotoFault before bytes) own early bytes goto (λ q d f. in_goto head e q d f) (of_goto before bytes e) (goto_told past before at bytes head))
+    (λ e. told_as past at (GotoFault before bytes) own early bytes goto (λ q d f. in_goto head e q d f) (of_goto before bytes e) (goto_told past before at bytes h e head))
     (λ one. by_equal P kind 4 apply none
-    (λ e. told_as past at (ApplyFault before bytes) own early bytes apply (λ q d f. in_apply head e q d f) (of_apply before bytes e) (apply_told past before at bytes h head))
+    (λ e. told_as past at (ApplyFault before bytes) own early bytes apply (λ q d f. in_apply head e q d f) (of_apply before bytes e) (apply_told past before at bytes h e head))
     (λ four. told_fault past at own early bytes none 0 UnknownInstr (ap (λ n. Err (fault_at n UnknownInstr)) (omega arith)) (omega arith) (unknown_instr head one four) (unknown_first before bytes one four))))
 
 -- ---- instructions up to the end
@@ -247,19 +253,22 @@ one_instr before a b bytes p q =
 instr_steps : (past : PartFault) → Steps EachInstr (λ l. l) (instr_step past) past EndsEarly InstrFault
 unfolding instr_step
 instr_steps past = record {
-  verdict = λ before at bytes h some. told_map past at (length bytes) (InstrFault before bytes) _ (EndsEarly bytes) (instr_at past before at bytes) (λ x. (before ++ x.0 ∷ [], x.1)) (instr_told past before at bytes h some);
-  sound = step_sound past;
+  verdict = λ before at bytes h some. told_map past at (length bytes) (InstrFault before bytes) _ (EndsEarly bytes) (instr_at past before at bytes) (λ x. (before ++ x.0 ∷ [], x.1)) (λ x f. front_part EachInstr before x.0 x.1 bytes f) (instr_told past before at bytes h some);
   complete = step_complete past;
   same = one_instr;
   some = λ before bytes q d f. (let l = some_header before bytes q d f in omega arith);
 }
 
 pub instrs_told : (at : ℕ) (bytes : List ℕ) → AreBytes bytes
-    → Verdict (fault_at (at + length bytes) Short) at (length bytes) (InstrsFault bytes) (Behind EachInstr (CutsOff EndsEarly InstrFault) [] bytes) (Behind EachInstr (EndsIn EndsEarly) [] bytes) (instrs_at at bytes)
+    → Verdict (λ instrs. SpellsInstrs instrs bytes) (fault_at (at + length bytes) Short) at (length bytes) (InstrsFault bytes) (Behind EachInstr (CutsOff EndsEarly InstrFault) [] bytes) (Behind EachInstr (EndsIn EndsEarly) [] bytes) (instrs_at at bytes)
 unfolding instrs_at
 instrs_told at bytes h =
     let past = fault_at (at + length bytes) Short in
-    many_verdict EachInstr (λ l. l) (instr_step past) past EndsEarly InstrFault (instr_steps past) (length bytes) [] at bytes h (omega arith)
+    told_spelled (Parts EachInstr (λ l. l) [] bytes) (λ instrs. SpellsInstrs instrs bytes) past at (length bytes) (InstrsFault bytes) _ _ (instrs_at at bytes) (λ x p. subst (λ l. SpellsInstrs l bytes) (sym p.seen) p.joined)
+    (many_verdict EachInstr (λ l. l) (instr_step past) past EndsEarly InstrFault (instr_steps past) (length bytes) [] at bytes h (omega arith))
+
+pub instrs_sound : (at : ℕ) (bytes : List ℕ) (instrs : List Instr) → AreBytes bytes → instrs_at at bytes ≡ Ok instrs → SpellsInstrs instrs bytes
+instrs_sound at bytes instrs h e = told_value (fault_at (at + length bytes) Short) at (length bytes) (InstrsFault bytes) _ _ (instrs_at at bytes) instrs (instrs_told at bytes h) e
 
 pub instrs_tell_first : (at : ℕ) (bytes : List ℕ) (r : Result (List Instr) PartRefused) → ((i : ℕ) → get_or bytes i 0 < 256) → Gives (λ x. x) r (instrs_at at bytes) → TellsFirst (From at (FaultInInstrs bytes)) r
 instrs_tell_first at bytes r h e =
@@ -269,4 +278,4 @@ instrs_tell_first at bytes r h e =
 pub instrs_spelled_or_faulty : (bytes : List ℕ) → ((i : ℕ) → get_or bytes i 0 < 256) → SpelledOrFaulty ((instrs : List Instr) × SpellsInstrs instrs bytes) (FaultInInstrs bytes)
 instrs_spelled_or_faulty bytes h =
     spelled_or_faulty ((instrs : List Instr) × SpellsInstrs instrs bytes) (InstrsFault bytes) (Behind EachInstr (CutsOff EndsEarly InstrFault) [] bytes) (Behind EachInstr (EndsIn EndsEarly) [] bytes) bytes
-    (instrs_at 0 bytes) (cut_ends EachInstr EndsEarly InstrFault [] bytes) (λ x is. (x, instrs_sound 0 bytes x (record { small = h }) is)) (instrs_told 0 bytes (record { small = h }))
+    (instrs_at 0 bytes) (cut_ends EachInstr EndsEarly InstrFault [] bytes) (λ x p. (x, p)) (instrs_told 0 bytes (record { small = h }))

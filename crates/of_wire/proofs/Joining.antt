@@ -1,12 +1,11 @@
 -- Parts that are read one behind the other are those that are spelled so.
-use Rattle.std.proofs.Common.{◌≡◌, ℕ, zero, suc, ◌+◌, ◌≤◌, eq-eqb, List, [], ◌∷◌, ◌++◌, length, drop, Result, Ok, refl, sym, ap, ◌∙◌, subst, arith, append_assoc, inl, inr}
-use Rattle.std.proofs.lemmas.Bool.{ne_eqb, cases_eq}
-use Rattle.std.proofs.lemmas.List.{length-append, append-nil, nil_from_length, drop_at}
+use Rattle.std.proofs.Common.{◌≡◌, ℕ, zero, suc, ◌+◌, ◌≤◌, eq-eqb, List, [], ◌∷◌, ◌++◌, length, drop, Result, Ok, refl, sym, ap, ◌∙◌, arith, append_assoc}
+use Rattle.std.proofs.lemmas.Bool.{ne_eqb}
+use Rattle.std.proofs.lemmas.List.{length-append, append-nil, drop_at}
 use Rattle.of_wire.specs.declared.fault.PartFault.{PartFault}
 use Rattle.of_wire.specs.Reading.{◌>>=◌, many}
 use Rattle.of_wire.specs.Grammar.{Then, Joined}
-use Rattle.of_wire.proofs.Grammars.{AreBytes, bytes_back}
-use Rattle.of_wire.proofs.Chosen.{bind_ok, bind_from, one_answer}
+use Rattle.of_wire.proofs.Chosen.{bind_from}
 
 -- one part that was read: it is spelled at the front
 pub record Part {A S : Type 0} (spells : List A → A → List ℕ → Type 0) (view : List A → S) (before : List A) (bytes : List ℕ) (y : S × ℕ) : Type 0 where
@@ -29,32 +28,6 @@ pub no_more : {S : Type 0} (step : S → ℕ → List ℕ → Result (S × ℕ) 
 unfolding many
 no_more step zero s at bytes e = refl
 no_more step (suc steps) s at bytes e = rw (eq-eqb (length bytes) 0 e) refl
-
-pub read_joined : {A S : Type 0} (spells : List A → A → List ℕ → Type 0) (view : List A → S) (step : S → ℕ → List ℕ → Result (S × ℕ) PartFault)
-    (sound : (before : List A) (at : ℕ) (bytes : List ℕ) (y : S × ℕ) → AreBytes bytes → step (view before) at bytes ≡ Ok y → Part spells view before bytes y)
-    (steps : ℕ) (before : List A) (at : ℕ) (bytes : List ℕ) (s : S) → AreBytes bytes → length bytes ≤ steps → many step steps (view before) at bytes ≡ Ok s → Parts spells view before bytes s
-read_joined spells view step sound zero before at bytes s h l e =
-    let none : bytes ≡ [] = nil_from_length bytes (omega arith) in
-    record { all = []; joined = none; seen = sym (one_answer (many step zero (view before) at bytes) (view before) s (no_more step zero (view before) at bytes (omega arith)) e) ∙ ap view (sym (append-nil before)) }
-read_joined {A = A} {S = S} spells view step sound (suc steps) before at bytes s h l e =
-    elim (cases_eq (length bytes) 0) [
-      | inl z ↦ record { all = []; joined = nil_from_length bytes z; seen = sym (one_answer (many step (suc steps) (view before) at bytes) (view before) s (no_more step (suc steps) (view before) at bytes z) e) ∙ ap view (sym (append-nil before)) }
-      | inr ne ↦
-          let b = bind_ok (step (view before) at bytes) (λ (x : S × ℕ). many step steps x.0 (at + x.1) (drop x.1 bytes)) s (sym (one_more step steps (view before) at bytes ne) ∙ e) in
-          let p = sound before at bytes b.value h b.first in
-          let t = p.parts in
-          let left : drop b.value.1 bytes ≡ t.rest = ap (drop b.value.1) t.whole ∙ drop_at t.first t.rest b.value.1 p.size in
-          let hr : AreBytes t.rest = bytes_back t.first t.rest (subst (λ l. AreBytes l) t.whole h) in
-          let len : length bytes ≡ length t.first + length t.rest = ap length t.whole ∙ length-append t.first t.rest in
-          let next : many step steps (view (before ++ p.part ∷ [])) (at + b.value.1) t.rest ≡ Ok s =
-          ap (λ v. many step steps v (at + b.value.1) t.rest) (sym p.seen) ∙ ap (many step steps b.value.0 (at + b.value.1)) (sym left) ∙ b.then_ in
-          let more = read_joined spells view step sound steps (before ++ p.part ∷ []) (at + b.value.1) t.rest s hr (omega (arith, len, p.size, t.behind)) next in
-          record {
-            all = p.part ∷ more.all;
-            joined = record { first = t.first; rest = t.rest; whole = t.whole; in_front = t.in_front; behind = more.joined };
-            seen = more.seen ∙ ap view (append_assoc before (p.part ∷ []) more.all);
-          }
-    ]
 
 -- a part that is spelled is read, whatever follows
 pub record IsRead {A S : Type 0} (view : List A → S) (step : S → ℕ → List ℕ → Result (S × ℕ) PartFault) (before : List A) (part : A) (at : ℕ) (first rest : List ℕ) : Type 0 where

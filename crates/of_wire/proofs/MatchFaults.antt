@@ -11,13 +11,16 @@ use Rattle.of_wire.specs.Parts.{up_to_8}
 use Rattle.of_wire.specs.Answers.{Gives, fault_at}
 use Rattle.of_wire.specs.Reading.{◌>>=◌, many, past_end, padding_at, field_step, fields_at, sized_match_at, match_at}
 use Rattle.of_wire.specs.Spelling.{SpellsItem, SpellsAnyMatch}
-use Rattle.of_wire.proofs.MatchLaws.{match_sound}
+use Rattle.of_wire.proofs.MatchLaws.{match_front}
 use Rattle.of_wire.specs.Faults.{ComesFirst, Behind, EndsIn, CutsOff, TellsFirst, From, SpelledOrFaulty, FieldEndsEarly, FieldFault, FieldsFault, fields_of, MatchFault, match_type, match_length, match_cut, in_field, match_padding, PaddedEndsEarly, FaultInMatch}
 use Rattle.of_wire.proofs.Grammars.{AreBytes, bytes_take, bytes_drop}
 use Rattle.of_wire.proofs.FieldOrder.{view}
 use Rattle.of_wire.proofs.FieldFaults.{some_header, field_steps}
+use Rattle.of_wire.proofs.ActionLaws.{Front}
+use Rattle.of_wire.proofs.Padding.{padding_sound}
+use Rattle.of_wire.proofs.Joining.{Parts}
 use Rattle.of_wire.proofs.Verdicts.{Verdict, Failed, many_verdict, cut_ends, comes_first_after}
-use Rattle.of_wire.proofs.Told.{by_other, by_less, Told, told_ok, told_fault, told_end, first_of_cause, padding_told, tells_first, spelled_or_faulty}
+use Rattle.of_wire.proofs.Told.{by_other, by_less, Told, told_ok, told_fault, told_end, told_value, first_of_cause, padding_told, tells_first, spelled_or_faulty}
 
 abbrev CutField : Bool → List ℕ → Type 0
 CutField strict region = Behind (SpellsItem strict) (CutsOff FieldEndsEarly (FieldFault strict)) [] region
@@ -28,8 +31,12 @@ EndsInField strict region = Behind (SpellsItem strict) (EndsIn FieldEndsEarly) [
 abbrev short : ℕ → List ℕ → PartFault
 short at bytes = fault_at (at + length bytes) Short
 
+-- what reading a match gives: it stands at the front
+abbrev MatchFront : Bool → List ℕ → List Field × ℕ → Type 0
+MatchFront strict bytes y = Front (SpellsAnyMatch strict y.0) y.1 bytes
+
 fields_told : (strict : Bool) (past : PartFault) (at : ℕ) (region : List ℕ) → AreBytes region
-    → Verdict past at (length region) (FieldsFault strict region) (CutField strict region) (EndsInField strict region) (many (field_step strict past) (length region) [] at region)
+    → Verdict (Parts (SpellsItem strict) view [] region) past at (length region) (FieldsFault strict region) (CutField strict region) (EndsInField strict region) (many (field_step strict past) (length region) [] at region)
 fields_told strict past at region h = many_verdict (SpellsItem strict) view (field_step strict past) past FieldEndsEarly (FieldFault strict) (field_steps strict past) (length region) [] at region h (omega arith)
 
 -- ---- what is wrong with the header
@@ -63,7 +70,7 @@ module _ (strict : Bool) (at : ℕ) (bytes : List ℕ) (h : AreBytes bytes) (hea
   only_behind P cut inside pad q d (match_padding l place low high in_ bit) = pad place low high in_ bit
 
   abbrev Says : Result (List Field × ℕ) PartFault → Type 0
-  Says r = Told (short at bytes) at (MatchFault strict bytes) (PaddedEndsEarly bytes) bytes r
+  Says r = Told (MatchFront strict bytes) (short at bytes) at (MatchFault strict bytes) (PaddedEndsEarly bytes) bytes r
 
   -- what reading goes on to behind the fields
   abbrev padded : List Field → Result (List Field × ℕ) PartFault
@@ -84,9 +91,9 @@ module _ (strict : Bool) (at : ℕ) (bytes : List ℕ) (h : AreBytes bytes) (hea
       (λ q low high in_ bit. inl (omega (arith, f.inside, below, low, least))))
 
   -- where nothing is wrong with the fields, the padding comes
-  passed_fields : (read : Result (List Field) PartFault) (fields : List Field) → read ≡ Ok fields → (number_in 2 2 bytes ≤ length bytes → CutField strict (fields_of bytes) → ⊥)
+  passed_fields : (read : Result (List Field) PartFault) (fields : List Field) → read ≡ Ok fields → Parts (SpellsItem strict) view [] (fields_of bytes) fields → (number_in 2 2 bytes ≤ length bytes → CutField strict (fields_of bytes) → ⊥)
       → ((q : ℕ) (d : PartCause) → FieldsFault strict (fields_of bytes) q d → ⊥) → Says (read >>= padded)
-  passed_fields read fields is uncut none =
+  passed_fields read fields is parts uncut none =
       let len = number_in 2 2 bytes in
       let own = MatchFault strict bytes in
       let early = PaddedEndsEarly bytes in
@@ -101,6 +108,7 @@ module _ (strict : Bool) (at : ℕ) (bytes : List ℕ) (h : AreBytes bytes) (hea
         | inr (inl e) ↦ told_end (short at bytes) at own early bytes r (open_ ∙ ap next e.is) (omega arith) (inr e.few)
             (only_behind (λ q d. ⊥) uncut none (λ q low high in_ bit. e.zeros q low high in_ bit))
         | inr (inr e) ↦ told_ok (short at bytes) at own early bytes r (fields, up_to_8 len) (open_ ∙ ap next e.is)
+            (let p = padding_sound (short at bytes) at len (up_to_8 len) bytes (up_to_8 len) order e.is in match_front strict fields bytes h kind least parts p.1 p.2)
             (only_behind (λ q d. ⊥) uncut none (λ q low high in_ bit. e.zeros q low high in_ bit))
             (λ ends. elim ends [ inl lt ↦ omega (arith, lt) | inr lt ↦ omega (arith, lt, e.room) ])
       ]
@@ -113,7 +121,7 @@ module _ (strict : Bool) (at : ℕ) (bytes : List ℕ) (h : AreBytes bytes) (hea
       let read = many (field_step strict (short at bytes)) (length region) [] (at + 4) region in
       let r : Result (List Field × ℕ) PartFault = read >>= padded in
       elim (fields_told strict (short at bytes) (at + 4) region (bytes_take (len - 4) (drop 4 bytes) (bytes_drop 4 bytes h))) [
-        | inl p ↦ passed_fields read p.value p.is (λ le b. omega arith) p.none
+        | inl p ↦ passed_fields read p.value p.is p.spelled (λ le b. omega arith) p.none
         | inr (inl f) ↦ failed_field (short at bytes) read (λ le b. omega arith) f
         | inr (inr e) ↦ told_end (short at bytes) at (MatchFault strict bytes) (PaddedEndsEarly bytes) bytes r (ap (λ (q : Result (List Field) PartFault). q >>= padded) e.is) (omega arith) (inr (omega arith))
             (only_behind (λ q d. ⊥) (λ le b. omega arith) e.none (λ q low high in_ bit. omega arith))
@@ -128,7 +136,7 @@ module _ (strict : Bool) (at : ℕ) (bytes : List ℕ) (h : AreBytes bytes) (hea
       let read = many (field_step strict wrong) (length region) [] (at + 4) region in
       let r : Result (List Field × ℕ) PartFault = read >>= padded in
       elim (fields_told strict wrong (at + 4) region (bytes_take (len - 4) (drop 4 bytes) (bytes_drop 4 bytes h))) [
-        | inl p ↦ passed_fields read p.value p.is (λ le b. p.whole (cut_ends (SpellsItem strict) FieldEndsEarly (FieldFault strict) [] region b)) p.none
+        | inl p ↦ passed_fields read p.value p.is p.spelled (λ le b. p.whole (cut_ends (SpellsItem strict) FieldEndsEarly (FieldFault strict) [] region b)) p.none
         | inr (inl f) ↦ failed_field wrong read (λ le b. f.uncut b) f
         | inr (inr e) ↦ told_fault (short at bytes) at (MatchFault strict bytes) (PaddedEndsEarly bytes) bytes r 2 BadLength (ap (λ (q : Result (List Field) PartFault). q >>= padded) e.is) (omega arith)
             (match_cut fits e.early) (length_first strict bytes kind)
@@ -155,17 +163,17 @@ no_header strict bytes few q d (in_field place cause b) =
 no_header strict bytes few q d (match_padding l place low high in_ bit) = omega arith
 
 pub match_told : (strict : Bool) (at : ℕ) (bytes : List ℕ) → AreBytes bytes
-    → Verdict (short at bytes) at (length bytes) (MatchFault strict bytes) (PaddedEndsEarly bytes × ((q : ℕ) (d : PartCause) → MatchFault strict bytes q d → ⊥)) (PaddedEndsEarly bytes) (match_at strict at bytes)
+    → Verdict (MatchFront strict bytes) (short at bytes) at (length bytes) (MatchFault strict bytes) (PaddedEndsEarly bytes × ((q : ℕ) (d : PartCause) → MatchFault strict bytes q d → ⊥)) (PaddedEndsEarly bytes) (match_at strict at bytes)
 unfolding match_at
 match_told strict at bytes h =
     let len = number_in 2 2 bytes in
     let own = MatchFault strict bytes in
     let early = PaddedEndsEarly bytes in
-    let P = λ (r : Result (List Field × ℕ) PartFault). Verdict (short at bytes) at (length bytes) own (early × ((q : ℕ) (d : PartCause) → own q d → ⊥)) early r in
+    let P = λ (r : Result (List Field × ℕ) PartFault). Verdict (MatchFront strict bytes) (short at bytes) at (length bytes) own (early × ((q : ℕ) (d : PartCause) → own q d → ⊥)) early r in
     let other : Result (List Field × ℕ) PartFault = Err (fault_at at BadClass) in
     let small : Result (List Field × ℕ) PartFault = Err (fault_at (at + 2) BadLength) in
     let sized = sized_match_at strict len at bytes in
-    let loose : (r : Result (List Field × ℕ) PartFault) → Told (short at bytes) at own early bytes r → P r = λ r t. elim t [
+    let loose : (r : Result (List Field × ℕ) PartFault) → Told (MatchFront strict bytes) (short at bytes) at own early bytes r → P r = λ r t. elim t [
       | inl p ↦ inl p
       | inr (inl f) ↦ inr (inl (record { place = f.place; cause = f.cause; is = f.is; there = f.there; least = f.least; inside = f.inside; uncut = λ c. c.1 f.place f.cause f.there }))
       | inr (inr e) ↦ inr (inr (record { is = e.is; none = e.none; early = (e.early.1, e.early.2) }))
@@ -177,6 +185,9 @@ match_told strict at bytes h =
     (λ kind. by_less P len 4 small sized
     (λ lt. loose small (told_fault (short at bytes) at own early bytes small 2 BadLength refl (omega arith) (match_length head lt) (length_first strict bytes kind)))
     (λ least. loose sized (sized_told strict at bytes h head kind least))))
+
+pub match_sound : (strict : Bool) (at : ℕ) (bytes : List ℕ) (y : List Field × ℕ) → AreBytes bytes → match_at strict at bytes ≡ Ok y → Front (SpellsAnyMatch strict y.0) y.1 bytes
+match_sound strict at bytes y h e = told_value (short at bytes) at (length bytes) (MatchFault strict bytes) _ _ (match_at strict at bytes) y (match_told strict at bytes h) e
 
 pub match_tells_first : (strict : Bool) (at : ℕ) (bytes : List ℕ) (r : Result (List Field × ℕ) PartRefused) → ((i : ℕ) → get_or bytes i 0 < 256) → Gives (λ x. x) r (match_at strict at bytes)
     → TellsFirst (From at (FaultInMatch strict bytes)) r
@@ -192,5 +203,5 @@ match_spelled_or_faulty strict bytes h =
     let ends = PaddedEndsEarly bytes in
     spelled_or_faulty ((fields : List Field) × (spelling : List ℕ) × (rest : List ℕ) × SpellsAnyMatch strict fields spelling × (bytes ≡ spelling ++ rest)) own
     (ends × ((q : ℕ) (d : PartCause) → own q d → ⊥)) ends bytes (match_at strict 0 bytes) (λ c. c.0)
-    (λ x is. (let f = match_sound strict 0 bytes x (record { small = h }) is in (x.0, take x.1 bytes, drop x.1 bytes, f.spelled, sym (take-append-drop x.1 bytes))))
+    (λ x f. (x.0, take x.1 bytes, drop x.1 bytes, f.spelled, sym (take-append-drop x.1 bytes)))
     (match_told strict 0 bytes (record { small = h }))

@@ -12,9 +12,12 @@ use Rattle.of_wire.specs.Answers.{Gives, fault_at}
 use Rattle.of_wire.specs.Reading.{match_at, actions_at, instrs_at}
 use Rattle.of_wire.specs.Spelling.{SpellsAnyMatch, SpellsActions, SpellsInstrs}
 use Rattle.of_wire.proofs.Chosen.{one_answer}
-use Rattle.of_wire.proofs.MatchLaws.{match_sound, match_complete}
-use Rattle.of_wire.proofs.SetLaws.{actions_sound, actions_complete}
-use Rattle.of_wire.proofs.InstrLaws.{instrs_sound, instrs_complete}
+use Rattle.of_wire.proofs.MatchLaws.{match_complete}
+use Rattle.of_wire.proofs.MatchFaults.{match_sound}
+use Rattle.of_wire.proofs.SetLaws.{actions_complete}
+use Rattle.of_wire.proofs.ActionFaults.{actions_sound}
+use Rattle.of_wire.proofs.InstrLaws.{instrs_complete}
+use Rattle.of_wire.proofs.InstrFaults.{instrs_sound}
 
 pub if_ok : {X : Type 0} (r : Result X PartRefused) (read : Result X PartFault) (P : X → Type 0) → Gives (λ x. x) r read → ((x : X) → read ≡ Ok x → P x) → IfOk r P
 if_ok (Ok x) read P e h = h x e

@@ -14,6 +14,7 @@ use Rattle.of_wire.specs.Causes.{cause_number}
 use Rattle.of_wire.specs.Answers.{Gives, fault_at}
 use Rattle.of_wire.specs.Reading.{◌>>=◌, padded_to, padding_at, first_nonzero}
 use Rattle.of_wire.specs.Faults.{ComesFirst, IsFirst, TellsFirst, SpelledOrFaulty, OrShort, From, OrCut}
+use Rattle.of_wire.proofs.Chosen.{one_answer}
 use Rattle.of_wire.proofs.Verdicts.{Verdict, comes_first_after}
 
 -- ---- tests
@@ -50,30 +51,30 @@ by_not_less P n k x r fails holds = elim (cases_lt n k) [
 
 -- ---- a verdict of one part
 
-abbrev pub Told : {X : Type 0} → PartFault → ℕ → (own : ℕ → PartCause → Type 0) → (early : Type 0) → List ℕ → Result X PartFault → Type 0
-Told past at own early bytes r = Verdict past at (length bytes) own ((0 < length bytes) × early × ((p : ℕ) (c : PartCause) → own p c → ⊥)) early r
+abbrev pub Told : {X : Type 0} → (Spelled : X → Type 0) → PartFault → ℕ → (own : ℕ → PartCause → Type 0) → (early : Type 0) → List ℕ → Result X PartFault → Type 0
+Told Spelled past at own early bytes r = Verdict Spelled past at (length bytes) own ((0 < length bytes) × early × ((p : ℕ) (c : PartCause) → own p c → ⊥)) early r
 
-pub told_ok : {X : Type 0} (past : PartFault) (at : ℕ) (own : ℕ → PartCause → Type 0) (early : Type 0) (bytes : List ℕ) (r : Result X PartFault) (x : X)
-    → r ≡ Ok x → ((p : ℕ) (c : PartCause) → own p c → ⊥) → (early → ⊥) → Told past at own early bytes r
-told_ok past at own early bytes r x is none whole = inl (record { value = x; is = is; none = none; whole = whole })
+pub told_ok : {X : Type 0} {Spelled : X → Type 0} (past : PartFault) (at : ℕ) (own : ℕ → PartCause → Type 0) (early : Type 0) (bytes : List ℕ) (r : Result X PartFault) (x : X)
+    → r ≡ Ok x → Spelled x → ((p : ℕ) (c : PartCause) → own p c → ⊥) → (early → ⊥) → Told Spelled past at own early bytes r
+told_ok past at own early bytes r x is spelled none whole = inl (record { value = x; is = is; spelled = spelled; none = none; whole = whole })
 
-pub told_fault : {X : Type 0} (past : PartFault) (at : ℕ) (own : ℕ → PartCause → Type 0) (early : Type 0) (bytes : List ℕ) (r : Result X PartFault) (place : ℕ) (cause : PartCause)
-    → r ≡ Err (fault_at (at + place) cause) → place < length bytes → own place cause → ((q : ℕ) (d : PartCause) → own q d → ComesFirst place cause q d) → Told past at own early bytes r
+pub told_fault : {X : Type 0} {Spelled : X → Type 0} (past : PartFault) (at : ℕ) (own : ℕ → PartCause → Type 0) (early : Type 0) (bytes : List ℕ) (r : Result X PartFault) (place : ℕ) (cause : PartCause)
+    → r ≡ Err (fault_at (at + place) cause) → place < length bytes → own place cause → ((q : ℕ) (d : PartCause) → own q d → ComesFirst place cause q d) → Told Spelled past at own early bytes r
 told_fault past at own early bytes r place cause is inside there least =
     inr (inl (record { place = place; cause = cause; is = is; there = there; least = least; inside = inside; uncut = λ c. c.2 place cause there }))
 
-pub told_end : {X : Type 0} (past : PartFault) (at : ℕ) (own : ℕ → PartCause → Type 0) (early : Type 0) (bytes : List ℕ) (r : Result X PartFault)
-    → r ≡ Err past → 0 < length bytes → early → ((p : ℕ) (c : PartCause) → own p c → ⊥) → Told past at own early bytes r
+pub told_end : {X : Type 0} {Spelled : X → Type 0} (past : PartFault) (at : ℕ) (own : ℕ → PartCause → Type 0) (early : Type 0) (bytes : List ℕ) (r : Result X PartFault)
+    → r ≡ Err past → 0 < length bytes → early → ((p : ℕ) (c : PartCause) → own p c → ⊥) → Told Spelled past at own early bytes r
 told_end past at own early bytes r is some ends none = inr (inr (record { is = is; none = none; early = (some, ends, none) }))
 
 pub first_of_cause : (p q : ℕ) (c : PartCause) → p ≤ q → ComesFirst p c q c
 first_of_cause p q c le = elim (cases_lt p q) [ inl lt ↦ inl lt | inr ge ↦ inr (omega (arith, le, ge), omega arith) ]
 
 -- what is made of a value changes no verdict
-pub told_map : {X Y : Type 0} (past : PartFault) (at size : ℕ) (own : ℕ → PartCause → Type 0) (cut ends : Type 0) (r : Result X PartFault) (f : X → Y)
-    → Verdict past at size own cut ends r → Verdict past at size own cut ends (r >>= (λ x. Ok (f x)))
-told_map {X = X} {Y = Y} past at size own cut ends r f v = elim v [
-  | inl p ↦ inl (record { value = f p.value; is = ap (λ (q : Result X PartFault). q >>= (λ x. Ok (f x))) p.is; none = p.none; whole = p.whole })
+pub told_map : {X Y : Type 0} {P : X → Type 0} {Q : Y → Type 0} (past : PartFault) (at size : ℕ) (own : ℕ → PartCause → Type 0) (cut ends : Type 0) (r : Result X PartFault) (f : X → Y)
+    → ((x : X) → P x → Q (f x)) → Verdict P past at size own cut ends r → Verdict Q past at size own cut ends (r >>= (λ x. Ok (f x)))
+told_map {X = X} {Y = Y} past at size own cut ends r f spelled v = elim v [
+  | inl p ↦ inl (record { value = f p.value; is = ap (λ (q : Result X PartFault). q >>= (λ x. Ok (f x))) p.is; spelled = spelled p.value p.spelled; none = p.none; whole = p.whole })
   | inr (inl e) ↦ inr (inl (record {
     place = e.place;
     cause = e.cause;
@@ -87,18 +88,33 @@ told_map {X = X} {Y = Y} past at size own cut ends r f v = elim v [
 ]
 
 -- the same faults under another name
-pub told_as : {X : Type 0} (past : PartFault) (at : ℕ) (own named : ℕ → PartCause → Type 0) (early : Type 0) (bytes : List ℕ) (r : Result X PartFault)
-    → ((p : ℕ) (c : PartCause) → own p c → named p c) → ((p : ℕ) (c : PartCause) → named p c → own p c) → Told past at own early bytes r → Told past at named early bytes r
+pub told_as : {X : Type 0} {Spelled : X → Type 0} (past : PartFault) (at : ℕ) (own named : ℕ → PartCause → Type 0) (early : Type 0) (bytes : List ℕ) (r : Result X PartFault)
+    → ((p : ℕ) (c : PartCause) → own p c → named p c) → ((p : ℕ) (c : PartCause) → named p c → own p c) → Told Spelled past at own early bytes r → Told Spelled past at named early bytes r
 told_as past at own named early bytes r to back v = elim v [
-  | inl p ↦ inl (record { value = p.value; is = p.is; none = λ q d n. p.none q d (back q d n); whole = p.whole })
+  | inl p ↦ inl (record { value = p.value; is = p.is; spelled = p.spelled; none = λ q d n. p.none q d (back q d n); whole = p.whole })
   | inr (inl e) ↦ told_fault past at named early bytes r e.place e.cause e.is e.inside (to e.place e.cause e.there) (λ q d n. e.least q d (back q d n))
   | inr (inr e) ↦ told_end past at named early bytes r e.is e.early.0 e.early.1 (λ q d n. e.none q d (back q d n))
+]
+
+-- what is spelled, in other words
+pub told_spelled : {X : Type 0} (P Q : X → Type 0) (past : PartFault) (at size : ℕ) (own : ℕ → PartCause → Type 0) (cut ends : Type 0) (r : Result X PartFault)
+    → ((x : X) → P x → Q x) → Verdict P past at size own cut ends r → Verdict Q past at size own cut ends r
+told_spelled P Q past at size own cut ends r to v = elim v [
+  | inl p ↦ inl (record { value = p.value; is = p.is; spelled = to p.value p.spelled; none = p.none; whole = p.whole })
+  | inr e ↦ inr e
 ]
 
 -- ---- the verdict on all of the bytes
 
 not_both : {X : Type 0} (r : Result X PartFault) (x : X) (e : PartFault) → r ≡ Ok x → r ≡ Err e → ⊥
 not_both r x e p q = cc
+
+pub told_value : {X : Type 0} {P : X → Type 0} (past : PartFault) (at size : ℕ) (own : ℕ → PartCause → Type 0) (cut ends : Type 0) (r : Result X PartFault) (x : X) → Verdict P past at size own cut ends r → r ≡ Ok x → P x
+told_value {P = P} past at size own cut ends r x v e = elim v [
+  | inl p ↦ subst P (one_answer r p.value x p.is e) p.spelled
+  | inr (inl f) ↦ absurd (not_both r x _ e f.is)
+  | inr (inr f) ↦ absurd (not_both r x _ e f.is)
+]
 
 one_fault : {X : Type 0} (r : Result X PartFault) (e f : PartFault) → r ≡ Err e → r ≡ Err f → e ≡ f
 one_fault r e f p q = cc
@@ -121,8 +137,8 @@ told_from_start Stands (Ok x) t = λ q d s. t q d (record { inside = q; is_at = 
 told_from_start Stands (Err Memory) t = tt
 told_from_start Stands (Err (At f)) t = first_from_start Stands f t
 
-first_told : {X : Type 0} (own : ℕ → PartCause → Type 0) (cut ends : Type 0) (at : ℕ) (bytes : List ℕ) (r : Result X PartFault) (f : PartFault) → (cut → ends)
-    → r ≡ Err f → Verdict (fault_at (at + length bytes) Short) at (length bytes) own cut ends r → IsFirst (From at (OrShort own ends bytes)) f
+first_told : {X : Type 0} {P : X → Type 0} (own : ℕ → PartCause → Type 0) (cut ends : Type 0) (at : ℕ) (bytes : List ℕ) (r : Result X PartFault) (f : PartFault) → (cut → ends)
+    → r ≡ Err f → Verdict P (fault_at (at + length bytes) Short) at (length bytes) own cut ends r → IsFirst (From at (OrShort own ends bytes)) f
 first_told own cut ends at bytes r f weaker is v =
     let S = OrShort own ends bytes in
     elim v [
@@ -141,34 +157,34 @@ first_told own cut ends at bytes r f weaker is v =
           subst (λ g. IsFirst (From at S) g) (one_fault r _ f e.is is) first
     ]
 
-none_told : {X : Type 0} (past : PartFault) (at size : ℕ) (own : ℕ → PartCause → Type 0) (cut ends : Type 0) (bytes : List ℕ) (r : Result X PartFault) (x : X)
-    → r ≡ Ok x → Verdict past at size own cut ends r → (place : ℕ) (cause : PartCause) → OrShort own ends bytes place cause → ⊥
+none_told : {X : Type 0} {P : X → Type 0} (past : PartFault) (at size : ℕ) (own : ℕ → PartCause → Type 0) (cut ends : Type 0) (bytes : List ℕ) (r : Result X PartFault) (x : X)
+    → r ≡ Ok x → Verdict P past at size own cut ends r → (place : ℕ) (cause : PartCause) → OrShort own ends bytes place cause → ⊥
 none_told past at size own cut ends bytes r x is v place cause s = elim v [
   | inl p ↦ elim s [ inl o ↦ p.none place cause o | inr t ↦ p.whole t.2 ]
   | inr (inl e) ↦ absurd (not_both r x _ is e.is)
   | inr (inr e) ↦ absurd (not_both r x _ is e.is)
 ]
 
-pub tells_first : {X : Type 0} (own : ℕ → PartCause → Type 0) (cut ends : Type 0) (at : ℕ) (bytes : List ℕ) (r : Result X PartRefused) (read : Result X PartFault) → (cut → ends)
-    → Gives (λ x. x) r read → Verdict (fault_at (at + length bytes) Short) at (length bytes) own cut ends read → TellsFirst (From at (OrShort own ends bytes)) r
+pub tells_first : {X : Type 0} {P : X → Type 0} (own : ℕ → PartCause → Type 0) (cut ends : Type 0) (at : ℕ) (bytes : List ℕ) (r : Result X PartRefused) (read : Result X PartFault) → (cut → ends)
+    → Gives (λ x. x) r read → Verdict P (fault_at (at + length bytes) Short) at (length bytes) own cut ends read → TellsFirst (From at (OrShort own ends bytes)) r
 tells_first own cut ends at bytes (Ok x) read weaker e v = λ q d s. none_told (fault_at (at + length bytes) Short) at (length bytes) own cut ends bytes read x e v s.inside d s.fault
 tells_first own cut ends at bytes (Err Memory) read weaker e v = tt
 tells_first own cut ends at bytes (Err (At f)) read weaker e v = first_told own cut ends at bytes read f weaker e v
 
-pub spelled_or_faulty : {X : Type 0} (Spelled : Type 0) (own : ℕ → PartCause → Type 0) (cut ends : Type 0) (bytes : List ℕ) (r : Result X PartFault) → (cut → ends)
-    → ((x : X) → r ≡ Ok x → Spelled) → Verdict (fault_at (0 + length bytes) Short) 0 (length bytes) own cut ends r → SpelledOrFaulty Spelled (OrShort own ends bytes)
+pub spelled_or_faulty : {X : Type 0} {P : X → Type 0} (Spelled : Type 0) (own : ℕ → PartCause → Type 0) (cut ends : Type 0) (bytes : List ℕ) (r : Result X PartFault) → (cut → ends)
+    → ((x : X) → P x → Spelled) → Verdict P (fault_at (0 + length bytes) Short) 0 (length bytes) own cut ends r → SpelledOrFaulty Spelled (OrShort own ends bytes)
 spelled_or_faulty Spelled own cut ends bytes r weaker spelled v =
     let first : (f : PartFault) → r ≡ Err f → IsFirst (OrShort own ends bytes) f = λ f is. first_from_start (OrShort own ends bytes) f (first_told own cut ends 0 bytes r f weaker is v) in
     elim v [
-      | inl p ↦ inl (spelled p.value p.is, none_told (fault_at (0 + length bytes) Short) 0 (length bytes) own cut ends bytes r p.value p.is (inl p))
+      | inl p ↦ inl (spelled p.value p.spelled, none_told (fault_at (0 + length bytes) Short) 0 (length bytes) own cut ends bytes r p.value p.is (inl p))
       | inr (inl f) ↦ inr (fault_at (0 + f.place) f.cause, first (fault_at (0 + f.place) f.cause) f.is)
       | inr (inr f) ↦ inr (fault_at (0 + length bytes) Short, first (fault_at (0 + length bytes) Short) f.is)
     ]
 
 -- ---- the verdict on bytes that are cut off
 
-pub tells_cut : {X : Type 0} (past : PartFault) (own : ℕ → PartCause → Type 0) (cut ends : Type 0) (at size : ℕ) (r : Result X PartRefused) (read : Result X PartFault) → (cut → ends)
-    → Gives (λ x. x) r read → Verdict past at size own cut ends read → TellsFirst (OrCut (From at own) cut past) r
+pub tells_cut : {X : Type 0} {P : X → Type 0} (past : PartFault) (own : ℕ → PartCause → Type 0) (cut ends : Type 0) (at size : ℕ) (r : Result X PartRefused) (read : Result X PartFault) → (cut → ends)
+    → Gives (λ x. x) r read → Verdict P past at size own cut ends read → TellsFirst (OrCut (From at own) cut past) r
 tells_cut past own cut ends at size (Ok x) read weaker e v = λ q d s. elim v [
   | inl p ↦ elim s [ inl o ↦ p.none o.inside d o.fault | inr t ↦ p.whole (weaker t.2) ]
   | inr (inl f) ↦ absurd (not_both read x _ e f.is)

@@ -1,7 +1,7 @@
 -- What reading says of the faults that stand in the bytes: part by part, and one part behind the other.
 use Rattle.std.proofs.Common.{◌≡◌, ℕ, zero, suc, ◌+◌, ◌≤◌, ◌<◌, List, [], ◌∷◌, ◌++◌, length, take, drop, Result, Ok, Err, refl, sym, ap, ◌∙◌, subst, arith, append_assoc, inl, inr, ◌⊎◌}
 use Rattle.std.proofs.lemmas.Bool.{cases_eq}
-use Rattle.std.proofs.lemmas.List.{length-append, append-nil, drop_at, take_at}
+use Rattle.std.proofs.lemmas.List.{length-append, append-nil, nil_from_length, drop_at, take_at}
 use Rattle.of_wire.specs.declared.fault.PartFault.{PartFault}
 use Rattle.of_wire.specs.declared.fault.PartCause.{PartCause}
 use Rattle.of_wire.specs.Answers.{fault_at}
@@ -10,14 +10,15 @@ use Rattle.of_wire.specs.Grammar.{Joined}
 use Rattle.of_wire.specs.Faults.{ComesFirst, Behind, FaultOf, EndsIn, CutsOff}
 use Rattle.of_wire.proofs.Grammars.{AreBytes, bytes_back}
 use Rattle.of_wire.proofs.Chosen.{one_answer}
-use Rattle.of_wire.proofs.Joining.{Part, IsRead, one_more, no_more}
+use Rattle.of_wire.proofs.Joining.{Part, Parts, IsRead, one_more, no_more}
 
 -- ---- the three ways in which reading ends
 
--- a value, and no fault stands there
-pub record Passed {X : Type 0} (own : ℕ → PartCause → Type 0) (ends : Type 0) (r : Result X PartFault) : Type 0 where
+-- a value that is spelled, and no fault stands there
+pub record Passed {X : Type 0} (Spelled : X → Type 0) (own : ℕ → PartCause → Type 0) (ends : Type 0) (r : Result X PartFault) : Type 0 where
   pub value : X
   pub is : r ≡ Ok value
+  pub spelled : Spelled value
   pub none : (p : ℕ) (c : PartCause) → own p c → ⊥
   pub whole : ends → ⊥
 
@@ -37,8 +38,8 @@ pub record Ended {X : Type 0} (own : ℕ → PartCause → Type 0) (cut : Type 0
   pub none : (p : ℕ) (c : PartCause) → own p c → ⊥
   pub early : cut
 
-abbrev pub Verdict : {X : Type 0} → PartFault → (at size : ℕ) → (own : ℕ → PartCause → Type 0) → (cut ends : Type 0) → Result X PartFault → Type 0
-Verdict past at size own cut ends r = Passed own ends r ⊎ (Failed own cut at size r ⊎ Ended own cut past r)
+abbrev pub Verdict : {X : Type 0} → (Spelled : X → Type 0) → PartFault → (at size : ℕ) → (own : ℕ → PartCause → Type 0) → (cut ends : Type 0) → Result X PartFault → Type 0
+Verdict Spelled past at size own cut ends r = Passed Spelled own ends r ⊎ (Failed own cut at size r ⊎ Ended own cut past r)
 
 -- ---- the first of the parts, and those behind it
 
@@ -123,8 +124,7 @@ cut_ends spells early wrong before bytes b =
 pub record Steps {A S : Type 0} (spells : List A → A → List ℕ → Type 0) (view : List A → S) (step : S → ℕ → List ℕ → Result (S × ℕ) PartFault) (past : PartFault)
     (early : List ℕ → Type 0) (wrong : List A → List ℕ → ℕ → PartCause → Type 0) : Type 0 where
   pub verdict : (before : List A) (at : ℕ) (bytes : List ℕ) → AreBytes bytes → 0 < length bytes
-      → Verdict past at (length bytes) (wrong before bytes) (CutsOff early wrong 0 before bytes) (early bytes) (step (view before) at bytes)
-  pub sound : (before : List A) (at : ℕ) (bytes : List ℕ) (y : S × ℕ) → AreBytes bytes → step (view before) at bytes ≡ Ok y → Part spells view before bytes y
+      → Verdict (Part spells view before bytes) past at (length bytes) (wrong before bytes) (CutsOff early wrong 0 before bytes) (early bytes) (step (view before) at bytes)
   pub complete : (before : List A) (part : A) (at : ℕ) (first rest : List ℕ) → spells before part first → IsRead view step before part at first rest
   pub same : (before : List A) (x y : A) (bytes : List ℕ) → spells before x bytes → spells before y bytes → x ≡ y
   pub some : (before : List A) (bytes : List ℕ) (p : ℕ) (c : PartCause) → wrong before bytes p c → 0 < length bytes
@@ -226,10 +226,11 @@ module _ {A S : Type 0} (spells : List A → A → List ℕ → Type 0) (view : 
       record { parts = b.parts; front = b.front; rest = b.rest; whole = b.whole; spelled = b.spelled; there = record { inside = t.inside; is_at = omega (arith, t.is_at); fault = t.fault } }
 
   nothing : (steps : ℕ) (before : List A) (at : ℕ) (bytes : List ℕ) → length bytes ≡ 0
-      → Verdict past at (length bytes) (Own before bytes) (Cut before bytes) (Ends before bytes) (many step steps (view before) at bytes)
+      → Verdict (Parts spells view before bytes) past at (length bytes) (Own before bytes) (Cut before bytes) (Ends before bytes) (many step steps (view before) at bytes)
   nothing steps before at bytes e = inl (record {
     value = view before;
     is = no_more step steps (view before) at bytes e;
+    spelled = record { all = []; joined = nil_from_length bytes e; seen = ap view (sym (append-nil before)) };
     none = λ p c b. (let w = own_here before bytes p c (at_end (FaultOf wrong p c) before bytes e b) in absurd (omega (arith, e, k.some before bytes p c w)));
     whole = λ b. (let w = at_end (EndsIn early) before bytes e b in absurd (omega (arith, e, w.0)));
   })
@@ -255,9 +256,9 @@ module _ {A S : Type 0} (spells : List A → A → List ℕ → Type 0) (view : 
   }
 
   -- a part that is read, and what reading says of the bytes behind it
-  go_on : (steps : ℕ) (before : List A) (at : ℕ) (bytes : List ℕ) → (length bytes ≡ 0 → ⊥) → (s : Passed (wrong before bytes) (early bytes) (step (view before) at bytes)) → (p : Part spells view before bytes s.value)
-      → Verdict past (at + s.value.1) (length p.parts.rest) (Own (before ++ p.part ∷ []) p.parts.rest) (Cut (before ++ p.part ∷ []) p.parts.rest) (Ends (before ++ p.part ∷ []) p.parts.rest) (many step steps (view (before ++ p.part ∷ [])) (at + s.value.1) p.parts.rest)
-      → Verdict past at (length bytes) (Own before bytes) (Cut before bytes) (Ends before bytes) (many step (suc steps) (view before) at bytes)
+  go_on : (steps : ℕ) (before : List A) (at : ℕ) (bytes : List ℕ) → (length bytes ≡ 0 → ⊥) → (s : Passed (Part spells view before bytes) (wrong before bytes) (early bytes) (step (view before) at bytes)) → (p : Part spells view before bytes s.value)
+      → Verdict (Parts spells view (before ++ p.part ∷ []) p.parts.rest) past (at + s.value.1) (length p.parts.rest) (Own (before ++ p.part ∷ []) p.parts.rest) (Cut (before ++ p.part ∷ []) p.parts.rest) (Ends (before ++ p.part ∷ []) p.parts.rest) (many step steps (view (before ++ p.part ∷ [])) (at + s.value.1) p.parts.rest)
+      → Verdict (Parts spells view before bytes) past at (length bytes) (Own before bytes) (Cut before bytes) (Ends before bytes) (many step (suc steps) (view before) at bytes)
   go_on steps before at bytes ne s p v =
       let t = p.parts in
       let w = s.value.1 in
@@ -272,6 +273,12 @@ module _ {A S : Type 0} (spells : List A → A → List ℕ → Type 0) (view : 
         | inl r ↦ inl (record {
           value = r.value;
           is = on ∙ r.is;
+          spelled =
+              (let l = r.spelled in record {
+                all = p.part ∷ l.all;
+                joined = record { first = t.first; rest = t.rest; whole = t.whole; in_front = t.in_front; behind = l.joined };
+                seen = l.seen ∙ ap view (append_assoc before (p.part ∷ []) l.all);
+              });
           none = λ q d b. (let l = own_after w more t.rest q d (none_here q d b) in r.none l.place d l.there);
           whole = λ b. r.whole (ends_later b);
         })
@@ -292,13 +299,13 @@ module _ {A S : Type 0} (spells : List A → A → List ℕ → Type 0) (view : 
       ]
 
   pub many_verdict : (steps : ℕ) (before : List A) (at : ℕ) (bytes : List ℕ) → AreBytes bytes → length bytes ≤ steps
-      → Verdict past at (length bytes) (λ p c. Behind spells (FaultOf wrong p c) before bytes) (Behind spells (CutsOff early wrong) before bytes) (Behind spells (EndsIn early) before bytes) (many step steps (view before) at bytes)
+      → Verdict (Parts spells view before bytes) past at (length bytes) (λ p c. Behind spells (FaultOf wrong p c) before bytes) (Behind spells (CutsOff early wrong) before bytes) (Behind spells (EndsIn early) before bytes) (many step steps (view before) at bytes)
   many_verdict zero before at bytes h l = nothing zero before at bytes (omega arith)
   many_verdict (suc steps) before at bytes h l = elim (cases_eq (length bytes) 0) [
     | inl e ↦ nothing (suc steps) before at bytes e
     | inr ne ↦ elim (k.verdict before at bytes h (omega (arith, ne))) [
       | inl s ↦
-          let p = k.sound before at bytes s.value h s.is in
+          let p = s.spelled in
           let t = p.parts in
           let hr : AreBytes t.rest = bytes_back t.first t.rest (subst (λ l. AreBytes l) t.whole h) in
           go_on steps before at bytes ne s p (many_verdict steps (before ++ p.part ∷ []) (at + s.value.1) t.rest hr (omega (arith, ap length t.whole, length-append t.first t.rest, p.size, t.behind)))

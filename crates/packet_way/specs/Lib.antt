@@ -1,1 +1,11 @@
 pub mod Way
+pub mod Leaving
+pub mod Verdict
+pub mod Drops
+pub mod Admission
+pub mod Present
+pub mod Source
+pub mod Routes
+pub mod Known
+pub mod Flood
+pub mod Description

@@ -1,6 +1,18 @@
 //! The way of a packet by the configuration, with no tables and no entries.
 #![tactic(auto)]
 
+mod admission;
+pub mod description;
+mod drops;
+mod flood;
+mod known;
+mod leaving;
+mod now;
+mod routes;
+mod same;
+mod source;
+mod verdict;
 mod way;
 
+pub use now::Now;
 pub use way::{BRIDGE_GROUP, BROADCAST, GATEWAY, LLDP, PVST_GROUP, sends};

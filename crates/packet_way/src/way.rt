@@ -44,7 +44,7 @@ fn is_dropped(packet: &Packet) -> bool
 }
 
 /// The packet with a tag of the VLAN in front.
-fn make_tagged(alloc: Global, vid: Vid, packet: &Packet) -> Result<Packet, NoMemory>
+pub(crate) fn make_tagged(alloc: Global, vid: Vid, packet: &Packet) -> Result<Packet, NoMemory>
     ensures { IfOk result (λ made. made ≡ with_tag vid packet.now) }
 {
     let tag = Tag {

@@ -5,6 +5,7 @@ use Rattle.std.proofs.lemmas.Option.{same_Some, none-some}
 use Rattle.net_base.specs.declared.stack.Node.{Node}
 use Rattle.net_base.specs.declared.stack.StackLink.{StackLink}
 use Rattle.net_base.specs.declared.numbers.DpId.{DpId}
+use Rattle.stack_paths.specs.Chosen.{Step, forth, back, steps}
 use Rattle.stack_paths.specs.Stack.{Stack, ids, IsNode, Joins, HasLink, IsStack, Walk, IsJoined, IsDistance, LeadsNearer, ChosenBefore, IsHop, IsRoot, IsUplink, Follows, IsTreePort}
 use Rattle.stack_paths.proofs.Finite.{IsKnown, contains_here, contains_there, contains_cons, known_any, least_of, first_of_list}
 use Rattle.stack_paths.proofs.Places.{place_same}
@@ -85,43 +86,26 @@ distance_exists s a b (m, w) =
     let least = least_of (λ n. Walk s a b n) (λ n. known_walk s n a b) m w in
     (least.0, record { walk = least.1; least = least.2 })
 
--- a link in one direction
-record Way : Type 0 where
-  near : DpId
-  port : ℕ
-  far : DpId
-  far_port : ℕ
+-- ---- links in one direction
 
-there : StackLink → Way
-there l = record { near = l.a; port = l.a_port; far = l.b; far_port = l.b_port }
-
-back : StackLink → Way
-back l = record { near = l.b; port = l.b_port; far = l.a; far_port = l.a_port }
-
-both : List StackLink → List Way
-both [] = []
-both (l ∷ ls) = there l ∷ back l ∷ both ls
-
-both_sound : (ls : List StackLink) (w : Way) → Contains (both ls) w → (l : StackLink) × Contains ls l × Joins l w.near w.port w.far w.far_port
-unfolding both there back
-both_sound [] w c = absurd (omega (arith, c.1))
-both_sound (l ∷ ls) w c = ⊎_elim
-    (λ same. (l, contains_here l ls, subst (λ (x : Way). Joins l x.near x.port x.far x.far_port) same (inl (refl, refl, refl, refl))))
+pub steps_sound : (ls : List StackLink) (w : Step) → Contains (steps ls) w → (l : StackLink) × Contains ls l × Joins l w.near w.port w.far w.far_port
+steps_sound [] w c = absurd (omega (arith, c.1))
+steps_sound (l ∷ ls) w c = ⊎_elim
+    (λ same. (l, contains_here l ls, subst (λ (x : Step). Joins l x.near x.port x.far x.far_port) same (inl (refl, refl, refl, refl))))
     (λ c'. ⊎_elim
-    (λ same. (l, contains_here l ls, subst (λ (x : Way). Joins l x.near x.port x.far x.far_port) same (inr (refl, refl, refl, refl))))
-    (λ c''. let rest = both_sound ls w c'' in (rest.0, contains_there l rest.0 ls rest.1, rest.2))
-    (contains_cons (back l) w (both ls) c'))
-    (contains_cons (there l) w (back l ∷ both ls) c)
+    (λ same. (l, contains_here l ls, subst (λ (x : Step). Joins l x.near x.port x.far x.far_port) same (inr (refl, refl, refl, refl))))
+    (λ c''. let rest = steps_sound ls w c'' in (rest.0, contains_there l rest.0 ls rest.1, rest.2))
+    (contains_cons (back l) w (steps ls) c'))
+    (contains_cons (forth l) w (back l ∷ steps ls) c)
 
-both_complete : (ls : List StackLink) (l : StackLink) → Contains ls l → (d : DpId) (p : ℕ) (e : DpId) (q : ℕ) → Joins l d p e q → (w : Way) × Contains (both ls) w × (w.near ≡ d) × (w.port ≡ p) × (w.far ≡ e) × (w.far_port ≡ q)
-unfolding both there back
-both_complete [] l c d p e q j = absurd (omega (arith, c.1))
-both_complete (x ∷ ls) l c d p e q j = ⊎_elim
+pub steps_complete : (ls : List StackLink) (l : StackLink) → Contains ls l → (d : DpId) (p : ℕ) (e : DpId) (q : ℕ) → Joins l d p e q → (w : Step) × Contains (steps ls) w × (w.near ≡ d) × (w.port ≡ p) × (w.far ≡ e) × (w.far_port ≡ q)
+steps_complete [] l c d p e q j = absurd (omega (arith, c.1))
+steps_complete (x ∷ ls) l c d p e q j = ⊎_elim
     (λ (same : x ≡ l). ⊎_elim
-    (λ (y : (x.a ≡ d) × (x.a_port ≡ p) × (x.b ≡ e) × (x.b_port ≡ q)). (there x, contains_here (there x) (back x ∷ both ls), y.0, y.1, y.2, y.3))
-    (λ (y : (x.b ≡ d) × (x.b_port ≡ p) × (x.a ≡ e) × (x.a_port ≡ q)). (back x, contains_there (there x) (back x) (back x ∷ both ls) (contains_here (back x) (both ls)), y.0, y.1, y.2, y.3))
+    (λ (y : (x.a ≡ d) × (x.a_port ≡ p) × (x.b ≡ e) × (x.b_port ≡ q)). (forth x, contains_here (forth x) (back x ∷ steps ls), y.0, y.1, y.2, y.3))
+    (λ (y : (x.b ≡ d) × (x.b_port ≡ p) × (x.a ≡ e) × (x.a_port ≡ q)). (back x, contains_there (forth x) (back x) (back x ∷ steps ls) (contains_here (back x) (steps ls)), y.0, y.1, y.2, y.3))
     (subst (λ (m : StackLink). Joins m d p e q) (sym same) j))
-    (λ c'. let rest = both_complete ls l c' d p e q j in (rest.0, contains_there (there x) rest.0 (back x ∷ both ls) (contains_there (back x) rest.0 (both ls) rest.1), rest.2, rest.3, rest.4, rest.5))
+    (λ c'. let rest = steps_complete ls l c' d p e q j in (rest.0, contains_there (forth x) rest.0 (back x ∷ steps ls) (contains_there (back x) rest.0 (steps ls) rest.1), rest.2, rest.3, rest.4, rest.5))
     (contains_cons x l ls c)
 
 module _ (s : Stack) (is : IsStack s) where
@@ -145,7 +129,7 @@ module _ (s : Stack) (is : IsStack s) where
     first = λ x on. root.first x (joined_trans s on.0 x e d on.1 (joined_back d e joined));
   }
 
-  before_trans : (e f g : DpId) (p q o : ℕ) → ChosenBefore s e p f q → ChosenBefore s f q g o → ChosenBefore s e p g o
+  pub before_trans : (e f g : DpId) (p q o : ℕ) → ChosenBefore s e p f q → ChosenBefore s f q g o → ChosenBefore s e p g o
   before_trans e f g p q o (i, j, at_i, at_j, x) (j', k, at_j', at_k, y) =
       let same : j ≡ j' = place_same s is j j' f at_j at_j' in (
         i,
@@ -158,7 +142,7 @@ module _ (s : Stack) (is : IsStack s) where
             x,
       )
 
-  before_total : (e f : DpId) (p q : ℕ) → IsNode s e → IsNode s f → ChosenBefore s e p f q ⊎ ChosenBefore s f q e p
+  pub before_total : (e f : DpId) (p q : ℕ) → IsNode s e → IsNode s f → ChosenBefore s e p f q ⊎ ChosenBefore s f q e p
   before_total e f p q (i, at_i) (j, at_j) = ⊎_elim
       (λ (lt : i < j). inl (i, j, at_i, at_j, inl lt))
       (λ (ge : j ≤ i). ⊎_elim
@@ -180,7 +164,7 @@ module _ (s : Stack) (is : IsStack s) where
         record {
           nearer = near_of best.0 best.1 best.2;
           first = λ p e q near.
-              let w = both_complete s.links near.link.0 near.link.1 a p e q near.link.2 in
+              let w = steps_complete s.links near.link.0 near.link.1 a p e q near.link.2 in
               let rest_is : suc near.rest ≡ suc n = distance_same s a b (suc near.rest) (suc n) near.from_here far in
               let rest_is' : near.rest ≡ n = omega (arith, rest_is) in
               let left : Walk s w.0.far b n = subst (λ x. Walk s x b n) (sym w.4) (subst (λ k. Walk s e b k) rest_is' near.from_there.walk) in
@@ -190,17 +174,17 @@ module _ (s : Stack) (is : IsStack s) where
       ))
       (λ none.
       let step = far.walk in
-      let w = both_complete s.links step.3.0 step.3.1 a step.1 step.0 step.2 step.3.2 in
+      let w = steps_complete s.links step.3.0 step.3.1 a step.1 step.0 step.2 step.3.2 in
       absurd (none w.0 w.1 (w.2, subst (λ x. Walk s x b n) (sym w.4) step.4)))
-      (first_of_list (λ (w : Way). (w.near ≡ a) × Walk s w.far b n)
+      (first_of_list (λ (w : Step). (w.near ≡ a) × Walk s w.far b n)
       (λ w. known_both (known_same w.near a) (known_walk s n w.far b))
-      (λ (x y : Way). ChosenBefore s x.far x.port y.far y.port)
+      (λ (x y : Step). ChosenBefore s x.far x.port y.far y.port)
       (λ x y p q. before_total x.far y.far x.port y.port (walk_start s is n x.far b p.1) (walk_start s is n y.far b q.1))
       (λ x y z. before_trans x.far y.far z.far x.port y.port z.port)
-      (both s.links)) where
-        near_of : (w : Way) → Contains (both s.links) w → (w.near ≡ a) × Walk s w.far b n → LeadsNearer s a b w.port w.far w.far_port
+      (steps s.links)) where
+        near_of : (w : Step) → Contains (steps s.links) w → (w.near ≡ a) × Walk s w.far b n → LeadsNearer s a b w.port w.far w.far_port
         near_of w c p =
-            let l = both_sound s.links w c in
+            let l = steps_sound s.links w c in
             let link : HasLink s a w.port w.far w.far_port = subst (λ x. HasLink s x w.port w.far w.far_port) p.0 (l.0, l.1, l.2) in
             record {
               rest = n;

@@ -10,3 +10,5 @@ pub mod Firsts
 pub mod Pairs
 pub mod Finite
 pub mod LawLemmas
+pub mod ChosenWalks
+pub mod ChosenHops

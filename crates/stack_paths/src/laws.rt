@@ -1,6 +1,7 @@
 //! What follows from the definitions of a stack's walks, roots and uplinks, for every stack.
-ghost use Rattle.std.specs.Prelude.{◌≡◌, ◌≢◌, ◌<◌, ℕ, suc};
+ghost use Rattle.std.specs.Prelude.{◌≡◌, ◌≢◌, ◌<◌, ◌↔◌, ℕ, suc, Some, IsTrue};
 ghost use Rattle.net_base.specs.declared.numbers.DpId.{DpId};
+ghost use Rattle.stack_paths.specs.Chosen.{distance_of, hop_of, is_tree_port};
 ghost use Rattle.stack_paths.specs.Stack.{Stack, HasLink, IsStack, Walk, IsJoined, IsDistance, IsNextHop, IsRoot, IsUplink, Follows, IsTreePort};
 
 /// A walk leads back, and two datapaths have one distance.
@@ -46,4 +47,14 @@ pub fn uplinks_lead_to_the_root()
 pub fn tree_ports_come_in_pairs()
     ensures { (s : Stack) (d : DpId) (p : ℕ) → IsTreePort s d p
         → (e : DpId) × (q : ℕ) × HasLink s d p e q × IsTreePort s e q }
+{}
+
+/// Distances, next hops and tree ports as functions are those of the walks.
+pub fn distances_hops_and_trees_are_functions()
+    ensures distance { (s : Stack) → IsStack s → (a b : DpId) (n : ℕ)
+        → (distance_of s a b ≡ Some n) ↔ IsDistance s a b n }
+    ensures hop { (s : Stack) → IsStack s → (a b : DpId) (p : ℕ)
+        → (hop_of s a b ≡ Some p) ↔ IsNextHop s a b p }
+    ensures tree { (s : Stack) → IsStack s → (d : DpId) (p : ℕ)
+        → IsTrue (is_tree_port s d p) ↔ IsTreePort s d p }
 {}

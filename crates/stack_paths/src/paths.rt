@@ -1,7 +1,9 @@
-ghost use Rattle.std.specs.Prelude.{◌≡◌, ◌⊎◌, ◌↔◌, ◌<◌, ◌≤◌, [], ℕ, Some, None, All, Contains, IsSome, IfOk, IfSome, IfNone, MatchOption, length, slice_get, slice_index_or};
+ghost use Rattle.std.specs.Prelude.{◌≡◌, ◌==◌, ◌⊎◌, ◌↔◌, ◌<◌, ◌≤◌, [], ℕ, Some, None, All, Contains, IsSome, IfOk, IfSome, IfNone, MatchOption, length, slice_get, slice_index_or};
+ghost use Rattle.std.specs.List.{list_any};
 ghost use Rattle.std.specs.List.Sorted.{IsStrictlyIncreasing};
 ghost use Rattle.stack_paths.specs.Stack.{ids, IsStack, IsNode, Walk, IsRoot, IsNextHop, IsTreePort};
 ghost use Rattle.stack_paths.specs.Hops.{answer_at};
+ghost use Rattle.stack_paths.specs.Chosen.{hop_of, is_tree_port};
 
 use crate::hops::{hops_of, place_of};
 use crate::roots::roots_of;
@@ -69,6 +71,13 @@ fn root_at(nodes: &[Node], roots: &[usize], place: usize) -> DpId
     nodes[roots[place]].id
 }
 
+/// Whether the port is one of these.
+fn has_port(ports: &[PortNo], port: PortNo) -> bool
+    ensures { result ≡ list_any (λ q. q == port) ports.now }
+{
+    ports.iter().any(|other| other.get() == port.get())
+}
+
 impl Paths {
     /// The paths of these datapaths, in the order of their names, and of these links, of which both
     /// ends are up. There are at most 64 datapaths, all different; each link is between two different
@@ -109,6 +118,7 @@ impl Paths {
     /// the order of the datapaths that the links lead to, then by port. `None` exactly where no walk
     /// joins them or they are the same.
     pub fn next_hop(&self, from: DpId, to: DpId) -> Option<PortNo>
+        ensures exact { result ≡ hop_of self.now from to }
         ensures hop { IfSome result (λ port. IsNextHop self.now from to port) }
         ensures none { IfNone result ((from ≡ to) ⊎ ((m : ℕ) → Walk self.now from to m → ⊥)) }
     {
@@ -144,5 +154,13 @@ impl Paths {
             Some(place) => self.trees[place].as_slice(),
             None => &[],
         }
+    }
+
+    /// Whether a port of a datapath is in the tree of its part.
+    pub fn is_tree_port(&self, dp: DpId, port: PortNo) -> bool
+        ensures { result ≡ is_tree_port self.now dp port }
+    {
+        let _ = &self.nodes;
+        has_port(self.tree_ports(dp), port)
     }
 }

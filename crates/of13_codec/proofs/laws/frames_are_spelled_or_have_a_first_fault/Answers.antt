@@ -1,6 +1,6 @@
 use Rattle.of_wire.proofs.Told.{one_first}
 use Rattle.of13_codec.specs.Faults.{FaultInBody}
-use Rattle.of13_codec.proofs.DecodeFaults.{frame_spelled_or_faulty}
+use Rattle.of13_codec.proofs.DecodeLaws.{frame_spelled_or_faulty}
 use Rattle.of13_codec.proofs.laws.frames_are_spelled_or_have_a_first_fault.Goals as goal
 
 pub returns-clause-either : goal.returns-clause-either

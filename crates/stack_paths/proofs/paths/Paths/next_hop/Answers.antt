@@ -8,6 +8,7 @@ use Rattle.stack_paths.specs.Stack.{Stack, ids, IsAt}
 use Rattle.stack_paths.specs.Hops.{answer_at}
 use Rattle.stack_paths.specs.Tables.{AreTables}
 use Rattle.stack_paths.proofs.Lookups.{hop_answer, hop_answer_none, no_walk_to, no_walk_from}
+use Rattle.stack_paths.proofs.ChosenHops.{hop_exact}
 use Rattle.stack_paths.proofs.paths.Paths.next_hop.Goals as goal
 use Rattle.stack_paths.proofs.paths.Paths.next_hop.Goals.{After-hop_at, in_default-via-in-Some+in_default, in_default-via-in_default}
 
@@ -46,3 +47,9 @@ returns-in_default-clause-none c =
           let nowhere = MatchOption-at_none ((i : ℕ) → slice_get (ids c.as_slice-nodes.result.now) i ≡ Some c.args.from → ⊥) (λ i. slice_get (ids c.as_slice-nodes.result.now) i ≡ Some c.args.from) w.in_default.is-0 c.place_of.ensures in
           inr (no_walk_from _ _ _ _ are c.args.from c.args.to (λ i e. nowhere i (subst (λ (ns : List Node). slice_get (ids ns) i ≡ Some c.args.from) (sym nodes) e)))
     ]
+
+pub returns-in-Some-Some-clause-exact : goal.returns-in-Some-Some-clause-exact
+returns-in-Some-Some-clause-exact c = hop_exact c.args.self.now (tables c).stack c.args.from c.args.to c.hop_at.result (returns-in-Some-Some-clause-hop c) (returns-in-Some-Some-clause-none c)
+
+pub returns-in_default-clause-exact : goal.returns-in_default-clause-exact
+returns-in_default-clause-exact c = hop_exact c.args.self.now (subst (λ (x : Stack). AreTables x c.self.inside.ways.items c.self.inside.roots.items c.self.inside.trees.items) c.self.view_is c.self.invariant).stack c.args.from c.args.to None tt (returns-in_default-clause-none c)

@@ -1,0 +1,187 @@
+-- The raw configuration of a tree, key by key: what is written, and where a key isn't given its default by
+-- the tables.
+use Rattle.std.specs.Prelude.{ℕ, ◌-◌, ◌^◌, Bool, is_some, List, [], map, codes, Option, None, option_and_then, unwrap_or}
+use Rattle.net_base.specs.declared.address.Mac.{Mac}
+use Rattle.net_base.specs.declared.net4.Net4.{Net4}
+use Rattle.net_base.specs.declared.numbers.DpId.{DpId}
+use Rattle.conf_types.specs.declared.acl.PortRef.TheVariants as port_refs
+use Rattle.conf_types.specs.declared.vlan.Route.{Route}
+use Rattle.yaml_subset.specs.declared.tree.Key.{Key}
+use Rattle.yaml_subset.specs.declared.tree.Pair.{Pair}
+use Rattle.yaml_subset.specs.declared.tree.Tree.{Tree}
+use Rattle.conf_shape.specs.declared.kinds.MapKind.TheVariants as kinds
+use Rattle.conf_shape.specs.declared.kinds.MapKind.{MapKind}
+use Rattle.conf_shape.specs.declared.raw.RawAclNames.{RawAclNames}
+use Rattle.conf_shape.specs.declared.raw.RawNames.{RawNames}
+use Rattle.conf_shape.specs.declared.raw.PortFlags.{PortFlags}
+use Rattle.conf_shape.specs.declared.raw.DropFlags.{DropFlags}
+use Rattle.conf_shape.specs.declared.raw.RawStackEnd.{RawStackEnd}
+use Rattle.conf_shape.specs.declared.raw.RawPort.{RawPort}
+use Rattle.conf_shape.specs.declared.raw.RawDp.{RawDp}
+use Rattle.conf_shape.specs.declared.raw.RawVlan.{RawVlan}
+use Rattle.conf_shape.specs.declared.raw.RawOutput.{RawOutput}
+use Rattle.conf_shape.specs.declared.raw.RawRule.{RawRule}
+use Rattle.conf_shape.specs.declared.raw.RawAcl.{RawAcl}
+use Rattle.conf_shape.specs.declared.raw.RawRouter.{RawRouter}
+use Rattle.conf_shape.specs.declared.raw.RawConf.{RawConf}
+use Rattle.conf_shape.specs.Keys.{keys_of}
+use Rattle.conf_shape.specs.Reads.{value_at, number_of, words_of, items_of, entries_of, words_at, entries_at, option_at, list_at, one_or_list_at, flag_at, permission_at, number_at, text_at, label_of, port_of, vlan_of, own_number}
+use Rattle.conf_shape.specs.Sections.{key_text}
+use Rattle.conf_shape.specs.Values.{mac_of, ip_of, net_of, match_keys, fields_by}
+
+abbrev pub is_given : List ℕ → List Pair → Bool
+is_given name pairs = is_some (value_at name pairs)
+
+abbrev pub acls_at : List Pair → RawAclNames
+acls_at pairs = record {
+  one = option_at label_of (codes "acl_in") pairs;
+  list = option_at (λ t. map label_of (items_of t)) (codes "acls_in") pairs;
+}
+
+-- the name is the key, and the description the name, where they aren't given
+abbrev pub names_by : MapKind → List ℕ → List Pair → RawNames
+names_by m key pairs =
+    let name = text_at m (codes "name") key pairs in
+    record {
+      key = key;
+      has_name = is_given (codes "name") pairs;
+      name = name;
+      description = text_at m (codes "description") name pairs;
+    }
+
+-- ---- datapaths and interfaces
+
+abbrev pub stack_end_of : Tree → RawStackEnd
+stack_end_of t = let pairs = entries_of t in record {
+  dp = words_at (codes "dp") pairs;
+  port = unwrap_or (option_at port_of (codes "port") pairs) (port_refs.Name []);
+}
+
+abbrev pub port_flags : List Pair → PortFlags
+port_flags pairs = record {
+  enabled = flag_at (kinds.Interface None) (codes "enabled") pairs;
+  unicast_flood = flag_at (kinds.Interface None) (codes "unicast_flood") pairs;
+  opstatus_reconf = flag_at (kinds.Interface None) (codes "opstatus_reconf") pairs;
+  output_only = flag_at (kinds.Interface None) (codes "output_only") pairs;
+  hairpin = flag_at (kinds.Interface None) (codes "hairpin") pairs;
+  permanent_learn = flag_at (kinds.Interface None) (codes "permanent_learn") pairs;
+}
+
+-- the number of an interface is its key, or else `number`
+abbrev pub port_number : Key → List Pair → ℕ
+port_number key pairs = unwrap_or (own_number 1 0xffffff00 key (value_at (codes "number") pairs)) 1
+
+abbrev pub port_with : Key → List Pair → RawPort
+port_with key pairs = record {
+  names = names_by (kinds.Interface None) (key_text key) pairs;
+  has_number = is_given (codes "number") pairs;
+  no = port_number key pairs;
+  flags = port_flags pairs;
+  native = option_at vlan_of (codes "native_vlan") pairs;
+  tagged = list_at vlan_of (codes "tagged_vlans") pairs;
+  acls = acls_at pairs;
+  max_hosts = number_at (kinds.Interface None) (codes "max_hosts") pairs;
+  mirror = one_or_list_at port_of (codes "mirror") pairs;
+  stack = option_at stack_end_of (codes "stack") pairs;
+}
+
+abbrev pub port_of_entry : Pair → RawPort
+port_of_entry p = port_with p.key (entries_of p.value)
+
+abbrev pub drop_flags : List Pair → DropFlags
+drop_flags pairs = record {
+  spoofed = flag_at kinds.Datapath (codes "drop_spoofed_faucet_mac") pairs;
+  broadcast = flag_at kinds.Datapath (codes "drop_broadcast_source_address") pairs;
+  bpdu = flag_at kinds.Datapath (codes "drop_bpdu") pairs;
+  lldp = flag_at kinds.Datapath (codes "drop_lldp") pairs;
+}
+
+abbrev pub datapath_id : List Pair → DpId
+datapath_id pairs = record { 0 = unwrap_or (option_and_then (number_of 0 (2 ^ 64 - 1)) (value_at (codes "dp_id") pairs)) 0 }
+
+abbrev pub stack_priority : List Pair → Option ℕ
+stack_priority pairs = option_and_then (number_of 0 (2 ^ 32 - 1)) (value_at (codes "priority") (entries_at (codes "stack") pairs))
+
+abbrev pub datapath_with : Key → List Pair → RawDp
+datapath_with key pairs = record {
+  names = names_by kinds.Datapath (key_text key) pairs;
+  id = datapath_id pairs;
+  hardware = text_at kinds.Datapath (codes "hardware") [] pairs;
+  timeout = number_at kinds.Datapath (codes "timeout") pairs;
+  arp_timeout = number_at kinds.Datapath (codes "arp_neighbor_timeout") pairs;
+  stack_priority = stack_priority pairs;
+  drops = drop_flags pairs;
+  ports = map port_of_entry (entries_at (codes "interfaces") pairs);
+}
+
+abbrev pub datapath_of_entry : Pair → RawDp
+datapath_of_entry p = datapath_with p.key (entries_of p.value)
+
+-- ---- VLANs
+
+abbrev pub vip_of : Tree → Net4
+vip_of t = net_of (words_of t)
+
+abbrev pub route_of : Tree → Route
+route_of t = let pairs = entries_at (codes "route") (entries_of t) in record {
+  dst = net_of (words_at (codes "ip_dst") pairs);
+  gw = ip_of (words_at (codes "ip_gw") pairs);
+}
+
+-- the identifier of a VLAN is its key, or else `vid`
+abbrev pub vlan_number : Key → List Pair → ℕ
+vlan_number key pairs = unwrap_or (own_number 1 4094 key (value_at (codes "vid") pairs)) 1
+
+abbrev pub mac_at : List Pair → Mac
+mac_at pairs = mac_of (text_at (kinds.Vlan None) (codes "faucet_mac") [] pairs)
+
+abbrev pub vlan_with : Key → List Pair → RawVlan
+vlan_with key pairs = record {
+  names = names_by (kinds.Vlan None) (key_text key) pairs;
+  has_vid = is_given (codes "vid") pairs;
+  vid = vlan_number key pairs;
+  acls = acls_at pairs;
+  mac = mac_at pairs;
+  vips = list_at vip_of (codes "faucet_vips") pairs;
+  routes = list_at route_of (codes "routes") pairs;
+  max_hosts = number_at (kinds.Vlan None) (codes "max_hosts") pairs;
+  unicast_flood = flag_at (kinds.Vlan None) (codes "unicast_flood") pairs;
+}
+
+abbrev pub vlan_of_entry : Pair → RawVlan
+vlan_of_entry p = vlan_with p.key (entries_of p.value)
+
+-- ---- ACLs and routers
+
+abbrev pub output_of : Tree → RawOutput
+output_of t = let pairs = entries_of t in record {
+  port = option_at port_of (codes "port") pairs;
+  ports = list_at port_of (codes "ports") pairs;
+}
+
+abbrev pub rule_with : List Pair → List Pair → RawRule
+rule_with pairs actions = record {
+  fields = fields_by (keys_of kinds.Rule).spellings match_keys pairs;
+  allow = permission_at kinds.Actions (codes "allow") actions;
+  mirror = option_at port_of (codes "mirror") actions;
+  output = one_or_list_at output_of (codes "output") actions;
+}
+
+abbrev pub rule_of : Tree → RawRule
+rule_of t = let pairs = entries_at (codes "rule") (entries_of t) in rule_with pairs (entries_at (codes "actions") pairs)
+
+abbrev pub acl_of_entry : Pair → RawAcl
+acl_of_entry p = record { name = key_text p.key; rules = map rule_of (items_of p.value) }
+
+abbrev pub router_of_entry : Pair → RawRouter
+router_of_entry p = record { name = key_text p.key; vlans = list_at vlan_of (codes "vlans") (entries_of p.value) }
+
+-- ---- the whole
+
+abbrev pub raw_of : Tree → RawConf
+raw_of t = let pairs = entries_of t in record {
+  dps = map datapath_of_entry (entries_at (codes "dps") pairs);
+  vlans = map vlan_of_entry (entries_at (codes "vlans") pairs);
+  acls = map acl_of_entry (entries_at (codes "acls") pairs);
+  routers = map router_of_entry (entries_at (codes "routers") pairs);
+}

@@ -1,0 +1,138 @@
+-- Addresses, networks and the fields of a rule, as texts and numbers give them.
+use Rattle.std.specs.Prelude.{ℕ, ◌+◌, ◌==◌, if◌then◌else◌, List, [], ◌∷◌, codes, min, Option, Some, None, unwrap_or}
+use Rattle.std.specs.Option.{option_map}
+use Rattle.std.specs.Borrow.{Bor}
+use Rattle.std.proofs.Math.Nat.{min-le_right}
+use Rattle.net_base.specs.declared.address.Mac.{Mac}
+use Rattle.net_base.specs.declared.address.Ip4.{Ip4}
+use Rattle.net_base.specs.declared.net4.Net4.{Net4}
+use Rattle.net_base.specs.declared.field.Field.{Field}
+use Rattle.net_base.specs.declared.field.FieldId.{FieldId}
+use Rattle.net_base.specs.declared.field.FieldId.TheVariants.{EthDst, EthSrc, EthType, VlanVid, VlanPcp, IpProto, Ipv4Src, Ipv4Dst, TcpSrc, TcpDst, UdpSrc, UdpDst, Icmpv4Type, Icmpv4Code, ArpOp, ArpSpa, ArpTpa}
+use Rattle.net_base.specs.Address.{mac_value}
+use Rattle.net_base.specs.AddressReading.{spelled_mac, ip4_of, net4_of, cut_at}
+use Rattle.net_base.specs.Field.{exact, prefix}
+use Rattle.yaml_subset.specs.declared.tree.Pair.{Pair}
+use Rattle.yaml_subset.specs.declared.tree.Tree.{Tree, out-Tree}
+use Rattle.yaml_subset.specs.declared.tree.Tree.TheOpen.{Tree-F}
+use Rattle.yaml_subset.specs.declared.tree.Tree.TheOpen as tree
+use Rattle.conf_shape.specs.declared.raw.RawField.{RawField}
+use Rattle.conf_shape.specs.Scalars.{within}
+use Rattle.conf_shape.specs.Sections.{key_text, spells}
+
+-- ---- addresses; what isn't one gives zeros, which stand for nothing
+
+abbrev pub mac_or_zero : Option (List ℕ) → Mac
+mac_or_zero None = record { 0 = 0 ∷ 0 ∷ 0 ∷ 0 ∷ 0 ∷ 0 ∷ [] }
+mac_or_zero (Some bytes) = record { 0 = bytes }
+
+abbrev pub mac_of : List ℕ → Mac
+mac_of text = mac_or_zero (spelled_mac text)
+
+abbrev pub ip_of : List ℕ → Ip4
+ip_of text = record { 0 = unwrap_or (ip4_of text) 0 }
+
+-- the network of an address and a length, of which no text spells one above 32
+abbrev pub net_with : ℕ → ℕ → Net4
+net_with ip len = record { ip = record { 0 = ip }; len = min len 32; short = min-le_right len 32 }
+
+abbrev pub net_or_zero : Option (ℕ × ℕ) → Net4
+net_or_zero None = net_with 0 0
+net_or_zero (Some net) = net_with net.0 net.1
+
+abbrev pub net_of : List ℕ → Net4
+net_of text = net_or_zero (net4_of text)
+
+-- ---- the fields of a rule
+
+-- the match keys, in the order of the reference, with their fields
+abbrev pub match_keys : List (List ℕ × FieldId)
+match_keys =
+    (codes "eth_src", EthSrc) ∷
+    (codes "eth_dst", EthDst) ∷
+    (codes "eth_type", EthType) ∷
+    (codes "vlan_vid", VlanVid) ∷
+    (codes "vlan_pcp", VlanPcp) ∷
+    (codes "ip_proto", IpProto) ∷
+    (codes "ipv4_src", Ipv4Src) ∷
+    (codes "ipv4_dst", Ipv4Dst) ∷
+    (codes "tcp_src", TcpSrc) ∷
+    (codes "tcp_dst", TcpDst) ∷
+    (codes "udp_src", UdpSrc) ∷
+    (codes "udp_dst", UdpDst) ∷
+    (codes "icmpv4_type", Icmpv4Type) ∷
+    (codes "icmpv4_code", Icmpv4Code) ∷
+    (codes "arp_op", ArpOp) ∷
+    (codes "arp_spa", ArpSpa) ∷
+    (codes "arp_tpa", ArpTpa) ∷
+    []
+
+abbrev pub seen_match : Bor (List ℕ) × FieldId → List ℕ × FieldId
+seen_match k = (k.0.now, k.1)
+
+-- of a VLAN, the bit that says that there is a tag (OpenFlow 1.3, 7.2.3.7)
+abbrev pub tag_bit : FieldId → ℕ
+tag_bit VlanVid = 0x1000
+tag_bit _ = 0
+
+abbrev pub number_field : FieldId → ℕ → Field
+number_field id n = exact id (tag_bit id + n)
+
+-- the number of an Ethernet address
+abbrev pub mac_number : Option (List ℕ) → Option ℕ
+mac_number None = None
+mac_number (Some bytes) = Some (mac_value (record { 0 = bytes }))
+
+-- a mask of zero leaves the field out
+abbrev pub masked : FieldId → Option ℕ → Option ℕ → Option Field
+masked id (Some value) (Some mask) = if mask == 0 then None else Some (record { id = id; value = value; mask = mask })
+masked id _ _ = None
+
+abbrev pub mac_parts : FieldId → List ℕ → Option (List ℕ × List ℕ) → Option Field
+mac_parts id text None = option_map (exact id) (mac_number (spelled_mac text))
+mac_parts id text (Some parts) = masked id (mac_number (spelled_mac parts.0)) (mac_number (spelled_mac parts.1))
+
+abbrev pub mac_field : FieldId → List ℕ → Option Field
+mac_field id text = mac_parts id text (cut_at 47 text)
+
+-- a length of 0 leaves the field out
+abbrev pub ip_field : FieldId → Option ℕ → Option (ℕ × ℕ) → Option Field
+ip_field id (Some ip) net = Some (exact id ip)
+ip_field id None None = None
+ip_field id None (Some net) = if net.1 == 0 then None else Some (prefix id net.0 net.1)
+
+abbrev pub text_field : FieldId → List ℕ → Option Field
+text_field EthSrc text = mac_field EthSrc text
+text_field EthDst text = mac_field EthDst text
+text_field id text = ip_field id (ip4_of text) (net4_of text)
+
+abbrev pub field_in : FieldId → Tree-F Tree Pair → Option Field
+field_in id (tree.Int n) = option_map (number_field id) (within 0 0xffff n)
+field_in id (tree.Text text) = text_field id text
+field_in id _ = None
+
+abbrev pub field_of : FieldId → Tree → Option Field
+field_of id t = field_in id (out-Tree t)
+
+-- the entry of a field, in any of its spellings
+abbrev pub spelled_at : List (List ℕ × List ℕ) → List ℕ → List Pair → Option Pair
+spelled_at spellings name [] = None
+spelled_at spellings name (p ∷ ps) = if spells spellings name p.key then Some p else spelled_at spellings name ps
+
+abbrev pub raw_field_or : List ℕ → Option Field → Option RawField
+raw_field_or key None = None
+raw_field_or key (Some field) = Some (record { key = key; field = field })
+
+-- a field under the key as it is spelled
+abbrev pub raw_field : FieldId → Option Pair → Option RawField
+raw_field id None = None
+raw_field id (Some p) = raw_field_or (key_text p.key) (field_of id p.value)
+
+abbrev pub ahead : Option RawField → List RawField → List RawField
+ahead None fields = fields
+ahead (Some field) fields = field ∷ fields
+
+-- the fields of a rule, in the order of the match keys
+abbrev pub fields_by : List (List ℕ × List ℕ) → List (List ℕ × FieldId) → List Pair → List RawField
+fields_by spellings [] pairs = []
+fields_by spellings (k ∷ ks) pairs = ahead (raw_field k.1 (spelled_at spellings k.0 pairs)) (fields_by spellings ks pairs)

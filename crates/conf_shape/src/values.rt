@@ -1,0 +1,208 @@
+ghost use Rattle.std.specs.Prelude.{◌≡◌, ◌≤◌, map, IfOk};
+ghost use Rattle.std.specs.Option.{option_copied};
+ghost use Rattle.net_base.specs.declared.field.FieldId.{FieldId};
+ghost use Rattle.net_base.specs.AddressReading.{spelled_mac, ip4_of, net4_of};
+ghost use Rattle.conf_shape.specs.Keys.{seen_pair};
+ghost use Rattle.conf_shape.specs.Values.{mac_of, ip_of, net_of, match_keys, seen_match, tag_bit, number_field, mac_number, masked, mac_field, ip_field, text_field, field_of, spelled_at, raw_field, fields_by};
+
+use crate::addresses::{parse_ip4, parse_mac, parse_net4, parts_of};
+use crate::keys::{key_text, spells};
+use crate::raw::{RawField, RawFields};
+use crate::scalars::within;
+use net_base::{Field, FieldId, Ip4, Items, Mac, Net4, NoMemory};
+use std::alloc::Global;
+use yaml_subset::{Pair, Tree};
+
+/// The Ethernet address that a text spells.
+pub fn mac_of(text: &str) -> Mac
+    ensures { result ≡ mac_of text.now }
+{
+    match parse_mac(text) {
+        Some(mac) => mac,
+        None => Mac([0; 6]),
+    }
+}
+
+/// The IPv4 address that a text spells.
+pub fn ip_of(text: &str) -> Ip4
+    ensures { result ≡ ip_of text.now }
+{
+    match parse_ip4(text) {
+        Some(ip) => Ip4(ip),
+        None => Ip4(0),
+    }
+}
+
+/// The network that a text spells.
+pub fn net_of(text: &str) -> Net4
+    ensures { result ≡ net_of text.now }
+{
+    match parse_net4(text) {
+        Some((ip, len)) => Net4 { ip: Ip4(ip), len },
+        None => Net4 { ip: Ip4(0), len: 0 },
+    }
+}
+
+/// The match keys, in the order of the reference, with their fields.
+const MATCH_KEYS: [(&str, FieldId); 17] = [
+    ("eth_src", FieldId::EthSrc),
+    ("eth_dst", FieldId::EthDst),
+    ("eth_type", FieldId::EthType),
+    ("vlan_vid", FieldId::VlanVid),
+    ("vlan_pcp", FieldId::VlanPcp),
+    ("ip_proto", FieldId::IpProto),
+    ("ipv4_src", FieldId::Ipv4Src),
+    ("ipv4_dst", FieldId::Ipv4Dst),
+    ("tcp_src", FieldId::TcpSrc),
+    ("tcp_dst", FieldId::TcpDst),
+    ("udp_src", FieldId::UdpSrc),
+    ("udp_dst", FieldId::UdpDst),
+    ("icmpv4_type", FieldId::Icmpv4Type),
+    ("icmpv4_code", FieldId::Icmpv4Code),
+    ("arp_op", FieldId::ArpOp),
+    ("arp_spa", FieldId::ArpSpa),
+    ("arp_tpa", FieldId::ArpTpa),
+];
+
+fn match_keys() -> &'static [(&'static str, FieldId)]
+    ensures { map seen_match result.now ≡ match_keys }
+{
+    &MATCH_KEYS
+}
+
+/// Of a VLAN, the bit that says that there is a tag (OpenFlow 1.3, 7.2.3.7).
+fn tag_bit(id: FieldId) -> u64
+    ensures value { result ≡ tag_bit id }
+    ensures range { result ≤ 0x1000 }
+{
+    match id {
+        FieldId::VlanVid => 0x1000,
+        _ => 0,
+    }
+}
+
+fn number_field(id: FieldId, n: u64) -> Field
+    requires { n ≤ 0xffff }
+    ensures { result ≡ number_field id n }
+{
+    Field::exact(id, u128::from(tag_bit(id) + n))
+}
+
+/// The number of the Ethernet address that a text spells.
+fn mac_number(text: &str) -> Option<u128>
+    ensures { result ≡ mac_number (spelled_mac text.now) }
+{
+    match parse_mac(text) {
+        Some(mac) => Some(mac.value()),
+        None => None,
+    }
+}
+
+/// A field with a mask, which leaves the field out where it is zero.
+fn masked(id: FieldId, value: Option<u128>, mask: Option<u128>) -> Option<Field>
+    ensures { result ≡ masked id value mask }
+{
+    match (value, mask) {
+        (Some(value), Some(mask)) if mask != 0 => Some(Field { id, value, mask }),
+        _ => None,
+    }
+}
+
+/// An address, or a value and a mask around a slash.
+fn mac_field(id: FieldId, text: &str) -> Option<Field>
+    ensures { result ≡ mac_field id text.now }
+{
+    match parts_of(text) {
+        Some((value, mask)) => masked(id, mac_number(value), mac_number(mask)),
+        None => match mac_number(text) {
+            Some(value) => Some(Field::exact(id, value)),
+            None => None,
+        },
+    }
+}
+
+/// An address, or a network, whose prefix leaves the field out where it has no bit.
+fn ip_field(id: FieldId, text: &str) -> Option<Field>
+    ensures { result ≡ ip_field id (ip4_of text.now) (net4_of text.now) }
+{
+    if let Some(ip) = parse_ip4(text) {
+        return Some(Field::exact(id, u128::from(ip)));
+    }
+    match parse_net4(text) {
+        Some((ip, len)) if len != 0 => Some(Field::prefix(id, Net4 { ip: Ip4(ip), len })),
+        _ => None,
+    }
+}
+
+fn text_field(id: FieldId, text: &str) -> Option<Field>
+    ensures { result ≡ text_field id text.now }
+{
+    match id {
+        FieldId::EthSrc | FieldId::EthDst => mac_field(id, text),
+        _ => ip_field(id, text),
+    }
+}
+
+/// The field that a value gives; `None` where it leaves all bits out.
+fn field_of(id: FieldId, tree: &Tree) -> Option<Field>
+    ensures { result ≡ field_of id tree.now }
+{
+    match tree {
+        Tree::Int(n) => match within(0, 0xffff, *n) {
+            Some(n) => Some(number_field(id, n)),
+            None => None,
+        },
+        Tree::Text(text) => text_field(id, text.as_str()),
+        _ => None,
+    }
+}
+
+/// The entry of a field, in any of its spellings.
+fn spelled_at<'a>(
+    spellings: &[(&'static str, &'static str)],
+    name: &str,
+    pairs: &'a [Pair],
+) -> Option<&'a Pair>
+    ensures { option_copied result ≡ spelled_at (map seen_pair spellings.now) name.now pairs.now }
+{
+    for pair in pairs {
+        if spells(spellings, name, &pair.key) {
+            return Some(pair);
+        }
+    }
+    None
+}
+
+/// A field under the key as it is spelled.
+fn raw_field(alloc: Global, id: FieldId, given: Option<&Pair>) -> Result<Option<RawField>, NoMemory>
+    ensures { IfOk result (λ made. made ≡ raw_field id (option_copied given.entry)) }
+{
+    let Some(pair) = given else {
+        return Ok(None);
+    };
+    match field_of(id, &pair.value) {
+        Some(field) => Ok(Some(RawField {
+            key: key_text(alloc, &pair.key)?,
+            field,
+        })),
+        None => Ok(None),
+    }
+}
+
+/// The fields of a rule, in the order of the match keys.
+pub fn fields_of(
+    alloc: Global,
+    spellings: &[(&'static str, &'static str)],
+    pairs: &[Pair],
+) -> Result<RawFields, NoMemory>
+    ensures { IfOk result (λ made. made ≡ fields_by (map seen_pair spellings.now) match_keys pairs.now) }
+{
+    let keys = match_keys();
+    let mut fields = Items::new(alloc);
+    for (key, id) in keys {
+        if let Some(field) = raw_field(alloc, *id, spelled_at(spellings, key, pairs))? {
+            fields.push(field)?;
+        }
+    }
+    Ok(fields)
+}

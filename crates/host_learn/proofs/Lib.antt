@@ -1,0 +1,7 @@
+pub mod Alone
+pub mod KeptParts
+pub mod KeptRoom
+pub mod KeptValid
+pub mod Lists
+pub mod Places
+pub mod Sizes

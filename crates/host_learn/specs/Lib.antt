@@ -1,0 +1,4 @@
+pub mod Kept
+pub mod Learning
+pub mod Parts
+pub mod Table
