@@ -14,4 +14,5 @@ mod verdict;
 mod way;
 
 pub use now::Now;
+pub use routes::{RouteItem, RouteItems, Target, route_list};
 pub use way::{BRIDGE_GROUP, BROADCAST, GATEWAY, LLDP, PVST_GROUP, sends};

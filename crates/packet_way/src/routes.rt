@@ -12,25 +12,28 @@ use of_match::{L4, Packet, Tags, Upper};
 use std::alloc::Global;
 
 /// Where an item of a route list leads.
-#[derive(Clone, Copy)]
-pub(crate) enum Target {
+#[derive(Clone, Copy, Debug, PartialEq, Eq)]
+pub enum Target {
     /// To the gateway itself.
     Gateway,
-    /// To a neighbour in a VLAN, from its gateway's address.
+    /// To the neighbour with the address `mac` in a VLAN, from that VLAN's gateway.
     Hop { vid: Vid, gateway: Mac, mac: Mac },
     /// To a network whose neighbours are still to be found.
     Network,
 }
 
-/// An item of a route list: the prefix of an address, and where it leads.
-#[derive(Clone, Copy)]
-pub(crate) struct RouteItem {
-    pub(crate) ip: Ip4,
-    pub(crate) len: u8,
-    pub(crate) to: Target,
+/// An item of a route list: the first `len` bits of an address, and where they lead.
+#[derive(Clone, Copy, Debug, PartialEq, Eq)]
+pub struct RouteItem {
+    /// What lies behind the prefix isn't looked at.
+    pub ip: Ip4,
+    /// Up to 32.
+    pub len: u8,
+    pub to: Target,
 }
 
-pub(crate) type RouteItems = Items<RouteItem>;
+/// A route list. Of the items that hold an address the one with the longest prefix counts.
+pub type RouteItems = Items<RouteItem>;
 
 /// What becomes of a packet by routing.
 #[derive(Drop)]
@@ -196,9 +199,11 @@ fn push_items_in(
     }
 }
 
-/// The route list of a VLAN for a group: what each VLAN of its routing set adds.
+/// The route list of a VLAN for the group of datapaths with this number. Each VLAN of its routing
+/// set adds, in this order, its VIPs, the neighbours in their networks whose Ethernet addresses are
+/// known, these networks, and the routes of whose gateways they are known.
 #[tactic(auto, unfolding(crate::specs::Routes::route_list))]
-pub(crate) fn route_list(
+pub fn route_list(
     alloc: Global,
     conf: &Conf,
     neighbours: &[NeighRec],
