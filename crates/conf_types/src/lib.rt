@@ -17,6 +17,7 @@ mod vlan;
 pub use acl::{Acl, Acls, PortRef, PortRefs, Rule, Rules};
 pub use conf::Conf;
 pub use datapath::{Dp, Dps, Member, Port, PortNos, Ports, StackEnd};
+pub use group::group_at;
 pub use state::{DpIds, HostRec, HostRecs, NeighRec, NeighRecs, UpRec, UpRecs};
 pub use tally::Tally;
 pub use vlan::{Nets, Route, Router, Routers, Routes, Vids, Vlan, Vlans};
