@@ -6,6 +6,7 @@ pub mod description;
 mod drops;
 mod flood;
 mod known;
+pub mod laws;
 mod leaving;
 mod now;
 mod routes;
