@@ -1,3 +1,5 @@
 pub mod Found
 pub mod Ports
 pub mod Taking
+pub mod Sites
+pub mod Ends

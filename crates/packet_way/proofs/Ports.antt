@@ -2,7 +2,7 @@
 use Rattle.std.proofs.Common.{◌≡◌, ◌⊎◌, ℕ, ◌<◌, ◌==◌, ◌&&◌, Bool, true, false, not, cond, Option, Some, None, List, [], ◌∷◌, length, find, refl, inl, inr, sym, ap, ◌∙◌, arith, subst, is_some, is_none}
 use Rattle.std.specs.Prelude.{Contains, IfSome, option_and_then}
 use Rattle.std.specs.List.{AllByRecursion}
-use Rattle.std.proofs.lemmas.Bool.{eqb-true, eq-eqb, both_ways, and_parts, and_right, false_from_ne_true}
+use Rattle.std.proofs.lemmas.Bool.{eqb-true, eq-eqb, both_ways, ne_eqb, and_parts, and_right, false_from_ne_true}
 use Rattle.std.proofs.lemmas.List.Elements.{All-from_recursion, All-contains}
 use Rattle.stack_paths.proofs.Finite.{contains_here, contains_there, contains_cons}
 use Rattle.net_base.specs.declared.numbers.DpId.{DpId}
@@ -12,7 +12,7 @@ use Rattle.conf_types.specs.declared.datapath.StackEnd.{StackEnd}
 use Rattle.conf_types.specs.Configuration.{Configuration, dp_with, port_with, port_at}
 use Rattle.conf_types.specs.Lists.{EachBefore}
 use Rattle.conf_types.specs.Membership.{is_edge, is_stack, is_accepting}
-use Rattle.conf_types.specs.Valid.{IsValid, IsDatapath, IsMirror, IsStackPort}
+use Rattle.conf_types.specs.Valid.{IsValid, IsDatapath, IsPort, IsMirror, IsStackPort}
 
 -- ---- what is found in a list
 
@@ -52,6 +52,15 @@ empty : {X : Type 0} (xs : List X) → length xs ≡ 0 → xs ≡ []
 empty [] e = refl
 empty (x ∷ xs) e = absurd (omega arith)
 
+-- one that has its key alone is found by it
+pub finds : {X : Type 0} (key : X → ℕ) (R : X → X → Type 0) → ((a b : X) → R a b → key a ≡ key b → ⊥) → (xs : List X) (x : X) → EachBefore R xs → Contains xs x → find (λ y. key y == key x) xs ≡ Some x
+finds key R apart [] x before c = absurd (omega (arith, c.1))
+finds key R apart (y ∷ ys) x before c =
+    elim (contains_cons y x ys c) [
+      | inl first ↦ rw (eq-eqb (key y) (key x) (ap key first)) (ap Some first)
+      | inr more ↦ rw (ne_eqb (key y) (key x) (apart y x (of_all (R y) ys x before.0 more))) (finds key R apart ys x before.1 more)
+    ]
+
 -- ---- interfaces
 
 -- an edge port that takes packets in is enabled, is no end of a stack link, and mirrors none
@@ -83,12 +92,28 @@ at_port conf id number i is =
 pub port_within : (conf : Configuration) (id : DpId) (number : ℕ) (i : Port) (at : At conf id number i) → Contains at.dp.ports i
 port_within conf id number i at = (found (λ (p : Port). p.no == number) at.dp.ports i at.port_is).0
 
+pub port_number : (conf : Configuration) (id : DpId) (number : ℕ) (i : Port) (at : At conf id number i) → i.no ≡ number
+port_number conf id number i at = eqb-true i.no number (found (λ (p : Port). p.no == number) at.dp.ports i at.port_is).1
+
+module _ (conf : Configuration) (valid : IsValid conf) where
+  pub datapath_of : (d : Dp) → Contains conf.dps d → IsDatapath conf d
+  datapath_of d c = of_all (IsDatapath conf) conf.dps d valid.datapaths.each c
+
+  stack_is : (d : Dp) → Contains conf.dps d → (i : Port) → Contains d.ports i → IfSome i.stack (IsStackPort conf d i)
+  stack_is d within i c = of_all (λ p. IfSome p.stack (IsStackPort conf d p)) d.ports i (of_all (λ e. AllByRecursion (λ p. IfSome p.stack (IsStackPort conf e p)) e.ports) conf.dps d valid.stacks.each within) c
+
+  pub stack_of_port : (d : Dp) → Contains conf.dps d → (i : Port) → Contains d.ports i → (far : StackEnd) → i.stack ≡ Some far → IsStackPort conf d i far
+  stack_of_port d within i c far is = subst (λ o. IfSome o (IsStackPort conf d i)) is (stack_is d within i c)
+
 module _ (conf : Configuration) (valid : IsValid conf) (id : DpId) (d : Dp) (here : dp_with conf.dps id ≡ Some d) where
-  within : Contains conf.dps d
+  pub within : Contains conf.dps d
   within = (found (λ (e : Dp). e.id.0 == id.0) conf.dps d here).0
 
   pub datapath : IsDatapath conf d
-  datapath = of_all (IsDatapath conf) conf.dps d valid.datapaths.each within
+  datapath = datapath_of conf valid d within
+
+  pub port_of : (i : Port) → Contains d.ports i → IsPort conf i
+  port_of i c = of_all (IsPort conf) d.ports i datapath.ports c
 
   -- two interfaces with one number are one
   pub only_port : (number : ℕ) (i q : Port) → port_with d.ports number ≡ Some i → Contains d.ports q → q.no ≡ number → q ≡ i
@@ -97,16 +122,13 @@ module _ (conf : Configuration) (valid : IsValid conf) (id : DpId) (d : Dp) (her
   pub mirror_is : (i : Port) → Contains d.ports i → (i.mirror ≡ [] → ⊥) → IsMirror d i
   mirror_is i c = of_all (λ p. (p.mirror ≡ [] → ⊥) → IsMirror d p) d.ports i (of_all (λ e. AllByRecursion (λ p. (p.mirror ≡ [] → ⊥) → IsMirror e p) e.ports) conf.dps d valid.mirrors.each within) c
 
-  pub stack_is : (i : Port) → Contains d.ports i → IfSome i.stack (IsStackPort conf d i)
-  stack_is i c = of_all (λ p. IfSome p.stack (IsStackPort conf d p)) d.ports i (of_all (λ e. AllByRecursion (λ p. IfSome p.stack (IsStackPort conf e p)) e.ports) conf.dps d valid.stacks.each within) c
-
   -- an enabled end of a stack link has a far end
   pub stack_port : (i : Port) → Contains d.ports i → is_stack i ≡ true → (far : StackEnd) × (i.stack ≡ Some far) × IsStackPort conf d i far
   stack_port i c is =
       elim i.stack as (λ o. i.stack ≡ o → (i.enabled && is_some o) ≡ true → IfSome o (IsStackPort conf d i) → (far : StackEnd) × (i.stack ≡ Some far) × IsStackPort conf d i far) [
         | None ↦ λ none e h. absurd (both_ways (i.enabled && false) (and_right i.enabled false refl) e)
         | Some far ↦ λ some e h. (far, some, h)
-      ] refl is (stack_is i c)
+      ] refl is (stack_is conf valid d within i c)
 
   -- an interface that takes packets in mirrors none
   pub no_mirror : (i : Port) → Contains d.ports i → (is_stack i ≡ true) ⊎ (is_accepting i ≡ true) → i.mirror ≡ []
