@@ -3,3 +3,4 @@ pub mod Ports
 pub mod Taking
 pub mod Sites
 pub mod Ends
+pub mod Members

@@ -63,19 +63,18 @@ finds key R apart (y ∷ ys) x before c =
 
 -- ---- interfaces
 
--- an edge port that takes packets in is enabled, is no end of a stack link, and mirrors none
-pub accepting_parts : (i : Port) → is_accepting i ≡ true → (i.enabled ≡ true) × (is_none i.stack ≡ true) × (i.mirror ≡ [])
-accepting_parts i is =
-    let edge = and_parts (i.enabled && is_none i.stack) (length i.mirror == 0) (and_parts (is_edge i) (not i.output_only) is).0 in
-    let both = and_parts i.enabled (is_none i.stack) edge.0 in
-    (both.0, both.1, empty i.mirror (eqb-true (length i.mirror) 0 edge.1))
+pub edge_mirrors_none : (i : Port) → is_edge i ≡ true → i.mirror ≡ []
+edge_mirrors_none i is = empty i.mirror (eqb-true (length i.mirror) 0 (and_parts (i.enabled && is_none i.stack) (length i.mirror == 0) is).1)
 
-pub accepting_is_no_stack : (i : Port) → is_accepting i ≡ true → is_stack i ≡ false
-accepting_is_no_stack i is =
+pub edge_is_no_stack : (i : Port) → is_edge i ≡ true → is_stack i ≡ false
+edge_is_no_stack i is =
     elim i.stack as (λ o. is_none o ≡ true → (i.enabled && is_some o) ≡ false) [
       | None ↦ λ e. and_right i.enabled false refl
       | Some far ↦ λ e. absurd (both_ways false refl e)
-    ] (accepting_parts i is).1
+    ] (and_parts i.enabled (is_none i.stack) (and_parts (i.enabled && is_none i.stack) (length i.mirror == 0) is).0).1
+
+pub accepting_is_no_stack : (i : Port) → is_accepting i ≡ true → is_stack i ≡ false
+accepting_is_no_stack i is = edge_is_no_stack i (and_parts (is_edge i) (not i.output_only) is).0
 
 pub record At (conf : Configuration) (id : DpId) (number : ℕ) (i : Port) : Type 0 where
   pub dp : Dp
@@ -133,7 +132,7 @@ module _ (conf : Configuration) (valid : IsValid conf) (id : DpId) (d : Dp) (her
   -- an interface that takes packets in mirrors none
   pub no_mirror : (i : Port) → Contains d.ports i → (is_stack i ≡ true) ⊎ (is_accepting i ≡ true) → i.mirror ≡ []
   no_mirror i c (inl is) = (stack_port i c is).2.no_mirror
-  no_mirror i c (inr is) = (accepting_parts i is).2
+  no_mirror i c (inr is) = edge_mirrors_none i (and_parts (is_edge i) (not i.output_only) is).0
 
   pub takes_output_only : (i : Port) → Contains d.ports i → i.output_only ≡ true → (is_stack i ≡ false) × (is_accepting i ≡ false)
   takes_output_only i c only = (false_from_ne_true (is_stack i) (λ is. both_ways i.output_only (stack_port i c is).2.takes_packets only), rw only (and_right (is_edge i) false refl))

@@ -1,10 +1,11 @@
 -- All that a datapath sends, place by place: what holds of each send holds of all of them together.
 -- `R n` says it of a list, and n bounds what the copies for the controller add.
-use Rattle.std.proofs.Common.{◌≡◌, ◌≢◌, ◌∙◌, ℕ, ◌+◌, ◌≤◌, ◌==◌, ◌&&◌, ◌||◌, Bool, true, false, not, cond, Option, Some, None, List, [], ◌∷◌, ◌++◌, length, map, filter, refl, sym, ap, subst, arith}
+use Rattle.std.proofs.Common.{◌≡◌, ◌≢◌, ◌∙◌, ℕ, ◌+◌, ◌≤◌, ◌==◌, ◌&&◌, ◌||◌, Bool, true, false, not, cond, Option, Some, None, List, [], ◌∷◌, ◌++◌, length, map, filter, count_by, refl, sym, ap, subst, arith}
 use Rattle.std.specs.Prelude.{Contains}
 use Rattle.std.specs.List.{flat_map}
 use Rattle.std.specs.Option.{option_map_or, option_and_then}
-use Rattle.std.proofs.lemmas.Bool.{and_parts, eqb-true, not-true}
+use Rattle.std.proofs.lemmas.Bool.{and_parts, eqb-true, not-true, ne_eqb}
+use Rattle.std.proofs.lemmas.List.Sums.{sum_by-append}
 use Rattle.stack_paths.proofs.Finite.{contains_here, contains_there}
 use Rattle.stack_paths.specs.Chosen.{hop_of}
 use Rattle.stack_paths.specs.Stack.{Stack}
@@ -74,7 +75,7 @@ module _ (R : ℕ → List Sent → Type 0) where
           | false ↦ λ fails. rest
         ] refl
 
-    joined : (t : Port → Bool) (f : Port → List Sent) (qs : List Port) → ((q : Port) → Contains qs q → t q ≡ true → R 0 (f q)) → R 0 (flat_map f (filter t qs))
+    pub joined : (t : Port → Bool) (f : Port → List Sent) (qs : List Port) → ((q : Port) → Contains qs q → t q ≡ true → R 0 (f q)) → R 0 (flat_map f (filter t qs))
     joined t f [] h = j.nil
     joined t f (q ∷ qs) h =
         let rest = joined t f qs (λ r c. h r (contains_there q r qs c)) in
@@ -139,7 +140,7 @@ module _ (R : ℕ → List Sent → Type 0) where
               | Some h ↦ to_host_all h
             ]
 
-      -- ---- the whole way
+      -- ---- the steps before
 
       -- what holds of each send, wherever it goes
       pub record Sites : Type 0 where
@@ -184,6 +185,24 @@ module _ (R : ℕ → List Sent → Type 0) where
         behind_source_all v x heard_case.GoesOn c copy = j.more by_vip (learned + by_vip) (by_routing conf now d port v x) (omega arith) (by_routing_all v x c)
         behind_source_all v x heard_case.IsCopied c copy = j.both learned by_vip (to_controller x) (by_routing conf now d port v x) (copy refl) (by_routing_all v x c)
         behind_source_all v x heard_case.Ends c copy = none (learned + by_vip)
+
+-- ---- counts
+
+-- at most so many go to this number
+abbrev pub Few : ℕ → ℕ → List Sent → Type 0
+Few number n xs = count_by (λ s. s.port == number) xs ≤ n
+
+pub few : (number : ℕ) → Joins (Few number)
+few number = record {
+  nil = omega arith;
+  both = λ m n xs ys a b. rw (sum_by-append (λ s. cond (s.port == number) 1 0) xs ys) (omega (arith, a, b));
+  more = λ m n xs le a. omega (arith, le, a);
+}
+
+pub goes_elsewhere : (number n : ℕ) (x : Packet) → (n ≡ number → ⊥) → Few number 0 (sent n x ∷ [])
+goes_elsewhere number n x other = rw (ne_eqb n number other) (omega arith)
+
+-- ---- the whole way
 
 copied_is_single : (conf : Configuration) (now : State) (d : Dp) (i : Port) (v : Vlan) (mac : Mac) → heard conf now d i v mac ≡ heard_case.IsCopied → is_group mac ≡ false
 unfolding heard

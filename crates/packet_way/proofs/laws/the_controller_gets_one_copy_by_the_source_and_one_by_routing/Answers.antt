@@ -21,28 +21,21 @@ use Rattle.packet_way.specs.Description.{from_port, sends}
 use Rattle.packet_way.specs.Leaving.{sent, to_controller}
 use Rattle.packet_way.proofs.Ends.{hop_end, end_number}
 use Rattle.packet_way.proofs.Ports.{At, at_port, port_within, port_of}
-use Rattle.packet_way.proofs.Sites.{Joins, Sites, from_port_all}
+use Rattle.packet_way.proofs.Sites.{Joins, Sites, Few, few, goes_elsewhere, from_port_all}
 use Rattle.packet_way.proofs.Taking.{sends_at, sends_nothing}
 use Rattle.packet_way.proofs.laws.the_controller_gets_one_copy_by_the_source_and_one_by_routing.Goals as goal
 
-abbrev copies_in : List Sent → ℕ
-copies_in xs = count_by (λ s. s.port == CONTROLLER) xs
-
 abbrev R : ℕ → List Sent → Type 0
-R n xs = copies_in xs ≤ n
+R = Few CONTROLLER
 
-joins : Joins R
-joins = record {
-  nil = omega arith;
-  both = λ m n xs ys a b. rw (sum_by-append (λ s. cond (s.port == CONTROLLER) 1 0) xs ys) (omega (arith, a, b));
-  more = λ m n xs le a. omega (arith, le, a);
-}
+abbrev joins : Joins R
+joins = few CONTROLLER
 
 one : (x : Packet) → R 1 (to_controller x)
 one x = omega arith
 
 other : (n : ℕ) (x : Packet) → IsPortNo n → R 0 (sent n x ∷ [])
-other n x is = rw (ne_eqb n CONTROLLER (λ e. let most = is.most in omega (arith, e, most))) (omega arith)
+other n x is = goes_elsewhere CONTROLLER n x (λ e. let most = is.most in omega (arith, e, most))
 
 module _ (conf : Configuration) (now : State) (valid : IsValid conf) (id : DpId) (d : Dp) (dp_is : dp_with conf.dps id ≡ Some d) (i : Port) where
   by_number : (q : Port) (x : Packet) → Contains d.ports q → R 0 (sent q.no x ∷ [])
