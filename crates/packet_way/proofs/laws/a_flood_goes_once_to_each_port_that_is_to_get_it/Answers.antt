@@ -42,7 +42,7 @@ module _ (conf : Configuration) (valid : IsValid conf) (id : DpId) (d : Dp) (dp_
       omega (arith, all, rest)
 
   count_other : (r : Port) → (r.no ≡ q.no → ⊥) → count (delivered d vid p r) ≤ 0
-  count_other r other = let is = count_of r in let none : cond (r.no == q.no) 1 0 ≡ 0 = rw (ne_eqb r.no q.no other) refl in omega (arith, is, none)
+  count_other r other = let is = count_of r in let none : ◌≡◌ {A = ℕ} (cond (r.no == q.no) 1 0) 0 = rw (ne_eqb r.no q.no other) refl in omega (arith, is, none)
 
   module _ (t : Port → Bool) where
     none_of : (rs : List Port) → ((r : Port) → Contains rs r → r.no ≡ q.no → ⊥) → count (flat_map (delivered d vid p) (filter t rs)) ≤ 0
@@ -53,7 +53,7 @@ module _ (conf : Configuration) (valid : IsValid conf) (id : DpId) (d : Dp) (dp_
     once (r ∷ rs) rises c =
         elim (contains_cons r q rs c) [
           | inl first ↦ at_first first (t r) refl
-          | inr more ↦ at_more more (t r) refl
+          | inr more ↦ at_more more (once rs rises.1 more) (t r) refl
         ]
       where
         of_first : List Sent
@@ -67,21 +67,20 @@ module _ (conf : Configuration) (valid : IsValid conf) (id : DpId) (d : Dp) (dp_
             let both = sum_by-append (λ s. cond (s.port == q.no) 1 0) (delivered d vid p r) (flat_map (delivered d vid p) (filter t rs)) in
             let one : count (delivered d vid p r) ≡ 1 = count_of r ∙ ap (λ (b : Bool). cond b 1 0) (eq-eqb r.no q.no (ap (λ (x : Port). x.no) first)) in
             let rest = none_of rs (others first) in
-            let end : cond (t q) 1 0 ≡ 1 = ap (λ (b : Bool). cond b 1 0) (ap t (sym first) ∙ is) in
+            let end : ◌≡◌ {A = ℕ} (cond (t q) 1 0) 1 = ap (λ (b : Bool). cond b 1 0) (ap t (sym first) ∙ is) in
             omega (arith, both, one, rest, end)
         at_first first false is =
             let rest = none_of rs (others first) in
-            let end : cond (t q) 1 0 ≡ 0 = ap (λ (b : Bool). cond b 1 0) (ap t (sym first) ∙ is) in
+            let end : ◌≡◌ {A = ℕ} (cond (t q) 1 0) 0 = ap (λ (b : Bool). cond b 1 0) (ap t (sym first) ∙ is) in
             omega (arith, rest, end)
 
-        at_more : Contains rs q → (b : Bool) → t r ≡ b → count (flat_map (delivered d vid p) (cond b (r ∷ filter t rs) (filter t rs))) ≡ cond (t q) 1 0
-        at_more more true is =
+        at_more : Contains rs q → count (flat_map (delivered d vid p) (filter t rs)) ≡ cond (t q) 1 0 → (b : Bool) → t r ≡ b → count (flat_map (delivered d vid p) (cond b (r ∷ filter t rs) (filter t rs))) ≡ cond (t q) 1 0
+        at_more more rest true is =
             let both = sum_by-append (λ s. cond (s.port == q.no) 1 0) (delivered d vid p r) (flat_map (delivered d vid p) (filter t rs)) in
             let less = of_all (λ b. r.no < b.no) rs q rises.0 more in
             let none = count_other r (λ e. omega (arith, less, e)) in
-            let rest = once rs rises.1 more in
             omega (arith, both, none, rest)
-        at_more more false is = once rs rises.1 more
+        at_more more rest false is = rest
 
 pub returns-clause-once : goal.returns-clause-once
 unfolding flooded
