@@ -4,3 +4,4 @@ pub mod Taking
 pub mod Sites
 pub mod Ends
 pub mod Members
+pub mod Orders
