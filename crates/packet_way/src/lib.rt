@@ -13,6 +13,7 @@ mod routes;
 mod source;
 mod verdict;
 mod way;
+pub mod worked;
 
 pub use now::Now;
 pub use routes::{RouteItem, RouteItems, Target, route_list};
