@@ -9,4 +9,11 @@ use Rattle.packet_way.proofs.worked.members_of_one_vlan.Goals as goal
 
 pub returns : goal.returns
 unfolding from_edge from_stack admitted in_vlan by_routing leaving flooded onward route_list longest routed heard hop_of hop_link leads_nearer distance_of least_below is_walk is_tree_port uplink_of root_of
-returns c = record { unknown = refl; no_identifier = refl; two_tags = refl }
+returns c = record {
+  untagged = refl;
+  two_tags = refl;
+  identifier_0 = refl;
+  other_vlan = refl;
+  no_native = refl;
+  tag_of_the_native = refl;
+}
