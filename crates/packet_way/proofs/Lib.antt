@@ -5,3 +5,4 @@ pub mod Sites
 pub mod Ends
 pub mod Members
 pub mod Orders
+pub mod Stacked

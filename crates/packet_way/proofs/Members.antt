@@ -1,8 +1,8 @@
 -- What an interface that mirrors none gets of a packet that leaves.
-use Rattle.std.proofs.Common.{◌≡◌, ◌∙◌, ℕ, ◌==◌, ◌&&◌, Bool, true, false, cond, Option, Some, None, List, [], ◌∷◌, ◌++◌, All, refl, sym, ap, subst, is_some, inl}
+use Rattle.std.proofs.Common.{◌≡◌, ◌∙◌, ℕ, ◌==◌, true, false, Option, Some, None, List, [], ◌∷◌, All, refl, sym, ap, subst}
 use Rattle.std.specs.Prelude.{Contains}
 use Rattle.std.specs.Option.{option_and_then, option_map_or}
-use Rattle.std.proofs.lemmas.Bool.{both_ways, and_parts, cases_cond, and_right}
+use Rattle.std.proofs.lemmas.Bool.{both_ways, and_parts}
 use Rattle.std.proofs.lemmas.List.Elements.{All-nil, All-cons, All-append}
 use Rattle.std.proofs.lemmas.Option.{same_Some}
 use Rattle.stack_paths.specs.Chosen.{hop_of}
@@ -14,9 +14,9 @@ use Rattle.conf_types.specs.declared.datapath.Port.{Port}
 use Rattle.conf_types.specs.declared.vlan.Vlan.{Vlan}
 use Rattle.conf_types.specs.Configuration.{Configuration, dp_with, port_with}
 use Rattle.conf_types.specs.Lists.{is_among}
-use Rattle.conf_types.specs.Membership.{is_edge, is_stack, is_native_in, is_mirror_of}
+use Rattle.conf_types.specs.Membership.{is_stack, is_native_in, is_mirror_of}
 use Rattle.conf_types.specs.State.{State}
-use Rattle.conf_types.specs.Valid.{IsValid, vlans_named}
+use Rattle.conf_types.specs.Valid.{IsValid}
 use Rattle.packet_way.specs.Description.{leaving}
 use Rattle.packet_way.specs.Known.{stack_of}
 use Rattle.packet_way.specs.Leaving.{sent, as_sent, delivered}

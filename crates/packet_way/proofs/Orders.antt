@@ -9,14 +9,12 @@ use Rattle.std.proofs.lemmas.List.Sorted.{IsPermutation-sym, Contains-permutatio
 use Rattle.std.proofs.lemmas.Map.Text.{is_eq-slice_cmp}
 use Rattle.stack_paths.proofs.ChosenWalks.{same_dp}
 use Rattle.stack_paths.proofs.Finite.{contains_cons}
-use Rattle.stack_paths.specs.Stack.{Stack}
 use Rattle.net_base.specs.Address.{is_group}
 use Rattle.net_base.specs.declared.address.Mac.{Mac}
 use Rattle.net_base.specs.declared.numbers.DpId.{DpId}
 use Rattle.of_match.specs.Hit.{outermost}
 use Rattle.of_match.specs.declared.packet.Packet.{Packet}
 use Rattle.of_match.specs.declared.packet.Sent.{Sent}
-use Rattle.of_match.specs.declared.packet.Tag.{Tag}
 use Rattle.conf_types.specs.declared.datapath.Dp.{Dp}
 use Rattle.conf_types.specs.declared.datapath.Port.{Port}
 use Rattle.conf_types.specs.declared.state.HostRec.{HostRec}
@@ -26,7 +24,6 @@ use Rattle.conf_types.specs.Groups.{group_of}
 use Rattle.conf_types.specs.Lists.{EachBefore, is_same}
 use Rattle.conf_types.specs.Membership.{is_stack, is_accepting, mirrors_of}
 use Rattle.conf_types.specs.State.{State, IsValidState, IsSameHost, is_host_at, is_host_in, is_permanent, is_barred, most_hosts}
-use Rattle.packet_way.specs.declared.known.Onward.{Onward}
 use Rattle.packet_way.specs.declared.known.Onward.TheVariants.{Everywhere}
 use Rattle.packet_way.specs.declared.source.Heard.{Heard}
 use Rattle.packet_way.specs.declared.source.Heard.TheVariants as heard_case
@@ -38,7 +35,7 @@ use Rattle.packet_way.specs.Drops.{is_dropped}
 use Rattle.packet_way.specs.Known.{stack_of, host_with, onward_to, onward}
 use Rattle.packet_way.specs.Leaving.{copies, to_controller}
 use Rattle.packet_way.specs.Routes.{route_list, routed}
-use Rattle.packet_way.specs.Source.{host_here, is_full, heard_anew, heard_from, heard}
+use Rattle.packet_way.specs.Source.{host_here, is_full, heard_from, heard}
 use Rattle.packet_way.specs.Verdict.{acl_sends, is_allowed}
 use Rattle.packet_way.proofs.Ports.{of_all, found}
 

@@ -1,5 +1,5 @@
 -- Interfaces of a valid configuration.
-use Rattle.std.proofs.Common.{◌≡◌, ◌⊎◌, ℕ, ◌<◌, ◌==◌, ◌&&◌, Bool, true, false, not, cond, Option, Some, None, List, [], ◌∷◌, length, find, refl, inl, inr, sym, ap, ◌∙◌, arith, subst, is_some, is_none}
+use Rattle.std.proofs.Common.{◌≡◌, ◌⊎◌, ℕ, ◌<◌, ◌==◌, ◌&&◌, Bool, true, false, not, cond, Some, None, List, [], ◌∷◌, length, find, refl, inl, inr, sym, ap, ◌∙◌, arith, subst, is_some, is_none}
 use Rattle.std.specs.Prelude.{Contains, IfSome, option_and_then}
 use Rattle.std.specs.List.{AllByRecursion}
 use Rattle.std.proofs.lemmas.Bool.{eqb-true, eq-eqb, both_ways, ne_eqb, and_parts, and_right, false_from_ne_true}

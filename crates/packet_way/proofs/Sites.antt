@@ -1,10 +1,10 @@
 -- All that a datapath sends, place by place: what holds of each send holds of all of them together.
 -- `R n` says it of a list, and n bounds what the copies for the controller add.
-use Rattle.std.proofs.Common.{◌≡◌, ◌≢◌, ◌∙◌, ℕ, ◌+◌, ◌≤◌, ◌==◌, ◌&&◌, ◌||◌, Bool, true, false, not, cond, Option, Some, None, List, [], ◌∷◌, ◌++◌, length, map, filter, count_by, refl, sym, ap, subst, arith}
+use Rattle.std.proofs.Common.{◌≡◌, ℕ, ◌+◌, ◌≤◌, ◌==◌, ◌&&◌, ◌||◌, Bool, true, false, not, cond, Option, Some, None, List, [], ◌∷◌, ◌++◌, length, filter, count_by, refl, subst, arith}
 use Rattle.std.specs.Prelude.{Contains}
 use Rattle.std.specs.List.{flat_map}
 use Rattle.std.specs.Option.{option_map_or, option_and_then}
-use Rattle.std.proofs.lemmas.Bool.{and_parts, eqb-true, not-true, ne_eqb}
+use Rattle.std.proofs.lemmas.Bool.{and_parts, not-true, ne_eqb}
 use Rattle.std.proofs.lemmas.List.Sums.{sum_by-append}
 use Rattle.stack_paths.proofs.Finite.{contains_here, contains_there}
 use Rattle.stack_paths.specs.Chosen.{hop_of}
@@ -15,8 +15,6 @@ use Rattle.net_base.specs.declared.numbers.DpId.{DpId}
 use Rattle.of_match.specs.Hit.{outermost}
 use Rattle.of_match.specs.declared.packet.Packet.{Packet}
 use Rattle.of_match.specs.declared.packet.Sent.{Sent}
-use Rattle.of_match.specs.declared.packet.Tag.{Tag}
-use Rattle.conf_types.specs.declared.acl.Rule.{Rule}
 use Rattle.conf_types.specs.declared.datapath.Dp.{Dp}
 use Rattle.conf_types.specs.declared.datapath.Port.{Port}
 use Rattle.conf_types.specs.declared.state.HostRec.{HostRec}
@@ -25,7 +23,6 @@ use Rattle.conf_types.specs.Configuration.{Configuration, port_with, vlan_with}
 use Rattle.conf_types.specs.Groups.{group_of}
 use Rattle.conf_types.specs.Membership.{is_stack, is_accepting, is_mirror_of, mirrors_of}
 use Rattle.conf_types.specs.State.{State}
-use Rattle.packet_way.specs.declared.known.Onward.{Onward}
 use Rattle.packet_way.specs.declared.known.Onward.TheVariants.{ByPort, OverStack, Everywhere}
 use Rattle.packet_way.specs.declared.source.Heard.{Heard}
 use Rattle.packet_way.specs.declared.source.Heard.TheVariants as heard_case

@@ -1,5 +1,5 @@
 -- What a datapath sends, by the port that a packet came in by.
-use Rattle.std.proofs.Common.{◌≡◌, ◌∙◌, ℕ, Bool, true, false, Option, Some, None, List, [], ◌++◌, ap, subst, refl, sym, inl, inr, ◌⊎◌}
+use Rattle.std.proofs.Common.{◌≡◌, ◌∙◌, ℕ, true, false, Option, Some, None, List, [], ap, subst, refl, sym, inl, inr, ◌⊎◌}
 use Rattle.std.specs.Option.{option_map_or, option_and_then}
 use Rattle.std.proofs.lemmas.Bool.{cases_Bool}
 use Rattle.std.proofs.lemmas.List.{append-nil}
@@ -8,13 +8,11 @@ use Rattle.of_match.specs.declared.packet.Packet.{Packet}
 use Rattle.of_match.specs.declared.packet.Sent.{Sent}
 use Rattle.conf_types.specs.declared.datapath.Dp.{Dp}
 use Rattle.conf_types.specs.declared.datapath.Port.{Port}
-use Rattle.conf_types.specs.Configuration.{Configuration, dp_with, port_with, port_at, vlan_with}
+use Rattle.conf_types.specs.Configuration.{Configuration, dp_with, port_with, port_at}
 use Rattle.conf_types.specs.Membership.{is_stack, is_accepting}
 use Rattle.conf_types.specs.State.{State}
-use Rattle.packet_way.specs.Admission.{admitted_to}
-use Rattle.packet_way.specs.Drops.{is_dropped}
 use Rattle.packet_way.specs.Verdict.{acl_sends, is_allowed}
-use Rattle.packet_way.specs.Description.{admitted, from_edge, from_stack, from_port, sends}
+use Rattle.packet_way.specs.Description.{from_edge, from_port, sends}
 use Rattle.packet_way.proofs.Ports.{At}
 
 module _ (conf : Configuration) (now : State) (p : Packet) where

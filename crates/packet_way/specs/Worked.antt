@@ -5,27 +5,21 @@ use Rattle.net_base.specs.declared.address.Ip4.{Ip4}
 use Rattle.net_base.specs.declared.address.Mac.{Mac}
 use Rattle.net_base.specs.declared.net4.Net4.{Net4}
 use Rattle.net_base.specs.declared.numbers.DpId.{DpId}
-use Rattle.net_base.specs.declared.numbers.Moment.{Moment}
 use Rattle.net_base.specs.Field.{exact}
 use Rattle.net_base.specs.declared.field.FieldId.TheVariants.{EthType}
 use Rattle.of_match.specs.declared.packet.L4.{L4}
 use Rattle.of_match.specs.declared.packet.L4.TheVariants as l4
 use Rattle.of_match.specs.declared.packet.Packet.{Packet}
 use Rattle.of_match.specs.declared.packet.Tag.{Tag}
-use Rattle.of_match.specs.declared.packet.Upper.{Upper}
 use Rattle.of_match.specs.declared.packet.Upper.TheVariants as upper
-use Rattle.conf_types.specs.declared.acl.Acl.{Acl}
 use Rattle.conf_types.specs.declared.acl.PortRef.{PortRef}
 use Rattle.conf_types.specs.declared.acl.PortRef.TheVariants.{No}
 use Rattle.conf_types.specs.declared.acl.Rule.{Rule}
 use Rattle.conf_types.specs.declared.datapath.Dp.{Dp}
 use Rattle.conf_types.specs.declared.datapath.Port.{Port}
-use Rattle.conf_types.specs.declared.datapath.StackEnd.{StackEnd}
 use Rattle.conf_types.specs.declared.state.HostRec.{HostRec}
 use Rattle.conf_types.specs.declared.state.NeighRec.{NeighRec}
 use Rattle.conf_types.specs.declared.state.UpRec.{UpRec}
-use Rattle.conf_types.specs.declared.vlan.Route.{Route}
-use Rattle.conf_types.specs.declared.vlan.Router.{Router}
 use Rattle.conf_types.specs.declared.vlan.Vlan.{Vlan}
 use Rattle.conf_types.specs.Configuration.{Configuration}
 use Rattle.conf_types.specs.State.{State}

@@ -6,6 +6,7 @@ ghost use Rattle.net_base.specs.Address.{is_group};
 ghost use Rattle.net_base.specs.declared.numbers.DpId.{DpId};
 ghost use Rattle.of_match.specs.declared.action.TheConstants.{CONTROLLER};
 ghost use Rattle.of_match.specs.declared.packet.Packet.{Packet};
+ghost use Rattle.stack_paths.specs.Stack.{IsStack};
 ghost use Rattle.conf_types.specs.declared.datapath.Dp.{Dp};
 ghost use Rattle.conf_types.specs.declared.datapath.Port.{Port};
 ghost use Rattle.conf_types.specs.Configuration.{Configuration, dp_with, port_with, port_at};
@@ -21,6 +22,12 @@ ghost use Rattle.packet_way.specs.Flood.{gets_flood, flooded};
 ghost use Rattle.packet_way.specs.Known.{stack_of};
 ghost use Rattle.packet_way.specs.Leaving.{without_tag};
 ghost use Rattle.packet_way.specs.Verdict.{is_allowed, acl_sends};
+
+/// The datapaths of a configuration with the stack links that are up are a stack, so that what
+/// stack_paths says of distances, next hops and trees holds of the way.
+pub fn the_datapaths_with_their_links_are_a_stack()
+    ensures { (conf : Configuration) (ups : List UpRec) → IsValid conf → IsStack (stack_of conf ups) }
+{}
 
 /// Nothing is sent of a packet by a port that takes none in: one that is no interface, or a disabled
 /// one, or one that is output-only or mirrors others.

@@ -1,13 +1,10 @@
-use Rattle.std.proofs.Common.{◌≡◌, ◌∙◌, ℕ, ◌&&◌, Bool, true, false, cond, List, [], All, refl, sym, ap, subst, inl}
-use Rattle.std.proofs.lemmas.List.Elements.{All-weaker}
-use Rattle.of_match.specs.declared.packet.Sent.{Sent}
+use Rattle.std.proofs.Common.{◌≡◌, ℕ, ◌&&◌, Bool, true, false, cond, refl, subst, inl}
 use Rattle.conf_types.specs.declared.datapath.Port.{Port}
 use Rattle.conf_types.specs.declared.datapath.Member.{Member}
 use Rattle.conf_types.specs.declared.datapath.Member.TheVariants.{Native, Tagged, Stack}
 use Rattle.conf_types.specs.declared.datapath.Member.TheVariants as member_case
 use Rattle.conf_types.specs.Membership.{is_edge, is_stack, is_native_in, is_tagged_in, member_of}
-use Rattle.packet_way.specs.Description.{leaving}
-use Rattle.packet_way.specs.Leaving.{as_sent, without_tag}
+use Rattle.packet_way.specs.Leaving.{without_tag}
 use Rattle.packet_way.proofs.Members.{all_sent_as, in_ports, stack_has_no_native}
 use Rattle.packet_way.proofs.Ports.{edge_mirrors_none, no_mirror}
 use Rattle.packet_way.proofs.laws.a_member_gets_the_packet_with_its_tag_unless_it_is_native.Goals as goal

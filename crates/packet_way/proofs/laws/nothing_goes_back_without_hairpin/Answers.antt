@@ -1,6 +1,6 @@
-use Rattle.std.proofs.Common.{◌≡◌, ◌≢◌, ◌⊎◌, ℕ, ◌==◌, ◌&&◌, ◌||◌, Bool, true, false, not, List, [], ◌∷◌, ◌++◌, All, Some, ⊎_elim, sym, subst, refl, arith, ap, ◌∙◌}
+use Rattle.std.proofs.Common.{◌≡◌, ◌≢◌, ℕ, ◌==◌, true, false, not, List, [], ◌∷◌, All, Some, ⊎_elim, sym, subst, arith, ap, ◌∙◌}
 use Rattle.std.specs.Prelude.{Contains}
-use Rattle.std.proofs.lemmas.Bool.{cases_Bool, both_ways, eqb-true, eqb-false, eq-eqb, or_cases, not-true, ne_eqb}
+use Rattle.std.proofs.lemmas.Bool.{both_ways, eqb-false, or_cases, not-true}
 use Rattle.std.proofs.lemmas.List.Elements.{All-nil, All-cons, All-append}
 use Rattle.of_match.specs.declared.packet.Packet.{Packet}
 use Rattle.of_match.specs.declared.packet.Sent.{Sent}
@@ -8,7 +8,7 @@ use Rattle.conf_types.specs.declared.datapath.Dp.{Dp}
 use Rattle.conf_types.specs.declared.datapath.Port.{Port}
 use Rattle.conf_types.specs.Configuration.{Configuration, dp_with, port_with}
 use Rattle.conf_types.specs.Lists.{is_among}
-use Rattle.conf_types.specs.Membership.{is_stack, is_accepting, is_mirror_of}
+use Rattle.conf_types.specs.Membership.{is_mirror_of}
 use Rattle.conf_types.specs.State.{State}
 use Rattle.conf_types.specs.Valid.{IsValid}
 use Rattle.net_base.specs.declared.numbers.DpId.{DpId}
@@ -16,7 +16,7 @@ use Rattle.of_match.specs.declared.action.TheConstants.{CONTROLLER}
 use Rattle.packet_way.specs.Description.{from_port}
 use Rattle.packet_way.specs.Leaving.{sent, to_controller}
 use Rattle.packet_way.proofs.Ports.{at_port, port_within, port_number, port_of, only_port, no_mirror}
-use Rattle.packet_way.proofs.Sites.{Joins, Sites, may_leave, from_port_all}
+use Rattle.packet_way.proofs.Sites.{Joins, Sites, from_port_all}
 use Rattle.packet_way.proofs.Taking.{sends_at, taken}
 use Rattle.packet_way.proofs.laws.nothing_goes_back_without_hairpin.Goals as goal
 

@@ -1,9 +1,7 @@
-use Rattle.std.proofs.Common.{◌≡◌, ℕ, zero, suc, ◌+◌, ◌≤◌, ◌==◌, Bool, true, false, cond, List, [], ◌∷◌, ◌++◌, length, All, count_by, Some, None, refl, sym, ap, subst, arith}
+use Rattle.std.proofs.Common.{◌≡◌, ℕ, ◌+◌, ◌≤◌, ◌==◌, false, List, [], ◌∷◌, length, Some, None, refl, sym, ap, subst, arith}
 use Rattle.std.specs.Prelude.{Contains}
-use Rattle.std.specs.Option.{option_map_or}
-use Rattle.std.proofs.lemmas.Bool.{both_ways, eqb-false, eq-eqb, ne_eqb}
+use Rattle.std.proofs.lemmas.Bool.{both_ways}
 use Rattle.std.proofs.lemmas.List.Elements.{All-contains}
-use Rattle.std.proofs.lemmas.List.Sums.{sum_by-append}
 use Rattle.net_base.specs.Address.{is_group}
 use Rattle.net_base.specs.declared.numbers.DpId.{DpId}
 use Rattle.net_base.specs.declared.net4.Net4.{Net4}
@@ -14,13 +12,13 @@ use Rattle.of_match.specs.declared.packet.Sent.{Sent}
 use Rattle.conf_types.specs.declared.datapath.Dp.{Dp}
 use Rattle.conf_types.specs.declared.datapath.Port.{Port}
 use Rattle.conf_types.specs.declared.vlan.Vlan.{Vlan}
-use Rattle.conf_types.specs.Configuration.{Configuration, dp_with, port_with, port_at}
+use Rattle.conf_types.specs.Configuration.{Configuration, dp_with, port_at}
 use Rattle.conf_types.specs.State.{State}
 use Rattle.conf_types.specs.Valid.{IsValid}
 use Rattle.packet_way.specs.Description.{from_port, sends}
 use Rattle.packet_way.specs.Leaving.{sent, to_controller}
 use Rattle.packet_way.proofs.Ends.{hop_end, end_number}
-use Rattle.packet_way.proofs.Ports.{At, at_port, port_within, port_of}
+use Rattle.packet_way.proofs.Ports.{at_port, port_of}
 use Rattle.packet_way.proofs.Sites.{Joins, Sites, Few, few, goes_elsewhere, from_port_all}
 use Rattle.packet_way.proofs.Taking.{sends_at, sends_nothing}
 use Rattle.packet_way.proofs.laws.the_controller_gets_one_copy_by_the_source_and_one_by_routing.Goals as goal
