@@ -6,13 +6,17 @@ pub mod description;
 mod drops;
 mod flood;
 mod known;
+pub mod laws;
 mod leaving;
 mod now;
+mod paths;
 mod routes;
 mod source;
 mod verdict;
 mod way;
+pub mod worked;
 
 pub use now::Now;
+pub use paths::make_paths;
 pub use routes::{RouteItem, RouteItems, Target, route_list};
 pub use way::{BRIDGE_GROUP, BROADCAST, GATEWAY, LLDP, PVST_GROUP, sends};
