@@ -1,0 +1,3 @@
+pub mod FloodLemmas
+pub mod CountLemmas
+pub mod Mapped
