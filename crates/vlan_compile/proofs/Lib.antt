@@ -1,3 +1,5 @@
+pub mod Mapped
 pub mod FloodLemmas
 pub mod CountLemmas
-pub mod Mapped
+pub mod Valid
+pub mod Accepted

@@ -6,6 +6,7 @@ mod admissions;
 mod destinations;
 mod flood;
 mod floods;
+pub mod laws;
 mod learned;
 mod misses;
 mod sources;
