@@ -3,3 +3,4 @@ pub mod FloodLemmas
 pub mod CountLemmas
 pub mod Valid
 pub mod Accepted
+pub mod Keys

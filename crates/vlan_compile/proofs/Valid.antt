@@ -39,6 +39,10 @@ pub always : {X : Type 0} {P : X → Type 0} → ((x : X) → P x) → (xs : Lis
 always h [] = tt
 always {P = P} h (x ∷ xs) = (h x, always {P = P} h xs)
 
+-- both ends of a link are ports
+abbrev pub AreEnds : StackLink → Type 0
+AreEnds l = IsPortNo l.a_port × IsPortNo l.b_port
+
 module _ (conf : Configuration) (valid : IsValid conf) where
   -- ---- VLANs
 
@@ -121,10 +125,6 @@ module _ (conf : Configuration) (valid : IsValid conf) where
 
   -- ---- stack links
 
-  -- both ends of a link are ports
-  abbrev pub AreEnds : StackLink → Type 0
-  AreEnds l = IsPortNo l.a_port × IsPortNo l.b_port
-
   far_numbered : (ups : List UpRec) (far : StackEnd) (o : Option Port) → port_at conf far.dp far.port ≡ o → option_map_or (λ q. is_live ups far.dp q) o false ≡ true → IsPortNo far.port
   far_numbered ups far None e is = absurd (cc)
   far_numbered ups far (Some q) e is = port_numbered far.dp far.port q e
@@ -152,30 +152,30 @@ module _ (conf : Configuration) (valid : IsValid conf) where
       (all_from {P = IsPort conf} {Q = λ (p : Port). (l : StackLink) → link_from conf ups d p ≡ Some l → AreEnds l} (λ p port l e. link_ends ups d p port l e) d.ports is.ports))
       conf.dps valid.datapaths.each)
 
-  -- ---- next hops
+-- ---- next hops
 
-  steps_numbered : (ls : List StackLink) → AllByRecursion AreEnds ls → AllByRecursion (λ (t : Step). IsPortNo t.port) (steps ls)
-  steps_numbered [] all = tt
-  steps_numbered (l ∷ ls) all = (all.0.0, (all.0.1, steps_numbered ls all.1))
+steps_numbered : (ls : List StackLink) → AllByRecursion AreEnds ls → AllByRecursion (λ (t : Step). IsPortNo t.port) (steps ls)
+steps_numbered [] all = tt
+steps_numbered (l ∷ ls) all = (all.0.0, (all.0.1, steps_numbered ls all.1))
 
-  first_of : {X : Type 0} (before : X → X → Bool) (P : X → Type 0) (xs : List X) → AllByRecursion P xs → (x : X) → first_in before xs ≡ Some x → P x
-  first_of before P [] all x e = absurd (none-some x e)
-  first_of {X = X} before P (y ∷ ys) all x e = subst P (same_Some _ x e) (picked (first_in before ys) (first_of before P ys all.1))
-    where
-      one : (b : Bool) (z : X) → P z → P (cond b y z)
-      one true z h = all.0
-      one false z h = h
+first_of : {X : Type 0} (before : X → X → Bool) (P : X → Type 0) (xs : List X) → AllByRecursion P xs → (x : X) → first_in before xs ≡ Some x → P x
+first_of before P [] all x e = absurd (none-some x e)
+first_of {X = X} before P (y ∷ ys) all x e = subst P (same_Some _ x e) (picked (first_in before ys) (first_of before P ys all.1))
+  where
+    one : (b : Bool) (z : X) → P z → P (cond b z y)
+    one true z h = h
+    one false z h = all.0
 
-      picked : (o : Option X) → ((z : X) → o ≡ Some z → P z) → P (option_map_or (λ z. if before y z then y else z) o y)
-      picked None h = all.0
-      picked (Some z) h = one (before y z) z (h z refl)
+    picked : (o : Option X) → ((z : X) → o ≡ Some z → P z) → P (option_map_or (λ z. if before z y then z else y) o y)
+    picked None h = all.0
+    picked (Some z) h = one (before z y) z (h z refl)
 
-  mapped : (o : Option Step) (n : ℕ) → ((t : Step) → o ≡ Some t → IsPortNo t.port) → option_map (λ (t : Step). t.port) o ≡ Some n → IsPortNo n
-  mapped None n h e = absurd (none-some n e)
-  mapped (Some t) n h e = subst IsPortNo (same_Some t.port n e) (h t refl)
+mapped : (o : Option Step) (n : ℕ) → ((t : Step) → o ≡ Some t → IsPortNo t.port) → option_map (λ (t : Step). t.port) o ≡ Some n → IsPortNo n
+mapped None n h e = absurd (none-some n e)
+mapped (Some t) n h e = subst IsPortNo (same_Some t.port n e) (h t refl)
 
-  pub hop_numbered : (s : Stack) → AllByRecursion AreEnds s.links → (a b : DpId) (n : ℕ) → hop_of s a b ≡ Some n → IsPortNo n
-  unfolding hop_of hop_link
-  hop_numbered s ends a b n e =
-      mapped (first_in (is_chosen_before s) (filter (leads_nearer s a b) (steps s.links))) n
-      (λ t is. first_of (is_chosen_before s) (λ (u : Step). IsPortNo u.port) (filter (leads_nearer s a b) (steps s.links)) (all_filter (λ (u : Step). IsPortNo u.port) (leads_nearer s a b) (steps s.links) (steps_numbered s.links ends)) t is) e
+pub hop_numbered : (s : Stack) → AllByRecursion AreEnds s.links → (a b : DpId) (n : ℕ) → hop_of s a b ≡ Some n → IsPortNo n
+unfolding hop_of hop_link
+hop_numbered s ends a b n e =
+    mapped (first_in (is_chosen_before s) (filter (leads_nearer s a b) (steps s.links))) n
+    (λ t is. first_of (is_chosen_before s) (λ (u : Step). IsPortNo u.port) (filter (leads_nearer s a b) (steps s.links)) (all_filter (λ (u : Step). IsPortNo u.port) (leads_nearer s a b) (steps s.links) (steps_numbered s.links ends)) t is) e

@@ -12,7 +12,7 @@ ghost use Rattle.conf_types.specs.Configuration.{Configuration};
 ghost use Rattle.conf_types.specs.Links.{links};
 ghost use Rattle.conf_types.specs.State.{State, IsValidState};
 ghost use Rattle.conf_types.specs.Valid.{IsValid};
-ghost use Rattle.plan_base.specs.Accepted.{IsFlowEntry};
+ghost use Rattle.plan_base.specs.Accepted.{IsFlowEntry, HaveDistinctKeys};
 ghost use Rattle.vlan_compile.specs.Admissions.{admissions};
 ghost use Rattle.vlan_compile.specs.Sources.{sources};
 ghost use Rattle.vlan_compile.specs.Misses.{misses};
@@ -36,4 +36,18 @@ pub fn entries_are_accepted()
         → (stack : Stack) → stack.links ≡ links conf state.ups → AllByRecursion IsFlowEntry (destinations d h stack) }
     ensures floods { (conf : Configuration) → IsValid conf → (d : Dp) → Contains conf.dps d → (v : Vlan) → Contains conf.vlans v
         → (stack : Stack) → AllByRecursion IsFlowEntry (floods d v stack) }
+{}
+
+/// No two entries of an interface, of a host or of a VLAN have one key, so a switch holds each of them
+/// (OpenFlow 1.3, 6.4).
+#[tactic(auto, using(crate::proofs::Keys::key_laws))]
+pub fn keys_are_distinct()
+    ensures admissions { (conf : Configuration) → IsValid conf → (d : Dp) → Contains conf.dps d → (i : Port) → Contains d.ports i
+        → HaveDistinctKeys (admissions conf d i) }
+    ensures misses { (conf : Configuration) → IsValid conf → (d : Dp) → Contains conf.dps d → (i : Port) → Contains d.ports i
+        → (hosts : List HostRec) → HaveDistinctKeys (misses conf d i hosts) }
+    ensures sources { (conf : Configuration) (d : Dp) (h : HostRec) (moment : ℕ) → HaveDistinctKeys (sources conf d h moment) }
+    ensures destinations { (d : Dp) (h : HostRec) (stack : Stack) → HaveDistinctKeys (destinations d h stack) }
+    ensures floods { (conf : Configuration) → IsValid conf → (d : Dp) → Contains conf.dps d → (v : Vlan) → (stack : Stack)
+        → HaveDistinctKeys (floods d v stack) }
 {}
