@@ -97,11 +97,12 @@ module _ (conf : Configuration) (valid : IsValid conf) (d : Dp) (of_conf : Conta
     where
       found : (o : Option Vlan) → vlan_with conf.vlans n ≡ o → EachBefore Apart (option_to_list o ++ tagged_vlans conf i)
       found None e = tagged_apart i.tagged once.1
-      found (Some v) e =
-          (all_filter_map (vlan_with conf.vlans) (Apart v) i.tagged
+      found (Some v) e = (
+        all_filter_map (vlan_with conf.vlans) (Apart v) i.tagged
             (all_from {P = λ (m : ℕ). n ≡ m → ⊥} {Q = λ (m : ℕ). (w : Vlan) → vlan_with conf.vlans m ≡ Some w → Apart v w}
-              (λ m ne w ew same. ne (sym (vlan_is conf valid n v e) ∙ same ∙ vlan_is conf valid m w ew)) i.tagged once.0),
-            tagged_apart i.tagged once.1)
+            (λ m ne w ew same. ne (sym (vlan_is conf valid n v e) ∙ same ∙ vlan_is conf valid m w ew)) i.tagged once.0),
+        tagged_apart i.tagged once.1,
+      )
 
   vlans_apart : EachBefore Apart (vlans_of conf i)
   vlans_apart = all_apart i.native (all_contains (IsPort conf) d.ports (is_datapath conf valid d of_conf).ports i of_dp).once
@@ -110,22 +111,24 @@ module _ (conf : Configuration) (valid : IsValid conf) (d : Dp) (of_conf : Conta
   misses_differ hosts =
       before_if Differ (is_accepting i) (map (miss conf hosts d i) (vlans_of conf i))
       (before_map (miss conf hosts d i) Differ (vlans_of conf i)
-        (before_from {R = Apart} {S = λ (v w : Vlan). Differ (miss conf hosts d i v) (miss conf hosts d i w)}
-          (λ v w ne. second_of_fields (miss conf hosts d i v) (miss conf hosts d i w) _ _ _ _ refl refl (λ same. ne (omega (arith, same)))) (vlans_of conf i) vlans_apart))
+      (before_from {R = Apart} {S = λ (v w : Vlan). Differ (miss conf hosts d i v) (miss conf hosts d i w)}
+      (λ v w ne. second_of_fields (miss conf hosts d i v) (miss conf hosts d i w) _ _ _ _ refl refl (λ same. ne (omega (arith, same)))) (vlans_of conf i) vlans_apart))
 
   stacks_differ : HaveDistinctKeys (from_stacks conf i)
   stacks_differ =
       before_if Differ (is_stack i) (map (from_stack i) conf.vlans)
       (before_map (from_stack i) Differ conf.vlans
-        (before_from {R = λ (v w : Vlan). v.vid < w.vid} {S = λ (v w : Vlan). Differ (from_stack i v) (from_stack i w)}
-          (λ v w lt. second_of_fields (from_stack i v) (from_stack i w) _ _ _ _ refl refl (λ same. omega (arith, same, lt))) conf.vlans valid.vlans.in_order))
+      (before_from {R = λ (v w : Vlan). v.vid < w.vid} {S = λ (v w : Vlan). Differ (from_stack i v) (from_stack i w)}
+      (λ v w lt. second_of_fields (from_stack i v) (from_stack i w) _ _ _ _ refl refl (λ same. omega (arith, same, lt))) conf.vlans valid.vlans.in_order))
 
   -- without a tag, and with one
   native_differs : (o : Option Vlan) → AllByRecursion (λ e. AllByRecursion (Differ e) (map (with_tag d i) (tagged_vlans conf i))) (option_to_list (option_map (without_tag d i) o))
   native_differs None = tt
-  native_differs (Some v) =
-      (all_map (with_tag d i) (Differ (without_tag d i v)) (tagged_vlans conf i)
-        (always {P = λ (w : Vlan). Differ (without_tag d i v) (with_tag d i w)} (λ w. second_of_fields (without_tag d i v) (with_tag d i w) _ _ _ _ refl refl (λ same. omega (arith, same))) (tagged_vlans conf i)), tt)
+  native_differs (Some v) = (
+    all_map (with_tag d i) (Differ (without_tag d i v)) (tagged_vlans conf i)
+        (always {P = λ (w : Vlan). Differ (without_tag d i v) (with_tag d i w)} (λ w. second_of_fields (without_tag d i v) (with_tag d i w) _ _ _ _ refl refl (λ same. omega (arith, same))) (tagged_vlans conf i)),
+    tt,
+  )
 
   alone : (o : Option Entry) → HaveDistinctKeys (option_to_list o)
   alone None = tt
@@ -135,12 +138,12 @@ module _ (conf : Configuration) (valid : IsValid conf) (d : Dp) (of_conf : Conta
   edges_differ =
       before_if Differ (is_accepting i) (option_to_list (option_map (without_tag d i) (native_vlan conf i)) ++ map (with_tag d i) (tagged_vlans conf i))
       (before_append Differ (option_to_list (option_map (without_tag d i) (native_vlan conf i))) (map (with_tag d i) (tagged_vlans conf i))
-        (alone (option_map (without_tag d i) (native_vlan conf i)))
-        (before_map (with_tag d i) Differ (tagged_vlans conf i)
-          (before_from {R = Apart} {S = λ (v w : Vlan). Differ (with_tag d i v) (with_tag d i w)}
-            (λ v w ne. second_of_fields (with_tag d i v) (with_tag d i w) _ _ _ _ refl refl (λ same. ne (omega (arith, same)))) (tagged_vlans conf i)
-            (before_of_append Apart (option_to_list (native_vlan conf i)) (tagged_vlans conf i) vlans_apart).1))
-        (native_differs (native_vlan conf i)))
+      (alone (option_map (without_tag d i) (native_vlan conf i)))
+      (before_map (with_tag d i) Differ (tagged_vlans conf i)
+      (before_from {R = Apart} {S = λ (v w : Vlan). Differ (with_tag d i v) (with_tag d i w)}
+      (λ v w ne. second_of_fields (with_tag d i v) (with_tag d i w) _ _ _ _ refl refl (λ same. ne (omega (arith, same)))) (tagged_vlans conf i)
+      (before_of_append Apart (option_to_list (native_vlan conf i)) (tagged_vlans conf i) vlans_apart).1))
+      (native_differs (native_vlan conf i)))
 
   abbrev HasPriority : ℕ → Entry → Type 0
   HasPriority n e = e.key.priority ≡ n
@@ -156,7 +159,7 @@ module _ (conf : Configuration) (valid : IsValid conf) (d : Dp) (of_conf : Conta
   admissions_differ =
       before_append Differ (from_stacks conf i) (from_edges conf d i) stacks_differ edges_differ
       (across Differ (HasPriority 40) (HasPriority 20) (λ e f p q. by_priority e f (λ same. omega (arith, same, p, q))) (from_stacks conf i) (from_edges conf d i) stacks_at_40
-        (all_if (HasPriority 20) (is_accepting i) _ (native_at_20 (native_vlan conf i))))
+      (all_if (HasPriority 20) (is_accepting i) _ (native_at_20 (native_vlan conf i))))
 
 -- ---- of a host
 
@@ -165,7 +168,7 @@ sources_differ conf d h moment =
     before_append Differ (cond (h.dp.0 == d.id.0) (at_its_port conf moment h ∷ []) []) (cond (is_permanent conf h) (elsewhere h ∷ []) [])
     (before_if Differ (h.dp.0 == d.id.0) (at_its_port conf moment h ∷ []) (tt, tt)) (before_if Differ (is_permanent conf h) (elsewhere h ∷ []) (tt, tt))
     (all_if (λ (e : Entry). AllByRecursion (Differ e) (cond (is_permanent conf h) (elsewhere h ∷ []) [])) (h.dp.0 == d.id.0) (at_its_port conf moment h ∷ [])
-      (all_if (Differ (at_its_port conf moment h)) (is_permanent conf h) (elsewhere h ∷ []) (by_priority (at_its_port conf moment h) (elsewhere h) (λ same. omega (arith, same)), tt), tt))
+    (all_if (Differ (at_its_port conf moment h)) (is_permanent conf h) (elsewhere h ∷ []) (by_priority (at_its_port conf moment h) (elsewhere h) (λ same. omega (arith, same)), tt), tt))
 
 pub destinations_differ : (d : Dp) (h : HostRec) (stack : Stack) → HaveDistinctKeys (destinations d h stack)
 destinations_differ d h stack = one (h.dp.0 == d.id.0) (port_with d.ports h.port) (option_map (over_stack h) (hop_of stack d.id h.dp))
@@ -194,11 +197,13 @@ module _ (d : Dp) (in_order : EachBefore (λ (p q : Port). p.no < q.no) d.ports)
       before_append Differ (cond (has_flooded stack d v) (flood_entry stack d v flood Any ∷ []) []) (map (at flood) (filter (is_apart d v) d.ports))
       (before_if Differ (has_flooded stack d v) (flood_entry stack d v flood Any ∷ []) (tt, tt))
       (before_map (at flood) Differ (filter (is_apart d v) d.ports)
-        (before_from {R = λ (p q : Port). p.no < q.no} {S = λ (p q : Port). Differ (at flood p) (at flood q)} (at_differ flood) (filter (is_apart d v) d.ports)
-          (before_filter (λ (p q : Port). p.no < q.no) (is_apart d v) d.ports in_order)))
-      (all_if (λ (e : Entry). AllByRecursion (Differ e) (map (at flood) (filter (is_apart d v) d.ports))) (has_flooded stack d v) (flood_entry stack d v flood Any ∷ [])
-        (all_map (at flood) (Differ (flood_entry stack d v flood Any)) (filter (is_apart d v) d.ports)
-          (always {P = λ (p : Port). Differ (flood_entry stack d v flood Any) (at flood p)} (any_differs flood) (filter (is_apart d v) d.ports)), tt))
+      (before_from {R = λ (p q : Port). p.no < q.no} {S = λ (p q : Port). Differ (at flood p) (at flood q)} (at_differ flood) (filter (is_apart d v) d.ports)
+      (before_filter (λ (p q : Port). p.no < q.no) (is_apart d v) d.ports in_order)))
+      (all_if (λ (e : Entry). AllByRecursion (Differ e) (map (at flood) (filter (is_apart d v) d.ports))) (has_flooded stack d v) (flood_entry stack d v flood Any ∷ []) (
+        all_map (at flood) (Differ (flood_entry stack d v flood Any)) (filter (is_apart d v) d.ports)
+            (always {P = λ (p : Port). Differ (flood_entry stack d v flood Any) (at flood p)} (any_differs flood) (filter (is_apart d v) d.ports)),
+        tt,
+      ))
 
   -- a fact of the priority of each
   each_priority : (P : ℕ → Type 0) (flood : Flood) → ((from : Ingress) → P (flood_priority flood from)) → AllByRecursion (λ (e : Entry). P e.key.priority) (floods_to stack d v flood)
@@ -223,7 +228,7 @@ module _ (d : Dp) (in_order : EachBefore (λ (p q : Port). p.no < q.no) d.ports)
   floods_differ =
       before_append Differ (floods_to stack d v Unicast) (floods_to stack d v Group) (one_flood Unicast) (one_flood Group)
       (across Differ (λ (e : Entry). e.key.priority < 25) (λ (e : Entry). 25 < e.key.priority) (λ e f p q. by_priority e f (λ same. omega (arith, same, p, q))) (floods_to stack d v Unicast) (floods_to stack d v Group)
-        (each_priority (λ n. n < 25) Unicast low) (each_priority (λ n. 25 < n) Group high))
+      (each_priority (λ n. n < 25) Unicast low) (each_priority (λ n. 25 < n) Group high))
 
 -- ---- as the laws say it
 

@@ -24,7 +24,7 @@ fn next_in(vlan: &Vlan) -> Table
     }
 }
 
-fn make_from_stack(alloc: Global, port: &Port, vlan: &Vlan) -> Result<Entry, NoMemory>
+pub(crate) fn make_from_stack(alloc: Global, port: &Port, vlan: &Vlan) -> Result<Entry, NoMemory>
     ensures { IfOk result (λ made. made ≡ from_stack port.now vlan.now) }
 {
     let fields = [in_port(port.no), vid_field(vlan.vid)];
@@ -48,7 +48,7 @@ fn push_from_stacks(
 }
 
 /// `copies` are those by the mirrors of the port, here and below.
-fn make_without_tag(
+pub(crate) fn make_without_tag(
     alloc: Global,
     dp: &Dp,
     port: &Port,
@@ -71,7 +71,7 @@ fn make_without_tag(
     )
 }
 
-fn make_with_tag(
+pub(crate) fn make_with_tag(
     alloc: Global,
     dp: &Dp,
     port: &Port,

@@ -27,7 +27,12 @@ fn missed(alloc: Global, learned: &Learned, port: &Port, vlan: &Vlan) -> Result<
     leads_to(alloc, actions, Some(Table::Ipv4Route))
 }
 
-fn make_miss(alloc: Global, learned: &Learned, port: &Port, vlan: &Vlan) -> Result<Entry, NoMemory>
+pub(crate) fn make_miss(
+    alloc: Global,
+    learned: &Learned,
+    port: &Port,
+    vlan: &Vlan,
+) -> Result<Entry, NoMemory>
     requires { vec_len learned.now.in_group ≡ 4096 }
     ensures { IfOk result (λ made. made ≡ miss_by learned.now port.now vlan.now) }
 {

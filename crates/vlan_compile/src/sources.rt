@@ -38,7 +38,7 @@ fn make_at_its_port(
     make_entry(alloc, Table::Source, 30, &fields, instrs)
 }
 
-fn make_elsewhere(alloc: Global, host: &HostRec) -> Result<Entry, NoMemory>
+pub(crate) fn make_elsewhere(alloc: Global, host: &HostRec) -> Result<Entry, NoMemory>
     ensures { IfOk result (λ made. made ≡ elsewhere host.now) }
 {
     let fields = [eth_src(host.mac), vid_field(host.vid)];
