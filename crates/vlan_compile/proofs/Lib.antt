@@ -4,3 +4,4 @@ pub mod CountLemmas
 pub mod Valid
 pub mod Accepted
 pub mod Keys
+pub mod Members

@@ -1,6 +1,6 @@
 //! Laws of the definitions: each function is empty, and its contract is the law.
 
-ghost use Rattle.std.specs.Prelude.{◌≡◌, ℕ, List, Contains};
+ghost use Rattle.std.specs.Prelude.{◌≡◌, ℕ, true, List, Contains};
 ghost use Rattle.std.specs.List.{AllByRecursion};
 ghost use Rattle.net_base.specs.Address.{IsSixBytes};
 ghost use Rattle.stack_paths.specs.Stack.{Stack};
@@ -10,9 +10,11 @@ ghost use Rattle.conf_types.specs.declared.state.HostRec.{HostRec};
 ghost use Rattle.conf_types.specs.declared.vlan.Vlan.{Vlan};
 ghost use Rattle.conf_types.specs.Configuration.{Configuration};
 ghost use Rattle.conf_types.specs.Links.{links};
+ghost use Rattle.conf_types.specs.Membership.{is_accepting, has_edge_member};
 ghost use Rattle.conf_types.specs.State.{State, IsValidState};
 ghost use Rattle.conf_types.specs.Valid.{IsValid};
 ghost use Rattle.plan_base.specs.Accepted.{IsFlowEntry, HaveDistinctKeys};
+ghost use Rattle.vlan_compile.specs.Vlans.{vlans_of};
 ghost use Rattle.vlan_compile.specs.Admissions.{admissions};
 ghost use Rattle.vlan_compile.specs.Sources.{sources};
 ghost use Rattle.vlan_compile.specs.Misses.{misses};
@@ -50,4 +52,12 @@ pub fn keys_are_distinct()
     ensures destinations { (d : Dp) (h : HostRec) (stack : Stack) → HaveDistinctKeys (destinations d h stack) }
     ensures floods { (conf : Configuration) → IsValid conf → (d : Dp) → Contains conf.dps d → (v : Vlan) → (stack : Stack)
         → HaveDistinctKeys (floods d v stack) }
+{}
+
+/// The datapath of a port that takes packets in has an edge port of each VLAN that it admits, so that
+/// their ACLs are attached there.
+#[tactic(auto, using(crate::proofs::Members::members_are))]
+pub fn an_admitted_vlan_has_a_member()
+    ensures { (conf : Configuration) → IsValid conf → (d : Dp) (i : Port) → Contains d.ports i → is_accepting i ≡ true
+        → (v : Vlan) → Contains (vlans_of conf i) v → has_edge_member d v.vid ≡ true }
 {}

@@ -1,6 +1,6 @@
 //! Each row's entries, written out by hand.
 //!
-//! Datapath 1 has the ports 1 to 8; a stack link leads by port 6 to datapath 2, none to datapath 3. VLANs
+//! Datapath 1 has the ports of `PORTS`; a stack link leads by port 6 to datapath 2, none to datapath 3. VLANs
 //! aren't looked up here: the calls get a configuration without any, and what is made of a VLAN gets the
 //! VLAN itself.
 
@@ -25,7 +25,7 @@ use std::test::Fail;
 // ---- entries by hand
 
 #[derive(Clone, Copy)]
-enum F {
+enum Has {
     In(u32),
     Src(u64),
     Dst(u64),
@@ -35,7 +35,7 @@ enum F {
 }
 
 #[derive(Clone, Copy)]
-enum A {
+enum Does {
     Out(u32),
     Controller,
     Back,
@@ -45,37 +45,37 @@ enum A {
 }
 
 /// Table, priority, match, actions, and the table that it leads to.
-type Row = (u8, u16, &'static [F], &'static [A], Option<u8>);
+type Row = (u8, u16, &'static [Has], &'static [Does], Option<u8>);
 
 fn exact(id: FieldId, value: u128, mask: u128) -> Field {
     Field { id, value, mask }
 }
 
-fn field(f: F) -> Field {
-    match f {
-        F::In(port) => exact(FieldId::InPort, u128::from(port), 0xffff_ffff),
-        F::Src(mac) => exact(FieldId::EthSrc, u128::from(mac), 0xffff_ffff_ffff),
-        F::Dst(mac) => exact(FieldId::EthDst, u128::from(mac), 0xffff_ffff_ffff),
-        F::Group => exact(FieldId::EthDst, 0x0100_0000_0000, 0x0100_0000_0000),
-        F::Vid(vid) => exact(FieldId::VlanVid, 0x1000 + u128::from(vid), 0xffff),
-        F::Untagged => exact(FieldId::VlanVid, 0, 0xffff),
+fn field(has: Has) -> Field {
+    match has {
+        Has::In(port) => exact(FieldId::InPort, u128::from(port), 0xffff_ffff),
+        Has::Src(mac) => exact(FieldId::EthSrc, u128::from(mac), 0xffff_ffff_ffff),
+        Has::Dst(mac) => exact(FieldId::EthDst, u128::from(mac), 0xffff_ffff_ffff),
+        Has::Group => exact(FieldId::EthDst, 0x0100_0000_0000, 0x0100_0000_0000),
+        Has::Vid(vid) => exact(FieldId::VlanVid, 0x1000 + u128::from(vid), 0xffff),
+        Has::Untagged => exact(FieldId::VlanVid, 0, 0xffff),
     }
 }
 
-fn action(a: A) -> Action {
-    match a {
-        A::Out(port) => Action::Output { port, max_len: 0 },
-        A::Controller => Action::Output {
+fn action(does: Does) -> Action {
+    match does {
+        Does::Out(port) => Action::Output { port, max_len: 0 },
+        Does::Controller => Action::Output {
             port: 0xffff_fffd,
             max_len: 0xffff,
         },
-        A::Back => Action::Output {
+        Does::Back => Action::Output {
             port: 0xffff_fff8,
             max_len: 0,
         },
-        A::Push => Action::PushVlan(0x8100),
-        A::Pop => Action::PopVlan,
-        A::SetVid(vid) => Action::Set(field(F::Vid(vid))),
+        Does::Push => Action::PushVlan(0x8100),
+        Does::Pop => Action::PopVlan,
+        Does::SetVid(vid) => Action::Set(field(Has::Vid(vid))),
     }
 }
 
@@ -118,6 +118,7 @@ fn is(alloc: Global, made: &Entry, row: &Row) -> Result<bool, NoMemory> {
 
 // ---- the state
 
+#[derive(Drop)]
 struct Units {
     count: u64,
 }
@@ -149,77 +150,140 @@ fn vid(n: u16) -> Result<Vid, Fail> {
     Ok(Vid::new(n).ok_or("a VLAN")?)
 }
 
-/// An edge port without VLANs.
-fn plain_port(alloc: Global, no: u32) -> Result<Port, Fail> {
+/// An interface: by default an edge port without VLANs.
+#[derive(Clone, Copy)]
+struct Given {
+    no: u32,
+    enabled: bool,
+    native: Option<u16>,
+    tagged: &'static [u16],
+    output_only: bool,
+    hairpin: bool,
+    unicast_flood: bool,
+    permanent_learn: bool,
+    max_hosts: u32,
+    mirror: &'static [u32],
+    stack: Option<u64>,
+}
+
+const PLAIN: Given = Given {
+    no: 1,
+    enabled: true,
+    native: None,
+    tagged: &[],
+    output_only: false,
+    hairpin: false,
+    unicast_flood: true,
+    permanent_learn: false,
+    max_hosts: 255,
+    mirror: &[],
+    stack: None,
+};
+
+const PORTS: [Given; 8] = [
+    Given {
+        no: 1,
+        native: Some(100),
+        hairpin: true,
+        ..PLAIN
+    },
+    Given {
+        no: 2,
+        native: Some(100),
+        unicast_flood: false,
+        ..PLAIN
+    },
+    Given {
+        no: 3,
+        tagged: &[100, 200],
+        ..PLAIN
+    },
+    Given {
+        no: 4,
+        mirror: &[1, 3],
+        ..PLAIN
+    },
+    Given {
+        no: 5,
+        enabled: false,
+        mirror: &[2],
+        ..PLAIN
+    },
+    Given {
+        no: 6,
+        stack: Some(2),
+        ..PLAIN
+    },
+    Given {
+        no: 7,
+        enabled: false,
+        native: Some(100),
+        ..PLAIN
+    },
+    Given {
+        no: 8,
+        native: Some(100),
+        output_only: true,
+        ..PLAIN
+    },
+];
+
+fn vids(alloc: Global, listed: &[u16]) -> Result<Vids, Fail> {
+    let mut vids = Vids::new(alloc);
+    for n in listed {
+        vids.push(vid(*n)?)?;
+    }
+    Ok(vids)
+}
+
+fn numbers(alloc: Global, listed: &[u32]) -> Result<PortNos, Fail> {
+    let mut numbers = PortNos::new(alloc);
+    for n in listed {
+        numbers.push(number(*n)?)?;
+    }
+    Ok(numbers)
+}
+
+/// The far end is port 1.
+fn far_end(dp: Option<u64>) -> Result<Option<StackEnd>, Fail> {
+    match dp {
+        Some(dp) => Ok(Some(StackEnd {
+            dp: DpId(dp),
+            port: number(1)?,
+        })),
+        None => Ok(None),
+    }
+}
+
+fn make_port(alloc: Global, given: &Given) -> Result<Port, Fail> {
+    let native = match given.native {
+        Some(n) => Some(vid(n)?),
+        None => None,
+    };
     Ok(Port {
-        no: number(no)?,
+        no: number(given.no)?,
         name: Text::new(alloc),
         description: Text::new(alloc),
-        enabled: true,
-        native: None,
-        tagged: Vids::new(alloc),
+        enabled: given.enabled,
+        native,
+        tagged: vids(alloc, given.tagged)?,
         acls: Names::new(alloc),
-        output_only: false,
-        hairpin: false,
-        unicast_flood: true,
-        permanent_learn: false,
+        output_only: given.output_only,
+        hairpin: given.hairpin,
+        unicast_flood: given.unicast_flood,
+        permanent_learn: given.permanent_learn,
         opstatus_reconf: true,
-        max_hosts: 255,
-        mirror: PortNos::new(alloc),
-        stack: None,
+        max_hosts: given.max_hosts,
+        mirror: numbers(alloc, given.mirror)?,
+        stack: far_end(given.stack)?,
     })
 }
 
-fn native_port(alloc: Global, no: u32) -> Result<Port, Fail> {
-    let mut port = plain_port(alloc, no)?;
-    port.native = Some(vid(100)?);
-    Ok(port)
-}
-
-fn mirror_port(alloc: Global, no: u32, mirrored: &[u32]) -> Result<Port, Fail> {
-    let mut port = plain_port(alloc, no)?;
-    for n in mirrored {
-        port.mirror.push(number(*n)?)?;
-    }
-    Ok(port)
-}
-
-fn stack_port(alloc: Global, no: u32) -> Result<Port, Fail> {
-    let mut port = plain_port(alloc, no)?;
-    port.stack = Some(StackEnd {
-        dp: DpId(2),
-        port: number(1)?,
-    });
-    Ok(port)
-}
-
-/// 1 native with `hairpin`; 2 native, keeps its first host, without unicast floods; 3 tagged in 100 and
-/// 200; 4 mirrors 1 and 3; 5, disabled, mirrors 2; 6 a stack port; 7 native, disabled; 8 native,
-/// output-only.
 fn make_ports(alloc: Global) -> Result<Ports, Fail> {
     let mut ports = Ports::new(alloc);
-    let mut port = native_port(alloc, 1)?;
-    port.hairpin = true;
-    ports.push(port)?;
-    let mut port = native_port(alloc, 2)?;
-    port.permanent_learn = true;
-    port.unicast_flood = false;
-    ports.push(port)?;
-    let mut port = plain_port(alloc, 3)?;
-    port.tagged.push(vid(100)?)?;
-    port.tagged.push(vid(200)?)?;
-    ports.push(port)?;
-    ports.push(mirror_port(alloc, 4, &[1, 3])?)?;
-    let mut port = mirror_port(alloc, 5, &[2])?;
-    port.enabled = false;
-    ports.push(port)?;
-    ports.push(stack_port(alloc, 6)?)?;
-    let mut port = native_port(alloc, 7)?;
-    port.enabled = false;
-    ports.push(port)?;
-    let mut port = native_port(alloc, 8)?;
-    port.output_only = true;
-    ports.push(port)?;
+    for given in &PORTS {
+        ports.push(make_port(alloc, given)?)?;
+    }
     Ok(ports)
 }
 
@@ -287,48 +351,69 @@ const HOST: u64 = 0x0200_0000_0001;
 
 // ---- rows
 
-const FROM_STACK: Row = (1, 40, &[F::In(6), F::Vid(100)], &[], Some(7));
+const FROM_STACK: Row = (1, 40, &[Has::In(6), Has::Vid(100)], &[], Some(7));
 
 const WITHOUT_TAG: Row = (
     1,
     20,
-    &[F::In(1), F::Untagged],
-    &[A::Out(4), A::Push, A::SetVid(100)],
+    &[Has::In(1), Has::Untagged],
+    &[Does::Out(4), Does::Push, Does::SetVid(100)],
     Some(3),
 );
 
-const WITH_TAG_AND_ACLS: Row = (1, 20, &[F::In(3), F::Vid(100)], &[A::Out(4)], Some(2));
+const WITH_TAG_AND_ACLS: Row = (
+    1,
+    20,
+    &[Has::In(3), Has::Vid(100)],
+    &[Does::Out(4)],
+    Some(2),
+);
+
+/// The entry of an interface for a VLAN, as its row makes it.
+fn admission(alloc: Global, dp: &Dp, given: &Given, vlan: &Vlan) -> Result<Entry, Fail> {
+    let port = make_port(alloc, given)?;
+    let mut copies = Actions::new(alloc);
+    push_mirrored(&mut copies, dp, port.no)?;
+    if port.is_stack() {
+        Ok(make_from_stack(alloc, &port, vlan)?)
+    } else if port.is_native_in(vlan.vid) {
+        Ok(make_without_tag(alloc, dp, &port, vlan, &copies)?)
+    } else {
+        Ok(make_with_tag(alloc, dp, &port, vlan, &copies)?)
+    }
+}
 
 #[test]
 fn ports_admit_their_vlans(rt: HostRuntime) -> Result<(), Fail> {
     let alloc = rt.alloc();
     let dp = make_dp(alloc)?;
     let mut vlan = make_vlan(alloc, 100, true)?;
-    let stack = dp.port(number(6)?).ok_or("port 6")?;
-    let first = dp.port(number(1)?).ok_or("port 1")?;
-    let third = dp.port(number(3)?).ok_or("port 3")?;
-    assert!(rt; is(alloc, &make_from_stack(alloc, stack, &vlan)?, &FROM_STACK)?);
-    let mut copies = Actions::new(alloc);
-    push_mirrored(&mut copies, &dp, first.no)?;
     assert!(rt;
         is(
             alloc,
-            &make_without_tag(alloc, &dp, first, &vlan, &copies)?,
+            &admission(alloc, &dp, &PORTS[5], &vlan)?,
+            &FROM_STACK
+        )?
+    );
+    assert!(rt;
+        is(
+            alloc,
+            &admission(alloc, &dp, &PORTS[0], &vlan)?,
             &WITHOUT_TAG
         )?
     );
     vlan.acls.push(Text::from_str(alloc, "a")?)?;
-    let mut copies = Actions::new(alloc);
-    push_mirrored(&mut copies, &dp, third.no)?;
     assert!(rt;
         is(
             alloc,
-            &make_with_tag(alloc, &dp, third, &vlan, &copies)?,
+            &admission(alloc, &dp, &PORTS[2], &vlan)?,
             &WITH_TAG_AND_ACLS
         )?
     );
+    let port = make_port(alloc, &PORTS[0])?;
     let mut units = Units { count: 0 };
-    assert!(rt; admit_entries(alloc, &no_vlans(alloc), &dp, first, &mut units)?.is_empty());
+    let made = admit_entries(alloc, &no_vlans(alloc), &dp, &port, &mut units)?;
+    assert!(rt; made.is_empty());
     assert_eq!(rt; units.count, 1);
     Ok(())
 }
@@ -340,7 +425,13 @@ const SOURCES: [SourceCase; 3] = [
     (
         1,
         4,
-        &[(3, 30, &[F::In(1), F::Src(HOST), F::Vid(100)], &[], Some(4))],
+        &[(
+            3,
+            30,
+            &[Has::In(1), Has::Src(HOST), Has::Vid(100)],
+            &[],
+            Some(4),
+        )],
     ),
     (
         1,
@@ -348,15 +439,15 @@ const SOURCES: [SourceCase; 3] = [
         &[(
             3,
             30,
-            &[F::In(1), F::Src(HOST), F::Vid(100)],
-            &[A::Controller],
+            &[Has::In(1), Has::Src(HOST), Has::Vid(100)],
+            &[Does::Controller],
             Some(4),
         )],
     ),
     (2, 4, &[]),
 ];
 
-const ELSEWHERE: Row = (3, 20, &[F::Src(HOST), F::Vid(100)], &[], None);
+const ELSEWHERE: Row = (3, 20, &[Has::Src(HOST), Has::Vid(100)], &[], None);
 
 #[test]
 fn hosts_are_heard_at_their_ports(rt: HostRuntime) -> Result<(), Fail> {
@@ -383,37 +474,55 @@ const MISSES: [MissCase; 6] = [
         1,
         1,
         &[],
-        (3, 10, &[F::In(1), F::Vid(100)], &[A::Controller], Some(4)),
+        (
+            3,
+            10,
+            &[Has::In(1), Has::Vid(100)],
+            &[Does::Controller],
+            Some(4),
+        ),
     ),
     (
         1,
         1,
         &[(1, 1)],
-        (3, 10, &[F::In(1), F::Vid(100)], &[], Some(4)),
+        (3, 10, &[Has::In(1), Has::Vid(100)], &[], Some(4)),
     ),
     (
         1,
         9,
         &[(1, 3), (1, 3)],
-        (3, 10, &[F::In(1), F::Vid(100)], &[], Some(4)),
+        (3, 10, &[Has::In(1), Has::Vid(100)], &[], Some(4)),
     ),
     (
         1,
         9,
         &[(2, 1), (1, 3), (2, 1)],
-        (3, 10, &[F::In(1), F::Vid(100)], &[A::Controller], Some(4)),
+        (
+            3,
+            10,
+            &[Has::In(1), Has::Vid(100)],
+            &[Does::Controller],
+            Some(4),
+        ),
     ),
     (
         2,
         9,
         &[(1, 2)],
-        (3, 10, &[F::In(2), F::Vid(100)], &[], None),
+        (3, 10, &[Has::In(2), Has::Vid(100)], &[], None),
     ),
     (
         2,
         9,
         &[(1, 1)],
-        (3, 10, &[F::In(2), F::Vid(100)], &[A::Controller], Some(4)),
+        (
+            3,
+            10,
+            &[Has::In(2), Has::Vid(100)],
+            &[Does::Controller],
+            Some(4),
+        ),
     ),
 ];
 
@@ -425,9 +534,14 @@ fn misses_go_by_what_was_learned(rt: HostRuntime) -> Result<(), Fail> {
     let conf = no_vlans(alloc);
     let mut units = Units { count: 0 };
     for (no, max_hosts, listed, row) in MISSES {
-        let mut port = native_port(alloc, no)?;
-        port.permanent_learn = no == 2;
-        port.max_hosts = max_hosts;
+        let given = Given {
+            no,
+            native: Some(100),
+            permanent_learn: no == 2,
+            max_hosts,
+            ..PLAIN
+        };
+        let port = make_port(alloc, &given)?;
         let mut hosts = HostRecs::new(alloc);
         for (id, at) in listed {
             hosts.push(host(*id, *at)?)?;
@@ -452,15 +566,15 @@ const DESTINATIONS: [DestinationCase; 5] = [
             (
                 7,
                 20,
-                &[F::In(1), F::Dst(HOST), F::Vid(100)],
-                &[A::Pop, A::Back, A::Out(4)],
+                &[Has::In(1), Has::Dst(HOST), Has::Vid(100)],
+                &[Does::Pop, Does::Back, Does::Out(4)],
                 None,
             ),
             (
                 7,
                 10,
-                &[F::Dst(HOST), F::Vid(100)],
-                &[A::Pop, A::Out(1), A::Out(4)],
+                &[Has::Dst(HOST), Has::Vid(100)],
+                &[Does::Pop, Does::Out(1), Does::Out(4)],
                 None,
             ),
         ],
@@ -469,12 +583,18 @@ const DESTINATIONS: [DestinationCase; 5] = [
         1,
         2,
         &[
-            (7, 20, &[F::In(2), F::Dst(HOST), F::Vid(100)], &[], None),
+            (
+                7,
+                20,
+                &[Has::In(2), Has::Dst(HOST), Has::Vid(100)],
+                &[],
+                None,
+            ),
             (
                 7,
                 10,
-                &[F::Dst(HOST), F::Vid(100)],
-                &[A::Pop, A::Out(2)],
+                &[Has::Dst(HOST), Has::Vid(100)],
+                &[Does::Pop, Does::Out(2)],
                 None,
             ),
         ],
@@ -483,12 +603,18 @@ const DESTINATIONS: [DestinationCase; 5] = [
         1,
         3,
         &[
-            (7, 20, &[F::In(3), F::Dst(HOST), F::Vid(100)], &[], None),
+            (
+                7,
+                20,
+                &[Has::In(3), Has::Dst(HOST), Has::Vid(100)],
+                &[],
+                None,
+            ),
             (
                 7,
                 10,
-                &[F::Dst(HOST), F::Vid(100)],
-                &[A::Out(3), A::Out(4)],
+                &[Has::Dst(HOST), Has::Vid(100)],
+                &[Does::Out(3), Does::Out(4)],
                 None,
             ),
         ],
@@ -496,7 +622,13 @@ const DESTINATIONS: [DestinationCase; 5] = [
     (
         2,
         5,
-        &[(7, 10, &[F::Dst(HOST), F::Vid(100)], &[A::Out(6)], None)],
+        &[(
+            7,
+            10,
+            &[Has::Dst(HOST), Has::Vid(100)],
+            &[Does::Out(6)],
+            None,
+        )],
     ),
     (3, 5, &[]),
 ];
@@ -527,113 +659,119 @@ const FLOODS: [FloodCase; 3] = [
             (
                 8,
                 10,
-                &[F::Vid(100)],
+                &[Has::Vid(100)],
                 &[
-                    A::Out(3),
-                    A::Out(4),
-                    A::Out(6),
-                    A::Pop,
-                    A::Out(1),
-                    A::Out(4),
-                    A::Out(8),
+                    Does::Out(3),
+                    Does::Out(4),
+                    Does::Out(6),
+                    Does::Pop,
+                    Does::Out(1),
+                    Does::Out(4),
+                    Does::Out(8),
                 ],
                 None,
             ),
             (
                 8,
                 20,
-                &[F::In(1), F::Vid(100)],
+                &[Has::In(1), Has::Vid(100)],
                 &[
-                    A::Out(3),
-                    A::Out(4),
-                    A::Out(6),
-                    A::Pop,
-                    A::Back,
-                    A::Out(4),
-                    A::Out(8),
+                    Does::Out(3),
+                    Does::Out(4),
+                    Does::Out(6),
+                    Does::Pop,
+                    Does::Back,
+                    Does::Out(4),
+                    Does::Out(8),
                 ],
                 None,
             ),
             (
                 8,
                 20,
-                &[F::In(2), F::Vid(100)],
+                &[Has::In(2), Has::Vid(100)],
                 &[
-                    A::Out(3),
-                    A::Out(4),
-                    A::Out(6),
-                    A::Pop,
-                    A::Out(1),
-                    A::Out(4),
-                    A::Out(8),
+                    Does::Out(3),
+                    Does::Out(4),
+                    Does::Out(6),
+                    Does::Pop,
+                    Does::Out(1),
+                    Does::Out(4),
+                    Does::Out(8),
                 ],
                 None,
             ),
             (
                 8,
                 20,
-                &[F::In(3), F::Vid(100)],
-                &[A::Out(6), A::Pop, A::Out(1), A::Out(4), A::Out(8)],
+                &[Has::In(3), Has::Vid(100)],
+                &[
+                    Does::Out(6),
+                    Does::Pop,
+                    Does::Out(1),
+                    Does::Out(4),
+                    Does::Out(8),
+                ],
                 None,
             ),
             (
                 8,
                 30,
-                &[F::Group, F::Vid(100)],
+                &[Has::Group, Has::Vid(100)],
                 &[
-                    A::Out(3),
-                    A::Out(4),
-                    A::Out(6),
-                    A::Pop,
-                    A::Out(1),
-                    A::Out(4),
-                    A::Out(2),
-                    A::Out(8),
+                    Does::Out(3),
+                    Does::Out(4),
+                    Does::Out(6),
+                    Does::Pop,
+                    Does::Out(1),
+                    Does::Out(4),
+                    Does::Out(2),
+                    Does::Out(8),
                 ],
                 None,
             ),
             (
                 8,
                 40,
-                &[F::In(1), F::Group, F::Vid(100)],
+                &[Has::In(1), Has::Group, Has::Vid(100)],
                 &[
-                    A::Out(3),
-                    A::Out(4),
-                    A::Out(6),
-                    A::Pop,
-                    A::Back,
-                    A::Out(4),
-                    A::Out(2),
-                    A::Out(8),
+                    Does::Out(3),
+                    Does::Out(4),
+                    Does::Out(6),
+                    Does::Pop,
+                    Does::Back,
+                    Does::Out(4),
+                    Does::Out(2),
+                    Does::Out(8),
                 ],
                 None,
             ),
             (
                 8,
                 40,
-                &[F::In(2), F::Group, F::Vid(100)],
+                &[Has::In(2), Has::Group, Has::Vid(100)],
                 &[
-                    A::Out(3),
-                    A::Out(4),
-                    A::Out(6),
-                    A::Pop,
-                    A::Out(1),
-                    A::Out(4),
-                    A::Out(8),
+                    Does::Out(3),
+                    Does::Out(4),
+                    Does::Out(6),
+                    Does::Pop,
+                    Does::Out(1),
+                    Does::Out(4),
+                    Does::Out(8),
                 ],
                 None,
             ),
             (
                 8,
                 40,
-                &[F::In(3), F::Group, F::Vid(100)],
+                &[Has::In(3), Has::Group, Has::Vid(100)],
                 &[
-                    A::Out(6),
-                    A::Pop,
-                    A::Out(1),
-                    A::Out(4),
-                    A::Out(2),
-                    A::Out(8),
+                    Does::Out(6),
+                    Does::Pop,
+                    Does::Out(1),
+                    Does::Out(4),
+                    Does::Out(2),
+                    Does::Out(8),
                 ],
                 None,
             ),
@@ -643,20 +781,20 @@ const FLOODS: [FloodCase; 3] = [
         200,
         false,
         &[
-            (8, 10, &[F::Vid(200)], &[], None),
-            (8, 20, &[F::In(3), F::Vid(200)], &[], None),
+            (8, 10, &[Has::Vid(200)], &[], None),
+            (8, 20, &[Has::In(3), Has::Vid(200)], &[], None),
             (
                 8,
                 30,
-                &[F::Group, F::Vid(200)],
-                &[A::Out(3), A::Out(4), A::Out(6)],
+                &[Has::Group, Has::Vid(200)],
+                &[Does::Out(3), Does::Out(4), Does::Out(6)],
                 None,
             ),
             (
                 8,
                 40,
-                &[F::In(3), F::Group, F::Vid(200)],
-                &[A::Out(6)],
+                &[Has::In(3), Has::Group, Has::Vid(200)],
+                &[Does::Out(6)],
                 None,
             ),
         ],
@@ -665,8 +803,8 @@ const FLOODS: [FloodCase; 3] = [
         300,
         true,
         &[
-            (8, 10, &[F::Vid(300)], &[A::Out(6)], None),
-            (8, 30, &[F::Group, F::Vid(300)], &[A::Out(6)], None),
+            (8, 10, &[Has::Vid(300)], &[Does::Out(6)], None),
+            (8, 30, &[Has::Group, Has::Vid(300)], &[Does::Out(6)], None),
         ],
     ),
 ];
