@@ -15,4 +15,6 @@ mod verdict;
 mod way;
 
 pub use now::Now;
+pub use routes::{RouteItem, RouteItems, Target, route_list};
+pub use source::group_of;
 pub use way::{BRIDGE_GROUP, BROADCAST, GATEWAY, LLDP, PVST_GROUP, sends};

@@ -13,7 +13,7 @@ use std::alloc::Global;
 
 /// Where an item of a route list leads.
 #[derive(Clone, Copy)]
-pub(crate) enum Target {
+pub enum Target {
     /// To the gateway itself.
     Gateway,
     /// To a neighbour in a VLAN, from its gateway's address.
@@ -24,13 +24,13 @@ pub(crate) enum Target {
 
 /// An item of a route list: the prefix of an address, and where it leads.
 #[derive(Clone, Copy)]
-pub(crate) struct RouteItem {
-    pub(crate) ip: Ip4,
-    pub(crate) len: u8,
-    pub(crate) to: Target,
+pub struct RouteItem {
+    pub ip: Ip4,
+    pub len: u8,
+    pub to: Target,
 }
 
-pub(crate) type RouteItems = Items<RouteItem>;
+pub type RouteItems = Items<RouteItem>;
 
 /// What becomes of a packet by routing.
 #[derive(Drop)]
@@ -204,7 +204,7 @@ fn push_items_in(
 
 /// The route list of a VLAN for a group: what each VLAN of its routing set adds.
 #[tactic(auto, unfolding(crate::specs::Routes::route_list))]
-pub(crate) fn route_list(
+pub fn route_list(
     alloc: Global,
     conf: &Conf,
     neighbours: &[NeighRec],

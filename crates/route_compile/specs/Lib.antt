@@ -1,0 +1,3 @@
+pub mod Gateways
+pub mod Routes
+pub mod Vips
