@@ -1,28 +1,19 @@
-ghost use Rattle.std.specs.Prelude.{◌≡◌, ◌-◌, ◌++◌, ◌||◌, ◌&&◌, [], length, map, filter, IfOk, OnOk};
-ghost use Rattle.std.specs.List.{list_any};
-ghost use Rattle.std.specs.Option.{option_copied, option_map_or};
+ghost use Rattle.std.specs.Prelude.{◌≡◌, ◌-◌, ◌++◌, [], length, IfOk, OnOk};
+ghost use Rattle.std.specs.Option.{option_map_or};
 ghost use Rattle.conf_types.specs.Attached.{acl_named};
 ghost use Rattle.conf_types.specs.Count.{counted};
-ghost use Rattle.conf_types.specs.Membership.{has_edge_member, is_edge_member};
-ghost use Rattle.acl_compile.specs.Slices.{entries_from, acl_entries, port_entry, has_acls, port_acl, vlan_acl};
+ghost use Rattle.acl_compile.specs.Slices.{entries_from, acl_entries, port_entry, port_acl, vlan_acl};
 
 use crate::place::Place;
 use crate::rules::{make_denial, push_rules};
-use crate::targets::is_same_text;
-use conf_types::{Acl, Conf, Dp, Member, Port, Tally, Vlan};
-use net_base::{Names, NoMemory, PortNo, Text, Vid};
+use conf_types::{Conf, Dp, Port, Tally, Vlan};
+use net_base::{Names, NoMemory, PortNo, Text};
 use of_match::{Actions, Entries, Entry};
 use plan_base::{Table, in_port, leads_to, make_entry};
 use std::alloc::Global;
 
 /// The priority of the first rule.
 const FIRST_RULE_PRIORITY: u16 = 10_000;
-
-fn find_acl<'a>(acls: &'a [Acl], name: &Text) -> Option<&'a Acl>
-    ensures { option_copied result ≡ acl_named acls.now name.now }
-{
-    acls.iter().find(|acl| is_same_text(&acl.name, name))
-}
 
 /// Adds the entries of one ACL, from a priority down, and says which priority follows.
 fn push_acl(
@@ -39,7 +30,7 @@ fn push_acl(
     ensures next { IfOk result
         (λ next. next ≡ first - length (option_map_or (λ acl. acl.rules) (acl_named conf.now.acls name.now) [])) }
 {
-    match find_acl(conf.acls().as_slice(), name) {
+    match conf.acl(name) {
         Some(acl) => push_rules(alloc, out, place, dp, first, acl.rules.as_slice()),
         None => Ok(first),
     }
@@ -94,24 +85,6 @@ pub fn port_acl_entries<T: Tally>(
     Ok(made)
 }
 
-fn is_edge_member(port: &Port, vid: Vid) -> bool
-    ensures { result ≡ is_edge_member port.now vid }
-{
-    match port.member_of(vid) {
-        Member::Native | Member::Tagged => true,
-        Member::Stack | Member::None => false,
-    }
-}
-
-fn has_edge_member(dp: &Dp, vid: Vid) -> bool
-    ensures { result ≡ has_edge_member dp.now vid }
-{
-    dp.ports
-        .as_slice()
-        .iter()
-        .any(|port| is_edge_member(port, vid))
-}
-
 /// The flow entries of table 2 for a VLAN on a datapath: the VLAN's ACLs, where the datapath has an
 /// edge port of it. One unit of work is counted.
 pub fn vlan_acl_entries<T: Tally>(
@@ -125,7 +98,7 @@ pub fn vlan_acl_entries<T: Tally>(
     ensures unit { T.count units.new ≡ counted (T.count units.old) }
 {
     units.tick();
-    if vlan.acls.len() > 0 && has_edge_member(dp, vlan.vid) {
+    if vlan.acls.len() > 0 && dp.has_edge_member(vlan.vid) {
         make_acl_entries(alloc, &Place::AtVlan(vlan.vid), conf, dp, &vlan.acls)
     } else {
         Ok(Entries::new(alloc))

@@ -1,35 +1,13 @@
 ghost use Rattle.std.specs.Prelude.{◌≡◌, fold, IfOk, OnOk};
 ghost use Rattle.std.specs.List.{filter_map};
-ghost use Rattle.std.specs.Option.{option_copied, option_map_or};
-ghost use Rattle.conf_types.specs.Attached.{is_named, port_named};
-ghost use Rattle.conf_types.specs.Lists.{is_same, is_among};
+ghost use Rattle.std.specs.Option.{option_map_or};
+ghost use Rattle.conf_types.specs.Lists.{is_among};
 ghost use Rattle.acl_compile.specs.Targets.{may_go, target, targets, with_one};
 
 use crate::place::Place;
 use conf_types::{Dp, Port, PortNos, PortRef, Rule};
-use net_base::{NoMemory, PortNo, Text};
+use net_base::{NoMemory, PortNo};
 use std::alloc::Global;
-
-pub(crate) fn is_same_text(a: &Text, b: &Text) -> bool
-    ensures { result ≡ is_same a.now b.now }
-{
-    a.as_str() == b.as_str()
-}
-
-fn is_named(name: &PortRef, port: &Port) -> bool
-    ensures { result ≡ is_named name.now port.now }
-{
-    match name {
-        PortRef::No(no) => port.no.get() == no.get(),
-        PortRef::Name(name) => is_same_text(&port.name, name),
-    }
-}
-
-fn find_named<'a>(dp: &'a Dp, name: &PortRef) -> Option<&'a Port>
-    ensures { option_copied result ≡ port_named dp.now name.now }
-{
-    dp.ports.as_slice().iter().find(|port| is_named(name, port))
-}
 
 fn may_go(place: &Place, port: &Port) -> bool
     ensures { result ≡ may_go place.now port.now }
@@ -45,7 +23,7 @@ fn may_go(place: &Place, port: &Port) -> bool
 fn find_target(place: &Place, dp: &Dp, name: &PortRef) -> Option<PortNo>
     ensures { result ≡ target place.now dp.now name.now }
 {
-    match find_named(dp, name) {
+    match dp.port_named(name) {
         Some(port) => {
             if may_go(place, port) {
                 Some(port.no)

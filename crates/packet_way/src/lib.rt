@@ -16,5 +16,4 @@ mod way;
 
 pub use now::Now;
 pub use routes::{RouteItem, RouteItems, Target, route_list};
-pub use source::group_of;
 pub use way::{BRIDGE_GROUP, BROADCAST, GATEWAY, LLDP, PVST_GROUP, sends};

@@ -24,7 +24,7 @@ pub(crate) enum Heard {
 }
 
 /// The number of a datapath's group.
-pub fn group_of(conf: &Conf, dp: DpId) -> DpId
+pub(crate) fn group_of(conf: &Conf, dp: DpId) -> DpId
     ensures { result ≡ group_of conf.now dp }
 {
     match conf.group(dp) {

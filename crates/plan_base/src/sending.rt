@@ -1,6 +1,5 @@
 ghost use Rattle.std.specs.Prelude.{◌≡◌, ◌&&◌, ◌++◌, OnOk};
-ghost use Rattle.conf_types.specs.Lists.{is_among};
-ghost use Rattle.conf_types.specs.Membership.{is_native_in, is_mirror_of};
+ghost use Rattle.conf_types.specs.Membership.{is_mirror_of};
 ghost use Rattle.plan_base.specs.Sending.{mirrored, copied, sent};
 
 use crate::actions::{out, pop_tag};
@@ -8,17 +7,11 @@ use conf_types::{Dp, Port};
 use net_base::{NoMemory, PortNo, Vid};
 use of_match::{Action, Actions};
 
-fn has_port(ports: &[PortNo], port: PortNo) -> bool
-    ensures { result ≡ is_among ports.now port }
-{
-    ports.iter().any(|other| other.get() == port.get())
-}
-
 /// Whether the first interface gets copies of what the port with this number takes in and sends.
 fn is_mirror(mirror: &Port, port: PortNo) -> bool
     ensures { result ≡ (mirror.now.enabled && is_mirror_of mirror.now port) }
 {
-    mirror.enabled && has_port(mirror.mirror.as_slice(), port)
+    mirror.enabled && mirror.is_mirror_of(port)
 }
 
 /// Adds copies by the enabled interfaces that mirror the port with this number, ascending.
@@ -41,15 +34,6 @@ pub fn push_copied(actions: &mut Actions, dp: &Dp, port: PortNo, by: Action) -> 
     push_mirrored(actions, dp, port)
 }
 
-fn is_native_in(port: &Port, vid: Vid) -> bool
-    ensures { result ≡ is_native_in port.now vid }
-{
-    match port.native {
-        Some(native) => native.get() == vid.get(),
-        None => false,
-    }
-}
-
 /// Adds what sends a packet of a VLAN by an edge port, without its tag where the VLAN is native
 /// there, and copies by the interfaces that mirror the port. `by` is the sending itself: the port's
 /// number, or back to where the packet came from.
@@ -62,7 +46,7 @@ pub fn push_sent(
 ) -> Result<(), NoMemory>
     ensures { OnOk result (actions.new ≡ actions.old ++ sent dp.now vid port.now by) }
 {
-    if is_native_in(port, vid) {
+    if port.is_native_in(vid) {
         actions.push(pop_tag())?;
     }
     push_copied(actions, dp, port.no, by)

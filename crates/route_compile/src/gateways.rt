@@ -1,7 +1,7 @@
 ghost use Rattle.std.specs.Prelude.{◌≡◌};
 ghost use Rattle.route_compile.specs.Gateways.{is_entrance, has_gateway};
 
-use conf_types::{Dp, Member, Port, Vlan};
+use conf_types::{Dp, Port, Vlan};
 use net_base::Vid;
 
 /// The EtherType of IPv4 (RFC 894).
@@ -20,11 +20,7 @@ pub const ECHO_REQUEST: u8 = 8;
 fn is_entrance(port: &Port, vid: Vid) -> bool
     ensures { result ≡ is_entrance vid port.now }
 {
-    port.is_accepting()
-        && match port.member_of(vid) {
-            Member::Native | Member::Tagged => true,
-            Member::Stack | Member::None => false,
-        }
+    port.is_accepting() && port.is_edge_member(vid)
 }
 
 /// Whether the VLAN has a VIP and packets of it come in by some port of the datapath.

@@ -6,7 +6,7 @@ use crate::gateways::{IPV4, has_gateway};
 use conf_types::{Conf, Dp, NeighRec, Tally, Vlan};
 use net_base::{Fields, Net4, NoMemory};
 use of_match::{Actions, Entries, Entry, Instrs};
-use packet_way::{RouteItem, Target, group_of, route_list};
+use packet_way::{RouteItem, Target, route_list};
 use plan_base::{
     Table, dec_ttl, eth_dst, eth_type, ipv4_dst, leads_to, make_entry, set_eth_dst, set_eth_src,
     set_vid, to_controller, vid_field,
@@ -111,7 +111,7 @@ pub fn fib_entries<T: Tally>(
     units.tick();
     let mut made = Entries::new(alloc);
     if has_gateway(dp, vlan) {
-        let group = group_of(conf, dp.id);
+        let group = conf.group_number(dp.id);
         let items = route_list(alloc, conf, neighbours, group, vlan.vid)?;
         push_items(alloc, &mut made, vlan, items.as_slice())?;
         made.push(make_no_route(alloc, vlan)?)?;
