@@ -1,6 +1,9 @@
 -- Facts of each element, along what makes one list of another.
-use Rattle.std.proofs.Common.{◌≡◌, Bool, true, false, cond, List, [], ◌∷◌, ◌++◌, map, filter, Option, Some, None, refl, ap, sym}
+use Rattle.std.proofs.Common.{◌≡◌, Bool, true, false, cond, List, [], ◌∷◌, ◌++◌, map, filter, Option, Some, None, refl, ap, sym, ◌∙◌, true≢false}
+use Rattle.std.specs.Prelude.{Contains}
 use Rattle.std.specs.List.{AllByRecursion, filter_map, flat_map, cons_option}
+use Rattle.std.proofs.lemmas.List.Elements.{All-contains, All-from_recursion}
+use Rattle.conf_types.specs.Lists.{EachBefore}
 
 pub all_from : {A : Type 0} {P Q : A → Type 0} → ((x : A) → P x → Q x) → (xs : List A) → AllByRecursion P xs → AllByRecursion Q xs
 all_from h [] all = tt
@@ -33,3 +36,47 @@ all_filter_map {B = B} f P (x ∷ xs) all = added (f x) all.0 (all_filter_map f 
 pub all_flat_map : {A B : Type 0} (f : A → List B) (P : B → Type 0) (xs : List A) → AllByRecursion (λ x. AllByRecursion P (f x)) xs → AllByRecursion P (flat_map f xs)
 all_flat_map f P [] all = tt
 all_flat_map f P (x ∷ xs) all = all_append P (f x) (flat_map f xs) all.0 (all_flat_map f P xs all.1)
+
+-- ---- and back
+
+pub all_of_append : {A : Type 0} (P : A → Type 0) (xs ys : List A) → AllByRecursion P (xs ++ ys) → AllByRecursion P xs × AllByRecursion P ys
+all_of_append P [] ys all = (tt, all)
+all_of_append P (x ∷ xs) ys all = let more = all_of_append P xs ys all.1 in ((all.0, more.0), more.1)
+
+pub all_of_map : {A B : Type 0} (f : A → B) (P : B → Type 0) (xs : List A) → AllByRecursion P (map f xs) → AllByRecursion (λ x. P (f x)) xs
+all_of_map f P [] all = tt
+all_of_map f P (x ∷ xs) all = (all.0, all_of_map f P xs all.1)
+
+pub all_of_filter : {A : Type 0} (P : A → Type 0) (p : A → Bool) (xs : List A) → AllByRecursion P (filter p xs) → AllByRecursion (λ x. p x ≡ true → P x) xs
+all_of_filter P p [] all = tt
+all_of_filter P p (x ∷ xs) all = one (p x) refl (λ more. all_of_filter P p xs more) all
+  where
+    one : (b : Bool) → p x ≡ b → (AllByRecursion P (filter p xs) → AllByRecursion (λ y. p y ≡ true → P y) xs)
+        → AllByRecursion P (cond b (x ∷ filter p xs) (filter p xs)) → AllByRecursion (λ y. p y ≡ true → P y) (x ∷ xs)
+    one true is behind here = ((λ _. here.0), behind here.1)
+    one false is behind here = ((λ yes. absurd (true≢false (sym yes ∙ is))), behind here)
+
+-- what holds of each holds of one of them
+pub all_contains : {A : Type 0} (P : A → Type 0) (xs : List A) → AllByRecursion P xs → (x : A) → Contains xs x → P x
+all_contains P xs all x here = All-contains P xs x (All-from_recursion P xs all) here
+
+-- ---- of two elements
+
+pub before_from : {A : Type 0} {R S : A → A → Type 0} → ((x y : A) → R x y → S x y) → (xs : List A) → EachBefore R xs → EachBefore S xs
+before_from h [] all = tt
+before_from {R = R} {S = S} h (x ∷ xs) all = (all_from {P = R x} {Q = S x} (λ y is. h x y is) xs all.0, before_from h xs all.1)
+
+pub before_append : {A : Type 0} (R : A → A → Type 0) (xs ys : List A) → EachBefore R xs → EachBefore R ys → AllByRecursion (λ x. AllByRecursion (R x) ys) xs → EachBefore R (xs ++ ys)
+before_append R [] ys h k across = k
+before_append R (x ∷ xs) ys h k across = (all_append (R x) xs ys h.0 across.0, before_append R xs ys h.1 k across.1)
+
+pub before_of_append : {A : Type 0} (R : A → A → Type 0) (xs ys : List A) → EachBefore R (xs ++ ys) → EachBefore R xs × EachBefore R ys × AllByRecursion (λ x. AllByRecursion (R x) ys) xs
+before_of_append R [] ys all = (tt, all, tt)
+before_of_append R (x ∷ xs) ys all =
+    let parts = all_of_append (R x) xs ys all.0 in
+    let more = before_of_append R xs ys all.1 in
+    ((parts.0, more.0), more.1, (parts.1, more.2))
+
+pub before_map : {A B : Type 0} (f : A → B) (R : B → B → Type 0) (xs : List A) → EachBefore (λ x y. R (f x) (f y)) xs → EachBefore R (map f xs)
+before_map f R [] all = tt
+before_map f R (x ∷ xs) all = (all_map f (R (f x)) xs all.0, before_map f R xs all.1)

@@ -10,6 +10,9 @@ use Rattle.conf_types.specs.Membership.{is_accepting, is_edge_member}
 abbrev pub is_entrance : ℕ → Port → Bool
 is_entrance vid q = is_accepting q && is_edge_member q vid
 
+abbrev pub has_entrance : Dp → ℕ → Bool
+has_entrance d vid = list_any (is_entrance vid) d.ports
+
 -- the VLAN has a VIP, and packets of it come in by some port
 abbrev pub has_gateway : Dp → Vlan → Bool
-has_gateway d v = not (length v.vips == 0) && list_any (is_entrance v.vid) d.ports
+has_gateway d v = not (length v.vips == 0) && has_entrance d v.vid

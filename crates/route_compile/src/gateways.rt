@@ -1,5 +1,5 @@
 ghost use Rattle.std.specs.Prelude.{◌≡◌};
-ghost use Rattle.route_compile.specs.Gateways.{is_entrance, has_gateway};
+ghost use Rattle.route_compile.specs.Gateways.{is_entrance, has_entrance, has_gateway};
 
 use conf_types::{Dp, Port, Vlan};
 use net_base::Vid;
@@ -23,14 +23,18 @@ fn is_entrance(port: &Port, vid: Vid) -> bool
     port.is_accepting() && port.is_edge_member(vid)
 }
 
+fn has_entrance(dp: &Dp, vid: Vid) -> bool
+    ensures { result ≡ has_entrance dp.now vid }
+{
+    dp.ports
+        .as_slice()
+        .iter()
+        .any(|port| is_entrance(port, vid))
+}
+
 /// Whether the VLAN has a VIP and packets of it come in by some port of the datapath.
 pub(crate) fn has_gateway(dp: &Dp, vlan: &Vlan) -> bool
     ensures { result ≡ has_gateway dp.now vlan.now }
 {
-    vlan.vips.len() != 0
-        && dp
-            .ports
-            .as_slice()
-            .iter()
-            .any(|port| is_entrance(port, vlan.vid))
+    vlan.vips.len() != 0 && has_entrance(dp, vlan.vid)
 }
