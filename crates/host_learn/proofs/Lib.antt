@@ -1,4 +1,3 @@
-pub mod Alone
 pub mod KeptParts
 pub mod KeptRoom
 pub mod KeptValid

@@ -8,7 +8,7 @@ use Rattle.conf_types.specs.Configuration.{Configuration, port_at, vlan_with}
 use Rattle.conf_types.specs.Groups.{group_of}
 use Rattle.conf_types.specs.Lists.{is_same}
 use Rattle.conf_types.specs.Membership.{is_accepting, is_edge_member}
-use Rattle.conf_types.specs.State.{is_host_at, is_gateway_address, is_barred, is_permanent, is_port_full, is_vlan_full}
+use Rattle.conf_types.specs.State.{is_host_at, is_gateway_address, is_barred, is_port_full, is_vlan_full}
 use Rattle.host_learn.specs.declared.learn.Learn.{Learn}
 use Rattle.host_learn.specs.declared.learn.Learn.TheVariants.{Learned, Moved, Refreshed, Full, NotLearnable}
 use Rattle.host_learn.specs.Table.{Table, has_key}
@@ -26,10 +26,6 @@ stands_there hosts heard = list_any (is_in_place heard) hosts
 
 abbrev pub is_known : Configuration → List HostRec → HostRec → Bool
 is_known conf hosts heard = list_any (is_heard conf heard) hosts
-
--- it stands, and stays for good
-abbrev pub is_held : Configuration → List HostRec → HostRec → Bool
-is_held conf hosts heard = list_any (λ host. is_heard conf heard host && is_permanent conf host) hosts
 
 -- some host of its VLAN stands where it is heard
 abbrev pub is_occupied : List HostRec → HostRec → Bool

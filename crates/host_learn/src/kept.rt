@@ -1,27 +1,19 @@
 //! What is kept of a table under a new configuration.
 
 ghost use Rattle.std.specs.Prelude.{◌≡◌, [], filter, IfOk};
-ghost use Rattle.conf_types.specs.Links.{is_up};
 ghost use Rattle.host_learn.specs.Kept.{has_room, kept_hosts, last_of_each, may_stay, with_room};
 
-use crate::host::{is_host, is_permanent};
+use crate::host::is_host;
 use crate::learn::{is_known, is_occupied, is_port_full, is_vlan_full};
-use conf_types::{Conf, HostRec, UpRec};
+use conf_types::{Conf, HostRec, UpRec, is_up};
 use net_base::{Moment, NoMemory};
 use std::alloc::Global;
-
-fn is_up(ups: &[UpRec], host: &HostRec) -> bool
-    ensures { result ≡ is_up ups.now host.now.dp host.now.port }
-{
-    ups.iter()
-        .any(|up| up.dp == host.dp && up.port.get() == host.port.get())
-}
 
 /// Whether a host may be learned where it stands, and isn't to be forgotten.
 fn may_stay(conf: &Conf, ups: &[UpRec], now: Moment, host: &HostRec) -> bool
     ensures { result ≡ may_stay conf.now ups.now now.0 host.now }
 {
-    is_host(conf, host) && is_up(ups, host) && !conf.is_to_forget(now, host)
+    is_host(conf, host) && is_up(ups, host.dp, host.port) && !conf.is_to_forget(now, host)
 }
 
 fn staying(
@@ -60,7 +52,7 @@ fn has_room(conf: &Conf, limit: u32, kept: &[HostRec], host: &HostRec) -> bool
     !is_port_full(conf, kept, host)
         && !is_vlan_full(conf, kept, host)
         && kept.len() < limit as usize
-        && !(is_permanent(conf, host) && is_occupied(kept, host))
+        && !(conf.is_permanent(host) && is_occupied(kept, host))
 }
 
 /// The hosts, in order, that find room among those kept before.

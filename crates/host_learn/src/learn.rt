@@ -1,10 +1,9 @@
-ghost use Rattle.std.specs.Prelude.{◌≡◌, count_by, OnOk, OnErr};
-ghost use Rattle.conf_types.specs.State.{is_barred, is_host_at, is_host_in};
-ghost use Rattle.host_learn.specs.Learning.{answer, hosts_after, is_full, is_full_at, is_full_in, is_held, is_kept_off, is_known, is_occupied, moved, refreshed, stands_there};
+ghost use Rattle.std.specs.Prelude.{◌≡◌, OnOk, OnErr};
+ghost use Rattle.host_learn.specs.Learning.{answer, hosts_after, is_full, is_full_at, is_full_in, is_kept_off, is_known, is_occupied, moved, refreshed, stands_there};
 
-use crate::host::{group_of, has_key, is_at, is_host, is_in, is_in_place, is_permanent};
-use conf_types::{Conf, HostRec, Port};
-use net_base::{DpId, NoMemory, PortNo, Vid};
+use crate::host::{has_key, is_host, is_in_place};
+use conf_types::{Conf, HostRec};
+use net_base::NoMemory;
 
 /// What became of a host that was heard.
 #[derive(Clone, Copy, Debug, PartialEq, Eq)]
@@ -30,38 +29,17 @@ pub(crate) fn stands_there(hosts: &[HostRec], heard: &HostRec) -> bool
 pub(crate) fn is_known(conf: &Conf, hosts: &[HostRec], heard: &HostRec) -> bool
     ensures { result ≡ is_known conf.now hosts.now heard.now }
 {
-    let group = group_of(conf, heard.dp);
+    let group = conf.group_number(heard.dp);
     hosts
         .iter()
         .any(|host| has_key(conf, host, group, heard.vid, heard.mac))
-}
-
-/// Whether the host stays for good where it stands, in the group.
-fn is_held(conf: &Conf, hosts: &[HostRec], heard: &HostRec) -> bool
-    ensures { result ≡ is_held conf.now hosts.now heard.now }
-{
-    let group = group_of(conf, heard.dp);
-    hosts.iter().any(|host| has_key(conf, host, group, heard.vid, heard.mac)
-        && is_permanent(conf, host))
 }
 
 /// Whether a host of the VLAN stands at the port where this one is heard.
 pub(crate) fn is_occupied(hosts: &[HostRec], heard: &HostRec) -> bool
     ensures { result ≡ is_occupied hosts.now heard.now }
 {
-    hosts.iter().any(|host| is_at(host, heard.dp, heard.port) && host.vid.get() == heard.vid.get())
-}
-
-/// Whether a port may not have the host that is heard there.
-fn is_barred(conf: &Conf, hosts: &[HostRec], heard: &HostRec, port: &Port) -> bool
-    ensures { result ≡ is_barred conf.now hosts.now heard.now.dp port.now heard.now.vid heard.now.mac.0 }
-{
-    let here = HostRec {
-        port: port.no,
-        ..*heard
-    };
-    let taken = port.permanent_learn && is_occupied(hosts, &here);
-    !stands_there(hosts, &here) && (is_held(conf, hosts, &here) || taken)
+    hosts.iter().any(|host| host.is_at(heard.dp, heard.port) && host.vid.get() == heard.vid.get())
 }
 
 /// Whether the port where a host is heard may not have it.
@@ -69,24 +47,9 @@ fn is_kept_off(conf: &Conf, hosts: &[HostRec], heard: &HostRec) -> bool
     ensures { result ≡ is_kept_off conf.now hosts.now heard.now }
 {
     match conf.port(heard.dp, heard.port) {
-        Some(port) => is_barred(conf, hosts, heard, port),
+        Some(port) => conf.is_barred(hosts, heard.dp, port, heard.vid, heard.mac),
         None => false,
     }
-}
-
-fn count_at(hosts: &[HostRec], dp: DpId, port: PortNo) -> usize
-    ensures { result ≡ count_by (is_host_at dp port) hosts.now }
-{
-    hosts.iter().filter(|host| is_at(host, dp, port)).count()
-}
-
-fn count_in(conf: &Conf, hosts: &[HostRec], group: DpId, vid: Vid) -> usize
-    ensures { result ≡ count_by (is_host_in conf.now group vid) hosts.now }
-{
-    hosts
-        .iter()
-        .filter(|host| is_in(conf, host, group, vid))
-        .count()
 }
 
 /// Whether the port where a host stands has as many hosts as it may.
@@ -94,7 +57,7 @@ pub(crate) fn is_port_full(conf: &Conf, hosts: &[HostRec], host: &HostRec) -> bo
     ensures { result ≡ is_full_at conf.now hosts.now host.now }
 {
     match conf.port(host.dp, host.port) {
-        Some(port) => count_at(hosts, host.dp, port.no) >= port.max_hosts as usize,
+        Some(port) => port.is_full(hosts, host.dp),
         None => false,
     }
 }
@@ -104,10 +67,7 @@ pub(crate) fn is_vlan_full(conf: &Conf, hosts: &[HostRec], host: &HostRec) -> bo
     ensures { result ≡ is_full_in conf.now hosts.now host.now }
 {
     match conf.vlan(host.vid) {
-        Some(vlan) => {
-            let group = group_of(conf, host.dp);
-            count_in(conf, hosts, group, vlan.vid) >= vlan.max_hosts as usize
-        }
+        Some(vlan) => conf.is_vlan_full(hosts, conf.group_number(host.dp), vlan),
         None => false,
     }
 }
@@ -156,7 +116,7 @@ fn move_last(conf: &Conf, hosts: &mut Vec<HostRec>, heard: HostRec) -> Result<()
     ensures err { OnErr result (hosts.new.items ≡ hosts.old.items) }
 {
     hosts.reserve(1)?;
-    let group = group_of(conf, heard.dp);
+    let group = conf.group_number(heard.dp);
     hosts.retain(|host| !has_key(conf, host, group, heard.vid, heard.mac));
     hosts.push(heard)?;
     Ok(())

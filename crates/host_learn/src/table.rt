@@ -5,7 +5,7 @@ ghost use Rattle.host_learn.specs.Kept.{kept};
 ghost use Rattle.host_learn.specs.Learning.{answer, learned};
 ghost use Rattle.host_learn.specs.Table.{first_due, host_of, off_datapath, off_port, without_first};
 
-use crate::host::{group_of, has_key, is_at};
+use crate::host::has_key;
 use crate::kept::kept_hosts;
 use crate::learn::{Learn, answer, take_in};
 use conf_types::{Conf, HostRec, UpRec};
@@ -42,7 +42,7 @@ fn find_host<'a>(
 ) -> Option<&'a HostRec>
     ensures { option_copied result ≡ host_of conf.now hosts.now dp vid mac.0 }
 {
-    let group = group_of(conf, dp);
+    let group = conf.group_number(dp);
     hosts
         .iter()
         .find(|host| has_key(conf, host, group, vid, mac))
@@ -70,7 +70,7 @@ fn take_due(hosts: &mut Vec<HostRec>, conf: &Conf, now: Moment) -> Option<HostRe
 fn leave_port(hosts: &mut Vec<HostRec>, dp: DpId, port: PortNo)
     ensures { hosts.new.items ≡ off_port dp port hosts.old.items }
 {
-    hosts.retain(|host| !is_at(host, dp, port));
+    hosts.retain(|host| !host.is_at(dp, port));
 }
 
 fn leave_datapath(hosts: &mut Vec<HostRec>, dp: DpId)

@@ -9,7 +9,6 @@ mod known;
 mod leaving;
 mod now;
 mod routes;
-mod same;
 mod source;
 mod verdict;
 mod way;
