@@ -110,7 +110,7 @@ module _ (neighbours : List NeighRec) (group : DpId) (w : Vlan) where
     pub mac_is : n.mac ≡ Some mac
     pub is : item ≡ hop_item w n.ip 32 mac
 
-  of_neighbour : (n : NeighRec) (item : RouteItem) → neighbour_item group w n ≡ Some item → IsNeighbourItem n item
+  pub of_neighbour : (n : NeighRec) (item : RouteItem) → neighbour_item group w n ≡ Some item → IsNeighbourItem n item
   of_neighbour n item e = one (n.group.0 == group.0 && n.vid == w.vid && list_any (λ vip. is_held vip n.ip.0) w.vips) refl n.mac refl e
     where
       one : (b : Bool) → (n.group.0 == group.0 && n.vid == w.vid && list_any (λ vip. is_held vip n.ip.0) w.vips) ≡ b → (m : Option Mac) → n.mac ≡ m
@@ -138,7 +138,7 @@ module _ (neighbours : List NeighRec) (group : DpId) (w : Vlan) where
     pub mac_is : mac_of_neighbour neighbours group w.vid route.gw.0 ≡ Some mac
     pub is : item ≡ hop_item w route.dst.ip route.dst.len mac
 
-  of_route : (route : Route) (item : RouteItem) → route_item neighbours group w route ≡ Some item → IsRouteItem route item
+  pub of_route : (route : Route) (item : RouteItem) → route_item neighbours group w route ≡ Some item → IsRouteItem route item
   of_route route item e = one (mac_of_neighbour neighbours group w.vid route.gw.0) refl e
     where
       one : (m : Option Mac) → mac_of_neighbour neighbours group w.vid route.gw.0 ≡ m → option_map (hop_item w route.dst.ip route.dst.len) m ≡ Some item → IsRouteItem route item

@@ -4,6 +4,7 @@ use Rattle.std.specs.Prelude.{Contains, ◌⊎◌, IsTrue}
 use Rattle.std.specs.List.{AllByRecursion, list_any, flat_map}
 use Rattle.std.specs.Option.{option_map_or}
 use Rattle.std.proofs.lemmas.Bool.{eqb-true, cases_Bool, both_ways}
+use Rattle.std.proofs.lemmas.Bool.Decides.{nat_tests}
 use Rattle.std.proofs.lemmas.List.Elements.{Contains-append_left, Contains-append_right}
 use Rattle.std.proofs.lemmas.List.Folds.{Any-from_list_any, list_any-from_Any}
 use Rattle.std.proofs.lemmas.Option.{none-some, same_Some}
@@ -37,6 +38,18 @@ passes {A = A} p (y ∷ ys) x e = one (p y) refl e (λ f. passes p ys x f)
 
 pub within : {A : Type 0} (p : A → Bool) (xs : List A) (x : A) → find p xs ≡ Some x → Contains xs x
 within p xs x e = all_found (λ y. Contains xs y) p xs x (all_by (λ y. Contains xs y) xs (λ y here. here)) e
+
+unequal : (a b : ℕ) → a < b → (a == b) ≡ false
+unequal a b lt = grind (arith, nat_tests)
+
+-- of elements whose numbers rise each is the one that is found by its number
+pub found_by : {A : Type 0} (key : A → ℕ) (xs : List A) → EachBefore (λ x y. key x < key y) xs → (x : A) → Contains xs x → find (λ y. key y == key x) xs ≡ Some x
+found_by key [] rises x (k, lt, is) = absurd (omega arith)
+found_by {A = A} key (y ∷ ys) rises x (zero, lt, is) =
+    ap (λ b. cond b (Some y) (find (λ z. key z == key x) ys)) (eq-eqb (key y) (key x) (ap key is)) ∙ ap (λ (z : A). Some z) is
+found_by {A = A} key (y ∷ ys) rises x (suc k, lt, is) =
+    let here : Contains ys x = (k, omega arith, is) in
+    ap (λ b. cond b (Some y) (find (λ z. key z == key x) ys)) (unequal (key y) (key x) (all_contains (λ (z : A). key y < key z) ys rises.0 x here)) ∙ found_by key ys rises.1 x here
 
 -- ---- one routing set
 
@@ -77,6 +90,28 @@ same_set conf valid v u here = one (router_with conf.routers v) refl here
     one (Some router) is here =
         ap (λ o. option_map_or (λ (r : Router). r.vlans) o (u ∷ [])) (same_router conf.routers valid.routing.apart v u router is here)
         ∙ sym (ap (λ o. option_map_or (λ (r : Router). r.vlans) o (v ∷ [])) is)
+
+-- a VLAN is in its own
+in_own_set : (conf : Configuration) (v : ℕ) → Contains (routing_set conf v) v
+in_own_set conf v = one (router_with conf.routers v) refl
+  where
+    one : (o : Option Router) → router_with conf.routers v ≡ o → Contains (option_map_or (λ r. r.vlans) o (v ∷ [])) v
+    one None is = (zero, omega arith, refl)
+    one (Some router) is =
+        let found = Any-from_list_any (λ x. x == v) router.vlans (passes (λ r. is_among r.vlans v) conf.routers router is) in
+        subst (Contains router.vlans) (eqb-true found.1 v found.4) (found.0, found.2, found.3)
+
+before_of_flat_map : {A B : Type 0} (R : B → B → Type 0) (f : A → List B) (xs : List A) → EachBefore R (flat_map f xs) → (x : A) → Contains xs x → EachBefore R (f x)
+before_of_flat_map R f [] all x (k, lt, is) = absurd (omega arith)
+before_of_flat_map {A = A} R f (y ∷ ys) all x (zero, lt, is) = subst (λ (z : A). EachBefore R (f z)) is (before_of_append R (f y) (flat_map f ys) all).0
+before_of_flat_map R f (y ∷ ys) all x (suc k, lt, is) = before_of_flat_map R f ys (before_of_append R (f y) (flat_map f ys) all).1 x (k, omega arith, is)
+
+-- the networks of a VLAN's VIPs are apart
+pub own_vips_apart : (conf : Configuration) → IsValid conf → (v : Vlan) → Contains conf.vlans v → EachBefore AreApart v.vips
+own_vips_apart conf valid v is_vlan =
+    let all = all_contains (λ (w : Vlan). EachBefore AreApart (vips_in conf (routing_set conf w.vid))) conf.vlans valid.routing.vips v is_vlan in
+    let own : vips_of conf v.vid ≡ v.vips = ap (λ o. option_map_or (λ (w : Vlan). w.vips) o []) (found_by (λ (w : Vlan). w.vid) conf.vlans valid.vlans.in_order v is_vlan) in
+    subst (EachBefore AreApart) own (before_of_flat_map AreApart (vips_of conf) (routing_set conf v.vid) all v.vid (in_own_set conf v.vid))
 
 -- ---- the items of each VLAN, and of all
 
@@ -186,3 +221,5 @@ route_items_differ conf valid state now group v is_vlan =
     (all_items conf valid state.neighbours group
     (all_from {P = IsNeighbour conf state} {Q = λ (n : NeighRec). is_neighbour_address (vips_of conf n.vid) n.ip.0 ≡ true} (λ n is. is.address) state.neighbours now.neighbours)
     now.neighbour_keys v is_vlan).1
+
+pub ruleset item_laws = route_items_differ
