@@ -1,5 +1,5 @@
 -- Facts of each element, along what makes one list of another.
-use Rattle.std.proofs.Common.{◌≡◌, Bool, true, false, cond, List, [], ◌∷◌, ◌++◌, map, filter, Option, Some, None, refl, ap, sym, ◌∙◌, true≢false}
+use Rattle.std.proofs.Common.{◌≡◌, suc, arith, Bool, true, false, cond, List, [], ◌∷◌, ◌++◌, map, filter, Option, Some, None, refl, ap, sym, ◌∙◌, true≢false}
 use Rattle.std.specs.Prelude.{Contains}
 use Rattle.std.specs.List.{AllByRecursion, filter_map, flat_map, cons_option}
 use Rattle.std.proofs.lemmas.List.Elements.{All-contains, All-from_recursion}
@@ -80,3 +80,32 @@ before_of_append R (x ∷ xs) ys all =
 pub before_map : {A B : Type 0} (f : A → B) (R : B → B → Type 0) (xs : List A) → EachBefore (λ x y. R (f x) (f y)) xs → EachBefore R (map f xs)
 before_map f R [] all = tt
 before_map f R (x ∷ xs) all = (all_map f (R (f x)) xs all.0, before_map f R xs all.1)
+
+pub before_filter_map : {A B : Type 0} (f : A → Option B) (R : B → B → Type 0) (xs : List A)
+    → EachBefore (λ x y. (a b : B) → f x ≡ Some a → f y ≡ Some b → R a b) xs → EachBefore R (filter_map f xs)
+before_filter_map f R [] all = tt
+before_filter_map {A = A} {B = B} f R (x ∷ xs) all = one (f x) refl (before_filter_map f R xs all.1)
+  where
+    one : (o : Option B) → f x ≡ o → EachBefore R (filter_map f xs) → EachBefore R (cons_option o (filter_map f xs))
+    one None is more = more
+    one (Some a) is more =
+        (all_filter_map f (R a) xs (all_from {P = λ (y : A). (c b : B) → f x ≡ Some c → f y ≡ Some b → R c b} {Q = λ (y : A). (b : B) → f y ≡ Some b → R a b} (λ y h b e. h a b is e) xs all.0), more)
+
+-- each of one list, and each of another
+pub all_across : {A B : Type 0} {P : A → Type 0} {Q : B → Type 0} {R : A → B → Type 0} → ((a : A) (b : B) → P a → Q b → R a b)
+    → (xs : List A) (ys : List B) → AllByRecursion P xs → AllByRecursion Q ys → AllByRecursion (λ a. AllByRecursion (R a) ys) xs
+all_across h [] ys ps qs = tt
+all_across {Q = Q} {R = R} h (x ∷ xs) ys ps qs = (all_from {P = Q} {Q = R x} (λ y q. h x y ps.0 q) ys qs, all_across h xs ys ps.1 qs)
+
+pub before_both : {A : Type 0} (P : A → Type 0) (R : A → A → Type 0) (xs : List A) → AllByRecursion P xs → EachBefore R xs → EachBefore (λ x y. P x × P y × R x y) xs
+before_both P R [] ps rs = tt
+before_both {A = A} P R (x ∷ xs) ps rs = (both xs ps.1 rs.0, before_both P R xs ps.1 rs.1)
+  where
+    both : (ys : List A) → AllByRecursion P ys → AllByRecursion (R x) ys → AllByRecursion (λ y. P x × P y × R x y) ys
+    both [] qs ss = tt
+    both (y ∷ ys) qs ss = ((ps.0, qs.0, ss.0), both ys qs.1 ss.1)
+
+-- a fact of each element that may use that it is one
+pub all_by : {A : Type 0} (P : A → Type 0) (xs : List A) → ((x : A) → Contains xs x → P x) → AllByRecursion P xs
+all_by P [] h = tt
+all_by P (x ∷ xs) h = (h x (0, omega arith, refl), all_by P xs (λ y (k, lt, is). h y (suc k, omega (arith, lt), is)))

@@ -1,0 +1,4 @@
+pub mod Once
+pub mod Numbered
+pub mod Matches
+pub mod Accepted

@@ -1,0 +1,4 @@
+pub mod Places
+pub mod Targets
+pub mod Rows
+pub mod Slices

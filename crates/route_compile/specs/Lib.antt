@@ -1,0 +1,4 @@
+pub mod Gateways
+pub mod Routes
+pub mod Vips
+pub mod Prefixes

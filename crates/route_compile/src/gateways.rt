@@ -1,0 +1,40 @@
+ghost use Rattle.std.specs.Prelude.{◌≡◌};
+ghost use Rattle.route_compile.specs.Gateways.{is_entrance, has_entrance, has_gateway};
+
+use conf_types::{Dp, Port, Vlan};
+use net_base::Vid;
+
+/// The EtherType of IPv4 (RFC 894).
+pub const IPV4: u16 = 0x0800;
+
+/// The EtherType of ARP (RFC 826).
+pub const ARP: u16 = 0x0806;
+
+/// The protocol number of ICMP (RFC 792).
+pub const ICMP: u8 = 1;
+
+/// The type of an echo request (RFC 792).
+pub const ECHO_REQUEST: u8 = 8;
+
+/// Whether packets of the VLAN come in by the port.
+fn is_entrance(port: &Port, vid: Vid) -> bool
+    ensures { result ≡ is_entrance vid port.now }
+{
+    port.is_accepting() && port.is_edge_member(vid)
+}
+
+fn has_entrance(dp: &Dp, vid: Vid) -> bool
+    ensures { result ≡ has_entrance dp.now vid }
+{
+    dp.ports
+        .as_slice()
+        .iter()
+        .any(|port| is_entrance(port, vid))
+}
+
+/// Whether the VLAN has a VIP and packets of it come in by some port of the datapath.
+pub(crate) fn has_gateway(dp: &Dp, vlan: &Vlan) -> bool
+    ensures { result ≡ has_gateway dp.now vlan.now }
+{
+    vlan.vips.len() != 0 && has_entrance(dp, vlan.vid)
+}

@@ -1,0 +1,11 @@
+//! The flow entries of routing: where a VLAN's gateway sends packets (table 4), and what the
+//! controller answers for it (table 6).
+#![tactic(auto)]
+
+mod gateways;
+pub mod laws;
+mod routes;
+mod vips;
+
+pub use routes::fib_entries;
+pub use vips::vip_entries;
