@@ -3,13 +3,7 @@
 #![tactic(auto)]
 
 #[cfg(test)]
-mod conf_shape_tests;
-#[cfg(test)]
-mod conf_types_tests;
-#[cfg(test)]
 mod fg_outside_tests;
-#[cfg(test)]
-mod host_learn_tests;
 #[cfg(test)]
 mod net_base_tests;
 #[cfg(test)]

@@ -3,7 +3,7 @@
 //! Two datapaths with two interfaces each, whose native VLAN is 100; a third interface may join them.
 
 ghost use Rattle.std.specs.Prelude.{◌≡◌, ◌≤◌, IfOk};
-ghost use Rattle.leaf_tests.specs.HostConf.{port_of, ports_of, dp_of, vlan_of, end_at};
+ghost use Rattle.conf_tests.specs.HostConf.{port_of, ports_of, dp_of, vlan_of, end_at};
 
 use conf_types::{
     Acls, Conf, Dp, Dps, Nets, Port, PortNos, Ports, Routers, Routes, StackEnd, UpRec, Vids, Vlan,

@@ -1,7 +1,7 @@
 -- The configurations that the host table's tests use are valid.
 use Rattle.std.proofs.Common.{◌≡◌, ℕ, ◌≤◌, Bool, true, false, List, [], rules}
 use Rattle.conf_types.specs.Valid.{IsValid, VlansAreValid, DatapathsAreValid, AclsAreValid, MirrorsAreValid, StacksAreValid, RoutingIsValid, IsWithinLimits}
-use Rattle.leaf_tests.specs.HostConf.{conf_of}
+use Rattle.conf_tests.specs.HostConf.{conf_of}
 
 module _ (port_hosts vlan_hosts timeout : ℕ) (permanent : Bool) (p_least : 1 ≤ port_hosts) (p_most : port_hosts ≤ 16384) (v_least : 1 ≤ vlan_hosts) (v_most : vlan_hosts ≤ 16384) (t_least : 1 ≤ timeout) (t_most : timeout ≤ 604800) where
   vlans : (in_vlan joined : Bool) → VlansAreValid (conf_of port_hosts vlan_hosts timeout permanent in_vlan joined)

@@ -1,0 +1,6 @@
+//! Tests of the public calls of the crates of the configuration and of the table of hosts, a module for
+//! each crate: tables of values worked out by hand.
+#![tactic(auto)]
+
+#[cfg(test)]
+mod host_learn_tests;
