@@ -1,4 +1,5 @@
-//! The accepted configuration: what its calls answer, and copies of its parts.
+//! What an interface, a router and a configuration without datapaths answer, and copies of their
+//! parts.
 
 use conf_types::{
     Acl, Acls, Conf, Dps, Member, Port, PortNos, PortRef, PortRefs, Router, Routers, Rule, Rules,
@@ -6,130 +7,117 @@ use conf_types::{
 };
 use net_base::{DpId, Field, FieldId, Fields, Names, NoMemory, PortNo, Text, TryCopy, Vid};
 use std::alloc::Global;
+use std::process::Abort;
 use std::test::Fail;
 
-fn vid(n: u16) -> Result<Vid, Fail> {
-    Ok(Vid::new(n).ok_or("a VLAN")?)
+fn vid(rt: &impl Abort, n: u16) -> Vid {
+    Vid::new(n).expect(rt, "a VLAN")
 }
 
-fn port_no(n: u32) -> Result<PortNo, Fail> {
-    Ok(PortNo::new(n).ok_or("a port")?)
+fn port_no(rt: &impl Abort, n: u32) -> PortNo {
+    PortNo::new(n).expect(rt, "a port")
 }
 
-/// An enabled interface 7 with no VLAN, and no other use.
-fn port(alloc: Global) -> Result<Port, Fail> {
+/// How an interface is used: whether it is enabled, output-only, an end of a stack link, a mirror.
+type Use = (bool, bool, bool, bool);
+
+/// Interface 7 with native VLAN 100 and tagged VLAN 200.
+fn port(rt: &impl Abort, alloc: Global, used: Use) -> Result<Port, NoMemory> {
+    let (enabled, output_only, stack, mirror) = used;
+    let others = [port_no(rt, 1)];
+    let end = StackEnd {
+        dp: DpId(2),
+        port: port_no(rt, 1),
+    };
     Ok(Port {
-        no: port_no(7)?,
+        no: port_no(rt, 7),
         name: Text::from_str(alloc, "host7")?,
         description: Text::from_str(alloc, "the seventh")?,
-        enabled: true,
-        native: None,
-        tagged: Vids::new(alloc),
+        enabled,
+        native: Some(vid(rt, 100)),
+        tagged: Vids::from_slice(alloc, &[vid(rt, 200)])?,
         acls: Names::new(alloc),
-        output_only: false,
+        output_only,
         hairpin: false,
         unicast_flood: true,
         permanent_learn: false,
         opstatus_reconf: true,
         max_hosts: 255,
-        mirror: PortNos::new(alloc),
-        stack: None,
+        mirror: PortNos::from_slice(alloc, if mirror { &others } else { &[] })?,
+        stack: if stack { Some(end) } else { None },
     })
 }
 
+// An interface's use; whether it is an edge port and accepts packets; what it is of VLANs 100, 200
+// and 300.
+const MEMBERS: [(Use, bool, bool, [Member; 3]); 5] = [
+    (
+        (true, false, false, false),
+        true,
+        true,
+        [Member::Native, Member::Tagged, Member::None],
+    ),
+    (
+        (true, true, false, false),
+        true,
+        false,
+        [Member::Native, Member::Tagged, Member::None],
+    ),
+    (
+        (false, false, false, false),
+        false,
+        false,
+        [Member::None; 3],
+    ),
+    ((true, false, true, false), false, false, [Member::Stack; 3]),
+    ((true, false, false, true), false, false, [Member::None; 3]),
+];
+
 #[test]
-fn an_edge_port_is_a_member_by_its_keys(rt: HostRuntime) -> Result<(), Fail> {
-    let mut port = port(rt.alloc())?;
-    port.native = Some(vid(100)?);
-    port.tagged.push(vid(200)?)?;
-    port.output_only = true;
-    assert!(rt; port.is_edge());
-    assert!(rt; !port.is_accepting());
-    assert_eq!(rt; port.member_of(vid(100)?), Member::Native);
-    assert_eq!(rt; port.member_of(vid(200)?), Member::Tagged);
-    assert_eq!(rt; port.member_of(vid(300)?), Member::None);
-    port.enabled = false;
-    assert_eq!(rt; port.member_of(vid(100)?), Member::None);
+fn members_of_vlans(rt: HostRuntime) -> Result<(), Fail> {
+    for (used, edge, accepting, members) in MEMBERS {
+        let port = port(&rt, rt.alloc(), used)?.copy(rt.alloc())?;
+        let found = [100, 200, 300].map(|n| port.member_of(vid(&rt, n)));
+        assert!(rt; found == members, "{used:?}");
+        assert!(rt;
+            (port.is_edge(), port.is_accepting()) == (edge, accepting),
+            "{used:?}"
+        );
+    }
     Ok(())
 }
 
-#[test]
-fn an_end_of_a_stack_link_belongs_to_every_vlan(rt: HostRuntime) -> Result<(), Fail> {
-    let mut port = port(rt.alloc())?;
-    port.stack = Some(StackEnd {
-        dp: DpId(2),
-        port: port_no(1)?,
-    });
-    assert!(rt; port.is_stack());
-    assert!(rt; !port.is_edge());
-    assert_eq!(rt; port.member_of(vid(300)?), Member::Stack);
-    Ok(())
-}
-
-#[test]
-fn a_mirror_is_no_member(rt: HostRuntime) -> Result<(), Fail> {
-    let mut port = port(rt.alloc())?;
-    port.native = Some(vid(100)?);
-    port.mirror.push(port_no(1)?)?;
-    assert!(rt; !port.is_edge());
-    assert_eq!(rt; port.member_of(vid(100)?), Member::None);
-    Ok(())
-}
-
-#[test]
-fn a_port_is_copied(rt: HostRuntime) -> Result<(), Fail> {
-    let mut port = port(rt.alloc())?;
-    port.tagged.push(vid(200)?)?;
-    port.acls.push(Text::from_str(rt.alloc(), "guests")?)?;
-    let made = port.copy(rt.alloc())?;
-    assert_eq!(rt; made.no.get(), 7);
-    assert!(rt; made.name.is("host7"));
-    assert!(rt; made.description.is("the seventh"));
-    assert_eq!(rt; made.tagged.len(), 1);
-    assert_eq!(rt; made.acls.len(), 1);
-    Ok(())
-}
-
-fn web_rule(alloc: Global) -> Result<Rule, NoMemory> {
-    let mut fields = Fields::new(alloc);
-    fields.push(Field::exact(FieldId::EthType, 0x0800))?;
+fn web_rules(alloc: Global) -> Result<Rules, NoMemory> {
+    let name = Text::from_str(alloc, "uplink")?;
     let mut output = PortRefs::new(alloc);
-    output.push(PortRef::Name(Text::from_str(alloc, "uplink")?))?;
-    Ok(Rule {
-        fields,
+    output.push(PortRef::Name(name))?;
+    let mut rules = Rules::new(alloc);
+    rules.push(Rule {
+        fields: Fields::from_slice(alloc, &[Field::exact(FieldId::EthType, 0x0800)])?,
         allow: true,
         output,
         mirror: PortRefs::new(alloc),
-    })
+    })?;
+    Ok(rules)
 }
 
 #[test]
 fn an_acl_is_copied(rt: HostRuntime) -> Result<(), Fail> {
-    let mut rules = Rules::new(rt.alloc());
-    rules.push(web_rule(rt.alloc())?)?;
-    let acl = Acl {
-        name: Text::from_str(rt.alloc(), "guests")?,
-        rules,
-    };
-    let made = acl.copy(rt.alloc())?;
-    assert!(rt; made.name.is("guests"));
-    assert_eq!(rt; made.rules.len(), 1);
+    let name = Text::from_str(rt.alloc(), "guests")?;
+    let rules = web_rules(rt.alloc())?;
+    let made = Acl { name, rules }.copy(rt.alloc())?;
+    assert!(rt; made.name.is("guests") && made.rules.len() == 1);
     Ok(())
 }
 
 #[test]
 fn a_router_has_its_vlans(rt: HostRuntime) -> Result<(), Fail> {
-    let mut vlans = Vids::new(rt.alloc());
-    vlans.push(vid(200)?)?;
-    vlans.push(vid(100)?)?;
-    let router = Router {
-        name: Text::from_str(rt.alloc(), "r1")?,
-        vlans,
-    };
-    let made = router.copy(rt.alloc())?;
-    assert!(rt; made.has(vid(100)?));
-    assert!(rt; made.has(vid(200)?));
-    assert!(rt; !made.has(vid(300)?));
+    let name = Text::from_str(rt.alloc(), "r1")?;
+    let vlans = Vids::from_slice(rt.alloc(), &[vid(&rt, 200), vid(&rt, 100)])?;
+    let made = Router { name, vlans }.copy(rt.alloc())?;
+    for (n, has) in [(100, true), (200, true), (300, false)] {
+        assert!(rt; made.has(vid(&rt, n)) == has, "{n}");
+    }
     Ok(())
 }
 
@@ -143,11 +131,10 @@ fn a_configuration_without_datapaths(rt: HostRuntime) -> Result<(), Fail> {
         Routers::new(alloc),
     );
     let conf = empty.copy(alloc)?;
-    assert!(rt; conf.group(DpId(1)).is_none());
-    assert!(rt; conf.vlan(vid(100)?).is_none());
-    assert_eq!(rt; conf.member(DpId(1), port_no(7)?, vid(100)?), Member::None);
-    let set = conf.routing_set(alloc, vid(100)?)?;
-    assert_eq!(rt; set.as_slice(), [vid(100)?].as_slice());
+    let office = vid(&rt, 100);
+    assert!(rt; conf.group(DpId(1)).is_none() && conf.vlan(office).is_none());
+    assert!(rt; conf.member(DpId(1), port_no(&rt, 7), office) == Member::None);
+    assert!(rt; conf.routing_set(alloc, office)?.as_slice() == [office].as_slice());
     assert!(rt; conf.links(alloc, &[])?.is_empty());
     Ok(())
 }

@@ -12,6 +12,7 @@ use conf_types::{
 use host_learn::{HostTable, Learn};
 use net_base::{DpId, Mac, Moment, Names, NoMemory, PortNo, Text, Vid};
 use std::alloc::Global;
+use std::process::Abort;
 use std::test::Fail;
 
 const SW1: DpId = DpId(1);
@@ -85,12 +86,10 @@ fn port(n: u32) -> PortNo
     }
 }
 
-fn vid(n: u16) -> Vid
-    requires low { 1 ≤ n }
-    requires high { n ≤ 4094 }
-    ensures { result ≡ n }
+fn office() -> Vid
+    ensures { result ≡ 100 }
 {
-    match Vid::new(n) {
+    match Vid::new(100) {
         Some(vid) => vid,
         None => unreachable!(),
     }
@@ -99,7 +98,7 @@ fn vid(n: u16) -> Vid
 fn make_ports(alloc: Global, setting: Setting, far: DpId) -> Result<Ports, NoMemory>
     ensures { IfOk result (λ ports. ports ≡ ports_of setting.port_hosts setting.permanent setting.in_vlan (end_at setting.joined far)) }
 {
-    let native = Some(vid(100));
+    let native = Some(office());
     let second = if setting.in_vlan { native } else { None };
     let stack = if setting.joined {
         Some(StackEnd {
@@ -140,7 +139,7 @@ fn make_vlan(alloc: Global, max_hosts: u32) -> Result<Vlan, NoMemory>
     ensures { IfOk result (λ vlan. vlan ≡ vlan_of max_hosts) }
 {
     Ok(Vlan {
-        vid: vid(100),
+        vid: office(),
         name: Text::from_str(alloc, "office")?,
         description: Text::from_str(alloc, "office")?,
         mac: Mac([0x0e, 0, 0, 0, 0, 1]),
@@ -170,20 +169,43 @@ fn make_conf(alloc: Global, setting: Setting) -> Result<Conf, NoMemory>
     Ok(Conf::new(dps, vlans, Acls::new(alloc), Routers::new(alloc)))
 }
 
-/// The address of a host, 02:00:00:00:00:NN.
-fn host(n: u8) -> Mac {
-    Mac([0x02, 0, 0, 0, 0, n])
+/// The configuration of a setting, whose limits have to be in their ranges.
+fn conf_of(rt: &impl Abort, alloc: Global, setting: Setting) -> Result<Conf, NoMemory> {
+    assert!(rt; 1 <= setting.port_hosts && setting.port_hosts <= 16_384);
+    assert!(rt; 1 <= setting.vlan_hosts && setting.vlan_hosts <= 16_384);
+    assert!(rt; 1 <= setting.timeout && setting.timeout <= 604_800);
+    make_conf(alloc, setting)
 }
 
+const H1: Mac = Mac([0x02, 0, 0, 0, 0, 1]);
+
+const H2: Mac = Mac([0x02, 0, 0, 0, 0, 2]);
+
+const H3: Mac = Mac([0x02, 0, 0, 0, 0, 3]);
+
+const H4: Mac = Mac([0x02, 0, 0, 0, 0, 4]);
+
+const H5: Mac = Mac([0x02, 0, 0, 0, 0, 5]);
+
+const GROUP: Mac = Mac([0x03, 0, 0, 0, 0, 1]);
+
+const GATEWAY: Mac = Mac([0x0e, 0, 0, 0, 0, 1]);
+
+/// What is heard: a datapath, its interface, an address, the moment, and the answer.
+type Heard = (DpId, u32, Mac, u64, Learn);
+
 fn hear(
+    rt: &impl Abort,
     table: &mut HostTable,
     conf: &Conf,
-    dp: DpId,
-    port: PortNo,
-    mac: Mac,
-    moment: u64,
-) -> Result<Learn, NoMemory> {
-    table.learn(conf, dp, port, vid(100), mac, Moment(moment))
+    rows: &[Heard],
+) -> Result<(), NoMemory> {
+    for (dp, no, mac, moment, answer) in rows {
+        let port = PortNo::new(*no).expect(rt, "a port");
+        let found = table.learn(conf, *dp, port, office(), *mac, Moment(*moment))?;
+        assert!(rt; found == *answer, "{moment}: {found:?}");
+    }
+    Ok(())
 }
 
 /// The last bytes of the addresses, in the order of learning.
@@ -197,353 +219,270 @@ fn order(alloc: Global, table: &HostTable) -> Result<Vec<u8>, NoMemory> {
     Ok(hosts)
 }
 
-#[test]
-fn hosts_are_learned_refreshed_and_moved(rt: HostRuntime) -> Result<(), Fail> {
-    let conf = make_conf(rt.alloc(), USUAL)?;
-    let mut table = HostTable::new(rt.alloc(), 16384)?;
-    assert!(rt; table.is_empty());
-    assert_eq!(rt;
-        hear(&mut table, &conf, SW1, port(1), host(1), 10)?,
-        Learn::Learned
-    );
-    assert_eq!(rt;
-        hear(&mut table, &conf, SW1, port(1), host(2), 20)?,
-        Learn::Learned
-    );
-    assert_eq!(rt;
-        hear(&mut table, &conf, SW1, port(1), host(1), 30)?,
-        Learn::Refreshed
-    );
-    assert_eq!(rt; order(rt.alloc(), &table)?.as_slice(), [1, 2].as_slice());
-    assert_eq!(rt; table.at(0).map(|h| h.learned), Some(Moment(30)));
-    assert_eq!(rt;
-        hear(&mut table, &conf, SW1, port(2), host(1), 40)?,
-        Learn::Moved
-    );
-    assert_eq!(rt; order(rt.alloc(), &table)?.as_slice(), [2, 1].as_slice());
-    assert_eq!(rt; table.at(1).map(|h| h.port.get()), Some(2));
-    assert!(rt; table.at(2).is_none());
-    Ok(())
-}
-
-#[test]
-fn two_groups_may_have_one_address(rt: HostRuntime) -> Result<(), Fail> {
-    let apart = make_conf(rt.alloc(), USUAL)?;
-    let mut table = HostTable::new(rt.alloc(), 16384)?;
-    assert_eq!(rt;
-        hear(&mut table, &apart, SW1, port(1), host(1), 10)?,
-        Learn::Learned
-    );
-    assert!(rt; table.get(&apart, SW2, vid(100), host(1)).is_none());
-    assert_eq!(rt;
-        hear(&mut table, &apart, SW2, port(1), host(1), 20)?,
-        Learn::Learned
-    );
-    let there = table.get(&apart, SW2, vid(100), host(1));
-    assert_eq!(rt; there.map(|h| h.dp), Some(SW2));
-    assert!(rt; table.get(&apart, SW2, vid(200), host(1)).is_none());
-
-    let joined = make_conf(
-        rt.alloc(),
+// A setting, the table's limit, what is heard, and the hosts behind it in the order of learning.
+const STORIES: [(Setting, u32, &[Heard], &[u8]); 6] = [
+    (
+        USUAL,
+        16_384,
+        &[
+            (SW1, 1, H1, 10, Learn::Learned),
+            (SW1, 1, H2, 20, Learn::Learned),
+            (SW1, 1, H1, 30, Learn::Refreshed),
+            (SW1, 2, H1, 40, Learn::Moved),
+        ],
+        &[2, 1],
+    ),
+    // two groups may have one address, one group has it once
+    (
+        USUAL,
+        16_384,
+        &[
+            (SW1, 1, H1, 10, Learn::Learned),
+            (SW2, 1, H1, 20, Learn::Learned),
+        ],
+        &[1, 1],
+    ),
+    (
         Setting {
             joined: true,
             ..USUAL
         },
-    )?;
-    let mut table = HostTable::new(rt.alloc(), 16384)?;
-    assert_eq!(rt;
-        hear(&mut table, &joined, SW1, port(1), host(1), 10)?,
-        Learn::Learned
-    );
-    assert_eq!(rt;
-        hear(&mut table, &joined, SW2, port(1), host(1), 20)?,
-        Learn::Moved
-    );
-    let there = table.get(&joined, SW1, vid(100), host(1));
-    assert_eq!(rt; there.map(|h| h.dp), Some(SW2));
-    Ok(())
-}
-
-#[test]
-fn some_hosts_are_not_learned(rt: HostRuntime) -> Result<(), Fail> {
-    let conf = make_conf(
-        rt.alloc(),
+        16_384,
+        &[
+            (SW1, 1, H1, 10, Learn::Learned),
+            (SW2, 1, H1, 20, Learn::Moved),
+        ],
+        &[1],
+    ),
+    // a group, the gateway, no member, no interface, no datapath
+    (
         Setting {
             in_vlan: false,
             ..USUAL
         },
-    )?;
-    let mut table = HostTable::new(rt.alloc(), 16384)?;
-    let group = Mac([0x03, 0, 0, 0, 0, 1]);
-    let gateway = Mac([0x0e, 0, 0, 0, 0, 1]);
-    assert_eq!(rt;
-        hear(&mut table, &conf, SW1, port(1), group, 10)?,
-        Learn::NotLearnable
-    );
-    assert_eq!(rt;
-        hear(&mut table, &conf, SW1, port(1), gateway, 10)?,
-        Learn::NotLearnable
-    );
-    assert_eq!(rt;
-        hear(&mut table, &conf, SW1, port(2), host(1), 10)?,
-        Learn::NotLearnable
-    );
-    assert_eq!(rt;
-        hear(&mut table, &conf, SW1, port(4), host(1), 10)?,
-        Learn::NotLearnable
-    );
-    assert_eq!(rt;
-        hear(&mut table, &conf, DpId(3), port(1), host(1), 10)?,
-        Learn::NotLearnable
-    );
-    assert!(rt; table.is_empty());
-    Ok(())
-}
-
-#[test]
-fn a_port_keeps_its_first_host(rt: HostRuntime) -> Result<(), Fail> {
-    let conf = make_conf(
-        rt.alloc(),
+        16_384,
+        &[
+            (SW1, 1, GROUP, 10, Learn::NotLearnable),
+            (SW1, 1, GATEWAY, 10, Learn::NotLearnable),
+            (SW1, 2, H1, 10, Learn::NotLearnable),
+            (SW1, 4, H1, 10, Learn::NotLearnable),
+            (DpId(3), 1, H1, 10, Learn::NotLearnable),
+        ],
+        &[],
+    ),
+    // a port keeps its first host, and that host its port
+    (
         Setting {
             permanent: true,
             port_hosts: 1,
             ..USUAL
         },
-    )?;
-    let mut table = HostTable::new(rt.alloc(), 16384)?;
-    assert_eq!(rt;
-        hear(&mut table, &conf, SW1, port(1), host(1), 10)?,
-        Learn::Learned
-    );
-    assert_eq!(rt;
-        hear(&mut table, &conf, SW1, port(1), host(2), 20)?,
-        Learn::NotLearnable
-    );
-    assert_eq!(rt;
-        hear(&mut table, &conf, SW1, port(2), host(1), 20)?,
-        Learn::NotLearnable
-    );
-    assert_eq!(rt;
-        hear(&mut table, &conf, SW1, port(1), host(1), 30)?,
-        Learn::Refreshed
-    );
-    assert!(rt; table.age(&conf, Moment(u64::MAX)).is_none());
-    Ok(())
-}
-
-#[test]
-fn limits_of_a_port_a_vlan_and_a_table(rt: HostRuntime) -> Result<(), Fail> {
-    let conf = make_conf(
-        rt.alloc(),
+        16_384,
+        &[
+            (SW1, 1, H1, 10, Learn::Learned),
+            (SW1, 1, H2, 20, Learn::NotLearnable),
+            (SW1, 2, H1, 20, Learn::NotLearnable),
+            (SW1, 1, H1, 30, Learn::Refreshed),
+        ],
+        &[1],
+    ),
+    // limits of a port, of a VLAN and of the table; who stands there already counts once
+    (
         Setting {
             port_hosts: 2,
             vlan_hosts: 3,
             ..USUAL
         },
-    )?;
-    let mut table = HostTable::new(rt.alloc(), 4)?;
-    assert_eq!(rt;
-        hear(&mut table, &conf, SW1, port(1), host(1), 10)?,
-        Learn::Learned
-    );
-    assert_eq!(rt;
-        hear(&mut table, &conf, SW1, port(1), host(2), 20)?,
-        Learn::Learned
-    );
-    assert_eq!(rt;
-        hear(&mut table, &conf, SW1, port(1), host(3), 30)?,
-        Learn::Full
-    );
-    assert_eq!(rt;
-        hear(&mut table, &conf, SW1, port(1), host(1), 40)?,
-        Learn::Refreshed
-    );
-    assert_eq!(rt;
-        hear(&mut table, &conf, SW1, port(2), host(3), 50)?,
-        Learn::Learned
-    );
-    assert_eq!(rt;
-        hear(&mut table, &conf, SW1, port(1), host(3), 60)?,
-        Learn::Full
-    );
-    assert_eq!(rt;
-        hear(&mut table, &conf, SW1, port(2), host(4), 70)?,
-        Learn::Full
-    );
-    assert_eq!(rt;
-        hear(&mut table, &conf, SW1, port(2), host(1), 80)?,
-        Learn::Moved
-    );
-    assert_eq!(rt;
-        hear(&mut table, &conf, SW2, port(1), host(4), 90)?,
-        Learn::Learned
-    );
-    assert_eq!(rt;
-        hear(&mut table, &conf, SW2, port(1), host(5), 100)?,
-        Learn::Full
-    );
-    assert_eq!(rt;
-        order(rt.alloc(), &table)?.as_slice(),
-        [2, 3, 1, 4].as_slice()
-    );
+        4,
+        &[
+            (SW1, 1, H1, 10, Learn::Learned),
+            (SW1, 1, H2, 20, Learn::Learned),
+            (SW1, 1, H3, 30, Learn::Full),
+            (SW1, 1, H1, 40, Learn::Refreshed),
+            (SW1, 2, H3, 50, Learn::Learned),
+            (SW1, 1, H3, 60, Learn::Full),
+            (SW1, 2, H4, 70, Learn::Full),
+            (SW1, 2, H1, 80, Learn::Moved),
+            (SW2, 1, H4, 90, Learn::Learned),
+            (SW2, 1, H5, 100, Learn::Full),
+        ],
+        &[2, 3, 1, 4],
+    ),
+];
+
+#[test]
+fn hosts_are_learned(rt: HostRuntime) -> Result<(), Fail> {
+    for (setting, limit, rows, hosts) in STORIES {
+        let conf = conf_of(&rt, rt.alloc(), setting)?;
+        let mut table = HostTable::new(rt.alloc(), limit)?;
+        hear(&rt, &mut table, &conf, rows)?;
+        assert!(rt; order(rt.alloc(), &table)?.as_slice() == hosts, "{hosts:?}");
+    }
     Ok(())
 }
 
-#[test]
-fn hosts_age(rt: HostRuntime) -> Result<(), Fail> {
-    let conf = make_conf(rt.alloc(), USUAL)?;
-    let mut table = HostTable::new(rt.alloc(), 16384)?;
-    let _first = hear(&mut table, &conf, SW1, port(1), host(1), 6_000)?;
-    let _second = hear(&mut table, &conf, SW1, port(1), host(2), 5_000)?;
-    assert!(rt; table.age(&conf, Moment(334_999)).is_none());
-    assert_eq!(rt;
-        table.age(&conf, Moment(335_000)).map(|h| h.mac),
-        Some(host(2))
-    );
-    assert!(rt; table.age(&conf, Moment(335_999)).is_none());
-    assert_eq!(rt;
-        table.age(&conf, Moment(336_000)).map(|h| h.mac),
-        Some(host(1))
-    );
-    assert!(rt; table.is_empty());
-    Ok(())
-}
-
-#[test]
-fn the_longest_timeout_and_the_last_moment(rt: HostRuntime) -> Result<(), Fail> {
-    let conf = make_conf(
-        rt.alloc(),
+// A setting, what is heard, and at each moment the host that is given up then.
+const AGES: [(Setting, &[Heard], &[(u64, Option<Mac>)]); 4] = [
+    (
+        USUAL,
+        &[
+            (SW1, 1, H1, 6_000, Learn::Learned),
+            (SW1, 1, H2, 5_000, Learn::Learned),
+        ],
+        &[
+            (334_999, None),
+            (335_000, Some(H2)),
+            (335_999, None),
+            (336_000, Some(H1)),
+            (336_000, None),
+        ],
+    ),
+    // the longest timeout, and the last moment
+    (
         Setting {
             timeout: 604_800,
             ..USUAL
         },
-    )?;
-    let mut table = HostTable::new(rt.alloc(), 16384)?;
-    let _first = hear(&mut table, &conf, SW1, port(1), host(1), 0)?;
-    assert!(rt; table.age(&conf, Moment(604_829_999)).is_none());
-    assert!(rt; table.age(&conf, Moment(604_830_000)).is_some());
-    let _second = hear(&mut table, &conf, SW1, port(1), host(2), u64::MAX - 1)?;
-    assert!(rt; table.age(&conf, Moment(u64::MAX - 1)).is_none());
-    assert!(rt; table.age(&conf, Moment(u64::MAX)).is_some());
-    Ok(())
-}
+        &[(SW1, 1, H1, 0, Learn::Learned)],
+        &[(604_829_999, None), (604_830_000, Some(H1))],
+    ),
+    (
+        USUAL,
+        &[(SW1, 1, H2, u64::MAX - 1, Learn::Learned)],
+        &[(u64::MAX - 1, None), (u64::MAX, Some(H2))],
+    ),
+    // a port that keeps its first host
+    (
+        Setting {
+            permanent: true,
+            ..USUAL
+        },
+        &[(SW1, 1, H1, 10, Learn::Learned)],
+        &[(u64::MAX, None)],
+    ),
+];
 
-/// Host 1 at port 1 and host 2 at port 2 of the first datapath, host 3 at port 1 of the second.
-fn three_hosts(alloc: Global, conf: &Conf) -> Result<HostTable, NoMemory> {
-    let mut table = HostTable::new(alloc, 16384)?;
-    let _first = hear(&mut table, conf, SW1, port(1), host(1), 10)?;
-    let _second = hear(&mut table, conf, SW1, port(2), host(2), 20)?;
-    let _third = hear(&mut table, conf, SW2, port(1), host(3), 30)?;
-    Ok(table)
+fn check_ages(rt: &impl Abort, table: &mut HostTable, conf: &Conf, ages: &[(u64, Option<Mac>)]) {
+    for (moment, mac) in ages {
+        let found = match table.age(conf, Moment(*moment)) {
+            Some(host) => Some(host.mac),
+            None => None,
+        };
+        assert!(rt; found == *mac, "{moment}");
+    }
 }
 
 #[test]
-fn ports_and_datapaths_are_left(rt: HostRuntime) -> Result<(), Fail> {
-    let conf = make_conf(rt.alloc(), USUAL)?;
-    let mut table = three_hosts(rt.alloc(), &conf)?;
-    table.forget_port(SW1, port(1));
-    assert_eq!(rt; order(rt.alloc(), &table)?.as_slice(), [2, 3].as_slice());
+fn hosts_age(rt: HostRuntime) -> Result<(), Fail> {
+    for (setting, rows, ages) in AGES {
+        let conf = conf_of(&rt, rt.alloc(), setting)?;
+        let mut table = HostTable::new(rt.alloc(), 16_384)?;
+        hear(&rt, &mut table, &conf, rows)?;
+        check_ages(&rt, &mut table, &conf, ages);
+    }
+    Ok(())
+}
+
+/// Hosts 1 and 2 at ports 1 and 2 of the first datapath, host 3 at port 1 of the second.
+const THREE: &[Heard] = &[
+    (SW1, 1, H1, 10, Learn::Learned),
+    (SW1, 2, H2, 20, Learn::Learned),
+    (SW2, 1, H3, 30, Learn::Learned),
+];
+
+/// Host 1 in two groups.
+const TWICE: &[Heard] = &[
+    (SW1, 1, H1, 10, Learn::Learned),
+    (SW1, 1, H2, 20, Learn::Learned),
+    (SW2, 1, H1, 30, Learn::Learned),
+];
+
+#[test]
+fn hosts_are_found_and_left(rt: HostRuntime) -> Result<(), Fail> {
+    let conf = conf_of(&rt, rt.alloc(), USUAL)?;
+    let mut table = HostTable::new(rt.alloc(), 16_384)?;
+    hear(&rt, &mut table, &conf, TWICE)?;
+    for (dp, mac, found) in [(SW1, H1, true), (SW2, H1, true), (SW2, H2, false)] {
+        let there = table.get(&conf, dp, office(), mac);
+        assert!(rt; there.is_some() == found && there.is_none_or(|host| host.dp == dp));
+    }
+    table.forget_port(SW2, port(1));
+    assert!(rt; order(rt.alloc(), &table)?.as_slice() == [1, 2].as_slice());
     table.forget_dp(SW1);
-    assert_eq!(rt; order(rt.alloc(), &table)?.as_slice(), [3].as_slice());
+    assert!(rt; table.is_empty());
     Ok(())
 }
 
 /// The first two interfaces of both datapaths.
 fn all_up() -> [UpRec; 4] {
-    [
-        UpRec {
-            dp: SW1,
-            port: port(1),
-        },
-        UpRec {
-            dp: SW1,
-            port: port(2),
-        },
-        UpRec {
-            dp: SW2,
-            port: port(1),
-        },
-        UpRec {
-            dp: SW2,
-            port: port(2),
-        },
-    ]
+    let (first, second) = (port(1), port(2));
+    [(SW1, first), (SW1, second), (SW2, first), (SW2, second)].map(|(dp, port)| UpRec { dp, port })
 }
 
-#[test]
-fn what_a_new_configuration_keeps(rt: HostRuntime) -> Result<(), Fail> {
-    let alloc = rt.alloc();
-    let usual = make_conf(alloc, USUAL)?;
-    let table = three_hosts(alloc, &usual)?;
-    let up = all_up();
-    let all = &up[..];
-
-    // as it was; a port that is down; a timeout
-    let kept = table.kept(&usual, all, Moment(330_009))?;
-    assert_eq!(rt; order(alloc, &kept)?.as_slice(), [1, 2, 3].as_slice());
-    assert_eq!(rt; kept.at(0).map(|h| h.learned), Some(Moment(10)));
-    let kept = table.kept(&usual, &all[1..], Moment(330_009))?;
-    assert_eq!(rt; order(alloc, &kept)?.as_slice(), [2, 3].as_slice());
-    let kept = table.kept(&usual, all, Moment(330_020))?;
-    assert_eq!(rt; order(alloc, &kept)?.as_slice(), [3].as_slice());
-
-    // a port that left the VLAN; a lower limit of the VLAN in each group; no datapaths
-    let left = make_conf(
-        alloc,
+// What was heard under the usual setting; a new setting, whether the first port is up, the moment,
+// and the hosts that are kept.
+const KEPT: [(&[Heard], Setting, bool, u64, &[u8]); 7] = [
+    (THREE, USUAL, true, 330_009, &[1, 2, 3]),
+    (THREE, USUAL, false, 330_009, &[2, 3]),
+    (THREE, USUAL, true, 330_020, &[3]),
+    // a port that left the VLAN; a lower limit of the VLAN in each group
+    (
+        THREE,
         Setting {
             in_vlan: false,
             ..USUAL
         },
-    )?;
-    let kept = table.kept(&left, all, Moment(40))?;
-    assert_eq!(rt; order(alloc, &kept)?.as_slice(), [1, 3].as_slice());
-    let lower = make_conf(
-        alloc,
+        true,
+        40,
+        &[1, 3],
+    ),
+    (
+        THREE,
         Setting {
             vlan_hosts: 1,
             ..USUAL
         },
-    )?;
-    let kept = table.kept(&lower, all, Moment(40))?;
-    assert_eq!(rt; order(alloc, &kept)?.as_slice(), [1, 3].as_slice());
-    let none = Conf::new(
-        Dps::new(alloc),
-        Vlans::new(alloc),
-        Acls::new(alloc),
-        Routers::new(alloc),
-    );
-    assert!(rt; table.kept(&none, all, Moment(40))?.is_empty());
-    Ok(())
-}
-
-#[test]
-fn groups_that_are_joined_keep_the_later_host(rt: HostRuntime) -> Result<(), Fail> {
-    let alloc = rt.alloc();
-    let apart = make_conf(alloc, USUAL)?;
-    let mut table = HostTable::new(alloc, 16384)?;
-    let _first = hear(&mut table, &apart, SW1, port(1), host(1), 10)?;
-    let _second = hear(&mut table, &apart, SW1, port(1), host(2), 20)?;
-    let _third = hear(&mut table, &apart, SW2, port(1), host(1), 30)?;
-    let joined = make_conf(
-        alloc,
+        true,
+        40,
+        &[1, 3],
+    ),
+    // groups that are joined keep the later host; a port that keeps its first host now
+    (
+        TWICE,
         Setting {
             joined: true,
             ..USUAL
         },
-    )?;
-    let kept = table.kept(&joined, &all_up(), Moment(40))?;
-    assert_eq!(rt; order(alloc, &kept)?.as_slice(), [2, 1].as_slice());
-    assert_eq!(rt; kept.at(1).map(|h| h.dp), Some(SW2));
-
-    // a port that keeps its first host now
-    let permanent = make_conf(
-        alloc,
+        true,
+        40,
+        &[2, 1],
+    ),
+    (
+        TWICE,
         Setting {
             permanent: true,
             ..USUAL
         },
-    )?;
-    let kept = table.kept(&permanent, &all_up(), Moment(u64::MAX))?;
-    assert_eq!(rt; order(alloc, &kept)?.as_slice(), [1, 1].as_slice());
+        true,
+        u64::MAX,
+        &[1, 1],
+    ),
+];
+
+#[test]
+fn what_a_new_configuration_keeps(rt: HostRuntime) -> Result<(), Fail> {
+    let all = all_up();
+    let usual = conf_of(&rt, rt.alloc(), USUAL)?;
+    for (rows, setting, first, moment, hosts) in KEPT {
+        let mut table = HostTable::new(rt.alloc(), 16_384)?;
+        hear(&rt, &mut table, &usual, rows)?;
+        let conf = conf_of(&rt, rt.alloc(), setting)?;
+        let ups = if first { &all[..] } else { &all[1..] };
+        let kept = table.kept(&conf, ups, Moment(moment))?;
+        assert!(rt;
+            order(rt.alloc(), &kept)?.as_slice() == hosts,
+            "{hosts:?} {moment}"
+        );
+    }
     Ok(())
 }

@@ -3,4 +3,8 @@
 #![tactic(auto)]
 
 #[cfg(test)]
+mod conf_shape_tests;
+#[cfg(test)]
+mod conf_types_tests;
+#[cfg(test)]
 mod host_learn_tests;
