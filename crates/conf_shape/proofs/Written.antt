@@ -1,10 +1,9 @@
 -- What is written under a key of a map with no fault has the form that the key asks for.
-use Rattle.std.proofs.Common.{◌≡◌, ℕ, ℤ, pos, negsuc, ◌<◌, ◌≤◌, ◌-◌, ◌^◌, ◌&&◌, Bool, true, false, List, [], ◌∷◌, ◌++◌, Option, Some, None, Result, Ok, Err, refl, sym, ap, ◌∙◌, inl, inr, ◌⊎◌, subst, arith, rules}
+use Rattle.std.proofs.Common.{◌≡◌, ℕ, ℤ, pos, negsuc, ◌<◌, ◌-◌, ◌^◌, ◌&&◌, Bool, true, false, List, [], ◌∷◌, ◌++◌, Option, Some, None, Result, Ok, Err, refl, sym, ap, ◌∙◌, inl, inr, ◌⊎◌, subst, rules}
 use Rattle.std.specs.Prelude.{map, nat_le, unwrap_or, option_and_then, if◌then◌else◌}
 use Rattle.std.specs.List.{AllByRecursion, list_any}
 use Rattle.std.specs.Option.{option_map}
 use Rattle.std.specs.Str.{bytes_eq}
-use Rattle.std.proofs.lemmas.Bool.{cases_Bool}
 use Rattle.std.proofs.lemmas.Slice.Eq.{bytes_eq-Decides}
 use Rattle.yaml_subset.specs.declared.tree.Tree.{Tree, out-Tree, roll-Tree, roll-out-Tree}
 use Rattle.yaml_subset.specs.declared.tree.Key.{Key}
@@ -25,8 +24,8 @@ use Rattle.conf_shape.specs.declared.kinds.MapKind.{MapKind}
 use Rattle.conf_shape.specs.declared.kinds.MapKind.TheVariants as kinds
 use Rattle.conf_shape.specs.Keys.{KeyRow, Keys, keys_of}
 use Rattle.conf_shape.specs.Scalars.{within, if_within, is_name, flag_fault, number_fault, text_fault}
-use Rattle.conf_shape.specs.Sections.{key_text, is_key, canonical, row_at, spells, given, number_of, row_kind, text_kind, listed_kind, has_text, named_kind, named_once, as_map, number_or_name, under_key}
-use Rattle.conf_shape.specs.Faults.{Faults, Entry, here, behind, under, value_faults, missing_in, map_faults, may_be_null, tree_step, pair_step, faults_of, entry_of, first, told, first_fault}
+use Rattle.conf_shape.specs.Sections.{key_text, is_key, canonical, row_at, spells, given, number_of, row_kind, text_kind, has_text, named_kind, named_once, as_map, number_or_name, under_key}
+use Rattle.conf_shape.specs.Faults.{Faults, Entry, here, under, value_faults, missing_in, map_faults, may_be_null, tree_step, pair_step, faults_of, entry_of, first, told, first_fault}
 use Rattle.conf_shape.specs.Reads.{value_at, flag_in, number_in, text_in, entries_in, flag_of, text_of, entries_of}
 use Rattle.conf_shape.specs.Reads as reads
 use Rattle.conf_shape.specs.Written.{IsRight, Takes, IsTextAlone}

@@ -31,8 +31,8 @@ pub fn a_given_net4_is_spelled()
     ensures { (text : List ℕ) (ip len : ℕ) → ip < 2 ^ 32 → len ≤ 32 → (net4_of text ≡ Some (ip, len)) ↔ (text ≡ net4_text ip len) }
 {}
 
-/// A document with no fault is a map with none, and so is each map that stands under a key of a map
-/// with no fault, whether the key is of the tables, a datapath's name, or an interface's or a VLAN's number or name.
+/// A document with no fault is a map with none, and so is each map that stands under a key of such a
+/// map: a key of the tables, a datapath's name, a number or name of an interface or a VLAN.
 pub fn maps_of_a_right_document_are_right()
     ensures document { (t : Tree) → first_fault t ≡ None → IsRight Top (entries_of t) }
     ensures below { (m inner : MapKind) (pairs : List Pair) (name : List ℕ) (t : Tree)
