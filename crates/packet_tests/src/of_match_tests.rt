@@ -91,6 +91,12 @@ macro_rules! output {
     };
 }
 
+macro_rules! set {
+    ($id:ident, $value:expr, $mask:expr) => {
+        &[Action::Set(field!($id, $value, $mask))][..]
+    };
+}
+
 fn port_7() -> Result<PortNo, Fail> {
     Ok(PortNo::new(7).ok_or("7 is a port")?)
 }
@@ -106,113 +112,76 @@ fn packet(alloc: Global, tags: &[Tag], eth_type: u16, upper: Upper) -> Result<Pa
     })
 }
 
-// Each field has this value in the packet of port 7: it hits as it is and under a mask that
-// leaves the changed bit out, and doesn't with the lowest bit changed.
-fn has_values(rt: &impl Abort, packet: &Packet, rows: &[(FieldId, u128)]) -> Result<(), Fail> {
-    let port = port_7()?;
-    for (id, value) in rows {
+// What a packet's fields are, or that it lacks them.
+const TCP_FIELDS: [(FieldId, Option<u128>); 14] = [
+    (FieldId::InPort, Some(7)),
+    (FieldId::EthDst, Some(0x0e00_0000_0001)),
+    (FieldId::EthSrc, Some(0x0200_0a0b_0c0d)),
+    (FieldId::EthType, Some(0x0800)),
+    (FieldId::VlanVid, Some(0x100a)),
+    (FieldId::VlanPcp, Some(3)),
+    (FieldId::IpProto, Some(6)),
+    (FieldId::Ipv4Src, Some(0x0a00_0001)),
+    (FieldId::Ipv4Dst, Some(0x0a00_0002)),
+    (FieldId::TcpSrc, Some(1000)),
+    (FieldId::TcpDst, Some(80)),
+    (FieldId::ArpOp, None),
+    (FieldId::UdpSrc, None),
+    (FieldId::Icmpv4Code, None),
+];
+
+const ARP_FIELDS: [(FieldId, Option<u128>); 7] = [
+    (FieldId::ArpOp, Some(2)),
+    (FieldId::ArpSpa, Some(0x0a00_0001)),
+    (FieldId::ArpTpa, Some(0x0a00_0002)),
+    (FieldId::VlanPcp, None),
+    (FieldId::IpProto, None),
+    (FieldId::Ipv4Src, None),
+    (FieldId::TcpSrc, None),
+];
+
+// A value hits as it is and under a mask that leaves the changed bit out, and doesn't with the
+// lowest bit changed. Of a field that the packet lacks not even a mask of no bits hits.
+fn check_fields(rt: &impl Abort, port: PortNo, packet: &Packet, rows: &[(FieldId, Option<u128>)]) {
+    for (id, found) in rows {
         let id = *id;
-        let mask = id.all_ones();
-        let exact = Field {
-            id,
-            value: *value,
-            mask,
-        };
-        let other = Field {
-            id,
-            value: value ^ 1,
-            mask,
-        };
-        let masked = Field {
-            id,
-            value: value ^ 1,
-            mask: mask ^ 1,
-        };
-        assert!(rt; hits(&[exact], port, packet), "{id:?} exact");
-        assert!(rt; !hits(&[other], port, packet), "{id:?} other");
-        assert!(rt; hits(&[masked], port, packet), "{id:?} masked");
+        let ones = id.all_ones();
+        let value = found.unwrap_or(0);
+        let mask = if found.is_some() { ones } else { 0 };
+        let exact = hits(&[Field { id, value, mask }], port, packet);
+        let value = value ^ 1;
+        let other = hits(&[Field { id, value, mask }], port, packet);
+        let mask = mask & (ones ^ 1);
+        let masked = hits(&[Field { id, value, mask }], port, packet);
+        assert!(rt;
+            (exact, other, masked) == (found.is_some(), false, found.is_some()),
+            "{id:?}"
+        );
     }
-    Ok(())
 }
 
-// The packet lacks each field, so that not even a mask of no bits hits.
-fn lacks(rt: &impl Abort, packet: &Packet, ids: &[FieldId]) -> Result<(), Fail> {
+#[test]
+fn fields_of_packets(rt: HostRuntime) -> Result<(), Fail> {
     let port = port_7()?;
-    for id in ids {
-        let any = Field {
-            id: *id,
-            value: 0,
-            mask: 0,
-        };
-        assert!(rt; !hits(&[any], port, packet), "{id:?} lacks");
-    }
-    Ok(())
-}
-
-const TCP_VALUES: [(FieldId, u128); 11] = [
-    (FieldId::InPort, 7),
-    (FieldId::EthDst, 0x0e00_0000_0001),
-    (FieldId::EthSrc, 0x0200_0a0b_0c0d),
-    (FieldId::EthType, 0x0800),
-    (FieldId::VlanVid, 0x100a),
-    (FieldId::VlanPcp, 3),
-    (FieldId::IpProto, 6),
-    (FieldId::Ipv4Src, 0x0a00_0001),
-    (FieldId::Ipv4Dst, 0x0a00_0002),
-    (FieldId::TcpSrc, 1000),
-    (FieldId::TcpDst, 80),
-];
-
-const ARP_VALUES: [(FieldId, u128); 3] = [
-    (FieldId::ArpOp, 2),
-    (FieldId::ArpSpa, 0x0a00_0001),
-    (FieldId::ArpTpa, 0x0a00_0002),
-];
-
-#[test]
-fn fields_of_a_tagged_tcp_packet(rt: HostRuntime) -> Result<(), Fail> {
     let tags = [tag!(0x8100, 3, true, 10), tag!(0x8100, 1, false, 20)];
-    let given = packet(rt.alloc(), &tags, 0x0800, tcp!(1000, 80))?;
-    has_values(&rt, &given, &TCP_VALUES)?;
-    lacks(
-        &rt,
-        &given,
-        &[FieldId::ArpOp, FieldId::UdpSrc, FieldId::Icmpv4Code],
-    )
-}
-
-#[test]
-fn fields_of_udp_icmp_and_arp(rt: HostRuntime) -> Result<(), Fail> {
+    let tcp = packet(rt.alloc(), &tags, 0x0800, tcp!(1000, 80))?;
+    check_fields(&rt, port, &tcp, &TCP_FIELDS);
+    let arp = packet(rt.alloc(), &[], 0x0806, arp!(2))?;
+    check_fields(&rt, port, &arp, &ARP_FIELDS);
     let udp = ipv4!(64, 17, L4::Udp { src: 53, dst: 54 });
     let udp = packet(rt.alloc(), &[], 0x0800, udp)?;
-    has_values(&rt, &udp, &[(FieldId::UdpSrc, 53), (FieldId::UdpDst, 54)])?;
+    let rows = [(FieldId::UdpSrc, Some(53)), (FieldId::UdpDst, Some(54))];
+    check_fields(&rt, port, &udp, &rows);
     let icmp = packet(rt.alloc(), &[], 0x0800, icmp!(8, 4))?;
-    has_values(
-        &rt,
-        &icmp,
-        &[(FieldId::Icmpv4Type, 8), (FieldId::Icmpv4Code, 4)],
-    )?;
-    let arp = packet(rt.alloc(), &[], 0x0806, arp!(2))?;
-    has_values(&rt, &arp, &ARP_VALUES)
-}
-
-#[test]
-fn a_field_that_the_packet_lacks_never_hits(rt: HostRuntime) -> Result<(), Fail> {
-    let arp = packet(rt.alloc(), &[], 0x0806, arp!(2))?;
-    lacks(
-        &rt,
-        &arp,
-        &[
-            FieldId::VlanPcp,
-            FieldId::IpProto,
-            FieldId::Ipv4Src,
-            FieldId::TcpSrc,
-        ],
-    )?;
+    let rows = [
+        (FieldId::Icmpv4Type, Some(8)),
+        (FieldId::Icmpv4Code, Some(4)),
+    ];
+    check_fields(&rt, port, &icmp, &rows);
     let fragment = packet(rt.alloc(), &[], 0x0800, ipv4!(64, 6, L4::None))?;
-    lacks(&rt, &fragment, &[FieldId::TcpSrc, FieldId::TcpDst])?;
-    let plain = packet(rt.alloc(), &[], 0x0800, Upper::None)?;
-    lacks(&rt, &plain, &[FieldId::IpProto, FieldId::ArpOp])
+    let rows = [(FieldId::TcpSrc, None), (FieldId::IpProto, Some(6))];
+    check_fields(&rt, port, &fragment, &rows);
+    Ok(())
 }
 
 #[test]
@@ -230,16 +199,25 @@ fn a_vlan_id_of_0_is_for_packets_without_a_tag(rt: HostRuntime) -> Result<(), Fa
         (field!(VlanVid, 10, 0xffff), false, false, false),
         (field!(VlanVid, 0x1000, 0x1000), false, true, true),
     ] {
-        assert_eq!(rt; hits(&[field], port, &bare), of_bare, "{field:?} untagged");
-        assert_eq!(rt; hits(&[field], port, &two), of_two, "{field:?} two tags");
-        assert_eq!(rt; hits(&[field], port, &zero), of_zero, "{field:?} tag 0");
+        let found = (
+            hits(&[field], port, &bare),
+            hits(&[field], port, &two),
+            hits(&[field], port, &zero),
+        );
+        assert!(rt; found == (of_bare, of_two, of_zero), "{field:?}");
     }
     Ok(())
 }
 
 // Whether the action leaves the packet with these tags, and the rest as it was.
-fn leaves_tags(alloc: Global, action: Action, packet: &Packet, tags: &[Tag]) -> Result<bool, Fail> {
-    let acted = act(alloc, &[action], port_7()?, packet)?;
+fn leaves_tags(
+    alloc: Global,
+    port: PortNo,
+    action: Action,
+    packet: &Packet,
+    tags: &[Tag],
+) -> Result<bool, NoMemory> {
+    let acted = act(alloc, &[action], port, packet)?;
     Ok(match &acted.left {
         Some(left) => left.tags.as_slice() == tags && left.upper == packet.upper,
         None => false,
@@ -248,91 +226,89 @@ fn leaves_tags(alloc: Global, action: Action, packet: &Packet, tags: &[Tag]) -> 
 
 #[test]
 fn tags_are_pushed_popped_and_set(rt: HostRuntime) -> Result<(), Fail> {
-    let bare = packet(rt.alloc(), &[], 0x0800, tcp!(1, 2))?;
+    let port = port_7()?;
     let first = tag!(0x8100, 3, true, 10);
     let second = tag!(0x8100, 1, false, 20);
-    let two = packet(rt.alloc(), &[first, second], 0x0800, tcp!(1, 2))?;
-    let pushed = tag!(0x88a8, 3, false, 10);
-    let relabelled = tag!(0x8100, 3, true, 100);
-    let raised = tag!(0x8100, 5, true, 10);
-    for (action, of_bare, of_two) in [
+    let none = &[][..];
+    let both = &[first, second][..];
+    let pushed = &[tag!(0x88a8, 3, false, 10), first, second][..];
+    let relabelled = &[tag!(0x8100, 3, true, 100), second][..];
+    let raised = &[tag!(0x8100, 5, true, 10), second][..];
+    let set_vid = Action::Set(field!(VlanVid, 0x1064, 0xffff));
+    let set_pcp = Action::Set(field!(VlanPcp, 5, 0xff));
+    for (action, before, after) in [
         (
             Action::PushVlan(0x88a8),
+            none,
             &[tag!(0x88a8, 0, false, 0)][..],
-            &[pushed, first, second][..],
         ),
-        (Action::PopVlan, &[][..], &[second][..]),
-        (
-            Action::Set(field!(VlanVid, 0x1064, 0xffff)),
-            &[][..],
-            &[relabelled, second][..],
-        ),
-        (
-            Action::Set(field!(VlanPcp, 5, 0xff)),
-            &[][..],
-            &[raised, second][..],
-        ),
+        (Action::PushVlan(0x88a8), both, pushed),
+        (Action::PopVlan, none, none),
+        (Action::PopVlan, both, &[second][..]),
+        (set_vid, none, none),
+        (set_vid, both, relabelled),
+        (set_pcp, none, none),
+        (set_pcp, both, raised),
     ] {
-        assert!(rt;
-            leaves_tags(rt.alloc(), action, &bare, of_bare)?,
-            "{action:?} untagged"
-        );
-        assert!(rt;
-            leaves_tags(rt.alloc(), action, &two, of_two)?,
-            "{action:?} two tags"
-        );
+        let given = packet(rt.alloc(), before, 0x0800, tcp!(1, 2))?;
+        let left = leaves_tags(rt.alloc(), port, action, &given, after)?;
+        assert!(rt; left, "{action:?} {before:?}");
     }
     Ok(())
 }
 
 #[test]
-fn a_ttl_of_0_or_1_ends_the_packet(rt: HostRuntime) -> Result<(), Fail> {
+fn headers_are_set_and_a_ttl_of_0_or_1_ends_the_packet(rt: HostRuntime) -> Result<(), Fail> {
     let port = port_7()?;
-    let actions = [output!(8), Action::DecTtl, output!(9)];
-    for (upper, sent, left) in [
-        (ipv4!(0, 6, L4::None), 1, None),
-        (ipv4!(1, 6, L4::None), 1, None),
-        (ipv4!(2, 6, L4::None), 2, Some(ipv4!(1, 6, L4::None))),
-        (ipv4!(255, 6, L4::None), 2, Some(ipv4!(254, 6, L4::None))),
-        (arp!(1), 1, None),
-        (Upper::None, 1, None),
-    ] {
-        let given = packet(rt.alloc(), &[], 0x0800, upper)?;
-        let acted = act(rt.alloc(), &actions, port, &given)?;
-        assert_eq!(rt; acted.sents.len(), sent, "{upper:?} sends");
-        assert_eq!(rt;
-            acted.left.map(|packet| packet.upper),
-            left,
-            "{upper:?} is left"
-        );
-    }
-    Ok(())
-}
-
-#[test]
-fn a_field_that_is_there_is_set(rt: HostRuntime) -> Result<(), Fail> {
-    let port = port_7()?;
-    for (set, before, after) in [
-        (field!(TcpSrc, 2000, 0xffff), tcp!(1000, 80), tcp!(2000, 80)),
+    let ttl = &[output!(8), Action::DecTtl, output!(9)][..];
+    // actions, the packet before them, how many are sent, and the packet behind them
+    for (actions, before, sent, after) in [
+        (ttl, ipv4!(0, 6, L4::None), 1, None),
+        (ttl, ipv4!(1, 6, L4::None), 1, None),
+        (ttl, ipv4!(2, 6, L4::None), 2, Some(ipv4!(1, 6, L4::None))),
         (
-            field!(TcpDst, 8080, 0xffff),
+            ttl,
+            ipv4!(255, 6, L4::None),
+            2,
+            Some(ipv4!(254, 6, L4::None)),
+        ),
+        (ttl, arp!(1), 1, None),
+        (
+            set!(TcpSrc, 2000, 0xffff),
             tcp!(1000, 80),
-            tcp!(1000, 8080),
+            0,
+            Some(tcp!(2000, 80)),
         ),
-        (field!(UdpDst, 8080, 0xffff), tcp!(1000, 80), tcp!(1000, 80)),
-        (field!(Icmpv4Type, 0, 0xff), icmp!(8, 4), icmp!(0, 4)),
-        (field!(Icmpv4Code, 1, 0xff), icmp!(8, 4), icmp!(8, 1)),
-        (field!(IpProto, 17, 0xff), arp!(2), arp!(2)),
-        (field!(ArpOp, 1, 0xffff), arp!(2), arp!(1)),
-        (field!(ArpOp, 1, 0xffff), tcp!(1, 2), tcp!(1, 2)),
-        (field!(InPort, 3, 0xffff_ffff), tcp!(1, 2), tcp!(1, 2)),
+        (
+            set!(TcpDst, 8080, 0xffff),
+            tcp!(1000, 80),
+            0,
+            Some(tcp!(1000, 8080)),
+        ),
+        (
+            set!(UdpDst, 8080, 0xffff),
+            tcp!(1000, 80),
+            0,
+            Some(tcp!(1000, 80)),
+        ),
+        (set!(Icmpv4Type, 0, 0xff), icmp!(8, 4), 0, Some(icmp!(0, 4))),
+        (set!(Icmpv4Code, 1, 0xff), icmp!(8, 4), 0, Some(icmp!(8, 1))),
+        (set!(IpProto, 17, 0xff), arp!(2), 0, Some(arp!(2))),
+        (set!(ArpOp, 1, 0xffff), arp!(2), 0, Some(arp!(1))),
+        (set!(ArpOp, 1, 0xffff), tcp!(1, 2), 0, Some(tcp!(1, 2))),
+        (
+            set!(InPort, 3, 0xffff_ffff),
+            tcp!(1, 2),
+            0,
+            Some(tcp!(1, 2)),
+        ),
     ] {
         let given = packet(rt.alloc(), &[], 0x0800, before)?;
-        let acted = act(rt.alloc(), &[Action::Set(set)], port, &given)?;
-        assert_eq!(rt;
-            acted.left.map(|packet| packet.upper),
-            Some(after),
-            "{set:?}"
+        let acted = act(rt.alloc(), actions, port, &given)?;
+        let left = acted.left.as_ref().map(|packet| packet.upper);
+        assert!(rt;
+            (acted.sents.len(), left) == (sent, after),
+            "{actions:?} {before:?}"
         );
     }
     Ok(())
@@ -340,37 +316,31 @@ fn a_field_that_is_there_is_set(rt: HostRuntime) -> Result<(), Fail> {
 
 #[test]
 fn addresses_and_type_are_set(rt: HostRuntime) -> Result<(), Fail> {
+    let port = port_7()?;
     let given = packet(rt.alloc(), &[], 0x0800, tcp!(1, 2))?;
     let turned = [
         Action::Set(field!(EthDst, 0x0200_0a0b_0c0d, 0xffff_ffff_ffff)),
         Action::Set(field!(EthSrc, 0x0e00_0000_0001, 0xffff_ffff_ffff)),
         Action::Set(field!(EthType, 0x88cc, 0xffff)),
     ];
-    let acted = act(rt.alloc(), &turned, port_7()?, &given)?;
+    let acted = act(rt.alloc(), &turned, port, &given)?;
     let left = acted.left.ok_or("the packet ended")?;
-    assert_eq!(rt; left.dst, Mac([2, 0, 0x0a, 0x0b, 0x0c, 0x0d]));
-    assert_eq!(rt; left.src, Mac([0x0e, 0, 0, 0, 0, 1]));
-    assert_eq!(rt; left.eth_type, 0x88cc);
-    assert_eq!(rt; left.rest.as_slice(), [1, 2, 3].as_slice());
+    assert!(rt; (left.dst, left.src, left.eth_type) == (given.src, given.dst, 0x88cc));
+    assert!(rt; left.rest.as_slice() == [1, 2, 3].as_slice());
     Ok(())
 }
 
 // Whether the packets sent have these ports and outermost VLANs, in this order.
-fn sent_are(sents: &Sents, rows: &[(u32, u128)]) -> Result<bool, Fail> {
-    if sents.len() != rows.len() {
-        return Ok(false);
-    }
-    let port = port_7()?;
-    for (sent, (to, vlan)) in sents.as_slice().iter().zip(rows) {
-        if sent.port != *to || !hits(&[field!(VlanVid, *vlan, 0xffff)], port, &sent.packet) {
-            return Ok(false);
-        }
-    }
-    Ok(true)
+fn sent_are(port: PortNo, sents: &Sents, rows: &[(u32, u128)]) -> bool {
+    sents.len() == rows.len()
+        && sents.as_slice().iter().zip(rows).all(|(sent, (to, vlan))| {
+            sent.port == *to && hits(&[field!(VlanVid, *vlan, 0xffff)], port, &sent.packet)
+        })
 }
 
 #[test]
 fn an_output_sends_the_packet_as_it_then_is(rt: HostRuntime) -> Result<(), Fail> {
+    let port = port_7()?;
     let given = packet(rt.alloc(), &[tag!(0x8100, 3, true, 10)], 0x0800, tcp!(1, 2))?;
     let actions = [
         output!(8),
@@ -381,9 +351,9 @@ fn an_output_sends_the_packet_as_it_then_is(rt: HostRuntime) -> Result<(), Fail>
         Action::Set(field!(VlanVid, 0x1014, 0xffff)),
         output!(0xffff_fffd),
     ];
-    let acted = act(rt.alloc(), &actions, port_7()?, &given)?;
+    let acted = act(rt.alloc(), &actions, port, &given)?;
     let rows = [(8, 0x100a), (7, 0), (0xffff_fffd, 0x1014)];
-    assert!(rt; sent_are(&acted.sents, &rows)?);
+    assert!(rt; sent_are(port, &acted.sents, &rows));
     Ok(())
 }
 
@@ -418,17 +388,13 @@ fn tables_of(alloc: Global, rows: &[Row<'_>]) -> Result<Tables, NoMemory> {
     Ok(tables)
 }
 
-// Whether a run of an untagged packet of port 7 through these entries sends to these ports.
-fn runs_to(alloc: Global, rows: &[Row<'_>], sent: &[(u32, u128)]) -> Result<bool, Fail> {
-    let given = packet(alloc, &[], 0x0800, tcp!(1, 2))?;
-    let sents = run(alloc, &tables_of(alloc, rows)?, port_7()?, &given)?;
-    sent_are(&sents, sent)
-}
-
 #[test]
 fn a_packet_goes_from_table_to_higher_table(rt: HostRuntime) -> Result<(), Fail> {
+    let port = port_7()?;
+    let from_7 = &[field!(InPort, 7, 0xffff_ffff)][..];
     let from_8 = &[field!(InPort, 8, 0xffff_ffff)][..];
     let any = &[][..];
+    let given = packet(rt.alloc(), &[], 0x0800, tcp!(1, 2))?;
     for (rows, sent) in [
         (&[][..], &[][..]),
         (&[(0, 9, from_8, 1, None)][..], &[][..]),
@@ -450,18 +416,7 @@ fn a_packet_goes_from_table_to_higher_table(rt: HostRuntime) -> Result<(), Fail>
             &[(2, 0), (3, 0)][..],
         ),
         (&[(0, 9, any, 1, Some(0))][..], &[(1, 0)][..]),
-    ] {
-        assert!(rt; runs_to(rt.alloc(), rows, sent)?, "{rows:?}");
-    }
-    Ok(())
-}
-
-#[test]
-fn the_highest_priority_is_taken_and_then_the_first(rt: HostRuntime) -> Result<(), Fail> {
-    let from_7 = &[field!(InPort, 7, 0xffff_ffff)][..];
-    let from_8 = &[field!(InPort, 8, 0xffff_ffff)][..];
-    let any = &[][..];
-    for (rows, sent) in [
+        // the highest priority, and of equal ones the first in key order
         (
             &[
                 (0, 5, any, 1, None),
@@ -475,7 +430,9 @@ fn the_highest_priority_is_taken_and_then_the_first(rt: HostRuntime) -> Result<(
             &[(2, 0)][..],
         ),
     ] {
-        assert!(rt; runs_to(rt.alloc(), rows, sent)?, "{rows:?}");
+        let tables = tables_of(rt.alloc(), rows)?;
+        let sents = run(rt.alloc(), &tables, port, &given)?;
+        assert!(rt; sent_are(port, &sents, sent), "{rows:?}");
     }
     Ok(())
 }
@@ -500,9 +457,12 @@ fn an_add_takes_the_place_of_its_key(rt: HostRuntime) -> Result<(), Fail> {
     let again = entry(alloc, key(alloc, 0, 5, arp)?, 3, None)?;
     let first = again.key.copy(alloc)?;
     apply(alloc, &mut tables, &Command::Add(again))?;
-    assert_eq!(rt; tables.len(), 2);
-    assert_eq!(rt; sends_to(tables.get(&first)), Some(3));
-    assert_eq!(rt; sends_to(held.get(&first)), Some(1));
+    let found = (
+        tables.len(),
+        sends_to(tables.get(&first)),
+        sends_to(held.get(&first)),
+    );
+    assert!(rt; found == (2, Some(3), Some(1)));
     Ok(())
 }
 
@@ -519,7 +479,7 @@ fn a_strict_delete_takes_out_just_its_key(rt: HostRuntime) -> Result<(), Fail> {
     ] {
         let key = key(alloc, table, priority, fields)?;
         apply(alloc, &mut tables, &Command::DeleteStrict(key))?;
-        assert_eq!(rt; tables.len(), left);
+        assert!(rt; tables.len() == left, "{table} {priority}");
     }
     apply(alloc, &mut tables, &Command::DeleteAll)?;
     assert!(rt; tables.is_empty());
@@ -546,34 +506,6 @@ fn entries_stand_in_key_order(rt: HostRuntime) -> Result<(), Fail> {
     for entry in tables.iter() {
         ports.push(sends_to(Some(entry)).unwrap_or(0))?;
     }
-    assert_eq!(rt; ports.as_slice(), [1, 2, 3, 4, 5, 6, 7, 8, 9].as_slice());
-    Ok(())
-}
-
-#[test]
-fn entries_are_compared_part_by_part(rt: HostRuntime) -> Result<(), Fail> {
-    let output = |port: u32| Action::Output { port, max_len: 0 };
-    let entry_with = |priority: u16, action: Action| -> Result<Entry, NoMemory> {
-        let mut instrs = Instrs::new(rt.alloc());
-        instrs.push(Instr::Apply(Actions::from_slice(rt.alloc(), &[action])?))?;
-        instrs.push(Instr::Goto(1))?;
-        let key = Key {
-            table: 0,
-            priority,
-            fields: Fields::new(rt.alloc()),
-        };
-        Ok(Entry { key, instrs })
-    };
-    let one = entry_with(5, output(1))?;
-    assert_eq!(rt; one, one.copy(rt.alloc())?);
-    for (priority, action) in [
-        (6, output(1)),
-        (5, output(2)),
-        (5, Action::PopVlan),
-        (5, Action::PushVlan(0x8100)),
-        (5, Action::Set(field!(VlanVid, 0x1001, 0xffff))),
-    ] {
-        assert_ne!(rt; one, entry_with(priority, action)?);
-    }
+    assert!(rt; ports.as_slice() == [1, 2, 3, 4, 5, 6, 7, 8, 9].as_slice());
     Ok(())
 }
