@@ -11,6 +11,7 @@ mod packet;
 mod sum;
 
 pub use arp::{arp_reply, arp_request};
+pub use bytes::{ip4_at, u16_at};
 pub use echo::echo_reply;
 pub use frame::{FrameView, UpperView, view};
 pub use packet::packet_of;

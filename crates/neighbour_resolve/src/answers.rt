@@ -1,0 +1,113 @@
+//! What a VLAN's gateway answers.
+
+ghost use Rattle.std.specs.Prelude.{◌≡◌, ◌≤◌, length, IfOk};
+ghost use Rattle.std.specs.Option.{option_map_or};
+ghost use Rattle.conf_types.specs.Networks.{is_vip};
+ghost use Rattle.conf_types.specs.Routing.{vips_of};
+ghost use Rattle.pkt_view.specs.Frame.{shown};
+ghost use Rattle.pkt_view.specs.Replies.{echo_reply};
+ghost use Rattle.neighbour_resolve.specs.Answers.{answer, answer_in, is_routed_vip};
+
+use crate::counted::counted_vid;
+use conf_types::{Conf, Vlan};
+use net_base::{Bytes, DpId, Ip4, NoMemory, PortNo, Vid};
+use pkt_view::{FrameView, UpperView, arp_reply, echo_reply, ip4_at};
+use std::alloc::Global;
+
+/// The answer to a frame. It is an untagged frame, which leaves by the port that the other came in
+/// by, with a tag of the VLAN where the port is a tagged member (`send_back`).
+#[derive(Debug, Drop)]
+pub enum Reply {
+    /// An ARP reply (RFC 826).
+    ArpReply(Bytes),
+    /// An ICMP echo reply (RFC 792).
+    EchoReply(Bytes),
+    Nothing,
+}
+
+/// The operation of an ARP request (RFC 826).
+const REQUEST: u16 = 1;
+
+fn is_vip(vlan: &Vlan, ip: Ip4) -> bool
+    ensures { result ≡ is_vip vlan.now.vips ip.0 }
+{
+    vlan.vips.as_slice().iter().any(|vip| vip.ip == ip)
+}
+
+fn is_vip_of(conf: &Conf, vid: Vid, ip: Ip4) -> bool
+    ensures { result ≡ is_vip (vips_of conf.now vid) ip.0 }
+{
+    match conf.vlan(vid) {
+        Some(vlan) => is_vip(vlan, ip),
+        None => false,
+    }
+}
+
+/// Whether an address is a VIP of a VLAN that packets of this one are routed to.
+fn is_routed_vip(alloc: Global, conf: &Conf, vid: Vid, ip: Ip4) -> Result<bool, NoMemory>
+    ensures { IfOk result (λ is. is ≡ is_routed_vip conf.now vid ip.0) }
+{
+    let vids = conf.routing_set(alloc, vid)?;
+    Ok(vids.as_slice().iter().any(|vid| is_vip_of(conf, *vid, ip)))
+}
+
+fn echo_answer(alloc: Global, vlan: &Vlan, frame: &FrameView<'_>) -> Result<Reply, NoMemory>
+    ensures { IfOk result (λ reply. reply ≡ option_map_or Reply.EchoReply (echo_reply vlan.now.mac (shown frame.now)) Reply.Nothing) }
+{
+    match echo_reply(alloc, vlan.mac, frame)? {
+        Some(reply) => Ok(Reply::EchoReply(reply)),
+        None => Ok(Reply::Nothing),
+    }
+}
+
+fn answer_in(
+    alloc: Global,
+    conf: &Conf,
+    vlan: &Vlan,
+    frame: &FrameView<'_>,
+) -> Result<Reply, NoMemory>
+    ensures { IfOk result (λ reply. reply ≡ answer_in conf.now (shown frame.now) vlan.now) }
+{
+    if frame.src.is_group() {
+        return Ok(Reply::Nothing);
+    }
+    match frame.upper {
+        UpperView::Arp { op, spa, tpa, .. } if op == REQUEST && is_vip(vlan, tpa) => {
+            let reply = arp_reply(alloc, vlan.mac, tpa, frame.src, spa)?;
+            Ok(Reply::ArpReply(reply))
+        }
+        UpperView::V4 { header, .. } if header.len() >= 20 => {
+            if is_routed_vip(alloc, conf, vlan.vid, ip4_at(header, 16))? {
+                echo_answer(alloc, vlan, frame)
+            } else {
+                Ok(Reply::Nothing)
+            }
+        }
+        _ => Ok(Reply::Nothing),
+    }
+}
+
+/// The answer to a frame that a datapath had by a port and handed on: to an ARP request for a VIP of
+/// the frame's VLAN, or to an ICMP echo request to a VIP of a VLAN that the frame's is routed to, both
+/// from the VLAN's gateway address to the frame's source.
+///
+/// `Nothing` exactly where no answer is due: the frame doesn't count (`counted_vid`), or its source is
+/// a group address; it is no ARP packet with operation 1 whose target is a VIP of its VLAN; and it is
+/// no echo request to such a VIP, or one to which `pkt_view::echo_reply` gives no answer.
+pub fn answer(
+    alloc: Global,
+    conf: &Conf,
+    dp: DpId,
+    port: PortNo,
+    frame: &FrameView<'_>,
+) -> Result<Reply, NoMemory>
+    ensures { IfOk result (λ reply. reply ≡ answer conf.now dp port (shown frame.now)) }
+{
+    match counted_vid(conf, dp, port, frame) {
+        Some(vid) => match conf.vlan(vid) {
+            Some(vlan) => answer_in(alloc, conf, vlan, frame),
+            None => Ok(Reply::Nothing),
+        },
+        None => Ok(Reply::Nothing),
+    }
+}
