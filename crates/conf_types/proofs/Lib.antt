@@ -2,3 +2,4 @@ pub mod Found
 pub mod Marks
 pub mod Reached
 pub mod Taken
+mod Alone

@@ -1,5 +1,5 @@
 ghost use Rattle.std.specs.Prelude.{◌≡◌};
-ghost use Rattle.conf_types.specs.Membership.{is_edge, is_stack, is_accepting, is_native_in, is_tagged_in, member_of};
+ghost use Rattle.conf_types.specs.Membership.{is_edge, is_stack, is_accepting, is_native_in, is_tagged_in, is_edge_member, is_mirror_of, member_of};
 
 use crate::vlan::Vids;
 use net_base::{DpId, Items, Names, NoMemory, PortNo, Text, TryCopy, Vid};
@@ -128,7 +128,8 @@ impl Port {
         }
     }
 
-    fn is_native_in(&self, vid: Vid) -> bool
+    /// Whether packets of the VLAN have no tag there.
+    pub fn is_native_in(&self, vid: Vid) -> bool
         ensures { result ≡ is_native_in self.now vid }
     {
         match self.native {
@@ -137,13 +138,31 @@ impl Port {
         }
     }
 
-    fn is_tagged_in(&self, vid: Vid) -> bool
+    /// Whether packets of the VLAN have a tag there.
+    pub fn is_tagged_in(&self, vid: Vid) -> bool
         ensures { result ≡ is_tagged_in self.now vid }
     {
         self.tagged
             .as_slice()
             .iter()
             .any(|tagged| tagged.get() == vid.get())
+    }
+
+    /// Whether it is an edge port of the VLAN.
+    pub fn is_edge_member(&self, vid: Vid) -> bool
+        ensures { result ≡ is_edge_member self.now vid }
+    {
+        self.is_edge() && (self.is_native_in(vid) || self.is_tagged_in(vid))
+    }
+
+    /// Whether it copies what the port with this number takes in and sends.
+    pub fn is_mirror_of(&self, no: PortNo) -> bool
+        ensures { result ≡ is_mirror_of self.now no }
+    {
+        self.mirror
+            .as_slice()
+            .iter()
+            .any(|mirrored| mirrored.get() == no.get())
     }
 }
 

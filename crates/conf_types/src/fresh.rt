@@ -1,5 +1,5 @@
 ghost use Rattle.std.specs.Prelude.{◌≡◌, ◌<◌, ◌^◌};
-ghost use Rattle.conf_types.specs.State.{is_permanent, fresh_for, is_fresh, is_to_forget};
+ghost use Rattle.conf_types.specs.State.{fresh_for, is_fresh, is_to_forget};
 
 use crate::conf::Conf;
 use crate::state::HostRec;
@@ -7,15 +7,6 @@ use net_base::{DpId, Moment};
 
 /// Milliseconds after which a host that is stale is to be forgotten.
 const STALE_FOR: u64 = 30_000;
-
-fn is_permanent(conf: &Conf, host: &HostRec) -> bool
-    ensures { result ≡ is_permanent conf.now host.now }
-{
-    match conf.port(host.dp, host.port) {
-        Some(port) => port.permanent_learn,
-        None => false,
-    }
-}
 
 fn fresh_for(conf: &Conf, dp: DpId) -> u64
     ensures exact { result ≡ fresh_for conf.now dp }
@@ -35,7 +26,7 @@ impl Conf {
         ensures { result ≡ is_fresh self.now moment.0 host.now }
     {
         let end = host.learned.0.saturating_add(fresh_for(self, host.dp));
-        is_permanent(self, host) || moment.0 < end
+        self.is_permanent(host) || moment.0 < end
     }
 
     /// Whether a host is to be forgotten at a moment: it was heard no later than its datapath's
@@ -47,6 +38,6 @@ impl Conf {
             .learned
             .0
             .saturating_add(fresh_for(self, host.dp) + STALE_FOR);
-        !is_permanent(self, host) && end <= moment.0
+        !self.is_permanent(host) && end <= moment.0
     }
 }

@@ -7,7 +7,8 @@ use crate::state::UpRec;
 use net_base::{DpId, Items, NoMemory, PortNo, StackLink, StackLinks};
 use std::alloc::Global;
 
-fn is_up(ups: &[UpRec], dp: DpId, port: PortNo) -> bool
+/// Whether a port is up.
+pub fn is_up(ups: &[UpRec], dp: DpId, port: PortNo) -> bool
     ensures { result ≡ is_up ups.now dp port }
 {
     ups.iter()

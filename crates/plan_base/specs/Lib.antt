@@ -1,0 +1,5 @@
+pub mod Fields
+pub mod Actions
+pub mod Entries
+pub mod Sending
+pub mod Accepted

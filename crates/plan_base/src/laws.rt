@@ -1,0 +1,48 @@
+//! Laws of the definitions: each function is empty, and its contract is the law.
+
+ghost use Rattle.std.specs.Prelude.{◌<◌, ◌^◌, ℕ, List, Option};
+ghost use Rattle.std.specs.List.{AllByRecursion};
+ghost use Rattle.net_base.specs.declared.address.Mac.{Mac};
+ghost use Rattle.net_base.specs.Address.{IsSixBytes};
+ghost use Rattle.net_base.specs.Field.{prefix};
+ghost use Rattle.net_base.specs.Numbers.{IsVid, IsPortNo};
+ghost use Rattle.net_base.specs.WellFormed.{Fits};
+ghost use Rattle.net_base.specs.declared.field.FieldId.TheVariants.{Ipv4Dst};
+ghost use Rattle.of_match.specs.declared.action.Action.{Action};
+ghost use Rattle.of_match.specs.WellFormed.{IsAction, AreInstrs};
+ghost use Rattle.conf_types.specs.declared.datapath.Dp.{Dp};
+ghost use Rattle.conf_types.specs.declared.datapath.Port.{Port};
+ghost use Rattle.plan_base.specs.declared.table.Table.{Table};
+ghost use Rattle.plan_base.specs.Fields.{in_port, eth_dst, eth_src, vid_field, arp_tpa};
+ghost use Rattle.plan_base.specs.Actions.{out, set_vid, set_eth_src, set_eth_dst};
+ghost use Rattle.plan_base.specs.Entries.{leads_to};
+ghost use Rattle.plan_base.specs.Sending.{sent};
+
+/// The value and the mask of each field fit its bytes (OpenFlow 1.3, 7.2.3.7).
+#[tactic(auto, using(crate::proofs::Accepted::field_laws))]
+pub fn fields_fit()
+    ensures ports { (number : ℕ) → IsPortNo number → Fits (in_port number) }
+    ensures destinations { (mac : Mac) → IsSixBytes mac.0 → Fits (eth_dst mac) }
+    ensures sources { (mac : Mac) → IsSixBytes mac.0 → Fits (eth_src mac) }
+    ensures vlans { (vid : ℕ) → IsVid vid → Fits (vid_field vid) }
+    ensures targets { (ip : ℕ) → ip < 2 ^ 32 → Fits (arp_tpa ip) }
+    ensures prefixes { (ip len : ℕ) → ip < 2 ^ 32 → Fits (prefix Ipv4Dst ip len) }
+{}
+
+/// Each action is one that a switch accepts (OpenFlow 1.3, 7.2.5).
+#[tactic(auto, using(crate::proofs::Accepted::action_laws))]
+pub fn actions_are_accepted()
+    ensures outs { (number : ℕ) → IsPortNo number → IsAction (out number) }
+    ensures vlans { (vid : ℕ) → IsVid vid → IsAction (set_vid vid) }
+    ensures sources { (mac : Mac) → IsSixBytes mac.0 → IsAction (set_eth_src mac) }
+    ensures destinations { (mac : Mac) → IsSixBytes mac.0 → IsAction (set_eth_dst mac) }
+    ensures sent { (d : Dp) (vid : ℕ) (q : Port) (by : Action) → AllByRecursion (λ p. IsPortNo p.no) d.ports
+        → IsAction by → AllByRecursion IsAction (sent d vid q by) }
+{}
+
+/// Accepted actions, and a next table, are accepted instructions: APPLY_ACTIONS only with at least
+/// one action, and GOTO_TABLE behind it (OpenFlow 1.3, 7.2.4).
+#[tactic(auto, using(crate::proofs::Accepted::instruction_laws))]
+pub fn what_leads_on_is_accepted()
+    ensures { (actions : List Action) (next : Option Table) → AllByRecursion IsAction actions → AreInstrs (leads_to actions next) }
+{}
