@@ -1,8 +1,10 @@
 -- What a VLAN's gateway answers to a frame.
-use Rattle.std.specs.Prelude.{ℕ, ◌==◌, ◌&&◌, Bool, if◌then◌else◌}
+use Rattle.std.specs.Prelude.{ℕ, ◌==◌, ◌&&◌, Bool, List, if◌then◌else◌}
 use Rattle.std.specs.List.{list_any}
 use Rattle.std.specs.Option.{option_map_or}
 use Rattle.net_base.specs.Address.{is_group}
+use Rattle.net_base.specs.declared.address.Ip4.{Ip4}
+use Rattle.net_base.specs.declared.address.Mac.{Mac}
 use Rattle.net_base.specs.declared.numbers.DpId.{DpId}
 use Rattle.conf_types.specs.declared.vlan.Vlan.{Vlan}
 use Rattle.conf_types.specs.Configuration.{Configuration, vlan_with}
@@ -19,16 +21,22 @@ use Rattle.neighbour_resolve.specs.Counted.{counted_vid}
 abbrev pub is_routed_vip : Configuration → (vid ip : ℕ) → Bool
 is_routed_vip conf vid ip = list_any (λ w. is_vip (vips_of conf w) ip) (routing_set conf vid)
 
--- by what stands behind the EtherType: to an ARP request (1) for a VIP of the VLAN the reply, which goes to the
--- frame's source and to the sender's address, whatever that is (RFC 826); to an IPv4 packet for a VIP of the
--- VLANs that packets of this one are routed to the echo reply, where one is due (RFC 792)
-abbrev pub upper_answer : Configuration → Vlan → FrameParts → UpperParts → Reply
-upper_answer conf vlan frame Unknown = Nothing
-upper_answer conf vlan frame (Arp op sha spa tha tpa) =
-    if (op == 1) && is_vip vlan.vips tpa.0 then ArpReply (arp_reply vlan.mac tpa frame.src spa) else Nothing
-upper_answer conf vlan frame (V4 header body) =
+-- to an ARP request (1) for a VIP of the VLAN the reply, which goes to the frame's source and to the sender's
+-- address, whatever that is (RFC 826)
+abbrev pub arp_answer : Vlan → (to : Mac) → (op : ℕ) → (spa tpa : Ip4) → Reply
+arp_answer vlan to op spa tpa = if (op == 1) && is_vip vlan.vips tpa.0 then ArpReply (arp_reply vlan.mac tpa to spa) else Nothing
+
+-- to an IPv4 packet for a routed VIP the echo reply, where one is due (RFC 792)
+abbrev pub echo_answer : Configuration → Vlan → FrameParts → (header : List ℕ) → Reply
+echo_answer conf vlan frame header =
     if is_routed_vip conf vlan.vid (ip4_at 16 header).0 then option_map_or EchoReply (echo_reply vlan.mac frame) Nothing
     else Nothing
+
+-- by what stands behind the EtherType
+abbrev pub upper_answer : Configuration → Vlan → FrameParts → UpperParts → Reply
+upper_answer conf vlan frame Unknown = Nothing
+upper_answer conf vlan frame (Arp op sha spa tha tpa) = arp_answer vlan frame.src op spa tpa
+upper_answer conf vlan frame (V4 header body) = echo_answer conf vlan frame header
 
 -- a frame from a group address gets no answer
 abbrev pub answer_in : Configuration → FrameParts → Vlan → Reply

@@ -3,6 +3,7 @@ pub mod Asks
 pub mod Counted
 pub mod Due
 pub mod Kept
+pub mod Parts
 pub mod Regroup
 pub mod Runs
 pub mod Table

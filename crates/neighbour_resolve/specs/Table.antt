@@ -54,12 +54,9 @@ resolved group vid ip mac timeout now = record {
   due = record { 0 = sum_up_to_greatest now.0 timeout };
 }
 
--- one that is resolved stays as it is where it is wanted; none does where it is heard
-abbrev pub stays_if_wanted : NeighRec → Bool
-stays_if_wanted n = is_some n.mac
-
-abbrev pub stays_if_heard : NeighRec → Bool
-stays_if_heard n = false
+-- a neighbour that is resolved stays as it is where it is wanted, and none does where it is heard
+abbrev pub stays : (wanted : Bool) → NeighRec → Bool
+stays wanted n = wanted && is_some n.mac
 
 -- ---- the answer, and the table behind it
 
@@ -70,8 +67,11 @@ answer table told =
     else Added
 
 -- what is told stands in the place of the neighbour with its key, unless that one stays
+abbrev pub gives_way : (stays : NeighRec → Bool) → NeighRec → NeighRec → Bool
+gives_way stays told n = is_same told n && not (stays n)
+
 abbrev pub replaced : (stays : NeighRec → Bool) → NeighRec → List NeighRec → List NeighRec
-replaced stays told neighbours = map (λ n. if is_same told n && not (stays n) then told else n) neighbours
+replaced stays told neighbours = map (λ n. if gives_way stays told n then told else n) neighbours
 
 -- one that is new stands last, where there is room
 abbrev pub neighbours_after : (stays : NeighRec → Bool) → NeighRec → List NeighRec → Want → List NeighRec

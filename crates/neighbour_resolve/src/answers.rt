@@ -1,16 +1,14 @@
 //! What a VLAN's gateway answers.
 
 ghost use Rattle.std.specs.Prelude.{◌≡◌, ◌≤◌, length, IfOk};
-ghost use Rattle.std.specs.Option.{option_map_or};
 ghost use Rattle.conf_types.specs.Networks.{is_vip};
 ghost use Rattle.conf_types.specs.Routing.{vips_of};
 ghost use Rattle.pkt_view.specs.Frame.{shown};
-ghost use Rattle.pkt_view.specs.Replies.{echo_reply};
-ghost use Rattle.neighbour_resolve.specs.Answers.{answer, answer_in, is_routed_vip};
+ghost use Rattle.neighbour_resolve.specs.Answers.{answer, answer_in, arp_answer, echo_answer, is_routed_vip};
 
 use crate::counted::counted_vid;
 use conf_types::{Conf, Vlan};
-use net_base::{Bytes, DpId, Ip4, NoMemory, PortNo, Vid};
+use net_base::{Bytes, DpId, Ip4, Mac, NoMemory, PortNo, Vid};
 use pkt_view::{FrameView, UpperView, arp_reply, echo_reply, ip4_at};
 use std::alloc::Global;
 
@@ -28,17 +26,11 @@ pub enum Reply {
 /// The operation of an ARP request (RFC 826).
 const REQUEST: u16 = 1;
 
-fn is_vip(vlan: &Vlan, ip: Ip4) -> bool
-    ensures { result ≡ is_vip vlan.now.vips ip.0 }
-{
-    vlan.vips.as_slice().iter().any(|vip| vip.ip == ip)
-}
-
 fn is_vip_of(conf: &Conf, vid: Vid, ip: Ip4) -> bool
     ensures { result ≡ is_vip (vips_of conf.now vid) ip.0 }
 {
     match conf.vlan(vid) {
-        Some(vlan) => is_vip(vlan, ip),
+        Some(vlan) => vlan.is_vip(ip),
         None => false,
     }
 }
@@ -51,9 +43,37 @@ fn is_routed_vip(alloc: Global, conf: &Conf, vid: Vid, ip: Ip4) -> Result<bool, 
     Ok(vids.as_slice().iter().any(|vid| is_vip_of(conf, *vid, ip)))
 }
 
-fn echo_answer(alloc: Global, vlan: &Vlan, frame: &FrameView<'_>) -> Result<Reply, NoMemory>
-    ensures { IfOk result (λ reply. reply ≡ option_map_or Reply.EchoReply (echo_reply vlan.now.mac (shown frame.now)) Reply.Nothing) }
+fn arp_answer(
+    alloc: Global,
+    vlan: &Vlan,
+    to: Mac,
+    op: u16,
+    spa: Ip4,
+    tpa: Ip4,
+) -> Result<Reply, NoMemory>
+    ensures { IfOk result (λ reply. reply ≡ arp_answer vlan.now to op spa tpa) }
 {
+    if op != REQUEST || !vlan.is_vip(tpa) {
+        return Ok(Reply::Nothing);
+    }
+    let reply = arp_reply(alloc, vlan.mac, tpa, to, spa)?;
+    Ok(Reply::ArpReply(reply))
+}
+
+/// The answer to a frame that carries an IPv4 packet with this header.
+fn echo_answer(
+    alloc: Global,
+    conf: &Conf,
+    vlan: &Vlan,
+    frame: &FrameView<'_>,
+    header: &[u8],
+) -> Result<Reply, NoMemory>
+    requires { 20 ≤ length header.now }
+    ensures { IfOk result (λ reply. reply ≡ echo_answer conf.now vlan.now (shown frame.now) header.now) }
+{
+    if !is_routed_vip(alloc, conf, vlan.vid, ip4_at(header, 16))? {
+        return Ok(Reply::Nothing);
+    }
     match echo_reply(alloc, vlan.mac, frame)? {
         Some(reply) => Ok(Reply::EchoReply(reply)),
         None => Ok(Reply::Nothing),
@@ -72,18 +92,15 @@ fn answer_in(
         return Ok(Reply::Nothing);
     }
     match frame.upper {
-        UpperView::Arp { op, spa, tpa, .. } if op == REQUEST && is_vip(vlan, tpa) => {
-            let reply = arp_reply(alloc, vlan.mac, tpa, frame.src, spa)?;
-            Ok(Reply::ArpReply(reply))
-        }
-        UpperView::V4 { header, .. } if header.len() >= 20 => {
-            if is_routed_vip(alloc, conf, vlan.vid, ip4_at(header, 16))? {
-                echo_answer(alloc, vlan, frame)
-            } else {
+        UpperView::Arp { op, spa, tpa, .. } => arp_answer(alloc, vlan, frame.src, op, spa, tpa),
+        UpperView::V4 { header, .. } => {
+            if header.len() < 20 {
                 Ok(Reply::Nothing)
+            } else {
+                echo_answer(alloc, conf, vlan, frame, header)
             }
         }
-        _ => Ok(Reply::Nothing),
+        UpperView::None => Ok(Reply::Nothing),
     }
 }
 

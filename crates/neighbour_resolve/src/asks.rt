@@ -1,10 +1,9 @@
 //! What datapaths are told to send, to ask for a neighbour or to answer.
 
 ghost use Rattle.std.specs.Prelude.{◌≡◌, ◌++◌, IfOk, OnOk};
-ghost use Rattle.conf_types.specs.Membership.{has_edge_member, is_edge_member};
 ghost use Rattle.neighbour_resolve.specs.Asks.{ask, ask_on, native_ports, out_of, send_back, send_in, tag_with, tagged_ports};
 
-use conf_types::{Conf, Dp, Member, Port, Vlan};
+use conf_types::{Conf, Dp, Member, Vlan};
 use net_base::{Bytes, DpId, Field, FieldId, Ip4, NoMemory, PortNo, Vid};
 use of_match::{Action, Actions};
 use pkt_view::arp_request;
@@ -96,28 +95,13 @@ fn tagged_ports(alloc: Global, dp: &Dp, vid: Vid) -> Result<Vec<PortNo>, NoMemor
         .collect(alloc)
 }
 
-fn is_edge_member(port: &Port, vid: Vid) -> bool
-    ensures { result ≡ is_edge_member port.now vid }
-{
-    matches!(port.member_of(vid), Member::Native | Member::Tagged)
-}
-
-fn has_edge_member(dp: &Dp, vid: Vid) -> bool
-    ensures { result ≡ has_edge_member dp.now vid }
-{
-    dp.ports
-        .as_slice()
-        .iter()
-        .any(|port| is_edge_member(port, vid))
-}
-
 fn ask_on(alloc: Global, dp: &Dp, vlan: &Vlan, ip: Ip4) -> Result<Option<Outgoing>, NoMemory>
     ensures { IfOk result (λ out. out ≡ ask_on dp.now vlan.now ip) }
 {
-    if !has_edge_member(dp, vlan.vid) {
+    if !dp.has_edge_member(vlan.vid) {
         return Ok(None);
     }
-    let Some(vip) = vlan.vips.as_slice().iter().find(|vip| vip.holds(ip)) else {
+    let Some(vip) = vlan.vip_for(ip) else {
         return Ok(None);
     };
     let frame = arp_request(alloc, vlan.mac, vip.ip, ip)?;

@@ -1,19 +1,25 @@
 //! Which frames are answered and learned from.
 
-ghost use Rattle.std.specs.Prelude.{◌≡◌, ◌^◌, ◌%◌};
+ghost use Rattle.std.specs.Prelude.{◌≡◌};
 ghost use Rattle.pkt_view.specs.Frame.{shown};
-ghost use Rattle.neighbour_resolve.specs.Counted.{counted_vid, is_edge_membership, only_vid};
+ghost use Rattle.neighbour_resolve.specs.Counted.{counted_vid, is_edge_membership, only_vid, vid_of};
 
 use conf_types::{Conf, Member};
 use net_base::{DpId, PortNo, Vid};
 use pkt_view::{FrameView, u16_at};
 
-/// The VLAN identifier in a frame's one tag.
-fn only_vid(frame: &FrameView<'_>) -> Option<u16>
+fn vid_of(n: u16) -> Option<Vid>
+    ensures { result ≡ vid_of n }
+{
+    Vid::new(n)
+}
+
+/// The VLAN of a frame's one tag.
+fn only_vid(frame: &FrameView<'_>) -> Option<Vid>
     ensures { result ≡ only_vid (shown frame.now) }
 {
     if frame.tags.len() == 4 {
-        Some(u16_at(frame.tags, 2) % 0x1000)
+        vid_of(u16_at(frame.tags, 2) % 0x1000)
     } else {
         None
     }
@@ -31,7 +37,7 @@ fn is_edge_membership(member: Member) -> bool
 pub fn counted_vid(conf: &Conf, dp: DpId, port: PortNo, frame: &FrameView<'_>) -> Option<Vid>
     ensures { result ≡ counted_vid conf.now dp port (shown frame.now) }
 {
-    let vid = Vid::new(only_vid(frame)?)?;
+    let vid = only_vid(frame)?;
     if is_edge_membership(conf.member(dp, port, vid)) {
         Some(vid)
     } else {

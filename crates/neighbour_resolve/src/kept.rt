@@ -1,12 +1,12 @@
 //! What is kept of a table under a new configuration.
 
-ghost use Rattle.std.specs.Prelude.{◌≡◌, ◌==◌, ◌&&◌, filter, map, IfOk};
-ghost use Rattle.std.specs.List.{filter_map, list_any};
+ghost use Rattle.std.specs.Prelude.{◌≡◌, filter, map, IfOk};
+ghost use Rattle.std.specs.List.{filter_map};
 ghost use Rattle.conf_types.specs.Groups.{group_of};
 ghost use Rattle.conf_types.specs.Networks.{is_neighbour_address};
 ghost use Rattle.conf_types.specs.Routing.{vips_of};
-ghost use Rattle.neighbour_resolve.specs.Kept.{kept_neighbours, last_of_each, may_stay, regrouped};
-ghost use Rattle.neighbour_resolve.specs.Regroup.{group_row, regrouped_by};
+ghost use Rattle.neighbour_resolve.specs.Kept.{kept_neighbours, last_of_each};
+ghost use Rattle.neighbour_resolve.specs.Regroup.{group_row, is_in, may_stay_by, regrouped_by};
 
 use crate::table::is_known;
 use conf_types::{Conf, Dp, NeighRec};
@@ -20,22 +20,12 @@ struct GroupRow {
     group: DpId,
 }
 
-/// The number of a datapath's group; a datapath that isn't in the configuration is one for itself.
-fn group_of(conf: &Conf, dp: DpId) -> DpId
-    ensures { result ≡ group_of conf.now dp }
-{
-    match conf.group(dp) {
-        Some(group) => group,
-        None => dp,
-    }
-}
-
 fn group_row(conf: &Conf, dp: &Dp) -> GroupRow
     ensures { result ≡ group_row conf.now dp.now }
 {
     GroupRow {
         dp: dp.id,
-        group: group_of(conf, dp.id),
+        group: conf.group_number(dp.id),
     }
 }
 
@@ -54,7 +44,10 @@ fn rows(alloc: Global, conf: &Conf) -> Result<Vec<GroupRow>, NoMemory>
 fn running_groups(alloc: Global, conf: &Conf, running: &[DpId]) -> Result<Vec<DpId>, NoMemory>
     ensures { IfOk result (λ v. v.items ≡ map (group_of conf.now) running.now) }
 {
-    running.iter().map(|dp| group_of(conf, *dp)).collect(alloc)
+    running
+        .iter()
+        .map(|dp| conf.group_number(*dp))
+        .collect(alloc)
 }
 
 /// A neighbour in the group that has its datapath, by the groups of all.
@@ -70,19 +63,15 @@ fn regroup(rows: &[GroupRow], neighbour: &NeighRec) -> Option<NeighRec>
 
 fn all_regrouped(
     alloc: Global,
-    conf: &Conf,
+    rows: &[GroupRow],
     neighbours: &[NeighRec],
 ) -> Result<Vec<NeighRec>, NoMemory>
-    ensures { IfOk result (λ v. v.items ≡ filter_map (regrouped conf.now) neighbours.now) }
+    ensures { IfOk result (λ v. v.items ≡ filter_map (regrouped_by rows.now) neighbours.now) }
 {
-    let rows = rows(alloc, conf)?;
-    let mut made = Vec::new(alloc);
-    for neighbour in neighbours {
-        if let Some(neighbour) = regroup(rows.as_slice(), neighbour) {
-            made.push(neighbour)?;
-        }
-    }
-    Ok(made)
+    neighbours
+        .iter()
+        .filter_map(|neighbour| regroup(rows, neighbour))
+        .collect(alloc)
 }
 
 /// Whether a neighbour's address is one of its VLAN.
@@ -90,42 +79,37 @@ fn has_address(conf: &Conf, neighbour: &NeighRec) -> bool
     ensures { result ≡ is_neighbour_address (vips_of conf.now neighbour.now.vid) neighbour.now.ip.0 }
 {
     match conf.vlan(neighbour.vid) {
-        Some(vlan) => {
-            let vips = vlan.vips.as_slice();
-            vips.iter().any(|vip| vip.holds(neighbour.ip))
-                && !vips.iter().any(|vip| vip.ip == neighbour.ip)
-        }
+        Some(vlan) => vlan.is_neighbour_address(neighbour.ip),
         None => false,
     }
 }
 
-/// The neighbours that may stay, by the groups that have a running datapath.
-fn staying(
-    alloc: Global,
-    conf: &Conf,
-    running: &[DpId],
-    neighbours: &[NeighRec],
-) -> Result<Vec<NeighRec>, NoMemory>
-    ensures { IfOk result (λ v. v.items ≡ filter (may_stay conf.now running.now) neighbours.now) }
+/// Whether a neighbour's group is among these.
+fn is_in(groups: &[DpId], neighbour: &NeighRec) -> bool
+    ensures { result ≡ is_in groups.now neighbour.now }
 {
-    let groups = running_groups(alloc, conf, running)?;
-    filter_staying(alloc, conf, groups.as_slice(), neighbours)
+    groups.iter().any(|group| *group == neighbour.group)
 }
 
-fn filter_staying(
+/// Whether a neighbour may stay, by the groups of the datapaths that run.
+fn may_stay(conf: &Conf, groups: &[DpId], neighbour: &NeighRec) -> bool
+    ensures { result ≡ may_stay_by conf.now groups.now neighbour.now }
+{
+    has_address(conf, neighbour) && is_in(groups, neighbour)
+}
+
+fn staying(
     alloc: Global,
     conf: &Conf,
     groups: &[DpId],
     neighbours: &[NeighRec],
 ) -> Result<Vec<NeighRec>, NoMemory>
-    ensures { IfOk result (λ v. v.items ≡ filter (λ n. is_neighbour_address (vips_of conf.now n.vid) n.ip.0 && list_any (λ group. group.0 == n.group.0) groups.now) neighbours.now) }
+    ensures { IfOk result (λ v. v.items ≡ filter (may_stay_by conf.now groups.now) neighbours.now) }
 {
     neighbours
         .iter()
         .copied()
-        .filter(|neighbour| {
-            has_address(conf, neighbour) && groups.iter().any(|group| *group == neighbour.group)
-        })
+        .filter(|neighbour| may_stay(conf, groups, neighbour))
         .collect(alloc)
 }
 
@@ -151,7 +135,9 @@ pub(crate) fn kept_neighbours(
 ) -> Result<Vec<NeighRec>, NoMemory>
     ensures { IfOk result (λ v. v.items ≡ kept_neighbours conf.now running.now neighbours.now) }
 {
-    let regrouped = all_regrouped(alloc, conf, neighbours)?;
-    let staying = staying(alloc, conf, running, regrouped.as_slice())?;
+    let rows = rows(alloc, conf)?;
+    let groups = running_groups(alloc, conf, running)?;
+    let regrouped = all_regrouped(alloc, rows.as_slice(), neighbours)?;
+    let staying = staying(alloc, conf, groups.as_slice(), regrouped.as_slice())?;
     last_of_each(alloc, staying.as_slice())
 }

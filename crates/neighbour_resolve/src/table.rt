@@ -1,9 +1,9 @@
-ghost use Rattle.std.specs.Prelude.{◌≡◌, ◌≤◌, ◌<◌, Bool, true, false, [], length, position, IfOk, IfSome, if◌then◌else◌, vec_capacity};
+ghost use Rattle.std.specs.Prelude.{◌≡◌, ◌≤◌, ◌<◌, true, false, [], length, position, IfOk, IfSome, vec_capacity};
 ghost use Rattle.conf_types.specs.Lists.{EachBefore};
 ghost use Rattle.conf_types.specs.State.{IsSameNeighbour};
 ghost use Rattle.neighbour_resolve.specs.Due.{after_due, is_due, said};
 ghost use Rattle.neighbour_resolve.specs.Kept.{kept};
-ghost use Rattle.neighbour_resolve.specs.Table.{after_told, answer, is_known, neighbours_after, off_group, replaced, resolved, stays_if_heard, stays_if_wanted, unresolved};
+ghost use Rattle.neighbour_resolve.specs.Table.{after_told, answer, gives_way, is_known, neighbours_after, off_group, replaced, resolved, stays, unresolved};
 
 use crate::kept::kept_neighbours;
 use crate::neighbour::{Due, Want, is_due, is_same, next};
@@ -38,15 +38,40 @@ pub(crate) fn is_known(neighbours: &[NeighRec], told: &NeighRec) -> bool
     neighbours.iter().any(|neighbour| is_same(told, neighbour))
 }
 
-/// Puts what is told in the place of the neighbour with its key, and leaves one that is resolved as
-/// it is where that is wanted.
+/// Whether what is told stands in the place of a neighbour.
+fn gives_way(told: &NeighRec, neighbour: &NeighRec, leave_resolved: bool) -> bool
+    ensures { result ≡ gives_way (stays leave_resolved) told.now neighbour.now }
+{
+    is_same(told, neighbour) && !(leave_resolved && neighbour.mac.is_some())
+}
+
+/// Puts what is told in the place of the neighbour with its key, unless that one is resolved and is
+/// to be left so.
 fn replace(neighbours: &mut [NeighRec], told: &NeighRec, leave_resolved: bool)
-    ensures { neighbours.new ≡ replaced (if leave_resolved then stays_if_wanted else stays_if_heard) told.now neighbours.old }
+    ensures { neighbours.new ≡ replaced (stays leave_resolved) told.now neighbours.old }
 {
     for neighbour in neighbours.iter_mut() {
-        if is_same(told, neighbour) && !(leave_resolved && neighbour.mac.is_some()) {
+        if gives_way(told, neighbour, leave_resolved) {
             *neighbour = *told;
         }
+    }
+}
+
+/// Takes in what is told. A neighbour that is new finds room in what the table has taken.
+fn tell(neighbours: &mut Vec<NeighRec>, limit: u32, told: NeighRec, leave_resolved: bool) -> Want
+    requires { limit ≤ vec_capacity neighbours.old }
+    ensures answer { result ≡ answer (record { limit = limit; neighbours = neighbours.old.items }) told }
+    ensures list { neighbours.new.items ≡ neighbours_after (stays leave_resolved) told neighbours.old.items result }
+    ensures capacity { vec_capacity neighbours.old ≤ vec_capacity neighbours.new }
+{
+    if is_known(neighbours.as_slice(), &told) {
+        replace(neighbours.as_mut_slice(), &told, leave_resolved);
+        Want::Known
+    } else if neighbours.len() >= limit as usize {
+        Want::Full
+    } else {
+        neighbours.push(told).unwrap();
+        Want::Added
     }
 }
 
@@ -67,15 +92,23 @@ fn take_due(neighbours: &mut Vec<NeighRec>, conf: &Conf, now: Moment) -> Option<
     ensures capacity { vec_capacity neighbours.new ≡ vec_capacity neighbours.old }
 {
     let at = due_place(neighbours.as_slice(), now)?;
-    let NeighRec { group, vid, ip, .. } = neighbours[at];
-    match next(conf, now, &neighbours[at]) {
+    let due = neighbours[at];
+    match next(conf, now, &due) {
         Some(next) => {
             neighbours[at] = next;
-            Some(Due::Ask { group, vid, ip })
+            Some(Due::Ask {
+                group: due.group,
+                vid: due.vid,
+                ip: due.ip,
+            })
         }
         None => {
             neighbours.remove(at);
-            Some(Due::Gone { group, vid, ip })
+            Some(Due::Gone {
+                group: due.group,
+                vid: due.vid,
+                ip: due.ip,
+            })
         }
     }
 }
@@ -112,7 +145,7 @@ impl Neighbours {
     /// asked yet, and is due now.
     pub fn want(&mut self, group: DpId, vid: Vid, ip: Ip4, now: Moment) -> Want
         ensures answer { result ≡ answer self.old (unresolved group vid ip now) }
-        ensures list { self.new ≡ after_told stays_if_wanted (unresolved group vid ip now) self.old }
+        ensures list { self.new ≡ after_told (stays true) (unresolved group vid ip now) self.old }
     {
         let told = NeighRec {
             group,
@@ -122,7 +155,7 @@ impl Neighbours {
             tries: 0,
             due: now,
         };
-        self.tell(told, true)
+        tell(&mut self.neighbours, self.limit, told, true)
     }
 
     /// Takes in that an address is at this Ethernet address. The neighbour is resolved, and is due
@@ -137,7 +170,7 @@ impl Neighbours {
         now: Moment,
     ) -> Want
         ensures answer { result ≡ answer self.old (resolved group vid ip mac timeout now) }
-        ensures list { self.new ≡ after_told stays_if_heard (resolved group vid ip mac timeout now) self.old }
+        ensures list { self.new ≡ after_told (stays false) (resolved group vid ip mac timeout now) self.old }
     {
         let told = NeighRec {
             group,
@@ -147,22 +180,7 @@ impl Neighbours {
             tries: 0,
             due: Moment(now.0.saturating_add(u64::from(timeout))),
         };
-        self.tell(told, false)
-    }
-
-    fn tell(&mut self, told: NeighRec, leave_resolved: bool) -> Want
-        ensures answer { result ≡ answer self.old told }
-        ensures list { self.new ≡ after_told (if leave_resolved then stays_if_wanted else stays_if_heard) told self.old }
-    {
-        if is_known(self.neighbours.as_slice(), &told) {
-            replace(self.neighbours.as_mut_slice(), &told, leave_resolved);
-            Want::Known
-        } else if self.neighbours.len() >= self.limit as usize {
-            Want::Full
-        } else {
-            self.neighbours.push(told).unwrap();
-            Want::Added
-        }
+        tell(&mut self.neighbours, self.limit, told, false)
     }
 
     /// What is to be done with the first neighbour that is due; `None` exactly where none is. One
