@@ -1,4 +1,6 @@
+pub mod Alone
 pub mod Keys
 pub mod Places
 pub mod Regrouped
+pub mod Schedule
 pub mod Silent

@@ -6,6 +6,7 @@ mod answers;
 mod asks;
 mod counted;
 mod kept;
+pub mod laws;
 mod neighbour;
 mod table;
 
