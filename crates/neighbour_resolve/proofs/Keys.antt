@@ -173,9 +173,15 @@ told_known stays told limit ns true full is_known is_full is = some_table limit 
 told_known stays told limit ns false true is_known is_full is = is
 told_known stays told limit ns false false is_known is_full is = pushed_table limit told ns is_known (grind (arith, nat_tests)) is
 
-told_table : (stays : NeighRec → Bool) (told : NeighRec) (limit : ℕ) (ns : List NeighRec) → IsTable (record { limit = limit; neighbours = ns })
+pub told_table : (stays : NeighRec → Bool) (told : NeighRec) (limit : ℕ) (ns : List NeighRec) → IsTable (record { limit = limit; neighbours = ns })
     → IsTable (record { limit = limit; neighbours = neighbours_after stays told ns (answer (record { limit = limit; neighbours = ns }) told) })
 told_table stays told limit ns is = told_known stays told limit ns (is_known ns told) (nat_le limit (length ns)) refl refl is
+
+-- what holds of all by their keys, and of what is told
+pub told_each : (P : NeighRec → Type 0) → ((a b : NeighRec) → IsSameNeighbour a b → P b → P a) → (stays : NeighRec → Bool) (told : NeighRec) (ns : List NeighRec) (said : Want) → P told → AllByRecursion P ns → AllByRecursion P (neighbours_after stays told ns said)
+told_each P by_key stays told ns Known here all = some_each P by_key (replaced stays told ns) ns (replaced_some stays told ns) all
+told_each P by_key stays told ns Full here all = all
+told_each P by_key stays told ns Added here all = all_push P ns told all here
 
 pub told_by : (stays : NeighRec → Bool) (told : NeighRec) (limit : ℕ) (ns after : List NeighRec) (said : Want) → said ≡ answer (record { limit = limit; neighbours = ns }) told → after ≡ neighbours_after stays told ns said
     → IsTable (record { limit = limit; neighbours = ns }) → IsTable (record { limit = limit; neighbours = after })
