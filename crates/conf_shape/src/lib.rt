@@ -4,6 +4,7 @@
 
 mod acls;
 mod addresses;
+mod copies;
 mod datapaths;
 mod document;
 mod faults;

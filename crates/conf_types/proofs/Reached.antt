@@ -1,6 +1,6 @@
 -- The least identifier that is reached is the number of the group: in as many steps as there are
 -- datapaths all are reached that any walk reaches, since each step up to the last finds a further one.
-use Rattle.std.proofs.Common.{◌≡◌, ℕ, zero, suc, ◌+◌, ◌<◌, ◌≤◌, ◌==◌, ◌&&◌, Bool, true, false, cond, Some, None, List, [], ◌∷◌, length, get_or, map, filter, nat_lt, refl, inl, inr, sym, ap, arith, subst, Contains}
+use Rattle.std.proofs.Common.{◌≡◌, ℕ, zero, suc, ◌+◌, ◌<◌, ◌≤◌, ◌==◌, ◌&&◌, ◌||◌, Bool, true, false, cond, Some, None, List, [], ◌∷◌, length, get_or, map, filter, nat_lt, refl, inl, inr, sym, ap, arith, subst, Contains}
 use Rattle.std.specs.List.{list_any}
 use Rattle.std.specs.Option.{option_map_or}
 use Rattle.std.proofs.lemmas.Bool.{ltb-true, ltb-false, eqb-true, eq-eqb, cases_Bool, or_cases, or_left, or_right, and_parts, and_from, both_ways}
@@ -10,7 +10,7 @@ use Rattle.conf_types.specs.declared.datapath.Dp.{Dp}
 use Rattle.conf_types.specs.declared.datapath.Port.{Port}
 use Rattle.conf_types.specs.declared.datapath.StackEnd.{StackEnd}
 use Rattle.conf_types.specs.Configuration.{Configuration}
-use Rattle.conf_types.specs.Groups.{IsDp, IsLinked, Walk, IsJoined, IsGroup, leads_to, is_reached, least_id, group_of}
+use Rattle.conf_types.specs.Groups.{IsDp, IsLinked, Walk, IsJoined, IsGroup, leads_to, is_reached, least_id, group_of, of_dps}
 
 pub same_id : (a b : DpId) → a.0 ≡ b.0 → a ≡ b
 same_id a b e = let made : ℕ → DpId = λ n. record { 0 = n } in ap made e
@@ -239,3 +239,12 @@ module _ (conf : Configuration) where
           let low = least_at a (in_step all) conf.dps here.0 end.dp here.1 chosen in
           subst (λ (x : DpId). (group_of conf a).0 ≤ x.0) end.id_is (subst (λ (d : Dp). (group_of conf a).0 ≤ d.id.0) here.2 low);
     }
+
+-- the number hangs on the datapaths alone
+reached_by_dps : (conf : Configuration) (a : DpId) (n : ℕ) (b : DpId) → is_reached (of_dps conf.dps) a n b ≡ is_reached conf a n b
+reached_by_dps conf a zero b = refl
+reached_by_dps conf a (suc n) b =
+    λ i. reached_by_dps conf a n b i || list_any (λ d. reached_by_dps conf a n d.id i && leads_to d b) conf.dps
+
+pub group_by_dps : (conf : Configuration) (a : DpId) → group_of (of_dps conf.dps) a ≡ group_of conf a
+group_by_dps conf a = λ i. least_id a (map (λ d. d.id) (filter (λ d. reached_by_dps conf a (length conf.dps) d.id i) conf.dps))

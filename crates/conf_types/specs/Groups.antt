@@ -40,6 +40,10 @@ pub record IsGroup (conf : Configuration) (dp group : DpId) : Type 0 where
   pub joined : IsJoined conf dp group
   pub least : (other : DpId) → IsJoined conf dp other → group.0 ≤ other.0
 
+-- datapaths alone, as a configuration
+abbrev pub of_dps : List Dp → Configuration
+of_dps dps = record { dps = dps; vlans = []; acls = []; routers = [] }
+
 -- ---- the number as a function: the least identifier among those that are reached in as many steps
 -- as there are datapaths
 

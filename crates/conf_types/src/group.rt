@@ -1,7 +1,8 @@
 ghost use Rattle.std.specs.Prelude.{◌≡◌, ◌<◌, ◌≤◌, ◌||◌, Bool, true, false, ℕ, length, slice_index_or, IfSome, IfNone};
 ghost use Rattle.net_base.specs.declared.numbers.DpId.{DpId};
 ghost use Rattle.conf_types.specs.declared.datapath.Dp.{Dp};
-ghost use Rattle.conf_types.specs.Groups.{IsDp, leads_to, group_of};
+ghost use Rattle.conf_types.specs.Groups.{IsDp, leads_to, group_of, of_dps};
+ghost use Rattle.conf_types.specs.Lists.{EachBefore};
 ghost use Rattle.conf_types.specs.Marks.{AreMarked};
 
 use crate::conf::Conf;
@@ -48,15 +49,14 @@ fn next_place(seen: &[bool], done: &[bool]) -> Option<usize>
 }
 
 // Marks the datapaths that walks over stack links lead to from the one at a place.
-fn mark_joined(conf: &Conf, at: usize, seen: &mut [bool], done: &mut [bool])
-    requires place { at < length conf.now.dps }
-    requires seen_len { length seen.old ≡ length conf.now.dps }
-    requires done_len { length done.old ≡ length conf.now.dps }
+fn mark_joined(dps: &[Dp], at: usize, seen: &mut [bool], done: &mut [bool])
+    requires place { at < length dps.now }
+    requires seen_len { length seen.old ≡ length dps.now }
+    requires done_len { length done.old ≡ length dps.now }
     requires none_seen { (k : ℕ) → k < length seen.old → slice_index_or seen.old k false ≡ false }
     requires none_done { (k : ℕ) → k < length done.old → slice_index_or done.old k true ≡ false }
-    ensures { AreMarked conf.now at seen.new }
+    ensures { AreMarked (of_dps dps.now) at seen.new }
 {
-    let dps = conf.dps().as_slice();
     seen[at] = true;
     while let Some(k) = next_place(seen, done) {
         done[k] = true;
@@ -97,17 +97,20 @@ fn place_of(dps: &[Dp], id: DpId) -> Option<usize>
     None
 }
 
-// The number of the group of the datapath at a place.
-fn group_at(conf: &Conf, at: usize) -> DpId
-    requires { at < length conf.now.dps }
-    ensures { (d : Dp) → result ≡ group_of conf.now (slice_index_or conf.now.dps at d).id }
+/// The number of the group of the datapath at a place, counted from 0: the least identifier among
+/// those of the datapaths that stack links join to it. Of a configuration that isn't checked yet, as
+/// long as its datapaths are at most 64 and their identifiers differ.
+pub fn group_at(dps: &[Dp], at: usize) -> DpId
+    requires place { at < length dps.now }
+    requires few { length dps.now ≤ 64 }
+    requires distinct { EachBefore (λ d e. d.id.0 ≡ e.id.0 → ⊥) dps.now }
+    ensures { (d : Dp) → result ≡ group_of (of_dps dps.now) (slice_index_or dps.now at d).id }
 {
-    let dps = conf.dps().as_slice();
     let mut seen = [false; MOST_DPS];
     let mut done = [false; MOST_DPS];
     let seen = &mut seen[..dps.len()];
     let done = &mut done[..dps.len()];
-    mark_joined(conf, at, seen, done);
+    mark_joined(dps, at, seen, done);
     dps[least_place(dps, at, seen)].id
 }
 
@@ -120,8 +123,9 @@ impl Conf {
         ensures found { IfSome result (λ _. IsDp self.now dp) }
         ensures none { IfNone result (IsDp self.now dp → ⊥) }
     {
-        match place_of(self.dps().as_slice(), dp) {
-            Some(at) => Some(group_at(self, at)),
+        let dps = self.dps().as_slice();
+        match place_of(dps, dp) {
+            Some(at) => Some(group_at(dps, at)),
             None => None,
         }
     }

@@ -19,6 +19,7 @@ mod vlan;
 pub use acl::{Acl, Acls, PortRef, PortRefs, Rule, Rules};
 pub use conf::Conf;
 pub use datapath::{Dp, Dps, Member, Port, PortNos, Ports, StackEnd};
+pub use group::group_at;
 pub use hosts::{MOST_HOSTS, is_table_full};
 pub use links::is_up;
 pub use state::{DpIds, HostRec, HostRecs, NeighRec, NeighRecs, UpRec, UpRecs};

@@ -33,3 +33,9 @@ module _ {H : Type 0} (may : H → HubStep → H → Type 0) where
   pub All-Leads : (P : HubStep → Type 0) → ((before : H) (step : HubStep) (after : H) → may before step after → P step) → (from : H) (steps : List HubStep) (to : H) → Leads may from steps to → All P steps
   All-Leads P each from _ _ start = λ k d below. absurd (omega (arith, below))
   All-Leads P each from _ _ (next steps mid step to way step_may) = All-push P steps step (All-Leads P each from steps mid way) (each mid step to step_may)
+
+  -- what holds at the start of a way, and is kept by each step with what it adds to the story, holds at its end
+  pub Story-keeps : (P : H → List Event → Type 0) → ((before : H) (events : List Event) (step : HubStep) (after : H) → P before events → may before step after → P after (events ++ told_by step)) → (from : H) → P from [] → (steps : List HubStep) (to : H) → Leads may from steps to → P to (story steps)
+  Story-keeps P keeps from first _ _ start = first
+  Story-keeps P keeps from first _ _ (next steps mid step to way step_may) =
+      subst (λ (l : List Event). P to l) (sym (story-next steps step)) (keeps mid (story steps) step to (Story-keeps P keeps from first steps mid way) step_may)

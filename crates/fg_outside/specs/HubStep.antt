@@ -31,6 +31,13 @@ abbrev pub story : List HubStep → List Event
 story [] = []
 story (step ∷ steps) = told_by step ++ story steps
 
+-- the happenings of a story, in order
+abbrev pub happenings : List Event → List Happening
+happenings [] = []
+happenings (happening it ∷ events) = it ∷ happenings events
+happenings (saying conn piece answer ∷ events) = happenings events
+happenings (closing conn ∷ events) = happenings events
+
 -- the steps lead from one state of a hub to another, each as the hub may
 pub data Leads {H : Type 0} (may : H → HubStep → H → Type 0) (from : H) : List HubStep → H → Type 0 where
   start : Leads may from [] from

@@ -1,9 +1,12 @@
 pub mod Contents
 pub mod Counts
 pub mod FaultPlan
+pub mod FileSource
 pub mod FilesInMemory
 pub mod Folders
 pub mod HubStep
+pub mod Left
 pub mod NoHub
 pub mod SinkInMemory
+pub mod SourceInMemory
 pub mod Wrote

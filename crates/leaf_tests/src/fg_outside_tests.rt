@@ -7,9 +7,9 @@ ghost use Rattle.fg_outside.specs.Contents.{Tells};
 ghost use Rattle.fg_outside.specs.HubStep.{Leads, turned, said};
 
 use fg_outside::{
-    CallNos, EndCause, Failed, Files, Folder, Folders, Happening, Happenings, HeldFile, HeldFiles,
-    Hub, MemFiles, MemSink, NoHub, ReadRefused, Said, Sink, SureFiles, SureSink, Turn, read_whole,
-    write_all,
+    CallNos, EndCause, Failed, FileSource, Files, Folder, Folders, Happening, Happenings, HeldFile,
+    HeldFiles, Hub, MemFiles, MemSink, MemSource, NoHub, ReadRefused, Said, Sink, Source,
+    SureFiles, SureSink, SureSource, Turn, read_whole, write_all,
 };
 use net_base::{Bytes, Items, NoMemory, Text, TryCopy};
 use std::alloc::Global;
@@ -259,6 +259,71 @@ fn happenings_are_copied(rt: HostRuntime) -> Result<(), Fail> {
             assert_eq!(rt; piece.as_slice(), b"hello".as_slice());
         }
         _ => assert!(rt; false),
+    }
+    Ok(())
+}
+
+// What ten reads with buffers of at most this size give, and how many of them failed.
+fn ten_reads<S: Source>(
+    alloc: Global,
+    source: &mut S,
+    size: usize,
+) -> Result<(Bytes, u32), NoMemory> {
+    let mut bytes = Bytes::new(alloc);
+    let mut failed: u32 = 0;
+    for _ in 0..10 {
+        let mut buf = [0; 4];
+        let buf = &mut buf[..size.min(4)];
+        match source.read(buf) {
+            Ok(n) => bytes.append(&buf[..n])?,
+            Err(_) => failed = failed.saturating_add(1),
+        }
+    }
+    Ok((bytes, failed))
+}
+
+#[test]
+fn sources_give_their_bytes_in_order(rt: HostRuntime) -> Result<(), Fail> {
+    let alloc = rt.alloc();
+    // The size of the buffers, and what ten of them hold of `vlans`.
+    let sizes: [(usize, &[u8]); 4] = [(4, b"vlans"), (3, b"vlans"), (1, b"vlans"), (0, b"")];
+    for (size, want) in sizes {
+        let bytes = Bytes::from_slice(alloc, b"vlans")?;
+        let (all, failed) = ten_reads(alloc, &mut SureSource::new(bytes), size)?;
+        assert_eq!(rt; all.as_slice(), want);
+        assert_eq!(rt; failed, 0);
+        let bytes = Bytes::from_slice(alloc, b"vlans")?;
+        let fail = CallNos::from_slice(alloc, &[1, 3])?;
+        let (all, failed) = ten_reads(alloc, &mut MemSource::new(bytes, fail), size)?;
+        assert_eq!(rt; all.as_slice(), want);
+        assert_eq!(rt; failed, 2);
+        let files = SureFiles::new(two_folders(alloc)?);
+        let mut source = FileSource::new(files, Text::from_str(alloc, "main")?);
+        let (all, failed) = ten_reads(alloc, &mut source, size)?;
+        assert_eq!(rt; all.as_slice(), want);
+        assert_eq!(rt; failed, 0);
+        let mut files = source.into_files();
+        assert!(rt; outcome(read_whole(alloc, &mut files, "more", 1), Ok(b"")));
+    }
+    Ok(())
+}
+
+#[test]
+fn a_file_that_is_not_there_fails_as_a_source(rt: HostRuntime) -> Result<(), Fail> {
+    let alloc = rt.alloc();
+    let fail = CallNos::from_slice(alloc, &[2])?;
+    // The name, the bytes and how many of ten reads fail.
+    let wants: [(&str, &[u8], u32); 3] = [
+        ("main", b"vlans", 1),
+        ("more", b"", 1),
+        ("none", b"", 10),
+    ];
+    for (name, want, faults) in wants {
+        let files = MemFiles::new(two_folders(alloc)?, fail.copy(alloc)?);
+        let mut source = FileSource::new(files, Text::from_str(alloc, name)?);
+        let (all, failed) = ten_reads(alloc, &mut source, 4)?;
+        assert_eq!(rt; all.as_slice(), want, "{name}");
+        assert_eq!(rt; failed, faults, "{name}");
     }
     Ok(())
 }

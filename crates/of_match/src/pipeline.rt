@@ -133,7 +133,7 @@ pub fn run(alloc: Global, tables: &Tables, port: PortNo, packet: &Packet) -> Res
     let mut outs = Sents::new(alloc);
     run_into(
         alloc,
-        tables.entries(),
+        tables.as_slice(),
         0,
         port,
         packet.copy(alloc)?,

@@ -91,11 +91,20 @@ impl Tables {
         }
     }
 
-    // The entries, in key order.
-    pub(crate) fn entries(&self) -> &[Entry]
-        ensures { result.now ≡ self.now }
+    /// The entries, in key order.
+    pub fn as_slice(&self) -> &[Entry]
+        ensures items { result.now ≡ self.now }
+        ensures ordered { IsInKeyOrder self.now }
     {
         self.entries.as_slice()
+    }
+
+    /// The tables of these entries, which stand in key order, no two with one key.
+    pub fn from_ordered(entries: Vec<Entry>) -> Tables
+        requires { IsInKeyOrder entries.items }
+        ensures { result ≡ entries.items }
+    {
+        Tables { entries }
     }
 
     /// Whether there is no entry.

@@ -1,9 +1,8 @@
 -- Which VLAN admits a packet that comes in by an edge port.
-use Rattle.std.specs.Prelude.{ℕ, Option, Some, None, List, [], ◌∷◌, if◌then◌else◌}
+use Rattle.std.specs.Prelude.{ℕ, Option, Some, None, if◌then◌else◌}
 use Rattle.std.specs.Option.{option_map_or}
 use Rattle.of_match.specs.Hit.{outermost}
 use Rattle.of_match.specs.declared.packet.Packet.{Packet}
-use Rattle.of_match.specs.declared.packet.Tag.{Tag}
 use Rattle.conf_types.specs.declared.datapath.Port.{Port}
 use Rattle.conf_types.specs.Membership.{is_tagged_in}
 use Rattle.packet_way.specs.Way.{is_tagged, with_tag}

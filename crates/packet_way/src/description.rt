@@ -1,6 +1,6 @@
 ghost use Rattle.std.specs.Prelude.{◌≡◌, ◌++◌, IfOk, OnOk};
 ghost use Rattle.std.specs.Option.{option_copied, option_and_then};
-ghost use Rattle.conf_types.specs.Configuration.{vlan_with, port_with};
+ghost use Rattle.conf_types.specs.Configuration.{vlan_with};
 ghost use Rattle.packet_way.specs.Admission.{admitted_to};
 ghost use Rattle.packet_way.specs.Known.{stack_of};
 ghost use Rattle.packet_way.specs.Present.{state_of};
@@ -13,22 +13,13 @@ use crate::known::{Onward, choose_onward, push_to_hop, push_to_port};
 use crate::leaving::{push_mirrored, push_to_controller};
 use crate::now::Now;
 use crate::routes::{Routed, route, route_list};
-use crate::source::{Heard, group_of, hear};
+use crate::source::{Heard, hear};
 use crate::verdict::{is_allowed, push_acl_sends};
 use conf_types::{Conf, Dp, Port, Vlan};
 use net_base::{DpId, NoMemory, PortNo};
 use of_match::{Packet, Sents};
 use stack_paths::Paths;
 use std::alloc::Global;
-
-fn find_port(dp: &Dp, port: PortNo) -> Option<&Port>
-    ensures { option_copied result ≡ port_with dp.now.ports port }
-{
-    dp.ports
-        .as_slice()
-        .iter()
-        .find(|other| other.no.get() == port.get())
-}
 
 fn push_onward(
     alloc: Global,
@@ -43,7 +34,7 @@ fn push_onward(
     ensures { OnOk result (out.new ≡ out.old ++ sent_onward paths.now dp.now ingress vlan.now packet.now onward) }
 {
     match onward {
-        Onward::ByPort(port) => match find_port(dp, port) {
+        Onward::ByPort(port) => match dp.port(port) {
             Some(port) => push_to_port(alloc, out, dp, ingress, vlan.vid, packet, port),
             None => Ok(()),
         },
@@ -119,7 +110,17 @@ fn push_behind_routing(
 {
     match routed {
         Routed::GoesOn { vid, packet } => {
-            push_leaving_in(alloc, out, conf, now, paths, dp, ingress, vid.get(), &packet)
+            push_leaving_in(
+                alloc,
+                out,
+                conf,
+                now,
+                paths,
+                dp,
+                ingress,
+                vid.get(),
+                &packet,
+            )
         }
         Routed::ToController => push_to_controller(alloc, out, packet),
         Routed::Ends => Ok(()),
@@ -141,7 +142,7 @@ fn push_by_routing(
     requires { paths.now ≡ stack_of conf.now now.now.ups }
     ensures { OnOk result (out.new ≡ out.old ++ by_routing conf.now (state_of now.now) dp.now ingress vlan.now packet.now) }
 {
-    let group = group_of(conf, dp.id);
+    let group = conf.group_number(dp.id);
     let items = route_list(alloc, conf, now.neighbours.as_slice(), group, vlan.vid)?;
     let routed = route(alloc, items.as_slice(), vlan, packet)?;
     push_behind_routing(alloc, out, conf, now, paths, dp, ingress, packet, routed)
@@ -192,7 +193,9 @@ fn push_in_vlan(
         return Ok(());
     }
     let heard = hear(conf, now, dp, port, vlan, packet.src);
-    push_behind_source(alloc, out, conf, now, paths, dp, port.no, vlan, packet, heard)
+    push_behind_source(
+        alloc, out, conf, now, paths, dp, port.no, vlan, packet, heard,
+    )
 }
 
 #[tactic(auto, unfolding(crate::specs::Description::admitted))]
@@ -265,9 +268,7 @@ fn push_from_stack(
 {
     match packet.tags.as_slice() {
         [] => Ok(()),
-        [tag, ..] => {
-            push_leaving_in(alloc, out, conf, now, paths, dp, port.no, tag.vid, packet)
-        }
+        [tag, ..] => { push_leaving_in(alloc, out, conf, now, paths, dp, port.no, tag.vid, packet) }
     }
 }
 
@@ -310,7 +311,7 @@ pub fn sends(
 {
     let mut out = Sents::new(alloc);
     if let Some(dp) = conf.dp(dp) {
-        if let Some(port) = find_port(dp, port) {
+        if let Some(port) = dp.port(port) {
             push_from_port(alloc, &mut out, conf, now, paths, dp, packet, port)?;
         }
     }

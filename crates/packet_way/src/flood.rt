@@ -1,28 +1,18 @@
 ghost use Rattle.std.specs.Prelude.{◌≡◌, ◌++◌, OnOk};
-ghost use Rattle.conf_types.specs.Membership.{is_edge_member};
 ghost use Rattle.packet_way.specs.Flood.{is_flooded, gets_flood, flooded};
 
 use crate::leaving::push_delivered;
-use conf_types::{Dp, Member, Port, Vlan};
-use net_base::{NoMemory, PortNo, Vid};
+use conf_types::{Dp, Port, Vlan};
+use net_base::{NoMemory, PortNo};
 use of_match::{Packet, Sents};
 use stack_paths::Paths;
 use std::alloc::Global;
-
-fn is_edge_member(port: &Port, vid: Vid) -> bool
-    ensures { result ≡ is_edge_member port.now vid }
-{
-    match port.member_of(vid) {
-        Member::Native | Member::Tagged => true,
-        Member::Stack | Member::None => false,
-    }
-}
 
 /// Whether an interface gets floods of the VLAN.
 fn is_flooded(paths: &Paths, dp: &Dp, vlan: &Vlan, packet: &Packet, port: &Port) -> bool
     ensures { result ≡ is_flooded paths.now dp.now vlan.now packet.now port.now }
 {
-    (is_edge_member(port, vlan.vid) && (packet.dst.is_group() || port.unicast_flood))
+    (port.is_edge_member(vlan.vid) && (packet.dst.is_group() || port.unicast_flood))
         || paths.is_tree_port(dp.id, port.no)
 }
 

@@ -5,8 +5,6 @@ ghost use Rattle.conf_types.specs.State.{is_host_in};
 ghost use Rattle.packet_way.specs.Known.{host_with, onward_to, onward, to_port, to_hop};
 
 use crate::leaving::{push_delivered, push_sent};
-use crate::same::is_same_mac;
-use crate::source::{group_of, is_host_in};
 use conf_types::{Conf, Dp, HostRec, Port};
 use net_base::{DpId, Mac, NoMemory, PortNo, Vid};
 use of_match::{Packet, Sents};
@@ -26,7 +24,7 @@ pub(crate) enum Onward {
 fn is_host(conf: &Conf, host: &HostRec, group: DpId, vid: Vid, mac: Mac) -> bool
     ensures { result ≡ (is_host_in conf.now group vid host.now && is_same host.now.mac.0 mac.0) }
 {
-    is_host_in(conf, group, vid, host) && is_same_mac(host.mac, mac)
+    conf.is_host_in(group, vid, host) && host.has_mac(mac)
 }
 
 /// The host of the datapath's group with this address in the VLAN.
@@ -39,7 +37,7 @@ fn host_with<'a>(
 ) -> Option<&'a HostRec>
     ensures { option_copied result ≡ host_with conf.now hosts.now dp.now vid mac }
 {
-    let group = group_of(conf, dp.id);
+    let group = conf.group_number(dp.id);
     hosts
         .iter()
         .find(|host| is_host(conf, host, group, vid, mac))

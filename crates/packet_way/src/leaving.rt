@@ -1,6 +1,5 @@
-ghost use Rattle.std.specs.Prelude.{◌≡◌, ◌&&◌, ◌++◌, ◌∷◌, [], IfOk, OnOk};
-ghost use Rattle.conf_types.specs.Lists.{is_among};
-ghost use Rattle.conf_types.specs.Membership.{is_native_in, is_mirror_of, mirrors_of};
+ghost use Rattle.std.specs.Prelude.{◌≡◌, ◌++◌, ◌∷◌, [], IfOk, OnOk};
+ghost use Rattle.conf_types.specs.Membership.{mirrors_of};
 ghost use Rattle.packet_way.specs.Leaving.{sent, copies, to_controller, as_sent, delivered};
 
 use conf_types::{Dp, Port};
@@ -32,37 +31,15 @@ pub(crate) fn push_to_controller(
     push_sent(alloc, out, CONTROLLER, packet)
 }
 
-fn is_native_in(port: &Port, vid: Vid) -> bool
-    ensures { result ≡ is_native_in port.now vid }
-{
-    match port.native {
-        Some(native) => native.get() == vid.get(),
-        None => false,
-    }
-}
-
 /// A packet of a VLAN as an edge port sends it.
 fn as_sent(alloc: Global, port: &Port, vid: Vid, packet: &Packet) -> Result<Packet, NoMemory>
     ensures { IfOk result (λ made. made ≡ as_sent port.now vid packet.now) }
 {
     let mut made = packet.copy(alloc)?;
-    if is_native_in(port, vid) && !made.tags.is_empty() {
+    if port.is_native_in(vid) && !made.tags.is_empty() {
         let _ = made.tags.remove(0);
     }
     Ok(made)
-}
-
-fn has_port(ports: &[PortNo], port: PortNo) -> bool
-    ensures { result ≡ is_among ports.now port }
-{
-    ports.iter().any(|other| other.get() == port.get())
-}
-
-/// Whether the first interface gets copies of what the port with this number takes in and sends.
-fn is_mirror(mirror: &Port, port: PortNo) -> bool
-    ensures { result ≡ (mirror.now.enabled && is_mirror_of mirror.now port) }
-{
-    mirror.enabled && has_port(mirror.mirror.as_slice(), port)
 }
 
 /// The packet by each port that mirrors the one with this number.
@@ -76,7 +53,7 @@ pub(crate) fn push_mirrored(
     ensures { OnOk result (out.new ≡ out.old ++ copies (mirrors_of dp.now port) packet.now) }
 {
     for mirror in dp.ports.as_slice() {
-        if is_mirror(mirror, port) {
+        if mirror.enabled && mirror.is_mirror_of(port) {
             push_sent(alloc, out, mirror.no.get(), packet)?;
         }
     }

@@ -9,10 +9,10 @@ mod known;
 mod leaving;
 mod now;
 mod routes;
-mod same;
 mod source;
 mod verdict;
 mod way;
 
 pub use now::Now;
+pub use routes::{RouteItem, RouteItems, Target, route_list};
 pub use way::{BRIDGE_GROUP, BROADCAST, GATEWAY, LLDP, PVST_GROUP, sends};

@@ -2,35 +2,38 @@ ghost use Rattle.std.specs.Prelude.{◌≡◌, ◌==◌, ◌&&◌, ◌++◌, [],
 ghost use Rattle.std.specs.List.{filter_map, find, list_any};
 ghost use Rattle.std.specs.Option.{option_copied, option_map, option_map_or};
 ghost use Rattle.conf_types.specs.Configuration.{vlan_with};
-ghost use Rattle.conf_types.specs.Networks.{is_held, is_vip};
+ghost use Rattle.conf_types.specs.Lists.{is_same};
+ghost use Rattle.conf_types.specs.Networks.{is_held};
 ghost use Rattle.packet_way.specs.Routes.{mac_of_neighbour, resolved, vip_item, neighbour_item, network_item, route_item, items_of, route_list, item_holds, longer, longest, is_echo_l4, is_echo_request, destination, is_arp_for, hop_less, moved_to, sent_on, led_by, routed_to, routed};
 
-use crate::same::is_same_mac;
 use conf_types::{Conf, NeighRec, Vlan};
 use net_base::{DpId, Ip4, Items, Mac, Net4, NoMemory, TryCopy, Vid};
 use of_match::{L4, Packet, Tags, Upper};
 use std::alloc::Global;
 
 /// Where an item of a route list leads.
-#[derive(Clone, Copy)]
-pub(crate) enum Target {
+#[derive(Clone, Copy, Debug, PartialEq, Eq)]
+pub enum Target {
     /// To the gateway itself.
     Gateway,
-    /// To a neighbour in a VLAN, from its gateway's address.
+    /// To the neighbour with the address `mac` in a VLAN, from that VLAN's gateway.
     Hop { vid: Vid, gateway: Mac, mac: Mac },
     /// To a network whose neighbours are still to be found.
     Network,
 }
 
-/// An item of a route list: the prefix of an address, and where it leads.
-#[derive(Clone, Copy)]
-pub(crate) struct RouteItem {
-    pub(crate) ip: Ip4,
-    pub(crate) len: u8,
-    pub(crate) to: Target,
+/// An item of a route list: the first `len` bits of an address, and where they lead.
+#[derive(Clone, Copy, Debug, PartialEq, Eq)]
+pub struct RouteItem {
+    /// What lies behind the prefix isn't looked at.
+    pub ip: Ip4,
+    /// Up to 32.
+    pub len: u8,
+    pub to: Target,
 }
 
-pub(crate) type RouteItems = Items<RouteItem>;
+/// A route list. Of the items that hold an address the one with the longest prefix counts.
+pub type RouteItems = Items<RouteItem>;
 
 /// What becomes of a packet by routing.
 #[derive(Drop)]
@@ -55,17 +58,11 @@ fn is_neighbour(neighbour: &NeighRec, group: DpId, vid: Vid) -> bool
     neighbour.group == group && neighbour.vid.get() == vid.get()
 }
 
-fn find_neighbour(
-    neighbours: &[NeighRec],
-    group: DpId,
-    vid: Vid,
-    ip: Ip4,
-) -> Option<&NeighRec>
+fn find_neighbour(neighbours: &[NeighRec], group: DpId, vid: Vid, ip: Ip4) -> Option<&NeighRec>
     ensures { option_copied result ≡ find (λ n. n.group.0 == group.0 && n.vid == vid && n.ip.0 == ip.0) neighbours.now }
 {
-    neighbours
-        .iter()
-        .find(|neighbour| is_neighbour(neighbour, group, vid) && neighbour.ip.0 == ip.0)
+    neighbours.iter().find(|neighbour| is_neighbour(neighbour, group, vid)
+        && neighbour.ip.0 == ip.0)
 }
 
 /// The Ethernet address of a neighbour, if it is known.
@@ -202,9 +199,11 @@ fn push_items_in(
     }
 }
 
-/// The route list of a VLAN for a group: what each VLAN of its routing set adds.
+/// The route list of a VLAN for the group of datapaths with this number. Each VLAN of its routing
+/// set adds, in this order, its VIPs, the neighbours in their networks whose Ethernet addresses are
+/// known, these networks, and the routes of whose gateways they are known.
 #[tactic(auto, unfolding(crate::specs::Routes::route_list))]
-pub(crate) fn route_list(
+pub fn route_list(
     alloc: Global,
     conf: &Conf,
     neighbours: &[NeighRec],
@@ -232,13 +231,7 @@ fn longer(best: Option<RouteItem>, item: RouteItem) -> RouteItem
     ensures { result ≡ option_map_or (λ b. longer b item) best item }
 {
     match best {
-        Some(best) => {
-            if best.len < item.len {
-                item
-            } else {
-                best
-            }
-        }
+        Some(best) => { if best.len < item.len { item } else { best } }
         None => item,
     }
 }
@@ -279,19 +272,20 @@ fn destination(upper: Upper) -> Option<Ip4>
     }
 }
 
-fn is_vip(vips: &[Net4], ip: Ip4) -> bool
-    ensures { result ≡ is_vip vips.now ip.0 }
-{
-    vips.iter().any(|vip| vip.ip.0 == ip.0)
-}
-
-fn is_arp_for(vips: &[Net4], upper: Upper) -> bool
-    ensures { result ≡ is_arp_for vips.now upper }
+fn is_arp_for(vlan: &Vlan, upper: Upper) -> bool
+    ensures { result ≡ is_arp_for vlan.now.vips upper }
 {
     match upper {
-        Upper::Arp { tpa, .. } => is_vip(vips, tpa),
+        Upper::Arp { tpa, .. } => vlan.is_vip(tpa),
         _ => false,
     }
+}
+
+/// Whether a packet is for the gateway of a VLAN.
+fn is_for_gateway(vlan: &Vlan, packet: &Packet) -> bool
+    ensures { result ≡ is_same packet.now.dst.0 vlan.now.mac.0 }
+{
+    packet.dst == vlan.mac
 }
 
 fn hop_less(upper: Upper) -> Option<Upper>
@@ -392,7 +386,7 @@ fn go_on(alloc: Global, vid: Vid, packet: &Packet) -> Result<Routed, NoMemory>
 fn route_here(alloc: Global, items: &[RouteItem], packet: &Packet) -> Result<Routed, NoMemory>
     ensures { IfOk result
         (λ made. made ≡ (if packet.now.eth_type == 0x0800 then routed_to items.now packet.now
-            else (if packet.now.eth_type == 0x0806 then Routed.ToController else Routed.Ends))) }
+        else (if packet.now.eth_type == 0x0806 then Routed.ToController else Routed.Ends))) }
 {
     if packet.eth_type == 0x0800 {
         routed_to(alloc, items, packet)
@@ -416,10 +410,10 @@ pub(crate) fn route(
     if vlan.vips.len() == 0 {
         return go_on(alloc, vlan.vid, packet);
     }
-    if is_arp_for(vlan.vips.as_slice(), packet.upper) {
+    if is_arp_for(vlan, packet.upper) {
         return Ok(Routed::ToController);
     }
-    if !is_same_mac(packet.dst, vlan.mac) {
+    if !is_for_gateway(vlan, packet) {
         return go_on(alloc, vlan.vid, packet);
     }
     route_here(alloc, items, packet)

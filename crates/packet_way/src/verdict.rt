@@ -3,35 +3,19 @@ ghost use Rattle.std.specs.List.{find, list_any};
 ghost use Rattle.std.specs.Option.{option_copied, option_map_or};
 ghost use Rattle.of_match.specs.Hit.{hits};
 ghost use Rattle.conf_types.specs.Attached.{acl_named, is_named};
-ghost use Rattle.conf_types.specs.Lists.{is_same};
 ghost use Rattle.packet_way.specs.Leaving.{copies};
 ghost use Rattle.packet_way.specs.Verdict.{rule_for, names_port, targets, acl_sends, is_allowed};
 
 use crate::leaving::push_sent;
-use conf_types::{Acl, Conf, Dp, Port, PortRef, Rule};
+use conf_types::{Conf, Dp, Port, PortRef, Rule};
 use net_base::{Names, NoMemory, PortNo, Text};
 use of_match::{Packet, Sents, hits};
 use std::alloc::Global;
 
-fn is_same_text(a: &Text, b: &Text) -> bool
-    ensures { result ≡ is_same a.now b.now }
-{
-    a.as_str() == b.as_str()
-}
-
-fn is_named(name: &PortRef, port: &Port) -> bool
-    ensures { result ≡ is_named name.now port.now }
-{
-    match name {
-        PortRef::No(no) => port.no.get() == no.get(),
-        PortRef::Name(name) => is_same_text(&port.name, name),
-    }
-}
-
 fn are_naming(names: &[PortRef], port: &Port) -> bool
     ensures { result ≡ list_any (λ name. is_named name port.now) names.now }
 {
-    names.iter().any(|name| is_named(name, port))
+    names.iter().any(|name| name.names(port))
 }
 
 /// Whether a rule sends packets that came in by `ingress` to the interface.
@@ -41,12 +25,6 @@ fn is_target(rule: &Rule, ingress: PortNo, port: &Port) -> bool
     port.enabled
         && (are_naming(rule.mirror.as_slice(), port) || are_naming(rule.output.as_slice(), port))
         && port.no.get() != ingress.get()
-}
-
-fn find_acl<'a>(acls: &'a [Acl], name: &Text) -> Option<&'a Acl>
-    ensures { option_copied result ≡ acl_named acls.now name.now }
-{
-    acls.iter().find(|acl| is_same_text(&acl.name, name))
 }
 
 fn find_hit<'a>(rules: &'a [Rule], port: PortNo, packet: &Packet) -> Option<&'a Rule>
@@ -62,7 +40,7 @@ fn find_in<'a>(conf: &'a Conf, name: &Text, port: PortNo, packet: &Packet) -> Op
     ensures { option_copied result
         ≡ find (λ rule. hits rule.fields port packet.now) (option_map_or (λ acl. acl.rules) (acl_named conf.now.acls name.now) []) }
 {
-    match find_acl(conf.acls().as_slice(), name) {
+    match conf.acl(name) {
         Some(acl) => find_hit(acl.rules.as_slice(), port, packet),
         None => None,
     }

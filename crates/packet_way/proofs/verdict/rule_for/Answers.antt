@@ -1,4 +1,4 @@
-use Rattle.std.proofs.Common.{◌≡◌, ◌∙◌, ℕ, Bool, List, [], find, sym, ap, take_all}
+use Rattle.std.proofs.Common.{◌∙◌, ℕ, Bool, List, [], find, sym, ap, take_all}
 use Rattle.std.specs.List.{flat_map}
 use Rattle.std.specs.Option.{option_copied, option_map_or}
 use Rattle.of_match.specs.Hit.{hits}

@@ -1,0 +1,26 @@
+-- What callers see of a file that is read as a source.
+use Rattle.std.specs.Prelude.{ℕ, ◌+◌, ◌-◌, ◌^◌, List, ◌++◌, take, drop, min, Option, Some, None}
+use Rattle.fg_outside.specs.declared.file_source.FileSource.{FileSource}
+use Rattle.fg_outside.specs.Contents.{Contents, told}
+
+-- the files that it reads from
+abbrev pub files_of : {F : Type 0} → FileSource F → F
+files_of source = source.files
+
+-- the name of its file, as UTF-8 bytes
+abbrev pub name_of : {F : Type 0} → FileSource F → List ℕ
+name_of source = source.name
+
+-- what of a file that is told lies behind a place, with what was read ahead in front of it
+abbrev pub left_of : List ℕ → ℕ → Option (Option (List ℕ)) → Option (List ℕ)
+left_of ahead place None = None
+left_of ahead place (Some None) = None
+left_of ahead place (Some (Some file)) = Some (ahead ++ drop place file)
+
+-- what it has left, where its file is told and is there
+abbrev pub left_in : {F : Type 0} → (F → Option Contents) → FileSource F → Option (List ℕ)
+left_in contents source = left_of (take (source.end - source.start) (drop source.start source.ahead)) source.place (told (contents source.files) source.name)
+
+-- how often a read failed: those of the files, and those that found no file, as a counter that stays at its last value
+abbrev pub faults_of : {F : Type 0} → (F → ℕ) → FileSource F → ℕ
+faults_of faults source = min (faults source.files + source.missing) (2 ^ 64 - 1)

@@ -1,0 +1,5 @@
+pub mod Split
+pub mod Order
+pub mod Leads
+pub mod Needs
+pub mod Least

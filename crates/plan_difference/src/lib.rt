@@ -1,0 +1,9 @@
+//! The difference of two plans: the least list of commands that leads from the one to the other.
+#![tactic(auto)]
+
+pub mod laws;
+mod merge;
+#[cfg(test)]
+mod tests;
+
+pub use merge::difference;
