@@ -2,6 +2,7 @@ pub mod Answers
 pub mod Asks
 pub mod Counted
 pub mod Due
+pub mod Hearing
 pub mod Kept
 pub mod Parts
 pub mod Regroup

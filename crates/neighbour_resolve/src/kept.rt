@@ -3,11 +3,10 @@
 ghost use Rattle.std.specs.Prelude.{◌≡◌, filter, map, IfOk};
 ghost use Rattle.std.specs.List.{filter_map};
 ghost use Rattle.conf_types.specs.Groups.{group_of};
-ghost use Rattle.conf_types.specs.Networks.{is_neighbour_address};
-ghost use Rattle.conf_types.specs.Routing.{vips_of};
 ghost use Rattle.neighbour_resolve.specs.Kept.{kept_neighbours, last_of_each};
 ghost use Rattle.neighbour_resolve.specs.Regroup.{group_row, is_in, may_stay_by, regrouped_by};
 
+use crate::hearing::is_neighbour_address;
 use crate::table::is_known;
 use conf_types::{Conf, Dp, NeighRec};
 use net_base::{DpId, NoMemory};
@@ -74,16 +73,6 @@ fn all_regrouped(
         .collect(alloc)
 }
 
-/// Whether a neighbour's address is one of its VLAN.
-fn has_address(conf: &Conf, neighbour: &NeighRec) -> bool
-    ensures { result ≡ is_neighbour_address (vips_of conf.now neighbour.now.vid) neighbour.now.ip.0 }
-{
-    match conf.vlan(neighbour.vid) {
-        Some(vlan) => vlan.is_neighbour_address(neighbour.ip),
-        None => false,
-    }
-}
-
 /// Whether a neighbour's group is among these.
 fn is_in(groups: &[DpId], neighbour: &NeighRec) -> bool
     ensures { result ≡ is_in groups.now neighbour.now }
@@ -95,7 +84,7 @@ fn is_in(groups: &[DpId], neighbour: &NeighRec) -> bool
 fn may_stay(conf: &Conf, groups: &[DpId], neighbour: &NeighRec) -> bool
     ensures { result ≡ may_stay_by conf.now groups.now neighbour.now }
 {
-    has_address(conf, neighbour) && is_in(groups, neighbour)
+    is_neighbour_address(conf, neighbour.vid, neighbour.ip) && is_in(groups, neighbour)
 }
 
 fn staying(

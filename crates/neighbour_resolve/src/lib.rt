@@ -5,6 +5,7 @@
 mod answers;
 mod asks;
 mod counted;
+mod hearing;
 mod kept;
 pub mod laws;
 mod neighbour;
@@ -13,5 +14,6 @@ mod table;
 pub use answers::{Reply, answer};
 pub use asks::{Outgoing, ask, send_back};
 pub use counted::counted_vid;
+pub use hearing::{Sender, heard_sender};
 pub use neighbour::{Due, Want};
 pub use table::Neighbours;
