@@ -7,4 +7,5 @@ pub mod Kept
 pub mod Parts
 pub mod Regroup
 pub mod Runs
+pub mod Sample
 pub mod Table

@@ -10,6 +10,8 @@ mod kept;
 pub mod laws;
 mod neighbour;
 mod table;
+#[cfg(test)]
+mod tests;
 
 pub use answers::{Reply, answer};
 pub use asks::{Outgoing, ask, send_back};
