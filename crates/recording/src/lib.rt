@@ -1,0 +1,15 @@
+//! Recordings: what happened to a controller, record by record, as bytes; the hub that reads them,
+//! and the records that a replay writes.
+#![tactic(auto)]
+
+mod conns;
+mod grow;
+mod header;
+mod kind;
+mod reader;
+mod record;
+mod refused;
+
+pub use kind::RecordKind;
+pub use record::Record;
+pub use refused::{RecordCause, RecordRefused};
