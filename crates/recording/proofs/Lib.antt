@@ -1,3 +1,4 @@
 pub mod Parts
 pub mod Refusals
 pub mod Taking
+pub mod Turning

@@ -7,5 +7,6 @@ pub mod Numbers
 pub mod Reader
 pub mod Recording
 pub mod Refused
+pub mod Script
 pub mod Stops
 pub mod Turns

@@ -29,10 +29,13 @@ opens conn (happenings.Closed c cause) = false
 opens conn (happenings.Moment moment) = false
 opens conn (happenings.Reload text) = false
 
--- after these happenings the connection is one that the controller closed, and it wasn't opened since
+-- the closing is one of the connection, behind no more than these happenings, and none of those since has opened it
+abbrev pub shuts : List Happening → ℕ → Closing → Bool
+shuts given conn c = c.conn == conn && not (nat_lt (length given) c.behind) && not (list_any (opens conn) (drop c.behind given))
+
+-- behind these happenings the connection is one that the controller closed
 abbrev pub is_shut : List Closing → List Happening → ℕ → Bool
-is_shut closes given conn =
-    list_any (λ c. c.conn == conn && not (nat_lt (length given) c.behind) && not (list_any (opens conn) (drop c.behind given))) closes
+is_shut closes given conn = list_any (shuts given conn) closes
 
 -- what a record tells beside the moment
 abbrev pub own_of : RecordKind → ℕ → List ℕ → List Happening

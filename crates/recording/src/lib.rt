@@ -6,10 +6,13 @@ mod conns;
 mod grow;
 mod header;
 mod kind;
+mod own;
 mod reader;
 mod record;
 mod refused;
+mod script_hub;
 
 pub use kind::RecordKind;
 pub use record::Record;
 pub use refused::{RecordCause, RecordRefused};
+pub use script_hub::ScriptHub;

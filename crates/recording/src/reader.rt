@@ -1,4 +1,5 @@
 ghost use Rattle.std.specs.Prelude.{◌≡◌, ◌⊎◌, ℕ, ◌+◌, ◌-◌, ◌^◌, ◌<◌, ◌≤◌, List, length, Some, None, OnOk, OnErr, IfOk, IsErrOf};
+ghost use Rattle.std.specs.Option.{option_map};
 ghost use Rattle.fg_outside.specs.Counts.{Rose};
 ghost use Rattle.fg_outside.specs.Left.{IsAtEnd};
 ghost use Rattle.recording.specs.declared.refused.RecordCause.{RecordCause};
@@ -12,7 +13,7 @@ use crate::conns::Conns;
 use crate::grow::{GrowRefused, grow};
 use crate::header::{HEADER_LEN, Header, read_header};
 use crate::record::Record;
-use crate::refused::RecordCause;
+use crate::refused::{RecordCause, RecordRefused};
 use fg_outside::Source;
 use net_base::{Bytes, NoMemory};
 use std::alloc::Global;
@@ -108,6 +109,17 @@ impl<S: Source> Reader<S> {
         ensures { result ≡ (place_of self.now).moment }
     {
         self.moment
+    }
+
+    /// The next record, where it is refused.
+    pub fn refused(&self) -> Option<RecordRefused>
+        ensures { result ≡ option_map (λ cause. record { number = (place_of self.now).count + 1; cause = cause }) (refused_of self.now) }
+    {
+        let cause = self.refused?;
+        Some(RecordRefused {
+            number: self.count + 1,
+            cause,
+        })
     }
 
     // Refuses the next record.
