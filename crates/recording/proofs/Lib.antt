@@ -1,4 +1,5 @@
 pub mod Parts
 pub mod Refusals
+pub mod Standing
 pub mod Taking
 pub mod Turning

@@ -21,7 +21,7 @@ use Rattle.recording.specs.declared.script_hub.ScriptHub.{ScriptHub}
 use Rattle.recording.specs.Conns.{is_among, open_after}
 use Rattle.recording.specs.Recording.{Place, first_place, after_all, AllSpell, AllFollow}
 use Rattle.recording.specs.Reader.{place_of, source_of, part_of, left_of, refused_of, Takes, Ends, Refuses}
-use Rattle.recording.specs.Turns.{closings, is_shut, clock, Told, told_by}
+use Rattle.recording.specs.Turns.{closings, is_shut, clock, told_by}
 
 -- the source that it reads
 abbrev pub source_in : {S : Type 0} → ScriptHub S → S
@@ -138,12 +138,22 @@ own_kind live kinds.Moment conn body = None
 abbrev pub own_where : Bool → Record → Option Happening
 own_where live r = own_kind live r.kind r.conn r.body
 
--- the record that waits tells its own, if anything; or memory runs out
+-- the record that waited has told its own, if anything
+pub record Told {S : Type 0} (old : ScriptHub S) (r : Record) (new : ScriptHub S) : Type 0 where
+  pub live : new.live ≡ open_after r.kind r.conn old.live
+  pub waiting : new.waiting ≡ None
+  pub reader : new.reader ≡ old.reader
+  pub spent : new.spent ≡ old.spent
+
+-- memory ran out
+pub record RanOut {S : Type 0} (old new : ScriptHub S) : Type 0 where
+  pub live : new.live ≡ old.live
+  pub spent : new.spent ≡ true
+
 abbrev pub TellsOwn : {S : Type 0} → Record → ScriptHub S → Option Turn → ScriptHub S → Type 0
 TellsOwn r old answer new =
-    ((answer ≡ option_map (λ it. Happened it) (own_where (is_live old r.conn) r))
-      × (new ≡ record old { live = open_after r.kind r.conn old.live; waiting = None }))
-    ⊎ ((answer ≡ Some Memory) × (new ≡ record old { waiting = None; spent = true }))
+    ((answer ≡ option_map (λ it. Happened it) (own_where (is_live old r.conn) r)) × Told old r new)
+    ⊎ ((answer ≡ Some Memory) × RanOut old new)
 
 -- the next record was read, and waits
 pub record Waits {S : Type 0} (left : S → Option (List ℕ)) (old : ScriptHub S) (told : List Happening) (new : ScriptHub S) : Type 0 where
@@ -169,4 +179,4 @@ ReadsOn left old None new = Waits left old [] new
 ReadsOn left old (Some (Happened it)) new = Waits left old (it ∷ []) new
 ReadsOn left old (Some Done) new = Stays left old new × (refused_of new.reader ≡ None → Ends left new.reader)
 ReadsOn left old (Some Failed) new = Stays left old new × (refused_of new.reader ≡ None)
-ReadsOn left old (Some Memory) new = (new.spent ≡ true) × (new.live ≡ old.live)
+ReadsOn left old (Some Memory) new = RanOut old new

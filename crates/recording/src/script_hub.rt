@@ -2,6 +2,7 @@ ghost use Rattle.std.specs.Prelude.{◌≡◌, ◌≢◌, ◌≤◌, ℕ, true, 
 ghost use Rattle.fg_outside.specs.Counts.{Rose};
 ghost use Rattle.fg_outside.specs.HubStep.{HubStep, turned, said, closed};
 ghost use Rattle.recording.specs.declared.record.Record.{Record};
+ghost use Rattle.recording.specs.Reader.{part_of, refused_of};
 
 use crate::conns::Conns;
 use crate::own::own_of;
@@ -22,6 +23,8 @@ pub struct ScriptHub<S> {
     // The record whose moment was told, and whose own is still to be told.
     waiting: Option<Record>,
     spent: bool,
+    ghost between: { (waiting ≡ None → ⊥) → part_of reader ≡ [] },
+    ghost accepted: { (waiting ≡ None → ⊥) → refused_of reader ≡ None },
 }
 
 impl<S: Source> ScriptHub<S> {
@@ -59,6 +62,7 @@ impl<S: Source> ScriptHub<S> {
     // Tells what the record that waits tells of its own, if anything.
     fn tell_own(&mut self) -> Option<Turn>
         ensures nothing { self.old.waiting ≡ None → (result ≡ None) × (self.new ≡ self.old) }
+        ensures gone { self.new.waiting ≡ None }
         ensures told { (r : Record) → self.old.waiting ≡ Some r → TellsOwn r self.old result self.new }
     {
         let record = self.waiting.take()?;
@@ -72,6 +76,8 @@ impl<S: Source> ScriptHub<S> {
 
     // Reads the next record, which then waits, and tells its moment, if it does so.
     fn read_on(&mut self) -> Option<Turn>
+        requires { self.old.waiting ≡ None }
+
         ensures step { ReadsOn S.left self.old result self.new }
         ensures failed { result ≡ Some Turn.Failed → Rose (S.faults (source_in self.old)) (S.faults (source_in self.new)) }
         ensures no_fault { result ≢ Some Turn.Failed → S.faults (source_in self.new) ≡ S.faults (source_in self.old) }
