@@ -30,7 +30,7 @@ use Rattle.recording.specs.Script as script
 use Rattle.recording.specs.Turns.{Closing, closings, opens, is_shut, own_of, with_own, clock, tell, told_by}
 use Rattle.recording.specs.Script.{is_live, is_spent, listed, clock_of, is_open_in, opened_by, own_kind, own_where, Runs, StandsFor, Keeps, Waits, Stays}
 use Rattle.recording.proofs.Parts.{prepended-append}
-use Rattle.recording.proofs.Turning.{AreWithin, within_more, closings-within, happenings-append, closings-append, is_shut-happening, is_shut-closing, told_by-later, told_by-push}
+use Rattle.recording.proofs.Turning.{AreWithin, within_more, within_push, closings-within, happenings-append, closings-append, is_shut-happening, is_shut-closing, told_by-later, told_by-push}
 
 -- ---- records behind records
 
@@ -62,13 +62,13 @@ same_moment closes place told (r ∷ records) h = same_moment closes (after plac
 
 -- ---- connections
 
-is_among-push : (conns : List ℕ) (c conn : ℕ) → is_among (conns ++ c ∷ []) conn ≡ (is_among conns conn || (c == conn))
+pub is_among-push : (conns : List ℕ) (c conn : ℕ) → is_among (conns ++ c ∷ []) conn ≡ (is_among conns conn || (c == conn))
 is_among-push conns c conn = list_any-append (λ k. k == conn) conns (c ∷ []) ∙ ap (λ b. is_among conns conn || b) (or-false (c == conn))
 
 same_test : (k conn c : ℕ) → k ≡ conn → not (k == c) ≡ not (c == conn)
 same_test k conn c h = grind (arith, nat_tests)
 
-is_among-without : (conns : List ℕ) (c conn : ℕ) → is_among (without conns c) conn ≡ (not (c == conn) && is_among conns conn)
+pub is_among-without : (conns : List ℕ) (c conn : ℕ) → is_among (without conns c) conn ≡ (not (c == conn) && is_among conns conn)
 is_among-without conns c conn = any-filter_same (λ k. k == conn) (λ k. not (k == c)) (not (c == conn)) (λ k h. same_test k conn c (eqb-true k conn h)) conns
 
 -- ---- a record tells its own
@@ -77,7 +77,7 @@ abbrev pub told_list : Option Happening → List Happening
 told_list None = []
 told_list (Some it) = it ∷ []
 
-abbrev SaysShut : List ℕ → List Closing → List Happening → ℕ → Type 0
+abbrev pub SaysShut : List ℕ → List Closing → List Happening → ℕ → Type 0
 SaysShut live closes given conn = is_among live conn ≡ not (is_shut closes given conn)
 
 own_given : (kind : RecordKind) (c : ℕ) (body : List ℕ) (live shut : Bool) (given : List Happening) → (is_of_connection kind ≡ true → live ≡ not shut) → (if is_of_connection kind && shut then given else given ++ own_of kind c body) ≡ given ++ told_list (own_kind live kind c body)
@@ -162,8 +162,17 @@ pub record Core {S : Type 0} (left : S → Option (List ℕ)) (whole : Option (L
   pub shut : (conn : ℕ) → is_among (after_all first_place records).opened conn ≡ true → SaysShut hub.live closes given conn
   pub runs : is_spent hub ≡ false → Runs left hub records waits rest
 
+neither : (same shut : Bool) → (not same && not shut) ≡ not (shut || same)
+neither true true = refl
+neither true false = refl
+neither false true = refl
+neither false false = refl
+
+not_both : (b : Bool) → b ≡ true → b ≡ false → ⊥
+not_both b h k = cc
+
 module _ {S : Type 0} (left : S → Option (List ℕ)) (whole : Option (List ℕ)) where
-  core_of : (hub : ScriptHub S) (records : List Record) (waits : Option Record) (events : List Event) → StandsFor left whole hub records waits events → Core left whole hub records waits (closings 0 events) (happenings events)
+  pub core_of : (hub : ScriptHub S) (records : List Record) (waits : Option Record) (events : List Event) → StandsFor left whole hub records waits events → Core left whole hub records waits (closings 0 events) (happenings events)
   core_of hub records waits events stands = record {
     front = stands.front;
     rest = stands.rest;
@@ -176,7 +185,7 @@ module _ {S : Type 0} (left : S → Option (List ℕ)) (whole : Option (List ℕ
     runs = stands.runs;
   }
 
-  stands_by : (hub : ScriptHub S) (records : List Record) (waits : Option Record) (events : List Event) → Core left whole hub records waits (closings 0 events) (happenings events) → ((conn : ℕ) → is_live hub conn ≡ is_open_in events conn) → StandsFor left whole hub records waits events
+  pub stands_by : (hub : ScriptHub S) (records : List Record) (waits : Option Record) (events : List Event) → Core left whole hub records waits (closings 0 events) (happenings events) → ((conn : ℕ) → is_live hub conn ≡ is_open_in events conn) → StandsFor left whole hub records waits events
   stands_by hub records waits events core live = record {
     front = core.front;
     rest = core.rest;
@@ -278,3 +287,49 @@ module _ {S : Type 0} (left : S → Option (List ℕ)) (whole : Option (List ℕ
           refused = λ cause is. refused_still (refused_of hub.reader) cause refl runs.refused stays is;
         };
       }
+
+  -- a connection is closed
+  pub closed_core : (hub new : ScriptHub S) (records : List Record) (waits : Option Record) (closes : List Closing) (given : List Happening) (c : ℕ) → Core left whole hub records waits closes given → new.live ≡ without hub.live c → new.reader ≡ hub.reader → new.waiting ≡ hub.waiting → new.spent ≡ hub.spent → Core left whole new records waits (closes ++ record { conn = c; behind = length given } ∷ []) given
+  closed_core hub new records waits closes given c core live reader waiting spent =
+      let k : Closing = record { conn = c; behind = length given } in
+      let so_far = told_by closes records in
+      let later : told_by (closes ++ k ∷ []) records ≡ so_far =
+          told_by-later closes k records (omega (arith, ap (λ (l : List Happening). length l) core.gave, length-append so_far.given (clock_of so_far.moment waits)))
+      in
+      record {
+        front = core.front;
+        rest = core.rest;
+        parts = core.parts;
+        spell = core.spell;
+        follow = core.follow;
+        gave = core.gave ∙ ap (λ (t : turning.Told). t.given ++ clock_of t.moment waits) (sym later);
+        within = within_push (length given) closes k core.within (omega arith);
+        shut = λ conn there.
+            ap (λ (l : List ℕ). is_among l conn) live
+            ∙ is_among-without hub.live c conn
+            ∙ ap (λ b. not (c == conn) && b) (core.shut conn there)
+            ∙ neither (c == conn) (is_shut closes given conn)
+            ∙ ap (λ b. not b) (sym (is_shut-closing closes given c conn));
+        runs = λ now.
+            let runs = core.runs (sym spent ∙ now) in
+            record {
+              place = ap (λ (rd : Reader S). place_of rd) reader ∙ runs.place;
+              waiting = waiting ∙ runs.waiting;
+              behind = runs.behind ∙ ap (λ (rd : Reader S). left_of left rd) (sym reader);
+              refused = λ cause is. subst (λ (rd : Reader S). Refuses left rd cause) (sym reader) (runs.refused cause (ap (λ (rd : Reader S). refused_of rd) (sym reader) ∙ is));
+            };
+      }
+
+  -- memory runs out
+  pub spent_core : (hub new : ScriptHub S) (records : List Record) (waits : Option Record) (closes : List Closing) (given : List Happening) → Core left whole hub records waits closes given → script.RanOut hub new → Core left whole new records waits closes given
+  spent_core hub new records waits closes given core out = record {
+    front = core.front;
+    rest = core.rest;
+    parts = core.parts;
+    spell = core.spell;
+    follow = core.follow;
+    gave = core.gave;
+    within = core.within;
+    shut = λ conn there. subst (λ (l : List ℕ). SaysShut l closes given conn) (sym out.live) (core.shut conn there);
+    runs = λ now. absurd (not_both new.spent out.spent now);
+  }

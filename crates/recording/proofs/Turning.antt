@@ -44,6 +44,11 @@ unfolding AreWithin
 within_more n m [] le h = tt
 within_more n m (c ∷ closes) le h = (omega (arith, h.0), within_more n m closes le h.1)
 
+pub within_push : (n : ℕ) (closes : List Closing) (c : Closing) → AreWithin n closes → c.behind ≤ n → AreWithin n (closes ++ c ∷ [])
+unfolding AreWithin
+within_push n [] c h le = (le, tt)
+within_push n (k ∷ closes) c h le = (h.0, within_push n closes c h.1 le)
+
 pub closings-within : (n : ℕ) (events : List Event) → AreWithin (n + length (happenings events)) (closings n events)
 unfolding AreWithin
 closings-within n [] = tt
