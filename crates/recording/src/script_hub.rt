@@ -1,4 +1,4 @@
-ghost use Rattle.std.specs.Prelude.{◌≡◌, ◌≢◌, ◌≤◌, ℕ, true, false, [], Some, None};
+ghost use Rattle.std.specs.Prelude.{◌≡◌, ◌≢◌, ◌≤◌, ◌+◌, ℕ, true, false, [], Some, None};
 ghost use Rattle.fg_outside.specs.Counts.{Rose};
 ghost use Rattle.fg_outside.specs.HubStep.{HubStep, turned, said, closed};
 ghost use Rattle.recording.specs.declared.record.Record.{Record};
@@ -9,7 +9,7 @@ use crate::own::own_of;
 use crate::reader::{Reader, Stop};
 use crate::record::Record;
 use crate::refused::RecordRefused;
-use fg_outside::{Happening, Source, Turn};
+use fg_outside::{Happening, Hub, Said, Source, Turn};
 use std::alloc::Global;
 
 /// A hub that gives the turns of a recording. It reads one record at a time, and never past a
@@ -63,6 +63,8 @@ impl<S: Source> ScriptHub<S> {
     fn tell_own(&mut self) -> Option<Turn>
         ensures nothing { self.old.waiting ≡ None → (result ≡ None) × (self.new ≡ self.old) }
         ensures gone { self.new.waiting ≡ None }
+        ensures reader { self.new.reader ≡ self.old.reader }
+        ensures not_failed { result ≢ Some Turn.Failed }
         ensures told { (r : Record) → self.old.waiting ≡ Some r → TellsOwn r self.old result self.new }
     {
         let record = self.waiting.take()?;
@@ -79,6 +81,7 @@ impl<S: Source> ScriptHub<S> {
         requires { self.old.waiting ≡ None }
 
         ensures step { ReadsOn S.left self.old result self.new }
+        ensures more { result ≡ None → self.new.reader.count ≡ self.old.reader.count + 1 }
         ensures failed { result ≡ Some Turn.Failed → Rose (S.faults (source_in self.old)) (S.faults (source_in self.new)) }
         ensures no_fault { result ≢ Some Turn.Failed → S.faults (source_in self.new) ≡ S.faults (source_in self.old) }
         ensures faults { S.faults (source_in self.old) ≤ S.faults (source_in self.new) }
@@ -99,5 +102,45 @@ impl<S: Source> ScriptHub<S> {
                 Some(Turn::Memory)
             }
         }
+    }
+}
+
+impl<S: Source> Hub for ScriptHub<S> {
+    ghost use Rattle.recording.specs.Script.{source_in, is_live, answer_of, ScriptStep};
+
+    ghost may = { λ old step new. ScriptStep S.left old step new };
+
+    ghost is_open = { λ hub conn. is_live hub conn };
+
+    ghost faults = { λ hub. S.faults (source_in hub) };
+
+    fn turn(&mut self) -> Turn {
+        if self.spent {
+            return Turn::Memory;
+        }
+        loop {
+            match self.tell_own() {
+                Some(turn) => return turn,
+                None => {}
+            }
+            match self.read_on() {
+                Some(turn) => return turn,
+                None => {}
+            }
+        }
+    }
+
+    fn say(&mut self, conn: u32, _piece: &[u8]) -> Said {
+        if self.spent {
+            Said::Memory
+        } else if self.live.has(conn) {
+            Said::Taken
+        } else {
+            Said::Gone
+        }
+    }
+
+    fn close(&mut self, conn: u32) {
+        self.live.remove(conn);
     }
 }
