@@ -13,6 +13,8 @@ mod source;
 mod verdict;
 mod way;
 
+pub use known::Onward;
 pub use now::Now;
-pub use routes::{RouteItem, RouteItems, Target, route_list};
+pub use routes::{RouteItem, RouteItems, Routed, Target, route_list};
+pub use source::Heard;
 pub use way::{BRIDGE_GROUP, BROADCAST, GATEWAY, LLDP, PVST_GROUP, sends};

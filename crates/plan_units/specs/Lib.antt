@@ -1,0 +1,5 @@
+pub mod Fixed
+pub mod Units
+pub mod Tables
+pub mod Steps
+pub mod Laws
