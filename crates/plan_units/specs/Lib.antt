@@ -3,3 +3,5 @@ pub mod Units
 pub mod Tables
 pub mod Steps
 pub mod Laws
+pub mod Agrees
+pub mod Facts
