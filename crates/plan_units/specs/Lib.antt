@@ -5,3 +5,4 @@ pub mod Steps
 pub mod Laws
 pub mod Agrees
 pub mod Facts
+pub mod PortVlans
