@@ -16,7 +16,9 @@ mod verdict;
 mod way;
 pub mod worked;
 
+pub use known::Onward;
 pub use now::Now;
 pub use paths::make_paths;
-pub use routes::{RouteItem, RouteItems, Target, route_list};
+pub use routes::{RouteItem, RouteItems, Routed, Target, route_list};
+pub use source::Heard;
 pub use way::{BRIDGE_GROUP, BROADCAST, GATEWAY, LLDP, PVST_GROUP, sends};

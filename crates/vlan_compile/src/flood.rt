@@ -2,7 +2,7 @@ use net_base::PortNo;
 
 /// Which packets a flood is for.
 #[derive(Clone, Copy, Debug, PartialEq, Eq)]
-pub(crate) enum Flood {
+pub enum Flood {
     /// Those to a group address.
     Group,
     /// Those to a single address that isn't known.
@@ -11,7 +11,7 @@ pub(crate) enum Flood {
 
 /// Where the packets of an entry come in.
 #[derive(Clone, Copy, Debug, PartialEq, Eq)]
-pub(crate) enum Ingress {
+pub enum Ingress {
     Any,
     At(PortNo),
 }

@@ -15,6 +15,7 @@ mod vlans;
 
 pub use admissions::admit_entries;
 pub use destinations::dst_entries;
+pub use flood::{Flood, Ingress};
 pub use floods::flood_entries;
 pub use misses::miss_entries;
 pub use sources::src_entries;
