@@ -20,6 +20,3 @@ pub use now::Now;
 pub use paths::make_paths;
 pub use routes::{RouteItem, RouteItems, Target, route_list};
 pub use way::{BRIDGE_GROUP, BROADCAST, GATEWAY, LLDP, PVST_GROUP, sends};
-
-#[cfg(test)]
-mod tests;

@@ -59,7 +59,7 @@ fn rule_for<'a>(conf: &'a Conf, acls: &Names, port: PortNo, packet: &Packet) -> 
 }
 
 /// The packet by each port that the rule sends it to.
-pub(crate) fn push_targets(
+fn push_targets(
     alloc: Global,
     out: &mut Sents,
     dp: &Dp,
