@@ -1,14 +1,14 @@
 -- The datapaths of a valid configuration with the stack links that are up are a stack.
-use Rattle.std.proofs.Common.{◌≡◌, ◌⊎◌, ◌∙◌, ℕ, ◌<◌, ◌≤◌, ◌==◌, Option, Some, None, List, [], ◌∷◌, ◌++◌, length, map, refl, inl, inr, sym, ap, subst, arith}
-use Rattle.std.specs.Prelude.{Contains, All, AllPairs, slice_get}
+use Rattle.std.proofs.Common.{◌≡◌, ◌∙◌, ℕ, ◌<◌, ◌==◌, Option, Some, None, List, [], ◌∷◌, ◌++◌, map, refl, inl, inr, sym, ap, subst, arith}
+use Rattle.std.specs.Prelude.{Contains}
 use Rattle.std.specs.List.{AllByRecursion, filter_map, flat_map, cons_option}
-use Rattle.std.specs.Option.{option_and_then, option_map}
+use Rattle.std.specs.Option.{option_map}
 use Rattle.std.proofs.lemmas.List.{length-map}
 use Rattle.std.proofs.lemmas.List.Elements.{All-weaker, All-contains_itself, recursion_from_All, Contains-append_cases}
 use Rattle.std.proofs.lemmas.Option.{same_Some, slice_get-map, slice_get-get_or}
 use Rattle.stack_paths.proofs.ChosenWalks.{same_dp}
 use Rattle.stack_paths.proofs.Finite.{contains_here, contains_there}
-use Rattle.stack_paths.specs.Stack.{Stack, IsStack, IsNode, IsEnd as IsEndOf, ArePortsApart}
+use Rattle.stack_paths.specs.Stack.{Stack, IsStack, IsNode, ArePortsApart}
 use Rattle.net_base.specs.declared.numbers.DpId.{DpId}
 use Rattle.net_base.specs.declared.stack.Node.{Node}
 use Rattle.net_base.specs.declared.stack.StackLink.{StackLink}
@@ -17,13 +17,13 @@ use Rattle.conf_types.specs.declared.datapath.Dp.{Dp}
 use Rattle.conf_types.specs.declared.datapath.Port.{Port}
 use Rattle.conf_types.specs.declared.datapath.StackEnd.{StackEnd}
 use Rattle.conf_types.specs.declared.state.UpRec.{UpRec}
-use Rattle.conf_types.specs.Configuration.{Configuration, dp_with, port_with, port_at}
+use Rattle.conf_types.specs.Configuration.{Configuration, port_at}
 use Rattle.conf_types.specs.Links.{link_from, links_of, links}
 use Rattle.conf_types.specs.Lists.{EachBefore}
 use Rattle.conf_types.specs.Valid.{IsValid}
 use Rattle.packet_way.specs.Known.{node_of, stack_of}
 use Rattle.packet_way.proofs.Ends.{IsLink, link_is, begin_of, in_flat_map, in_filter_map}
-use Rattle.packet_way.proofs.Ports.{of_all, found, At, at_port, datapath_of}
+use Rattle.packet_way.proofs.Ports.{of_all, found, at_port, datapath_of}
 
 -- ---- lists of which each stands so to those behind it
 

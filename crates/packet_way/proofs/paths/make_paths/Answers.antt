@@ -1,5 +1,5 @@
 use Rattle.std.proofs.Common.{◌≡◌, ◌∙◌, List, map, sym, ap, subst}
-use Rattle.stack_paths.specs.Stack.{Stack, IsStack}
+use Rattle.stack_paths.specs.Stack.{IsStack}
 use Rattle.net_base.specs.declared.stack.Node.{Node}
 use Rattle.net_base.specs.declared.stack.StackLink.{StackLink}
 use Rattle.conf_types.specs.declared.datapath.Dp.{Dp}
