@@ -1,21 +1,20 @@
 -- What is said of a neighbour in a run, as if it were alone.
-use Rattle.std.proofs.Common.{◌≡◌, ℕ, zero, suc, ◌+◌, ◌-◌, ◌*◌, ◌^◌, ◌<◌, ◌≤◌, ◌==◌, ◌&&◌, ◌||◌, ◌++◌, Bool, true, false, cond, not, Option, Some, None, List, [], ◌∷◌, length, map, filter, find, min, nat_lt, nat_le, is_some, count_by, inl, inr, refl, sym, ap, ◌∙◌, arith, subst, IfSome, if◌then◌else◌, append_assoc}
-use Rattle.std.specs.List.{AllByRecursion, list_any}
+use Rattle.std.proofs.Common.{◌≡◌, ℕ, zero, suc, ◌+◌, ◌-◌, ◌^◌, ◌<◌, ◌≤◌, ◌==◌, ◌&&◌, Bool, true, false, cond, not, Option, Some, None, List, [], ◌∷◌, filter, find, min, nat_lt, nat_le, is_some, count_by, inl, inr, refl, sym, ap, ◌∙◌, arith, subst, IfSome, if◌then◌else◌}
+use Rattle.std.specs.List.{AllByRecursion}
 use Rattle.std.specs.Option.{option_map, option_map_or}
-use Rattle.std.proofs.lemmas.Bool.{cases_Bool, false≢true}
+use Rattle.std.proofs.lemmas.Bool.{cases_Bool}
 use Rattle.std.proofs.lemmas.Bool.Decides.{nat_tests}
 use Rattle.std.proofs.lemmas.List.Sums.{sum_by-cons}
 use Rattle.conf_types.proofs.Found.{all_found}
 use Rattle.conf_types.specs.declared.state.NeighRec.{NeighRec}
 use Rattle.conf_types.specs.Configuration.{Configuration}
 use Rattle.conf_types.specs.Lists.{EachBefore}
-use Rattle.conf_types.specs.State.{IsSameNeighbour}
 use Rattle.neighbour_resolve.specs.declared.neighbour.Due.{Due}
 use Rattle.neighbour_resolve.specs.declared.neighbour.Due.TheVariants.{Ask, Gone}
 use Rattle.neighbour_resolve.specs.Due.{after_due, asked, asked_on, is_due, is_gateway, last_wait, most_tries, next, said, said_of, wait_after}
-use Rattle.neighbour_resolve.specs.Runs.{At, LeavesAlone, Runs, Settles, at, is_about, said_about}
+use Rattle.neighbour_resolve.specs.Runs.{Settles, is_about}
 use Rattle.neighbour_resolve.specs.Table.{is_same}
-use Rattle.neighbour_resolve.proofs.Keys.{AreApart, due_some, same_back, same_false, same_on, same_true, some_keys}
+use Rattle.neighbour_resolve.proofs.Keys.{AreApart, due_some, same_back, same_on, same_true, some_keys}
 
 -- each wait is some time
 pub some_wait : (tries : ℕ) → 0 < wait_after tries

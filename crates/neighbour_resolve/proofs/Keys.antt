@@ -1,8 +1,8 @@
 -- What each call leaves are some of the neighbours that were there, no two of one key.
-use Rattle.std.proofs.Common.{◌≡◌, ℕ, ◌+◌, ◌<◌, ◌≤◌, ◌==◌, ◌&&◌, ◌||◌, ◌++◌, Bool, true, false, cond, Option, Some, None, List, [], ◌∷◌, suc, length, map, filter, not, nat_lt, nat_le, inl, inr, refl, sym, ap, ◌∙◌, arith, subst, eq-eqb, eqb-true, length-append, if◌then◌else◌}
+use Rattle.std.proofs.Common.{◌≡◌, ℕ, ◌<◌, ◌≤◌, ◌==◌, ◌&&◌, ◌||◌, ◌++◌, Bool, true, false, cond, Option, Some, None, List, [], ◌∷◌, length, filter, not, nat_lt, nat_le, inl, inr, refl, sym, ap, ◌∙◌, arith, subst, eq-eqb, eqb-true, length-append, if◌then◌else◌}
 use Rattle.std.specs.List.{AllByRecursion, list_any, filter_map}
 use Rattle.std.specs.Option.{option_map_or}
-use Rattle.std.proofs.lemmas.Bool.{cases_Bool, and_parts, and_from, false≢true}
+use Rattle.std.proofs.lemmas.Bool.{and_parts, and_from, false≢true}
 use Rattle.std.proofs.lemmas.Bool.Decides.{nat_tests}
 use Rattle.net_base.specs.declared.numbers.DpId.{DpId}
 use Rattle.conf_types.specs.declared.state.NeighRec.{NeighRec}

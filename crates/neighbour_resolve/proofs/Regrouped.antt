@@ -11,7 +11,7 @@ use Rattle.conf_types.specs.Networks.{is_neighbour_address}
 use Rattle.conf_types.specs.Routing.{vips_of}
 use Rattle.neighbour_resolve.specs.declared.kept.GroupRow.{GroupRow}
 use Rattle.neighbour_resolve.specs.Kept.{kept_neighbours, last_of_each, may_stay, regrouped}
-use Rattle.neighbour_resolve.specs.Regroup.{group_row, is_in, may_stay_by, regrouped_by}
+use Rattle.neighbour_resolve.specs.Regroup.{group_row, may_stay_by, regrouped_by}
 
 -- what is found after each item has become another
 find_map : {A B : Type 0} (p : B → Bool) (f : A → B) (xs : List A) → find p (map f xs) ≡ option_map f (find (λ x. p (f x)) xs)

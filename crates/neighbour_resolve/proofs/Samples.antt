@@ -1,5 +1,5 @@
 -- The configurations that the tests use are valid.
-use Rattle.std.proofs.Common.{◌≡◌, ℕ, ◌≤◌, Bool, true, false, List, [], rules, arith}
+use Rattle.std.proofs.Common.{Bool, true, false, rules, arith}
 use Rattle.conf_types.specs.Valid.{IsValid, VlansAreValid, DatapathsAreValid, AclsAreValid, MirrorsAreValid, StacksAreValid, RoutingIsValid, IsWithinLimits}
 use Rattle.neighbour_resolve.specs.Sample.{conf_of}
 

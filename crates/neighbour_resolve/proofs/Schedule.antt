@@ -1,21 +1,19 @@
 -- When a neighbour that is left alone is asked, and when it is gone.
-use Rattle.std.proofs.Common.{◌≡◌, ℕ, zero, suc, ◌+◌, ◌*◌, ◌-◌, ◌^◌, ◌<◌, ◌≤◌, ◌==◌, ◌&&◌, ◌||◌, ◌++◌, inl, inr, Bool, true, false, not, Option, Some, None, List, [], ◌∷◌, length, map, filter, find, min, nat_lt, nat_le, is_some, refl, sym, ap, ◌∙◌, arith, subst, if◌then◌else◌, cond, Contains, get_or}
-use Rattle.std.specs.List.{AllByRecursion, list_any}
+use Rattle.std.proofs.Common.{◌≡◌, ℕ, zero, suc, ◌+◌, ◌*◌, ◌-◌, ◌<◌, ◌≤◌, ◌==◌, ◌||◌, ◌++◌, inl, inr, Bool, true, false, Option, Some, None, List, [], ◌∷◌, length, map, find, nat_lt, is_some, refl, sym, ap, ◌∙◌, arith, subst, if◌then◌else◌, cond, Contains, get_or}
+use Rattle.std.specs.List.{list_any}
 use Rattle.std.proofs.lemmas.Bool.{cases_Bool}
 use Rattle.std.proofs.lemmas.Bool.Decides.{nat_tests}
 use Rattle.std.proofs.lemmas.List.{map-append}
 use Rattle.net_base.specs.declared.address.Ip4.{Ip4}
-use Rattle.net_base.specs.declared.numbers.Moment.{Moment}
 use Rattle.conf_types.specs.declared.state.NeighRec.{NeighRec}
 use Rattle.conf_types.specs.Configuration.{Configuration}
 use Rattle.conf_types.proofs.Found.{all_at}
 use Rattle.conf_types.specs.Lists.{EachBefore}
 use Rattle.conf_types.specs.Routing.{routes_of}
-use Rattle.conf_types.specs.State.{IsSameNeighbour}
 use Rattle.neighbour_resolve.specs.declared.neighbour.Due.{Due}
 use Rattle.neighbour_resolve.specs.declared.neighbour.Due.TheVariants.{Ask, Gone}
 use Rattle.neighbour_resolve.specs.Due.{asked, asked_on, is_due, is_gateway, last_wait, later, most_tries, never, next, said_of, wait_after}
-use Rattle.neighbour_resolve.specs.Runs.{At, IsFirstRun, LeavesAlone, Runs, Settles, all_tries, asked_at, at, every_64_seconds, is_about, said_about, tries_after}
+use Rattle.neighbour_resolve.specs.Runs.{At, IsFirstRun, Runs, all_tries, asked_at, at, every_64_seconds, said_about, tries_after}
 use Rattle.neighbour_resolve.specs.Table.{is_same}
 use Rattle.neighbour_resolve.proofs.Alone.{here, settled, some_wait, then_is}
 use Rattle.neighbour_resolve.proofs.Keys.{AreApart, same_back, same_is, same_self, same_true}

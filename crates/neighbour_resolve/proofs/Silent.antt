@@ -1,5 +1,5 @@
 -- A header that is cut off gets no answer.
-use Rattle.std.proofs.Common.{◌≡◌, ℕ, ◌<◌, ◌≤◌, ◌&&◌, Bool, true, false, cond, List, Some, None, length, not, nat_le, refl, sym, ap, ◌∙◌, arith, if◌then◌else◌}
+use Rattle.std.proofs.Common.{◌≡◌, ℕ, ◌<◌, ◌&&◌, Bool, true, false, cond, List, Some, None, length, not, nat_le, refl, ap, ◌∙◌, arith}
 use Rattle.std.proofs.lemmas.Bool.Decides.{nat_tests}
 use Rattle.std.specs.Option.{option_map_or}
 use Rattle.net_base.specs.Address.{is_group}
@@ -9,7 +9,6 @@ use Rattle.conf_types.specs.Configuration.{Configuration}
 use Rattle.pkt_view.specs.Frame.{FrameParts, V4}
 use Rattle.pkt_view.specs.Numbers.{ip4_at}
 use Rattle.pkt_view.specs.Replies.{carries_icmp, echo_frame, icmp_of, is_echo_due, is_echo_request}
-use Rattle.neighbour_resolve.specs.declared.answers.Reply.{Reply}
 use Rattle.neighbour_resolve.specs.declared.answers.Reply.TheVariants.{EchoReply, Nothing}
 use Rattle.neighbour_resolve.specs.Answers.{answer_in, is_routed_vip, upper_answer}
 

@@ -1,13 +1,11 @@
 -- What each call leaves is valid.
-use Rattle.std.proofs.Common.{◌≡◌, ℕ, ◌≤◌, ◌==◌, ◌&&◌, ◌++◌, Bool, true, false, List, [], ◌∷◌, length, filter, not, refl, sym, ap, ◌∙◌, arith, cond, inl, inr}
+use Rattle.std.proofs.Common.{◌≡◌, ℕ, ◌≤◌, ◌==◌, Bool, true, false, List, [], ◌∷◌, length, filter, not, refl, ap, ◌∙◌, arith, cond}
 use Rattle.std.specs.List.{AllByRecursion, filter_map, list_any}
-use Rattle.std.proofs.lemmas.Bool.{and_parts, cases_Bool}
+use Rattle.std.proofs.lemmas.Bool.{and_parts}
 use Rattle.net_base.specs.declared.numbers.DpId.{DpId}
-use Rattle.conf_types.specs.declared.state.HostRec.{HostRec}
 use Rattle.conf_types.specs.declared.state.NeighRec.{NeighRec}
 use Rattle.conf_types.specs.Configuration.{Configuration}
 use Rattle.conf_types.specs.Groups.{group_of}
-use Rattle.conf_types.specs.Lists.{EachBefore}
 use Rattle.conf_types.specs.Networks.{is_neighbour_address}
 use Rattle.conf_types.specs.Routing.{vips_of}
 use Rattle.conf_types.specs.State.{IsHost, IsNeighbour, IsSameNeighbour, IsValidState, State}
@@ -15,7 +13,7 @@ use Rattle.neighbour_resolve.specs.Due.{after_due}
 use Rattle.neighbour_resolve.specs.Kept.{kept_neighbours, last_of_each, may_stay, regrouped}
 use Rattle.neighbour_resolve.specs.Table.{IsTable, Table, after_told, answer, off_group}
 use Rattle.neighbour_resolve.specs.Parts.{AreSomeOf}
-use Rattle.neighbour_resolve.proofs.Keys.{AreApart, all_map, all_push, due_some, filter_some, kept_table, last_some, replaced_some, some_each, some_table, told_each, told_table}
+use Rattle.neighbour_resolve.proofs.Keys.{all_map, due_some, filter_some, kept_table, last_some, some_each, some_table, told_each, told_table}
 
 module _ (conf : Configuration) (state : State) where
   neighbour_by_key : (a b : NeighRec) → IsSameNeighbour a b → IsNeighbour conf state b → IsNeighbour conf state a

@@ -1,5 +1,5 @@
 -- What datapaths are told to send, to ask for a neighbour or to answer (OpenFlow 1.3, 7.3.7).
-use Rattle.std.specs.Prelude.{ℕ, ◌+◌, ◌==◌, ◌++◌, Bool, true, false, Option, Some, None, List, [], ◌∷◌, length, map, filter, nat_lt, if◌then◌else◌}
+use Rattle.std.specs.Prelude.{ℕ, ◌+◌, ◌==◌, ◌++◌, Bool, true, false, Option, None, List, [], ◌∷◌, length, map, filter, nat_lt, if◌then◌else◌}
 use Rattle.std.specs.List.{filter_map}
 use Rattle.std.specs.Option.{option_map, option_and_then}
 use Rattle.net_base.specs.Field.{exact}
@@ -10,7 +10,6 @@ use Rattle.conf_types.specs.declared.datapath.Dp.{Dp}
 use Rattle.conf_types.specs.declared.datapath.Member.{Member}
 use Rattle.conf_types.specs.declared.datapath.Member.TheVariants.{Native, Tagged, Stack}
 use Rattle.conf_types.specs.declared.datapath.Member.TheVariants as member_case
-use Rattle.conf_types.specs.declared.state.NeighRec.{NeighRec}
 use Rattle.conf_types.specs.declared.vlan.Vlan.{Vlan}
 use Rattle.conf_types.specs.Configuration.{Configuration, dp_with, vlan_with}
 use Rattle.conf_types.specs.Groups.{group_of}

@@ -1,5 +1,5 @@
 -- What a table keeps where the configuration is replaced by a new one, in three steps.
-use Rattle.std.specs.Prelude.{ℕ, ◌==◌, ◌&&◌, Bool, Option, List, [], ◌∷◌, filter, if◌then◌else◌}
+use Rattle.std.specs.Prelude.{◌==◌, ◌&&◌, Bool, Option, List, [], ◌∷◌, filter, if◌then◌else◌}
 use Rattle.std.specs.List.{list_any, filter_map}
 use Rattle.std.specs.Option.{option_map}
 use Rattle.net_base.specs.declared.numbers.DpId.{DpId}

@@ -1,5 +1,5 @@
 -- Whole runs, in which `due` is called at each moment until it has nothing more to say.
-use Rattle.std.specs.Prelude.{◌≡◌, ℕ, ◌+◌, ◌==◌, ◌&&◌, Bool, Option, Some, None, List, [], ◌∷◌, ◌++◌, ◌≤◌, Contains, length, zero, suc, map, filter}
+use Rattle.std.specs.Prelude.{◌≡◌, ℕ, ◌+◌, ◌==◌, ◌&&◌, Bool, Some, None, List, [], ◌∷◌, ◌++◌, ◌≤◌, Contains, length, zero, suc, map, filter}
 use Rattle.std.specs.List.{find}
 use Rattle.conf_types.specs.declared.state.NeighRec.{NeighRec}
 use Rattle.conf_types.specs.Configuration.{Configuration}

@@ -1,7 +1,8 @@
 -- The configurations that the tests use: two datapaths, each with an interface whose native VLAN is 100, one that
 -- has VLANs 100 and 200 tagged, and one that may be an end of a stack link between them; both VLANs may be of one
 -- router, and VLAN 100 may have a VIP and a route.
-use Rattle.std.specs.Prelude.{ℕ, Bool, true, false, List, [], ◌∷◌, Option, Some, None, codes, if◌then◌else◌}
+use Rattle.std.specs.Prelude.{ℕ, Bool, true, false, List, [], ◌∷◌, Option, Some, None, codes, min, if◌then◌else◌}
+use Rattle.std.proofs.Math.Nat.{min-le_right}
 use Rattle.net_base.specs.declared.net4.Net4.{Net4}
 use Rattle.net_base.specs.declared.numbers.DpId.{DpId}
 use Rattle.conf_types.specs.declared.datapath.Dp.{Dp}
@@ -71,16 +72,18 @@ vlan_of vid name last vips routes = record {
   unicast_flood = true;
 }
 
+abbrev pub net_of : (ip len : ℕ) → Net4
+net_of ip len = record { ip = record { 0 = ip }; len = min len 32; short = min-le_right len 32 }
+
 -- 10.0.100.254/24 and 10.0.200.254/24; 10.9.0.0/16 by 10.0.100.2
 abbrev pub vips_100 : (networked : Bool) → List Net4
-vips_100 networked = if networked then record { ip = record { 0 = 0x0a0064fe }; len = 24 } ∷ [] else []
+vips_100 networked = if networked then net_of 0x0a0064fe 24 ∷ [] else []
 
 abbrev pub vips_200 : List Net4
-vips_200 = record { ip = record { 0 = 0x0a00c8fe }; len = 24 } ∷ []
+vips_200 = net_of 0x0a00c8fe 24 ∷ []
 
 abbrev pub routes_100 : (networked : Bool) → List Route
-routes_100 networked =
-    if networked then record { dst = record { ip = record { 0 = 0x0a090000 }; len = 16 }; gw = record { 0 = 0x0a006402 } } ∷ [] else []
+routes_100 networked = if networked then record { dst = net_of 0x0a090000 16; gw = record { 0 = 0x0a006402 } } ∷ [] else []
 
 abbrev pub vlans_of : (networked : Bool) → List Vlan
 vlans_of networked =

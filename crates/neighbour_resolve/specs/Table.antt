@@ -1,5 +1,5 @@
 -- A table of neighbours as contracts see it, and what becomes of it where one is wanted or heard.
-use Rattle.std.specs.Prelude.{◌≡◌, ℕ, ◌==◌, ◌&&◌, ◌≤◌, not, Bool, false, Some, None, List, [], ◌∷◌, ◌++◌, length, map, filter, is_some, nat_le, if◌then◌else◌}
+use Rattle.std.specs.Prelude.{ℕ, ◌==◌, ◌&&◌, ◌≤◌, not, Bool, Some, None, List, [], ◌∷◌, ◌++◌, length, map, filter, is_some, nat_le, if◌then◌else◌}
 use Rattle.std.specs.List.{list_any}
 use Rattle.net_base.specs.declared.address.Ip4.{Ip4}
 use Rattle.net_base.specs.declared.address.Mac.{Mac}

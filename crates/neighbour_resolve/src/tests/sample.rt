@@ -1,7 +1,7 @@
 //! The configurations of the tests (`specs/Sample.antt`).
 
 ghost use Rattle.std.specs.Prelude.{◌≡◌, ◌≤◌, ◌<◌, IfOk, if◌then◌else◌, [], ◌∷◌};
-ghost use Rattle.neighbour_resolve.specs.Sample.{conf_of, dp_of, dps_of, end_at, port_of, ports_of, routers_of, routes_100, vips_100, vips_200, vlan_of, vlans_of};
+ghost use Rattle.neighbour_resolve.specs.Sample.{conf_of, dp_of, dps_of, end_at, net_of, port_of, ports_of, routers_of, routes_100, vips_100, vips_200, vlan_of, vlans_of};
 
 use conf_types::{
     Acls, Conf, Dp, Dps, Nets, Port, PortNos, Ports, Route, Router, Routers, Routes, StackEnd,
@@ -138,33 +138,37 @@ fn make_dps(alloc: Global, joined: bool) -> Result<Dps, NoMemory>
     Ok(dps)
 }
 
+fn make_net(ip: u32, len: u8) -> Net4
+    ensures { result ≡ net_of ip len }
+{
+    Net4 {
+        ip: Ip4(ip),
+        len: len.min(32),
+    }
+}
+
 fn make_vips(alloc: Global, networked: bool) -> Result<Nets, NoMemory>
     ensures { IfOk result (λ vips. vips ≡ vips_100 networked) }
 {
-    let mut vips = Nets::new(alloc);
     if networked {
-        vips.push(Net4 {
-            ip: Ip4(OFFICE_VIP),
-            len: 24,
-        })?;
+        Nets::from_slice(alloc, &[make_net(OFFICE_VIP, 24)])
+    } else {
+        Ok(Nets::new(alloc))
     }
-    Ok(vips)
 }
 
 fn make_routes(alloc: Global, networked: bool) -> Result<Routes, NoMemory>
     ensures { IfOk result (λ routes. routes ≡ routes_100 networked) }
 {
-    let mut routes = Routes::new(alloc);
     if networked {
-        routes.push(Route {
-            dst: Net4 {
-                ip: Ip4(0x0a09_0000),
-                len: 16,
-            },
+        let route = Route {
+            dst: make_net(0x0a09_0000, 16),
             gw: Ip4(GATEWAY),
-        })?;
+        };
+        Routes::from_slice(alloc, &[route])
+    } else {
+        Ok(Routes::new(alloc))
     }
-    Ok(routes)
 }
 
 fn make_vlan(
@@ -195,13 +199,7 @@ fn make_vlans(alloc: Global, networked: bool) -> Result<Vlans, NoMemory>
 {
     let vips = make_vips(alloc, networked)?;
     let routes = make_routes(alloc, networked)?;
-    let guest = Nets::from_slice(
-        alloc,
-        &[Net4 {
-            ip: Ip4(GUEST_VIP),
-            len: 24,
-        }],
-    )?;
+    let guest = Nets::from_slice(alloc, &[make_net(GUEST_VIP, 24)])?;
     let mut vlans = Vlans::new(alloc);
     vlans.push(make_vlan(alloc, vid(100), "office", 1, vips, routes)?)?;
     vlans.push(make_vlan(alloc, vid(200), "guest", 2, guest, Routes::new(alloc))?)?;

@@ -1,4 +1,4 @@
-use Rattle.std.proofs.Common.{◌≡◌, List, filter, map, ap, ◌∙◌, subst, IfOk}
+use Rattle.std.proofs.Common.{◌≡◌, List, filter, ap, ◌∙◌, subst, IfOk}
 use Rattle.std.specs.List.{filter_map}
 use Rattle.net_base.specs.declared.numbers.DpId.{DpId}
 use Rattle.conf_types.specs.declared.state.NeighRec.{NeighRec}

@@ -1,4 +1,3 @@
-use Rattle.std.proofs.Common.{arith}
 use Rattle.neighbour_resolve.specs.Due.{after_due}
 use Rattle.neighbour_resolve.proofs.Keys.{due_some, some_table}
 use Rattle.neighbour_resolve.proofs.table.Neighbours.due.Goals as goal

@@ -1,4 +1,4 @@
-use Rattle.std.proofs.Common.{◌≡◌, ◌++◌, ◌≤◌, List, [], length, sym, ap, ◌∙◌, arith, subst}
+use Rattle.std.proofs.Common.{◌≡◌, ◌++◌, List, sym, ap, ◌∙◌, arith, subst}
 use Rattle.conf_types.specs.declared.state.NeighRec.{NeighRec}
 use Rattle.neighbour_resolve.specs.Kept.{kept_neighbours}
 use Rattle.neighbour_resolve.specs.Table.{IsTable}
