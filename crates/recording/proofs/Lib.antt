@@ -5,3 +5,4 @@ pub mod Standing
 pub mod Stepping
 pub mod Taking
 pub mod Turning
+pub mod Whole

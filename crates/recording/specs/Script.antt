@@ -19,9 +19,10 @@ use Rattle.recording.specs.declared.refused.RecordCause.{RecordCause}
 use Rattle.recording.specs.declared.refused.RecordRefused.{RecordRefused}
 use Rattle.recording.specs.declared.script_hub.ScriptHub.{ScriptHub}
 use Rattle.recording.specs.Conns.{is_among, open_after}
-use Rattle.recording.specs.Recording.{Place, first_place, after_all, AllSpell, AllFollow}
+use Rattle.recording.specs.Recording.{Place, first_place, after_all, AllSpell, AllFollow, Records}
+use Rattle.recording.specs.Refused.{IsRefused}
 use Rattle.recording.specs.Reader.{place_of, source_of, part_of, left_of, refused_of, Takes, Ends, Refuses}
-use Rattle.recording.specs.Turns.{closings, is_shut, clock, told_by}
+use Rattle.recording.specs.Turns.{closings, is_shut, clock, told_by, turns}
 
 -- the source that it reads
 abbrev pub source_in : {S : Type 0} → ScriptHub S → S
@@ -180,3 +181,21 @@ ReadsOn left old (Some (Happened it)) new = Waits left old (it ∷ []) new
 ReadsOn left old (Some Done) new = Stays left old new × (refused_of new.reader ≡ None → Ends left new.reader)
 ReadsOn left old (Some Failed) new = Stays left old new × (refused_of new.reader ≡ None)
 ReadsOn left old (Some Memory) new = RanOut old new
+
+-- ---- whole stories
+
+-- the story is that of the recording, told to its end or to its first refused record
+pub record ToldWhole (bytes : List ℕ) (events : List Event) (refused : Option RecordRefused) : Type 0 where
+  pub records : List Record
+  pub told : happenings events ≡ turns records (closings 0 events)
+  pub whole : refused ≡ None → Records bytes records
+  pub refuses : (r : RecordRefused) → refused ≡ Some r → IsRefused bytes records r.number r.cause
+
+-- of a recording exactly the bytes behind these records are left
+pub record IsReadBehind (bytes : List ℕ) (left : Option (List ℕ)) : Type 0 where
+  pub records : List Record
+  pub front : List ℕ
+  pub rest : List ℕ
+  pub parts : bytes ≡ front ++ rest
+  pub spell : AllSpell records front
+  pub behind : left ≡ Some rest

@@ -6,6 +6,7 @@ mod conns;
 mod grow;
 mod header;
 mod kind;
+pub mod laws;
 mod own;
 mod reader;
 mod record;
