@@ -17,6 +17,8 @@ mod of_match_tests;
 #[cfg(test)]
 mod pkt_view_tests;
 #[cfg(test)]
+mod recording_tests;
+#[cfg(test)]
 mod stack_paths_tests;
 #[cfg(test)]
 mod yaml_tests;

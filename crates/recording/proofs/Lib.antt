@@ -1,3 +1,4 @@
+pub mod Grammar
 pub mod Keeping
 pub mod Parts
 pub mod Refusals
@@ -6,3 +7,4 @@ pub mod Stepping
 pub mod Taking
 pub mod Turning
 pub mod Whole
+pub mod Writing

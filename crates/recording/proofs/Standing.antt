@@ -36,14 +36,13 @@ use Rattle.recording.proofs.Turning.{AreWithin, within_more, within_push, closin
 
 pub AllSpell-push : (records : List Record) (xs : List ℕ) (r : Record) (ys : List ℕ) → AllSpell records xs → Spells r ys → AllSpell (records ++ r ∷ []) (xs ++ ys)
 AllSpell-push [] xs r ys none spells = (ys, [], ap (λ (l : List ℕ). l ++ ys) none ∙ sym (append-nil ys), spells, refl)
-AllSpell-push (q ∷ records) xs r ys (first, rest, parts, here, more) spells =
-    (
-      first,
-      rest ++ ys,
-      ap (λ (l : List ℕ). l ++ ys) parts ∙ append_assoc first rest ys,
-      here,
-      AllSpell-push records rest r ys more spells
-    )
+AllSpell-push (q ∷ records) xs r ys (first, rest, parts, here, more) spells = (
+  first,
+  rest ++ ys,
+  ap (λ (l : List ℕ). l ++ ys) parts ∙ append_assoc first rest ys,
+  here,
+  AllSpell-push records rest r ys more spells,
+)
 
 pub after_all-push : (place : Place) (records : List Record) (r : Record) → after_all place (records ++ r ∷ []) ≡ after (after_all place records) r
 after_all-push place records r = fold_push after place records r
@@ -212,7 +211,7 @@ module _ {S : Type 0} (left : S → Option (List ℕ)) (whole : Option (List ℕ
       let follows : Follows place r = AllFollow-last first_place records r core.follow in
       let all : (records ++ r ∷ []) ++ [] ≡ records ++ r ∷ [] = append-nil (records ++ r ∷ []) in
       let live_says : is_of_connection r.kind ≡ true → is_live hub r.conn ≡ not (is_shut closes given r.conn) =
-          λ of_conn. core.shut r.conn (named_open r.kind r.conn place.opened of_conn follows.conn)
+      λ of_conn. core.shut r.conn (named_open r.kind r.conn place.opened of_conn follows.conn)
       in
       record {
         front = core.front;
@@ -258,7 +257,7 @@ module _ {S : Type 0} (left : S → Option (List ℕ)) (whole : Option (List ℕ
         within = within_more (length given) _ closes (omega (arith, length-append given told)) core.within;
         shut = λ conn there.
             subst (λ (l : List ℕ). SaysShut l closes (given ++ told) conn) (sym waits.live) (
-              subst (λ (l : List Happening). SaysShut hub.live closes (given ++ l) conn) (sym first) (clock_shut hub.live closes given conn so_far.moment r core.within (core.shut conn there)));
+            subst (λ (l : List Happening). SaysShut hub.live closes (given ++ l) conn) (sym first) (clock_shut hub.live closes given conn so_far.moment r core.within (core.shut conn there)));
         runs = λ now. record {
           place = waits.takes.place ∙ ap (λ (p : Place). after p r) place ∙ sym (after_all-push first_place records r);
           waiting = waits.waiting;
@@ -294,7 +293,7 @@ module _ {S : Type 0} (left : S → Option (List ℕ)) (whole : Option (List ℕ
       let k : Closing = record { conn = c; behind = length given } in
       let so_far = told_by closes records in
       let later : told_by (closes ++ k ∷ []) records ≡ so_far =
-          told_by-later closes k records (omega (arith, ap (λ (l : List Happening). length l) core.gave, length-append so_far.given (clock_of so_far.moment waits)))
+      told_by-later closes k records (omega (arith, ap (λ (l : List Happening). length l) core.gave, length-append so_far.given (clock_of so_far.moment waits)))
       in
       record {
         front = core.front;

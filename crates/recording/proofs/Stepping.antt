@@ -42,11 +42,11 @@ module _ {S : Type 0} (left : S → Option (List ℕ)) where
       }
   own_none_at (Some r) hub new is running nothing told =
       elim (told r is) [
-      | inl own ↦ record {
-        keeps = subst (λ (o : Option Happening). Keeps left hub (events_of o) new) (none_told (own_where (is_live hub r.conn) r) own.0) (Keeps-own left hub new r is running own.1);
-        running = own.1.spent ∙ running;
-      }
-      | inr out ↦ let bad : ⊥ = cc (out.0) in absurd bad
+        | inl own ↦ record {
+          keeps = subst (λ (o : Option Happening). Keeps left hub (events_of o) new) (none_told (own_where (is_live hub r.conn) r) own.0) (Keeps-own left hub new r is running own.1);
+          running = own.1.spent ∙ running;
+        }
+        | inr out ↦ let bad : ⊥ = cc (out.0) in absurd bad
       ]
 
   -- the record that waited has told nothing
@@ -69,8 +69,8 @@ module _ {S : Type 0} (left : S → Option (List ℕ)) where
   own_some_at None hub new t is running nothing told = let bad : ⊥ = cc ((nothing is).0) in absurd bad
   own_some_at (Some r) hub new t is running nothing told =
       elim (told r is) [
-      | inl own ↦ happened (own_where (is_live hub r.conn) r) hub new r t is running own.1 (Keeps-own left hub new r is running own.1) own.0
-      | inr out ↦ subst (λ (k : Turn). ScriptStep left hub (turned k) new) (sym (same_Some t Memory out.0)) (record { story = Keeps-spent left hub new out.1; answer = out.1.spent })
+        | inl own ↦ happened (own_where (is_live hub r.conn) r) hub new r t is running own.1 (Keeps-own left hub new r is running own.1) own.0
+        | inr out ↦ subst (λ (k : Turn). ScriptStep left hub (turned k) new) (sym (same_Some t Memory out.0)) (record { story = Keeps-spent left hub new out.1; answer = out.1.spent })
       ]
 
   -- the record that waited has told its own, or memory ran out

@@ -85,11 +85,11 @@ pub record StandsFor {S : Type 0} (left : S → Option (List ℕ)) (whole : Opti
   pub spell : AllSpell (records ++ listed waits) front
   pub follow : AllFollow first_place (records ++ listed waits)
   pub gave :
-    let told = told_by (closings 0 events) records in
-    happenings events ≡ told.given ++ clock_of told.moment waits
+      let told = told_by (closings 0 events) records in
+      happenings events ≡ told.given ++ clock_of told.moment waits
   pub live : (conn : ℕ) → is_live hub conn ≡ is_open_in events conn
   pub shut :
-    (conn : ℕ) → is_among (after_all first_place records).opened conn ≡ true → is_live hub conn ≡ not (is_shut (closings 0 events) (happenings events) conn)
+      (conn : ℕ) → is_among (after_all first_place records).opened conn ≡ true → is_live hub conn ≡ not (is_shut (closings 0 events) (happenings events) conn)
   pub runs : is_spent hub ≡ false → Runs left hub records waits rest
 
 -- whatever records and story the hub stood for, it stands for as many or more afterwards, and for that story with these
@@ -97,7 +97,7 @@ pub record StandsFor {S : Type 0} (left : S → Option (List ℕ)) (whole : Opti
 abbrev pub Keeps : {S : Type 0} → (S → Option (List ℕ)) → ScriptHub S → List Event → ScriptHub S → Type 0
 Keeps left old events new =
     (whole : Option (List ℕ)) (records : List Record) (waits : Option Record) (before : List Event) → StandsFor left whole old records waits before
-      → (more : List Record) × (later : Option Record) × StandsFor left whole new more later (before ++ events)
+    → (more : List Record) × (later : Option Record) × StandsFor left whole new more later (before ++ events)
 
 -- ---- what its answers say
 

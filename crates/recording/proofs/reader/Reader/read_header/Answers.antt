@@ -14,7 +14,7 @@ returns-in-Err-clause-refuses g c = λ cause is_cause before.
     let r = c.refuse-in-Err.new.self in
     let same : c.in-Err.cause ≡ cause = cc in
     let is : header_refusal (place_of m) m.head (kind_of (kind_in m.head)) ≡ Some c.in-Err.cause =
-        subst (λ (l : List ℕ). header_refusal (place_of m) l (kind_of (kind_in l)) ≡ Some c.in-Err.cause) c.as_slice.ensures (c.in-Err.ensures.refused m.count c.in-Err.cause refl)
+    subst (λ (l : List ℕ). header_refusal (place_of m) l (kind_of (kind_in l)) ≡ Some c.in-Err.cause) c.as_slice.ensures (c.in-Err.ensures.refused m.count c.in-Err.cause refl)
     in
     let whole : length m.head ≡ 17 = omega (arith, m.head_fits, header_limit-most m.count) in
     let both = refuses_header (place_of m) m.head m.body c.in-Err.cause (g.S.Source.left (source_of m)) (omega arith) whole is m.begun_well in

@@ -1,0 +1,46 @@
+-- The records that a replay writes, as bytes: of the same layout as those that are read.
+use Rattle.std.specs.Prelude.{◌≡◌, ℕ, ◌^◌, ◌<◌, List, [], ◌∷◌, ◌++◌, length, Option, Some, None}
+use Rattle.std.specs.List.{flat_map}
+use Rattle.byteorder.specs.Endian.{big_bytes}
+use Rattle.recording.specs.declared.written.SwitchError.{SwitchError}
+
+-- a number as so many bytes, the highest byte first
+unfoldable pub number : (len value : ℕ) → List ℕ
+number len value = big_bytes len value
+
+-- what a written record tells: a message that was sent, or a connection that the controller closed, with the number of the
+-- cause and, for an error of the switch, its type and code
+pub data Written : Type 0 where
+  sent : List ℕ → Written
+  closed : ℕ → Option SwitchError → Written
+
+-- its kind
+abbrev pub kind_number : Written → ℕ
+kind_number (sent message) = 130
+kind_number (closed cause error) = 131
+
+-- the type and code of an error
+abbrev pub error_bytes : Option SwitchError → List ℕ
+error_bytes None = []
+error_bytes (Some error) = number 2 error.kind ++ number 2 error.code
+
+-- its bytes behind the header
+abbrev pub body_of : Written → List ℕ
+body_of (sent message) = message
+body_of (closed cause error) = (cause ∷ []) ++ error_bytes error
+
+-- a record with these parts
+abbrev pub laid : (moment kind conn : ℕ) (body : List ℕ) → List ℕ
+laid moment kind conn body = number 8 moment ++ (kind ∷ []) ++ number 4 conn ++ number 4 (length body) ++ body
+
+pub record WrittenRecord : Type 0 where
+  pub moment : ℕ
+  pub conn : ℕ
+  pub told : Written
+
+abbrev pub written : WrittenRecord → List ℕ
+written r = laid r.moment (kind_number r.told) r.conn (body_of r.told)
+
+-- the bytes of a list of written records
+abbrev pub written_records : List WrittenRecord → List ℕ
+written_records records = flat_map written records
