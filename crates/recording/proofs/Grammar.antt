@@ -39,14 +39,13 @@ same_record r q bytes a b =
     ∙ ap (λ n. let p : Record = record { moment = q.moment; kind = q.kind; conn = n; body = r.body } in p) (sym a.has_conn ∙ b.has_conn)
     ∙ ap (λ (l : List ℕ). let p : Record = record { moment = q.moment; kind = q.kind; conn = q.conn; body = l } in p) (sym a.has_body ∙ b.has_body)
 
-spelled_length : (r : Record) (x y : List ℕ) → Spells r x → length x ≡ 17 + len_in (x ++ y)
-spelled_length r x y a = omega (arith, a.size, a.has_len, number_at-front 4 13 x y (omega (arith, a.size)))
+layout_length : (m k c : ℕ) (body x y : List ℕ) → HasLayout m k c body x → length x ≡ 17 + len_in (x ++ y)
+layout_length m k c body x y a = omega (arith, a.size, a.has_len, number_at-front 4 13 x y (omega (arith, a.size)))
 
--- two records at the front of the same bytes are one
-same_front : (r q : Record) (x y u v : List ℕ) → Spells r x → Spells q u → x ++ y ≡ u ++ v → (x ≡ u) × (y ≡ v)
-same_front r q x y u v a b h =
-    let len : length x ≡ length u = spelled_length r x y a ∙ ap (λ (l : List ℕ). 17 + len_in l) h ∙ sym (spelled_length q u v b) in
-    (
+-- two records at the front of the same bytes are the same bytes
+pub same_layouts : (m k c : ℕ) (body : List ℕ) (n j d : ℕ) (other x y u v : List ℕ) → HasLayout m k c body x → HasLayout n j d other u → x ++ y ≡ u ++ v → (x ≡ u) × (y ≡ v)
+same_layouts m k c body n j d other x y u v a b h =
+    let len : length x ≡ length u = layout_length m k c body x y a ∙ ap (λ (l : List ℕ). 17 + len_in l) h ∙ sym (layout_length n j d other u v b) in (
       sym (take-append_seam x y) ∙ ap (λ n. take n (x ++ y)) len ∙ ap (λ (l : List ℕ). take (length u) l) h ∙ take-append_seam u v,
       sym (drop-append_seam x y) ∙ ap (λ n. drop n (x ++ y)) len ∙ ap (λ (l : List ℕ). drop (length u) l) h ∙ drop-append_seam u v,
     )
@@ -61,7 +60,7 @@ fronts_split (f ∷ fs) [] front more (x, y, parts, here, below) all =
     absurd (no_record f x (y ++ more) here (sym (sym (append_assoc x y more) ∙ ap (λ (l : List ℕ). l ++ more) (sym parts) ∙ all)))
 fronts_split (f ∷ fs) (r ∷ rs) front more (x, y, parts, here, below) (u, v, parts2, here2, below2) =
     let whole : x ++ (y ++ more) ≡ u ++ v = sym (append_assoc x y more) ∙ ap (λ (l : List ℕ). l ++ more) (sym parts) ∙ parts2 in
-    let same = same_front f r x (y ++ more) u v here here2 whole in
+    let same = same_layouts f.moment (number_of f.kind) f.conn f.body r.moment (number_of r.kind) r.conn r.body x (y ++ more) u v here here2 whole in
     let first : f ≡ r = same_record f r u (subst (λ (l : List ℕ). Spells f l) same.0 here) here2 in
     let deeper = fronts_split fs rs y more below (subst (λ (l : List ℕ). AllSpell rs l) (sym same.1) below2) in
     (deeper.0, ap (λ (q : Record). q ∷ rs) (sym first) ∙ ap (λ (l : List Record). f ∷ l) deeper.1, deeper.2)
@@ -136,7 +135,7 @@ accepted_front place bytes h =
     let same : head ++ more ≡ bytes = take-append-drop 17 bytes in
     let head_len : length head ≡ 17 = length-take-le 17 bytes long in
     let accepted : header_refusal place head (kind_of (kind_in head)) ≡ None =
-        sym (same_header place head more head_len) ∙ ap (λ (l : List ℕ). header_refusal place l (kind_of (kind_in l))) same ∙ both.0
+    sym (same_header place head more head_len) ∙ ap (λ (l : List ℕ). header_refusal place l (kind_of (kind_in l))) same ∙ both.0
     in
     let len : len_in head ≡ len_in bytes = sym (number_at-front 4 13 head more (omega (arith, head_len))) ∙ ap (λ (l : List ℕ). len_in l) same in
     subst (λ (l : List ℕ). Front place l) same (with_kind place head more (kind_of (kind_in head)) refl number head_len accepted (omega (arith, whole, len, length-drop 17 bytes)))
@@ -183,19 +182,19 @@ pub records_or_refused : (bytes : List ℕ) → ((records : List Record) × Reco
 records_or_refused bytes =
     let all = goes (length bytes) first_place bytes (omega arith) in
     elim all.end [
-    | inl none ↦ inl (
-      all.records,
-      record {
-        spell = subst (λ (l : List ℕ). AllSpell all.records l) (sym (all.parts ∙ ap (λ (l : List ℕ). all.front ++ l) none ∙ append-nil all.front)) all.spell;
-        follow = all.follow;
-      },
-    )
-    | inr why ↦ inr (
-      all.records,
-      length all.records + 1,
-      why.0,
-      record { front = all.front; rest = all.rest; parts = all.parts; spell = all.spell; follow = all.follow; begun = why.1; why = why.2; numbered = refl },
-    )
+      | inl none ↦ inl (
+        all.records,
+        record {
+          spell = subst (λ (l : List ℕ). AllSpell all.records l) (sym (all.parts ∙ ap (λ (l : List ℕ). all.front ++ l) none ∙ append-nil all.front)) all.spell;
+          follow = all.follow;
+        },
+      )
+      | inr why ↦ inr (
+        all.records,
+        length all.records + 1,
+        why.0,
+        record { front = all.front; rest = all.rest; parts = all.parts; spell = all.spell; follow = all.follow; begun = why.1; why = why.2; numbered = refl },
+      )
     ]
 
 -- ---- and never both
@@ -220,11 +219,11 @@ unrefused place r first more a f =
     let len : len_in head ≡ length r.body = sym (number_at-front 4 13 head body (omega (arith, head_len))) ∙ ap (λ (l : List ℕ). len_in l) same ∙ a.has_len in
     let known : kind_of (kind_in head) ≡ Some r.kind = ap kind_of kind ∙ kind_back r.kind in
     let accepted : header_refusal place head (kind_of (kind_in head)) ≡ None =
-        ap (λ k. header_refusal place head k) known
-        ∙ accepted_by_tests place head r.kind
-          (ap (λ n. is_length r.kind n) len ∙ f.len)
-          (omega (arith, moment, f.moment))
-          (ap (λ n. is_conn r.kind n place.opened) conn ∙ f.conn)
+    ap (λ k. header_refusal place head k) known
+    ∙ accepted_by_tests place head r.kind
+    (ap (λ n. is_length r.kind n) len ∙ f.len)
+    (omega (arith, moment, f.moment))
+    (ap (λ n. is_conn r.kind n place.opened) conn ∙ f.conn)
     in
     ap (λ (l : List ℕ). refusal place l) (ap (λ (l : List ℕ). l ++ more) (sym same) ∙ append_assoc head body more)
     ∙ refusal-whole place head (body ++ more) f.number head_len accepted

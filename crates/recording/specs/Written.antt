@@ -44,3 +44,22 @@ written r = laid r.moment (kind_number r.told) r.conn (body_of r.told)
 -- the bytes of a list of written records
 abbrev pub written_records : List WrittenRecord → List ℕ
 written_records records = flat_map written records
+
+-- the numbers fit the bytes that they have
+abbrev pub IsErrorOk : Option SwitchError → Type 0
+IsErrorOk None = Unit {0}
+IsErrorOk (Some error) = (error.kind < 2 ^ 16) × (error.code < 2 ^ 16)
+
+abbrev pub IsTold : Written → Type 0
+IsTold (sent message) = Unit {0}
+IsTold (closed cause error) = (cause < 256) × IsErrorOk error
+
+pub record IsWritable (r : WrittenRecord) : Type 0 where
+  pub moment : r.moment < 2 ^ 64
+  pub conn : r.conn < 2 ^ 32
+  pub len : length (body_of r.told) < 2 ^ 32
+  pub told : IsTold r.told
+
+abbrev pub AreWritable : List WrittenRecord → Type 0
+AreWritable [] = Unit {0}
+AreWritable (r ∷ records) = IsWritable r × AreWritable records
