@@ -1,5 +1,5 @@
 -- Each step of a hub that reads a recording keeps what it stands for.
-use Rattle.std.proofs.Common.{◌≡◌, ◌==◌, ◌&&◌, ◌||◌, ℕ, ◌+◌, Bool, true, false, not, nat_lt, if◌then◌else◌, List, [], ◌∷◌, ◌++◌, length, Option, Some, None, refl, sym, ◌∙◌, ap, subst, arith}
+use Rattle.std.proofs.Common.{◌≡◌, ◌==◌, ◌&&◌, ◌||◌, ℕ, Bool, true, false, not, nat_lt, if◌then◌else◌, List, [], ◌∷◌, ◌++◌, length, Option, Some, None, refl, sym, ◌∙◌, ap, subst, arith}
 use Rattle.std.proofs.lemmas.List.{append-nil}
 use Rattle.std.proofs.lemmas.List.Sums.{fold_push}
 use Rattle.std.proofs.lemmas.Bool.{eqb-true}
@@ -14,7 +14,7 @@ use Rattle.recording.specs.declared.record.Record.{Record}
 use Rattle.recording.specs.declared.script_hub.ScriptHub.{ScriptHub}
 use Rattle.recording.specs.Kinds.{is_moment}
 use Rattle.recording.specs.Conns.{is_among, without, open_after}
-use Rattle.recording.specs.Turns.{Closing, closings, clock}
+use Rattle.recording.specs.Turns.{Closing, closings}
 use Rattle.recording.specs.Script as script
 use Rattle.recording.specs.Script.{is_live, is_spent, is_open_in, opened_by, own_kind, own_where, StandsFor, Keeps, Waits, Stays}
 use Rattle.recording.proofs.Turning.{happenings-append, closings-append}

@@ -1,5 +1,5 @@
 -- What a hub that reads a recording stands for, a record or an event at a time.
-use Rattle.std.proofs.Common.{◌≡◌, ◌==◌, ◌&&◌, ◌||◌, ◌⊎◌, ℕ, ◌+◌, ◌≤◌, Bool, true, false, not, if◌then◌else◌, List, [], ◌∷◌, ◌++◌, length, Option, Some, None, refl, sym, ◌∙◌, ap, subst, arith, nat_lt, append_assoc, length-append}
+use Rattle.std.proofs.Common.{◌≡◌, ◌==◌, ◌&&◌, ◌||◌, ℕ, ◌+◌, Bool, true, false, not, if◌then◌else◌, List, [], ◌∷◌, ◌++◌, length, Option, Some, None, refl, sym, ◌∙◌, ap, subst, arith, nat_lt, append_assoc, length-append}
 use Rattle.std.proofs.lemmas.List.{append-nil}
 use Rattle.std.proofs.lemmas.List.Folds.{list_any-append}
 use Rattle.std.proofs.lemmas.List.Sums.{fold_push}
@@ -7,12 +7,11 @@ use Rattle.std.proofs.lemmas.Map.Views.{any-filter_same}
 use Rattle.std.proofs.lemmas.Bool.{eqb-true}
 use Rattle.std.proofs.lemmas.Bool.Decides.{nat_tests}
 use Rattle.std.proofs.Math.Bool.{or-false, and-true}
-use Rattle.std.specs.List.{fold, list_any}
+use Rattle.std.specs.List.{fold}
 use Rattle.fg_outside.specs.declared.hub.Happening.{Happening}
 use Rattle.fg_outside.specs.declared.hub.Happening.TheVariants as happens
 use Rattle.fg_outside.specs.declared.hub.EndCause.TheVariants.{End}
-use Rattle.fg_outside.specs.declared.hub.Said.{Said}
-use Rattle.fg_outside.specs.HubStep.{Event, happening, saying, closing, happenings}
+use Rattle.fg_outside.specs.HubStep.{Event, happenings}
 use Rattle.fg_outside.specs.Left.{prepended}
 use Rattle.recording.specs.declared.kind.RecordKind.{RecordKind}
 use Rattle.recording.specs.declared.kind.RecordKind.TheVariants as kinds
@@ -24,13 +23,13 @@ use Rattle.recording.specs.Kinds.{is_of_connection, is_moment}
 use Rattle.recording.specs.Conns.{is_among, without, open_after, is_conn}
 use Rattle.recording.specs.Layout.{Spells}
 use Rattle.recording.specs.Recording.{Place, first_place, after, after_all, Follows, AllSpell, AllFollow}
-use Rattle.recording.specs.Reader.{place_of, left_of, refused_of, Takes, Refuses}
+use Rattle.recording.specs.Reader.{place_of, left_of, refused_of, Refuses}
 use Rattle.recording.specs.Turns as turning
 use Rattle.recording.specs.Script as script
 use Rattle.recording.specs.Turns.{Closing, closings, opens, is_shut, own_of, with_own, clock, tell, told_by}
 use Rattle.recording.specs.Script.{is_live, is_spent, listed, clock_of, is_open_in, opened_by, own_kind, own_where, Runs, StandsFor, Keeps, Waits, Stays}
 use Rattle.recording.proofs.Parts.{prepended-append}
-use Rattle.recording.proofs.Turning.{AreWithin, within_more, within_push, closings-within, happenings-append, closings-append, is_shut-happening, is_shut-closing, told_by-later, told_by-push}
+use Rattle.recording.proofs.Turning.{AreWithin, within_more, within_push, closings-within, is_shut-happening, is_shut-closing, told_by-later, told_by-push}
 
 -- ---- records behind records
 

@@ -1,6 +1,6 @@
 -- What the turns of records come to, a record or an event at a time.
-use Rattle.std.proofs.Common.{◌≡◌, ◌==◌, ◌&&◌, ◌||◌, ℕ, ◌+◌, ◌≤◌, ◌<◌, Bool, true, false, not, nat_lt, cond, if◌then◌else◌, List, [], ◌∷◌, ◌++◌, length, drop, Option, Some, None, refl, sym, ◌∙◌, ap, subst, arith, append_assoc, length-append, length-drop}
-use Rattle.std.proofs.lemmas.List.{append-nil, drop-append-le}
+use Rattle.std.proofs.Common.{◌≡◌, ◌==◌, ◌&&◌, ◌||◌, ℕ, ◌+◌, ◌≤◌, ◌<◌, Bool, true, false, not, nat_lt, if◌then◌else◌, List, [], ◌∷◌, ◌++◌, length, drop, refl, sym, ◌∙◌, ap, arith, length-append}
+use Rattle.std.proofs.lemmas.List.{drop-append-le}
 use Rattle.std.proofs.lemmas.List.Folds.{list_any-append}
 use Rattle.std.proofs.lemmas.List.Sums.{fold_push}
 use Rattle.std.proofs.Math.Bool.{or-false}
@@ -8,16 +8,12 @@ use Rattle.std.proofs.Math.Seq.{drop-length}
 use Rattle.std.proofs.lemmas.Bool.{le-ltb, lt-ltb}
 use Rattle.std.specs.List.{fold, list_any}
 use Rattle.fg_outside.specs.declared.hub.Happening.{Happening}
-use Rattle.fg_outside.specs.declared.hub.Happening.TheVariants as happens
-use Rattle.fg_outside.specs.declared.hub.EndCause.TheVariants.{End}
-use Rattle.fg_outside.specs.declared.hub.Said.{Said}
 use Rattle.fg_outside.specs.HubStep.{Event, happening, saying, closing, happenings}
 use Rattle.recording.specs.declared.kind.RecordKind.{RecordKind}
 use Rattle.recording.specs.declared.kind.RecordKind.TheVariants as kinds
 use Rattle.recording.specs.declared.record.Record.{Record}
 use Rattle.recording.specs.Kinds.{is_of_connection}
 use Rattle.recording.specs.Turns.{Closing, closings, opens, shuts, is_shut, own, own_of, clock, is_passed_over, with_own, Told, tell, told_by}
-use Rattle.recording.specs.Script.{is_open_in, opened_by}
 
 -- ---- events behind a story
 

@@ -3,22 +3,20 @@ use Rattle.std.proofs.Common.{◌≡◌, ℕ, ◌+◌, ◌<◌, false, List, [],
 use Rattle.std.proofs.lemmas.List.{append-nil}
 use Rattle.std.proofs.lemmas.Option.{same_Some}
 use Rattle.std.specs.Option.{option_map}
-use Rattle.std.specs.List.{fold}
 use Rattle.fg_outside.specs.declared.hub.Happening.{Happening}
-use Rattle.fg_outside.specs.declared.hub.Turn.TheVariants.{Happened, Done}
+use Rattle.fg_outside.specs.declared.hub.Turn.TheVariants.{Happened, Done, Failed}
 use Rattle.fg_outside.specs.Left.{prepended, IsAtEnd}
-use Rattle.fg_outside.specs.HubStep.{HubStep, Event, turned, Leads, story, happenings}
-use Rattle.fg_outside.specs.HubStep.{told_by as added_by}
+use Rattle.fg_outside.specs.HubStep.{HubStep, Event, turned, Leads, story}
 use Rattle.fg_outside.proofs.StoryLemmas.{Story-keeps}
 use Rattle.recording.specs.declared.record.Record.{Record}
 use Rattle.recording.specs.declared.refused.RecordCause.{RecordCause}
 use Rattle.recording.specs.declared.refused.RecordRefused.{RecordRefused}
 use Rattle.recording.specs.declared.script_hub.ScriptHub.{ScriptHub}
-use Rattle.recording.specs.Recording.{Place, first_place, after, after_all, AllSpell, AllFollow, Records}
-use Rattle.recording.specs.Refused.{refusal, IsRefused}
+use Rattle.recording.specs.Recording.{Place, first_place, after, after_all, AllSpell, AllFollow}
+use Rattle.recording.specs.Refused.{refusal}
 use Rattle.recording.specs.Reader.{place_of, part_of, left_of, refused_of, Ends}
 use Rattle.recording.specs.Turns.{closings, turns}
-use Rattle.recording.specs.Script.{source_in, is_spent, refusal_in, listed, Runs, StandsFor, ScriptStep, ToldWhole, IsReadBehind}
+use Rattle.recording.specs.Script.{source_in, is_spent, refusal_in, listed, StandsFor, ScriptStep, ToldWhole, IsReadBehind, IsReadInside}
 
 -- as many records as were counted
 counted_all : (place : Place) (records : List Record) → (after_all place records).count ≡ place.count + length records
@@ -51,6 +49,10 @@ all_left part (Some rest) more none h = ap (λ (l : List ℕ). Some l) (sym (sam
 
 told_is_told : (more : List ℕ) → Some more ≡ None → ⊥
 told_is_told more h = cc
+
+split_part : (part : List ℕ) (left : Option (List ℕ)) (more : List ℕ) → Some more ≡ prepended part left → (rest : List ℕ) × (left ≡ Some rest) × (more ≡ part ++ rest)
+split_part part None more h = absurd (told_is_told more h)
+split_part part (Some rest) more h = (rest, refl, same_Some more (part ++ rest) h)
 
 begun_left : (part : List ℕ) (left : Option (List ℕ)) (more : List ℕ) → 0 < length part → Some more ≡ prepended part left → 0 < length more
 begun_left part None more begun h = absurd (told_is_told more h)
@@ -120,4 +122,23 @@ module _ {S : Type 0} (left : S → Option (List ℕ)) where
         parts = split.2;
         spell = stands.spell;
         behind = all_left (part_of next.reader) (left (source_in next)) split.0 step.answer.none (sym split.1 ∙ runs.behind);
+      }
+
+  pub read_inside : (bytes : List ℕ) (from to next : ScriptHub S) (steps : List HubStep) → StandsFor left (Some bytes) from [] None [] → Leads (ScriptStep left) from steps to → ScriptStep left to (turned Failed) next → IsReadInside bytes (left (source_in next))
+  read_inside bytes from to next steps first way step =
+      let before = way_tells (Some bytes) from to steps first way in
+      let behind = step.story (Some bytes) before.0 before.1 (story steps) before.2 in
+      let stands = behind.2 in
+      let runs = stands.runs step.answer.runs in
+      let split = split_told bytes stands.front stands.rest stands.parts in
+      let inside = split_part (part_of next.reader) (left (source_in next)) split.0 (sym split.1 ∙ runs.behind) in
+      record {
+        records = behind.0 ++ listed behind.1;
+        front = stands.front;
+        part = part_of next.reader;
+        rest = inside.0;
+        parts = split.2 ∙ ap (λ (l : List ℕ). stands.front ++ l) inside.2;
+        spell = stands.spell;
+        within = step.answer.within;
+        behind = inside.1;
       }

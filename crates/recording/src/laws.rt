@@ -2,7 +2,7 @@
 ghost use Rattle.std.specs.Prelude.{◌≡◌, ◌⊎◌, ◌++◌, ℕ, List, [], Option, Some, None};
 ghost use Rattle.fg_outside.specs.HubStep.{HubStep, turned, Leads, story};
 ghost use Rattle.fg_outside.specs.declared.hub.Happening.{Happening};
-ghost use Rattle.fg_outside.specs.declared.hub.Turn.TheVariants.{Happened, Done};
+ghost use Rattle.fg_outside.specs.declared.hub.Turn.TheVariants.{Happened, Done, Failed};
 ghost use Rattle.recording.specs.declared.record.Record.{Record};
 ghost use Rattle.recording.specs.declared.script_hub.ScriptHub.{ScriptHub};
 ghost use Rattle.recording.specs.declared.refused.RecordCause.{RecordCause};
@@ -10,7 +10,7 @@ ghost use Rattle.recording.specs.Layout.{HasLayout};
 ghost use Rattle.recording.specs.Recording.{Records};
 ghost use Rattle.recording.specs.Refused.{IsRefused};
 ghost use Rattle.recording.specs.Written.{kind_number, body_of, WrittenRecord, written, written_records, IsWritable, AreWritable};
-ghost use Rattle.recording.specs.Script.{source_in, refusal_in, StandsFor, ToldWhole, IsReadBehind};
+ghost use Rattle.recording.specs.Script.{source_in, refusal_in, StandsFor, ToldWhole, IsReadBehind, IsReadInside};
 
 use crate::ScriptHub;
 use fg_outside::{Hub, Source};
@@ -42,6 +42,15 @@ pub fn no_byte_is_read_past_a_record<S: Source>()
         → Leads ⟦<ScriptHub<S> as Hub>⟧.may from steps to
         → ⟦<ScriptHub<S> as Hub>⟧.may to (turned (Happened it)) after
         → IsReadBehind bytes (S.left (source_in after)) }
+{}
+
+/// Behind a turn that failed, at most a part of the next record was taken too.
+pub fn a_failed_read_stays_in_its_record<S: Source>()
+    ensures { (bytes : List ℕ) (from to after : ScriptHub S) (steps : List HubStep)
+        → StandsFor S.left (Some bytes) from [] None []
+        → Leads ⟦<ScriptHub<S> as Hub>⟧.may from steps to
+        → ⟦<ScriptHub<S> as Hub>⟧.may to (turned Failed) after
+        → IsReadInside bytes (S.left (source_in after)) }
 {}
 
 /// Bytes are a recording of some records, or have a first record that is refused.

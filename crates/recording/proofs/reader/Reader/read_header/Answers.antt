@@ -1,9 +1,7 @@
-use Rattle.std.proofs.Common.{◌≡◌, ◌<◌, ◌+◌, ◌-◌, ◌^◌, ℕ, List, ◌++◌, length, Some, refl, sym, ◌∙◌, ap, subst, arith}
-use Rattle.fg_outside.specs.Left.{prepended}
+use Rattle.std.proofs.Common.{◌≡◌, ℕ, List, length, Some, refl, subst, arith}
 use Rattle.recording.specs.Kinds.{kind_of}
 use Rattle.recording.specs.Layout.{kind_in}
-use Rattle.recording.specs.Recording.{Place}
-use Rattle.recording.specs.Refused.{header_refusal, refusal}
+use Rattle.recording.specs.Refused.{header_refusal}
 use Rattle.recording.specs.Reader.{place_of, source_of, Refuses}
 use Rattle.recording.proofs.Refusals.{refuses_header, header_limit-most, Refuses-same}
 use Rattle.recording.proofs.reader.Reader.read_header.Goals as goal

@@ -1,4 +1,4 @@
-use Rattle.std.proofs.Common.{◌≡◌, [], Option, Some, None, ◌∙◌, ap}
+use Rattle.std.proofs.Common.{◌≡◌, [], Some, None, ◌∙◌, ap}
 use Rattle.recording.specs.declared.reader.Reader.{Reader}
 use Rattle.recording.specs.Reader.{source_of}
 use Rattle.recording.proofs.Keeping.{Keeps-then}
