@@ -1,5 +1,5 @@
 -- Each step of a hub that reads a recording keeps what it stands for.
-use Rattle.std.proofs.Common.{◌≡◌, ◌==◌, ◌&&◌, ◌||◌, ℕ, ◌+◌, Bool, true, false, not, nat_lt, if◌then◌else◌, List, [], ◌∷◌, ◌++◌, length, Option, Some, None, refl, sym, ◌∙◌, ap, subst, arith}
+use Rattle.std.proofs.Common.{◌≡◌, ◌==◌, ◌&&◌, ◌||◌, ℕ, Bool, true, false, not, nat_lt, if◌then◌else◌, List, [], ◌∷◌, ◌++◌, length, Option, Some, None, refl, sym, ◌∙◌, ap, subst, arith}
 use Rattle.std.proofs.lemmas.List.{append-nil}
 use Rattle.std.proofs.lemmas.List.Sums.{fold_push}
 use Rattle.std.proofs.lemmas.Bool.{eqb-true}
@@ -14,7 +14,7 @@ use Rattle.recording.specs.declared.record.Record.{Record}
 use Rattle.recording.specs.declared.script_hub.ScriptHub.{ScriptHub}
 use Rattle.recording.specs.Kinds.{is_moment}
 use Rattle.recording.specs.Conns.{is_among, without, open_after}
-use Rattle.recording.specs.Turns.{Closing, closings, clock}
+use Rattle.recording.specs.Turns.{Closing, closings}
 use Rattle.recording.specs.Script as script
 use Rattle.recording.specs.Script.{is_live, is_spent, is_open_in, opened_by, own_kind, own_where, StandsFor, Keeps, Waits, Stays}
 use Rattle.recording.proofs.Turning.{happenings-append, closings-append}
@@ -88,9 +88,9 @@ module _ {S : Type 0} (left : S → Option (List ℕ)) where
   stands_at : (whole : Option (List ℕ)) (hub : ScriptHub S) (records : List Record) (waits : Option Record) (events : List Event) (closes : List Closing) (given : List Happening) → closings 0 events ≡ closes → happenings events ≡ given → Core left whole hub records waits closes given → ((conn : ℕ) → is_live hub conn ≡ is_open_in events conn) → StandsFor left whole hub records waits events
   stands_at whole hub records waits events closes given c h core live =
       stands_by left whole hub records waits events (
-        subst (λ (k : List Closing). Core left whole hub records waits k (happenings events)) (sym c) (
-          subst (λ (l : List Happening). Core left whole hub records waits closes l) (sym h) core))
-        live
+      subst (λ (k : List Closing). Core left whole hub records waits k (happenings events)) (sym c) (
+      subst (λ (l : List Happening). Core left whole hub records waits closes l) (sym h) core))
+      live
 
   pub Keeps-same : (hub : ScriptHub S) → Keeps left hub [] hub
   Keeps-same hub = λ whole records waits before stands.
@@ -110,8 +110,8 @@ module _ {S : Type 0} (left : S → Option (List ℕ)) where
         records ++ r ∷ [],
         None,
         stands_at whole new (records ++ r ∷ []) None (before ++ events_of own) (closings 0 before) (happenings before ++ told_list own) (closings_told before own) (happenings_told before own)
-          (own_told left whole hub new records r (closings 0 before) (happenings before) (core_of left whole hub records (Some r) before stands) told)
-          (λ conn.
+            (own_told left whole hub new records r (closings 0 before) (happenings before) (core_of left whole hub records (Some r) before stands) told)
+            (λ conn.
             ap (λ (l : List ℕ). is_among l conn) told.live
             ∙ own_live r.kind r.conn r.body hub.live conn
             ∙ ap (λ b. open_told conn b own) (stands.live conn)
@@ -126,8 +126,8 @@ module _ {S : Type 0} (left : S → Option (List ℕ)) where
         records,
         Some r,
         stands_at whole new records (Some r) (before ++ events_of first) (closings 0 before) (happenings before ++ told_list first) (closings_told before first) (happenings_told before first)
-          (read_waits left whole hub new records (closings 0 before) (happenings before) (told_list first) running (core_of left whole hub records None before stands) reads)
-          (λ conn.
+            (read_waits left whole hub new records (closings 0 before) (happenings before) (told_list first) running (core_of left whole hub records None before stands) reads)
+            (λ conn.
             ap (λ (l : List ℕ). is_among l conn) reads.live
             ∙ stands.live conn
             ∙ sym (moment_live (nat_lt hub.reader.moment r.moment || is_moment r.kind) r.moment first conn (is_open_in before conn) reads.told_first)
@@ -138,7 +138,7 @@ module _ {S : Type 0} (left : S → Option (List ℕ)) where
   quiet_step : (hub new : ScriptHub S) (whole : Option (List ℕ)) (records : List Record) (waits : Option Record) (before : List Event) → new.live ≡ hub.live → StandsFor left whole hub records waits before → Core left whole new records waits (closings 0 before) (happenings before) → StandsFor left whole new records waits (before ++ [])
   quiet_step hub new whole records waits before live stands core =
       subst (λ (l : List Event). StandsFor left whole new records waits l) (sym (append-nil before)) (
-        stands_by left whole new records waits before core (λ conn. ap (λ (l : List ℕ). is_among l conn) live ∙ stands.live conn))
+      stands_by left whole new records waits before core (λ conn. ap (λ (l : List ℕ). is_among l conn) live ∙ stands.live conn))
 
   pub Keeps-stays : (hub new : ScriptHub S) → hub.waiting ≡ None → is_spent hub ≡ false → Stays left hub new → Keeps left hub [] new
   Keeps-stays hub new waiting running stays = λ whole records waits before stands.
@@ -147,43 +147,41 @@ module _ {S : Type 0} (left : S → Option (List ℕ)) where
         records,
         None,
         quiet_step hub new whole records None before stays.live stands
-          (read_stays left whole hub new records (closings 0 before) (happenings before) running (core_of left whole hub records None before stands) stays),
+            (read_stays left whole hub new records (closings 0 before) (happenings before) running (core_of left whole hub records None before stands) stays),
       )
 
   pub Keeps-spent : (hub new : ScriptHub S) → script.RanOut hub new → Keeps left hub [] new
-  Keeps-spent hub new out = λ whole records waits before stands.
-      (
-        records,
-        waits,
-        quiet_step hub new whole records waits before out.live stands
-          (spent_core left whole hub new records waits (closings 0 before) (happenings before) (core_of left whole hub records waits before stands) out)
-      )
+  Keeps-spent hub new out = λ whole records waits before stands. (
+    records,
+    waits,
+    quiet_step hub new whole records waits before out.live stands
+        (spent_core left whole hub new records waits (closings 0 before) (happenings before) (core_of left whole hub records waits before stands) out),
+  )
 
   pub Keeps-said : (hub : ScriptHub S) (conn : ℕ) (piece : List ℕ) (answer : Said) → Keeps left hub (saying conn piece answer ∷ []) hub
   Keeps-said hub conn piece answer = λ whole records waits before stands.
-      let e = saying conn piece answer ∷ [] in
-      (
+      let e = saying conn piece answer ∷ [] in (
         records,
         waits,
         stands_at whole hub records waits (before ++ e) (closings 0 before) (happenings before)
-          (closings-append 0 before e ∙ append-nil (closings 0 before))
-          (happenings-append before e ∙ append-nil (happenings before))
-          (core_of left whole hub records waits before stands)
-          (λ k. stands.live k ∙ sym (fold_push (opened_by k) false before (saying conn piece answer)))
+            (closings-append 0 before e ∙ append-nil (closings 0 before))
+            (happenings-append before e ∙ append-nil (happenings before))
+            (core_of left whole hub records waits before stands)
+            (λ k. stands.live k ∙ sym (fold_push (opened_by k) false before (saying conn piece answer))),
       )
 
   pub Keeps-closed : (hub new : ScriptHub S) (c : ℕ) → new.live ≡ without hub.live c → new.reader ≡ hub.reader → new.waiting ≡ hub.waiting → new.spent ≡ hub.spent → Keeps left hub (closing c ∷ []) new
   Keeps-closed hub new c live reader waiting spent = λ whole records waits before stands.
       let e = closing c ∷ [] in
       let behind : closings 0 (before ++ e) ≡ closings 0 before ++ record { conn = c; behind = length (happenings before) } ∷ [] =
-          closings-append 0 before e ∙ ap (λ n. closings 0 before ++ record { conn = c; behind = n } ∷ []) (omega arith)
+      closings-append 0 before e ∙ ap (λ n. closings 0 before ++ record { conn = c; behind = n } ∷ []) (omega arith)
       in (
         records,
         waits,
         stands_at whole new records waits (before ++ e) _ (happenings before) behind
-          (happenings-append before e ∙ append-nil (happenings before))
-          (closed_core left whole hub new records waits (closings 0 before) (happenings before) c (core_of left whole hub records waits before stands) live reader waiting spent)
-          (λ k.
+            (happenings-append before e ∙ append-nil (happenings before))
+            (closed_core left whole hub new records waits (closings 0 before) (happenings before) c (core_of left whole hub records waits before stands) live reader waiting spent)
+            (λ k.
             ap (λ (l : List ℕ). is_among l k) live
             ∙ is_among-without hub.live c k
             ∙ and_else (c == k) (is_among hub.live k)

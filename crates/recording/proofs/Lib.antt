@@ -1,3 +1,4 @@
+pub mod Grammar
 pub mod Keeping
 pub mod Parts
 pub mod Refusals
@@ -5,3 +6,5 @@ pub mod Standing
 pub mod Stepping
 pub mod Taking
 pub mod Turning
+pub mod Whole
+pub mod Writing

@@ -36,10 +36,10 @@ numbered false n m a kind more tells is other h = other h
 pub kind_of-number : (n : ℕ) (kind : RecordKind) → kind_of n ≡ Some kind → n ≡ number_of kind
 kind_of-number n kind =
     numbered (n == 1) n 1 Open kind _ (eqb-true n 1) refl (
-      numbered (n == 2) n 2 Bytes kind _ (eqb-true n 2) refl (
-        numbered (n == 3) n 3 Close kind _ (eqb-true n 3) refl (
-          numbered (n == 4) n 4 Reload kind _ (eqb-true n 4) refl (
-            numbered (n == 5) n 5 Moment kind _ (eqb-true n 5) refl (λ none. cc)))))
+    numbered (n == 2) n 2 Bytes kind _ (eqb-true n 2) refl (
+    numbered (n == 3) n 3 Close kind _ (eqb-true n 3) refl (
+    numbered (n == 4) n 4 Reload kind _ (eqb-true n 4) refl (
+    numbered (n == 5) n 5 Moment kind _ (eqb-true n 5) refl (λ none. cc)))))
 
 pub header_refusal-front : (place : Place) (head more : List ℕ) (kind : Option RecordKind) → length head ≡ 17 → header_refusal place (head ++ more) kind ≡ header_refusal place head kind
 header_refusal-front place head more None h = refl
@@ -59,7 +59,7 @@ refusal-short place bytes h short = grind (arith, nat_tests)
 refusal-long : (place : Place) (bytes : List ℕ) → place.count + 1 < 2 ^ 64 - 1 → 17 ≤ length bytes → refusal place bytes ≡ option_or (header_refusal place bytes (kind_of (kind_in bytes))) (if nat_lt (length bytes) (17 + len_in bytes) then Some Cut else None)
 refusal-long place bytes h long = grind (arith, nat_tests)
 
-same_header : (place : Place) (head more : List ℕ) → length head ≡ 17 → header_refusal place (head ++ more) (kind_of (kind_in (head ++ more))) ≡ header_refusal place head (kind_of (kind_in head))
+pub same_header : (place : Place) (head more : List ℕ) → length head ≡ 17 → header_refusal place (head ++ more) (kind_of (kind_in (head ++ more))) ≡ header_refusal place head (kind_of (kind_in head))
 same_header place head more whole =
     ap (λ n. header_refusal place (head ++ more) (kind_of n)) (number_at-front 1 8 head more (omega arith))
     ∙ header_refusal-front place head more (kind_of (kind_in head)) whole
@@ -124,11 +124,10 @@ refused_front place head cause (Some rest) h whole is bytes e =
 
 -- a header is refused behind which no bytes were taken yet
 pub refuses_header : (place : Place) (head body : List ℕ) (cause : RecordCause) (left : Option (List ℕ)) → place.count + 1 < 2 ^ 64 - 1 → length head ≡ 17 → header_refusal place head (kind_of (kind_in head)) ≡ Some cause → (0 < length body → header_refusal place head (kind_of (kind_in head)) ≡ None) → ((bytes : List ℕ) → prepended (head ++ body) left ≡ Some bytes → refusal place bytes ≡ Some cause) × IsReadTo cause (head ++ body) left
-refuses_header place head [] cause left h whole is order =
-    (
-      refused_front place head cause left h whole is,
-      header-reached place head (kind_of (kind_in head)) cause (head ++ []) left is (omega (arith, length-append head []))
-    )
+refuses_header place head [] cause left h whole is order = (
+  refused_front place head cause left h whole is,
+  header-reached place head (kind_of (kind_in head)) cause (head ++ []) left is (omega (arith, length-append head [])),
+)
 refuses_header place head (x ∷ body) cause left h whole is order =
     let bad : ⊥ = let none = order (omega arith) in cc in absurd bad
 

@@ -1,5 +1,5 @@
 -- What a hub that reads a recording stands for, a record or an event at a time.
-use Rattle.std.proofs.Common.{◌≡◌, ◌==◌, ◌&&◌, ◌||◌, ◌⊎◌, ℕ, ◌+◌, ◌≤◌, Bool, true, false, not, if◌then◌else◌, List, [], ◌∷◌, ◌++◌, length, Option, Some, None, refl, sym, ◌∙◌, ap, subst, arith, nat_lt, append_assoc, length-append}
+use Rattle.std.proofs.Common.{◌≡◌, ◌==◌, ◌&&◌, ◌||◌, ℕ, ◌+◌, Bool, true, false, not, if◌then◌else◌, List, [], ◌∷◌, ◌++◌, length, Option, Some, None, refl, sym, ◌∙◌, ap, subst, arith, nat_lt, append_assoc, length-append}
 use Rattle.std.proofs.lemmas.List.{append-nil}
 use Rattle.std.proofs.lemmas.List.Folds.{list_any-append}
 use Rattle.std.proofs.lemmas.List.Sums.{fold_push}
@@ -7,12 +7,11 @@ use Rattle.std.proofs.lemmas.Map.Views.{any-filter_same}
 use Rattle.std.proofs.lemmas.Bool.{eqb-true}
 use Rattle.std.proofs.lemmas.Bool.Decides.{nat_tests}
 use Rattle.std.proofs.Math.Bool.{or-false, and-true}
-use Rattle.std.specs.List.{fold, list_any}
+use Rattle.std.specs.List.{fold}
 use Rattle.fg_outside.specs.declared.hub.Happening.{Happening}
 use Rattle.fg_outside.specs.declared.hub.Happening.TheVariants as happens
 use Rattle.fg_outside.specs.declared.hub.EndCause.TheVariants.{End}
-use Rattle.fg_outside.specs.declared.hub.Said.{Said}
-use Rattle.fg_outside.specs.HubStep.{Event, happening, saying, closing, happenings}
+use Rattle.fg_outside.specs.HubStep.{Event, happenings}
 use Rattle.fg_outside.specs.Left.{prepended}
 use Rattle.recording.specs.declared.kind.RecordKind.{RecordKind}
 use Rattle.recording.specs.declared.kind.RecordKind.TheVariants as kinds
@@ -24,26 +23,25 @@ use Rattle.recording.specs.Kinds.{is_of_connection, is_moment}
 use Rattle.recording.specs.Conns.{is_among, without, open_after, is_conn}
 use Rattle.recording.specs.Layout.{Spells}
 use Rattle.recording.specs.Recording.{Place, first_place, after, after_all, Follows, AllSpell, AllFollow}
-use Rattle.recording.specs.Reader.{place_of, left_of, refused_of, Takes, Refuses}
+use Rattle.recording.specs.Reader.{place_of, left_of, refused_of, Refuses}
 use Rattle.recording.specs.Turns as turning
 use Rattle.recording.specs.Script as script
 use Rattle.recording.specs.Turns.{Closing, closings, opens, is_shut, own_of, with_own, clock, tell, told_by}
 use Rattle.recording.specs.Script.{is_live, is_spent, listed, clock_of, is_open_in, opened_by, own_kind, own_where, Runs, StandsFor, Keeps, Waits, Stays}
 use Rattle.recording.proofs.Parts.{prepended-append}
-use Rattle.recording.proofs.Turning.{AreWithin, within_more, within_push, closings-within, happenings-append, closings-append, is_shut-happening, is_shut-closing, told_by-later, told_by-push}
+use Rattle.recording.proofs.Turning.{AreWithin, within_more, within_push, closings-within, is_shut-happening, is_shut-closing, told_by-later, told_by-push}
 
 -- ---- records behind records
 
 pub AllSpell-push : (records : List Record) (xs : List ℕ) (r : Record) (ys : List ℕ) → AllSpell records xs → Spells r ys → AllSpell (records ++ r ∷ []) (xs ++ ys)
 AllSpell-push [] xs r ys none spells = (ys, [], ap (λ (l : List ℕ). l ++ ys) none ∙ sym (append-nil ys), spells, refl)
-AllSpell-push (q ∷ records) xs r ys (first, rest, parts, here, more) spells =
-    (
-      first,
-      rest ++ ys,
-      ap (λ (l : List ℕ). l ++ ys) parts ∙ append_assoc first rest ys,
-      here,
-      AllSpell-push records rest r ys more spells
-    )
+AllSpell-push (q ∷ records) xs r ys (first, rest, parts, here, more) spells = (
+  first,
+  rest ++ ys,
+  ap (λ (l : List ℕ). l ++ ys) parts ∙ append_assoc first rest ys,
+  here,
+  AllSpell-push records rest r ys more spells,
+)
 
 pub after_all-push : (place : Place) (records : List Record) (r : Record) → after_all place (records ++ r ∷ []) ≡ after (after_all place records) r
 after_all-push place records r = fold_push after place records r
@@ -212,7 +210,7 @@ module _ {S : Type 0} (left : S → Option (List ℕ)) (whole : Option (List ℕ
       let follows : Follows place r = AllFollow-last first_place records r core.follow in
       let all : (records ++ r ∷ []) ++ [] ≡ records ++ r ∷ [] = append-nil (records ++ r ∷ []) in
       let live_says : is_of_connection r.kind ≡ true → is_live hub r.conn ≡ not (is_shut closes given r.conn) =
-          λ of_conn. core.shut r.conn (named_open r.kind r.conn place.opened of_conn follows.conn)
+      λ of_conn. core.shut r.conn (named_open r.kind r.conn place.opened of_conn follows.conn)
       in
       record {
         front = core.front;
@@ -258,7 +256,7 @@ module _ {S : Type 0} (left : S → Option (List ℕ)) (whole : Option (List ℕ
         within = within_more (length given) _ closes (omega (arith, length-append given told)) core.within;
         shut = λ conn there.
             subst (λ (l : List ℕ). SaysShut l closes (given ++ told) conn) (sym waits.live) (
-              subst (λ (l : List Happening). SaysShut hub.live closes (given ++ l) conn) (sym first) (clock_shut hub.live closes given conn so_far.moment r core.within (core.shut conn there)));
+            subst (λ (l : List Happening). SaysShut hub.live closes (given ++ l) conn) (sym first) (clock_shut hub.live closes given conn so_far.moment r core.within (core.shut conn there)));
         runs = λ now. record {
           place = waits.takes.place ∙ ap (λ (p : Place). after p r) place ∙ sym (after_all-push first_place records r);
           waiting = waits.waiting;
@@ -294,7 +292,7 @@ module _ {S : Type 0} (left : S → Option (List ℕ)) (whole : Option (List ℕ
       let k : Closing = record { conn = c; behind = length given } in
       let so_far = told_by closes records in
       let later : told_by (closes ++ k ∷ []) records ≡ so_far =
-          told_by-later closes k records (omega (arith, ap (λ (l : List Happening). length l) core.gave, length-append so_far.given (clock_of so_far.moment waits)))
+      told_by-later closes k records (omega (arith, ap (λ (l : List Happening). length l) core.gave, length-append so_far.given (clock_of so_far.moment waits)))
       in
       record {
         front = core.front;

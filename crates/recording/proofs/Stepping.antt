@@ -1,5 +1,5 @@
 -- The parts of a turn of a hub that reads a recording, as steps.
-use Rattle.std.proofs.Common.{◌≡◌, ◌&&◌, ℕ, ◌+◌, true, false, not, if◌then◌else◌, List, [], ◌∷◌, Option, Some, None, refl, sym, ◌∙◌, ap, subst, inl, inr}
+use Rattle.std.proofs.Common.{◌≡◌, ◌&&◌, ℕ, ◌≤◌, ◌<◌, length, ◌++◌, arith, length-append, true, false, not, if◌then◌else◌, List, [], ◌∷◌, Option, Some, None, refl, sym, ◌∙◌, ap, subst, inl, inr}
 use Rattle.std.proofs.lemmas.Option.{same_Some}
 use Rattle.std.specs.Option.{option_map}
 use Rattle.fg_outside.specs.declared.hub.Happening.{Happening}
@@ -7,15 +7,17 @@ use Rattle.fg_outside.specs.declared.hub.Turn.{Turn}
 use Rattle.fg_outside.specs.declared.hub.Turn.TheVariants.{Happened, Done, Failed, Memory}
 use Rattle.fg_outside.specs.declared.hub.Said.{Said}
 use Rattle.fg_outside.specs.declared.hub.Said.TheVariants as answers
-use Rattle.fg_outside.specs.HubStep.{Event, turned, said, closed}
+use Rattle.fg_outside.specs.HubStep.{turned, said, closed}
 use Rattle.fg_outside.specs.HubStep.{told_by as added_by}
 use Rattle.recording.specs.declared.reader.Reader.{Reader}
 use Rattle.recording.specs.declared.record.Record.{Record}
 use Rattle.recording.specs.declared.script_hub.ScriptHub.{ScriptHub}
-use Rattle.recording.specs.Reader.{place_of, part_of, refused_of}
+use Rattle.recording.specs.Reader.{part_of, refused_of}
 use Rattle.recording.specs.Script as script
 use Rattle.recording.specs.Conns.{is_among, without}
-use Rattle.recording.specs.Script.{answer_of, is_live, is_spent, own_where, Keeps, ScriptStep, Answers, TellsOwn, ReadsOn, Waits}
+use Rattle.recording.specs.Layout.{len_in}
+use Rattle.recording.proofs.Refusals.{number_at-front, header_limit-most}
+use Rattle.recording.specs.Script.{IsWithin, answer_of, is_live, is_spent, own_where, Keeps, ScriptStep, Answers, TellsOwn, ReadsOn, Waits}
 use Rattle.recording.proofs.Keeping.{events_of, Keeps-same, Keeps-then, Keeps-own, Keeps-read, Keeps-stays, Keeps-spent, Keeps-said, Keeps-closed}
 use Rattle.recording.proofs.Standing.{is_among-without}
 use Rattle.std.proofs.lemmas.Bool.{eq-eqb}
@@ -26,6 +28,17 @@ none_told (Some it) h = cc
 
 some_is_not_none : {T : Type 0} (found : Option T) (x : T) → found ≡ Some x → found ≡ None → ⊥
 some_is_not_none found x is none = cc
+
+within_cut : (head body : List ℕ) → length head ≤ 17 → (0 < length body → length head ≡ 17) → length body ≤ len_in head → IsWithin (head ++ body)
+within_cut head [] few order less = omega (arith, length-append head [])
+within_cut head (x ∷ body) few order less =
+    let whole : length head ≡ 17 = order (omega arith) in
+    let len : len_in (head ++ x ∷ body) ≡ len_in head = number_at-front 4 13 head (x ∷ body) (omega (arith, whole)) in
+    omega (arith, whole, len, less, length-append head (x ∷ body))
+
+-- a reader takes no byte behind the record that it reads
+reader_within : {S : Type 0} (reader : Reader S) → IsWithin (part_of reader)
+reader_within reader = within_cut reader.head reader.body (omega (arith, reader.head_fits, header_limit-most reader.count)) reader.in_order reader.body_fits
 
 module _ {S : Type 0} (left : S → Option (List ℕ)) where
   -- what is known where a part of a turn gave no answer
@@ -42,11 +55,11 @@ module _ {S : Type 0} (left : S → Option (List ℕ)) where
       }
   own_none_at (Some r) hub new is running nothing told =
       elim (told r is) [
-      | inl own ↦ record {
-        keeps = subst (λ (o : Option Happening). Keeps left hub (events_of o) new) (none_told (own_where (is_live hub r.conn) r) own.0) (Keeps-own left hub new r is running own.1);
-        running = own.1.spent ∙ running;
-      }
-      | inr out ↦ let bad : ⊥ = cc (out.0) in absurd bad
+        | inl own ↦ record {
+          keeps = subst (λ (o : Option Happening). Keeps left hub (events_of o) new) (none_told (own_where (is_live hub r.conn) r) own.0) (Keeps-own left hub new r is running own.1);
+          running = own.1.spent ∙ running;
+        }
+        | inr out ↦ let bad : ⊥ = cc (out.0) in absurd bad
       ]
 
   -- the record that waited has told nothing
@@ -69,8 +82,8 @@ module _ {S : Type 0} (left : S → Option (List ℕ)) where
   own_some_at None hub new t is running nothing told = let bad : ⊥ = cc ((nothing is).0) in absurd bad
   own_some_at (Some r) hub new t is running nothing told =
       elim (told r is) [
-      | inl own ↦ happened (own_where (is_live hub r.conn) r) hub new r t is running own.1 (Keeps-own left hub new r is running own.1) own.0
-      | inr out ↦ subst (λ (k : Turn). ScriptStep left hub (turned k) new) (sym (same_Some t Memory out.0)) (record { story = Keeps-spent left hub new out.1; answer = out.1.spent })
+        | inl own ↦ happened (own_where (is_live hub r.conn) r) hub new r t is running own.1 (Keeps-own left hub new r is running own.1) own.0
+        | inr out ↦ subst (λ (k : Turn). ScriptStep left hub (turned k) new) (sym (same_Some t Memory out.0)) (record { story = Keeps-spent left hub new out.1; answer = out.1.spent })
       ]
 
   -- the record that waited has told its own, or memory ran out
@@ -93,7 +106,7 @@ module _ {S : Type 0} (left : S → Option (List ℕ)) where
   }
   read_some hub new Failed waiting running reads = record {
     story = Keeps-stays left hub new waiting running reads.0;
-    answer = (reads.0.spent ∙ running, reads.1);
+    answer = record { runs = reads.0.spent ∙ running; unrefused = reads.1; within = reader_within new.reader };
   }
   read_some hub new Memory waiting running reads = record { story = Keeps-spent left hub new reads; answer = reads.spent }
 

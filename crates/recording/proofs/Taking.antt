@@ -1,9 +1,9 @@
 -- A record that is taken whole.
-use Rattle.std.proofs.Common.{◌≡◌, ℕ, ◌+◌, true, List, [], ◌++◌, length, drop, Option, Some, None, refl, sym, ◌∙◌, ap, subst, arith, length-append}
+use Rattle.std.proofs.Common.{◌≡◌, ℕ, List, ◌++◌, length, drop, Some, None, sym, ◌∙◌, ap, arith, length-append}
 use Rattle.std.proofs.Math.Seq.{drop-append_seam}
 use Rattle.recording.specs.declared.header.Header.{Header}
 use Rattle.recording.specs.declared.record.Record.{Record}
-use Rattle.recording.specs.Kinds.{number_of, kind_of, is_length}
+use Rattle.recording.specs.Kinds.{is_length}
 use Rattle.recording.specs.Conns.{is_conn}
 use Rattle.recording.specs.Layout.{kind_in, Spells}
 use Rattle.recording.specs.Recording.{Place, Follows}

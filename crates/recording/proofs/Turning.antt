@@ -1,6 +1,6 @@
 -- What the turns of records come to, a record or an event at a time.
-use Rattle.std.proofs.Common.{◌≡◌, ◌==◌, ◌&&◌, ◌||◌, ℕ, ◌+◌, ◌≤◌, ◌<◌, Bool, true, false, not, nat_lt, cond, if◌then◌else◌, List, [], ◌∷◌, ◌++◌, length, drop, Option, Some, None, refl, sym, ◌∙◌, ap, subst, arith, append_assoc, length-append, length-drop}
-use Rattle.std.proofs.lemmas.List.{append-nil, drop-append-le}
+use Rattle.std.proofs.Common.{◌≡◌, ◌==◌, ◌&&◌, ◌||◌, ℕ, ◌+◌, ◌≤◌, ◌<◌, Bool, true, false, not, nat_lt, if◌then◌else◌, List, [], ◌∷◌, ◌++◌, length, drop, refl, sym, ◌∙◌, ap, arith, length-append}
+use Rattle.std.proofs.lemmas.List.{drop-append-le}
 use Rattle.std.proofs.lemmas.List.Folds.{list_any-append}
 use Rattle.std.proofs.lemmas.List.Sums.{fold_push}
 use Rattle.std.proofs.Math.Bool.{or-false}
@@ -8,16 +8,12 @@ use Rattle.std.proofs.Math.Seq.{drop-length}
 use Rattle.std.proofs.lemmas.Bool.{le-ltb, lt-ltb}
 use Rattle.std.specs.List.{fold, list_any}
 use Rattle.fg_outside.specs.declared.hub.Happening.{Happening}
-use Rattle.fg_outside.specs.declared.hub.Happening.TheVariants as happens
-use Rattle.fg_outside.specs.declared.hub.EndCause.TheVariants.{End}
-use Rattle.fg_outside.specs.declared.hub.Said.{Said}
 use Rattle.fg_outside.specs.HubStep.{Event, happening, saying, closing, happenings}
 use Rattle.recording.specs.declared.kind.RecordKind.{RecordKind}
 use Rattle.recording.specs.declared.kind.RecordKind.TheVariants as kinds
 use Rattle.recording.specs.declared.record.Record.{Record}
 use Rattle.recording.specs.Kinds.{is_of_connection}
 use Rattle.recording.specs.Turns.{Closing, closings, opens, shuts, is_shut, own, own_of, clock, is_passed_over, with_own, Told, tell, told_by}
-use Rattle.recording.specs.Script.{is_open_in, opened_by}
 
 -- ---- events behind a story
 
@@ -80,7 +76,7 @@ shuts-happening given it conn c h =
     let later : nat_lt (length (given ++ it ∷ [])) c.behind ≡ false = le-ltb _ _ (omega (arith, length-append given (it ∷ []))) in
     let by_then : nat_lt (length given) c.behind ≡ false = le-ltb _ _ h in
     let more : list_any (opens conn) (drop c.behind (given ++ it ∷ [])) ≡ (opened || (opens conn it || false)) =
-        ap (λ (l : List Happening). list_any (opens conn) l) (drop-append-le c.behind given (it ∷ []) h) ∙ list_any-append (opens conn) since (it ∷ [])
+    ap (λ (l : List Happening). list_any (opens conn) l) (drop-append-le c.behind given (it ∷ []) h) ∙ list_any-append (opens conn) since (it ∷ [])
     in
     ap (λ b. of_conn && not b && not (list_any (opens conn) (drop c.behind (given ++ it ∷ [])))) later
     ∙ ap (λ b. of_conn && true && not b) more
@@ -111,9 +107,9 @@ is_shut-closing closes given c conn =
     let at_end : nat_lt (length given) (length given) ≡ false = le-ltb _ _ (omega arith) in
     let none : drop (length given) given ≡ [] = drop-length given in
     let one : (c == conn && not (nat_lt (length given) (length given)) && not (list_any (opens conn) (drop (length given) given)) || false) ≡ (c == conn) =
-        ap (λ b. c == conn && not b && not (list_any (opens conn) (drop (length given) given)) || false) at_end
-        ∙ ap (λ (l : List Happening). c == conn && true && not (list_any (opens conn) l) || false) none
-        ∙ just (c == conn)
+    ap (λ b. c == conn && not b && not (list_any (opens conn) (drop (length given) given)) || false) at_end
+    ∙ ap (λ (l : List Happening). c == conn && true && not (list_any (opens conn) l) || false) none
+    ∙ just (c == conn)
     in
     list_any-append (shuts given conn) closes (record { conn = c; behind = length given } ∷ []) ∙ ap (λ b. is_shut closes given conn || b) one
 
@@ -165,9 +161,9 @@ tell-later : (closes : List Closing) (c : Closing) (told : Told) (r : Record) �
 tell-later closes c told r h =
     let given = told.given ++ clock told.moment r in
     let late : is_of_connection r.kind ≡ true → is_shut closes given r.conn ≡ false → length given < c.behind = λ of_conn stands.
-        let told_own : is_passed_over closes given r ≡ false = ap (λ b. b && is_shut closes given r.conn) of_conn ∙ stands in
-        let len : length (with_own closes given r) ≡ length (given ++ own r) = ap (λ (b : Bool). length (if b then given else given ++ own r)) told_own in
-        omega (arith, h, len, length-append given (own r), own-one r.kind r.conn r.body of_conn)
+    let told_own : is_passed_over closes given r ≡ false = ap (λ b. b && is_shut closes given r.conn) of_conn ∙ stands in
+    let len : length (with_own closes given r) ≡ length (given ++ own r) = ap (λ (b : Bool). length (if b then given else given ++ own r)) told_own in
+    omega (arith, h, len, length-append given (own r), own-one r.kind r.conn r.body of_conn)
     in
     let same = same_passed (is_of_connection r.kind) closes given c r.conn late in
     ap (λ (b : Bool). let t : Told = record { given = if b then given else given ++ own r; moment = r.moment } in t) same

@@ -1,5 +1,5 @@
 -- The kinds of records that are read, and the causes of refusals.
-use Rattle.std.specs.Prelude.{◌==◌, ◌||◌, ℕ, Bool, true, false, not, nat_lt, if◌then◌else◌, List, Option, Some, None, codes}
+use Rattle.std.specs.Prelude.{◌==◌, ℕ, Bool, true, false, not, nat_lt, if◌then◌else◌, List, Option, Some, None, codes}
 use Rattle.recording.specs.declared.kind.RecordKind.{RecordKind}
 use Rattle.recording.specs.declared.kind.RecordKind.TheVariants.{Open, Bytes, Close, Reload, Moment}
 use Rattle.recording.specs.declared.refused.RecordCause.{RecordCause}

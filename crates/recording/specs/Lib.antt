@@ -10,3 +10,4 @@ pub mod Refused
 pub mod Script
 pub mod Stops
 pub mod Turns
+pub mod Written

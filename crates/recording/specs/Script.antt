@@ -1,5 +1,5 @@
 -- What callers see of a hub that reads a recording, and the story that it tells.
-use Rattle.std.specs.Prelude.{◌≡◌, ◌==◌, ◌⊎◌, ◌+◌, ℕ, Bool, true, false, not, if◌then◌else◌, List, [], ◌∷◌, ◌++◌, Option, Some, None}
+use Rattle.std.specs.Prelude.{◌≡◌, ◌==◌, ◌⊎◌, ◌+◌, ◌≤◌, ℕ, Bool, true, false, not, if◌then◌else◌, List, [], ◌∷◌, ◌++◌, length, Option, Some, None}
 use Rattle.std.specs.List.{fold}
 use Rattle.std.specs.Option.{option_map}
 use Rattle.fg_outside.specs.declared.hub.Happening.{Happening}
@@ -19,9 +19,11 @@ use Rattle.recording.specs.declared.refused.RecordCause.{RecordCause}
 use Rattle.recording.specs.declared.refused.RecordRefused.{RecordRefused}
 use Rattle.recording.specs.declared.script_hub.ScriptHub.{ScriptHub}
 use Rattle.recording.specs.Conns.{is_among, open_after}
-use Rattle.recording.specs.Recording.{Place, first_place, after_all, AllSpell, AllFollow}
+use Rattle.recording.specs.Layout.{len_in}
+use Rattle.recording.specs.Recording.{first_place, after_all, AllSpell, AllFollow, Records}
+use Rattle.recording.specs.Refused.{IsRefused}
 use Rattle.recording.specs.Reader.{place_of, source_of, part_of, left_of, refused_of, Takes, Ends, Refuses}
-use Rattle.recording.specs.Turns.{closings, is_shut, clock, told_by}
+use Rattle.recording.specs.Turns.{closings, is_shut, clock, told_by, turns}
 
 -- the source that it reads
 abbrev pub source_in : {S : Type 0} → ScriptHub S → S
@@ -84,11 +86,11 @@ pub record StandsFor {S : Type 0} (left : S → Option (List ℕ)) (whole : Opti
   pub spell : AllSpell (records ++ listed waits) front
   pub follow : AllFollow first_place (records ++ listed waits)
   pub gave :
-    let told = told_by (closings 0 events) records in
-    happenings events ≡ told.given ++ clock_of told.moment waits
+      let told = told_by (closings 0 events) records in
+      happenings events ≡ told.given ++ clock_of told.moment waits
   pub live : (conn : ℕ) → is_live hub conn ≡ is_open_in events conn
   pub shut :
-    (conn : ℕ) → is_among (after_all first_place records).opened conn ≡ true → is_live hub conn ≡ not (is_shut (closings 0 events) (happenings events) conn)
+      (conn : ℕ) → is_among (after_all first_place records).opened conn ≡ true → is_live hub conn ≡ not (is_shut (closings 0 events) (happenings events) conn)
   pub runs : is_spent hub ≡ false → Runs left hub records waits rest
 
 -- whatever records and story the hub stood for, it stands for as many or more afterwards, and for that story with these
@@ -96,7 +98,7 @@ pub record StandsFor {S : Type 0} (left : S → Option (List ℕ)) (whole : Opti
 abbrev pub Keeps : {S : Type 0} → (S → Option (List ℕ)) → ScriptHub S → List Event → ScriptHub S → Type 0
 Keeps left old events new =
     (whole : Option (List ℕ)) (records : List Record) (waits : Option Record) (before : List Event) → StandsFor left whole old records waits before
-      → (more : List Record) × (later : Option Record) × StandsFor left whole new more later (before ++ events)
+    → (more : List Record) × (later : Option Record) × StandsFor left whole new more later (before ++ events)
 
 -- ---- what its answers say
 
@@ -105,6 +107,17 @@ pub record IsBehind {S : Type 0} (hub : ScriptHub S) : Type 0 where
   pub runs : is_spent hub ≡ false
   pub none : part_of hub.reader ≡ []
   pub unrefused : refused_of hub.reader ≡ None
+
+-- the bytes that were taken of the record that is read next reach no further than it does: of a header no more than its 17
+-- bytes, and behind it no more than it tells
+abbrev pub IsWithin : List ℕ → Type 0
+IsWithin part = length part ≤ 17 + len_in part
+
+-- a read failed: no record is refused, and what was taken of the next one stays
+pub record IsInside {S : Type 0} (hub : ScriptHub S) : Type 0 where
+  pub runs : is_spent hub ≡ false
+  pub unrefused : refused_of hub.reader ≡ None
+  pub within : IsWithin (part_of hub.reader)
 
 -- the recording ends, or its next record is refused
 pub record IsOver {S : Type 0} (left : S → Option (List ℕ)) (hub : ScriptHub S) : Type 0 where
@@ -115,7 +128,7 @@ pub record IsOver {S : Type 0} (left : S → Option (List ℕ)) (hub : ScriptHub
 abbrev pub Answers : {S : Type 0} → (S → Option (List ℕ)) → ScriptHub S → HubStep → ScriptHub S → Type 0
 Answers left old (turned (Happened it)) new = IsBehind new
 Answers left old (turned Done) new = IsOver left new
-Answers left old (turned Failed) new = (is_spent new ≡ false) × (refused_of new.reader ≡ None)
+Answers left old (turned Failed) new = IsInside new
 Answers left old (turned Memory) new = is_spent new ≡ true
 Answers left old (said conn piece answer) new = (answer ≡ answer_of old conn) × (new ≡ old)
 Answers left old (closed conn) new = (is_spent new ≡ is_spent old) × (new.reader ≡ old.reader)
@@ -180,3 +193,32 @@ ReadsOn left old (Some (Happened it)) new = Waits left old (it ∷ []) new
 ReadsOn left old (Some Done) new = Stays left old new × (refused_of new.reader ≡ None → Ends left new.reader)
 ReadsOn left old (Some Failed) new = Stays left old new × (refused_of new.reader ≡ None)
 ReadsOn left old (Some Memory) new = RanOut old new
+
+-- ---- whole stories
+
+-- the story is that of the recording, told to its end or to its first refused record
+pub record ToldWhole (bytes : List ℕ) (events : List Event) (refused : Option RecordRefused) : Type 0 where
+  pub records : List Record
+  pub told : happenings events ≡ turns records (closings 0 events)
+  pub whole : refused ≡ None → Records bytes records
+  pub refuses : (r : RecordRefused) → refused ≡ Some r → IsRefused bytes records r.number r.cause
+
+-- of a recording exactly the bytes behind these records are left
+pub record IsReadBehind (bytes : List ℕ) (left : Option (List ℕ)) : Type 0 where
+  pub records : List Record
+  pub front : List ℕ
+  pub rest : List ℕ
+  pub parts : bytes ≡ front ++ rest
+  pub spell : AllSpell records front
+  pub behind : left ≡ Some rest
+
+-- the same, but for a part of the record behind these, which reaches no further than that record does
+pub record IsReadInside (bytes : List ℕ) (left : Option (List ℕ)) : Type 0 where
+  pub records : List Record
+  pub front : List ℕ
+  pub part : List ℕ
+  pub rest : List ℕ
+  pub parts : bytes ≡ front ++ (part ++ rest)
+  pub spell : AllSpell records front
+  pub within : IsWithin part
+  pub behind : left ≡ Some rest

@@ -58,11 +58,7 @@ pub fn grow<S: Source>(source: &mut S, bytes: &mut Bytes, most: usize) -> Result
 }
 
 // Reads one piece more, and says whether the source has ended.
-fn grow_once<S: Source>(
-    source: &mut S,
-    bytes: &mut Bytes,
-    most: usize,
-) -> Result<bool, GrowRefused>
+fn grow_once<S: Source>(source: &mut S, bytes: &mut Bytes, most: usize) -> Result<bool, GrowRefused>
     requires { length bytes.old < most }
     ensures took { (IsErrOf result GrowRefused.Memory → ⊥)
         → prepended bytes.old (S.left source.old) ≡ prepended bytes.new (S.left source.new) }

@@ -6,13 +6,18 @@ mod conns;
 mod grow;
 mod header;
 mod kind;
+pub mod laws;
 mod own;
+mod put;
 mod reader;
 mod record;
 mod refused;
 mod script_hub;
+mod written;
 
 pub use kind::RecordKind;
+pub use put::{put_closed, put_sent};
 pub use record::Record;
 pub use refused::{RecordCause, RecordRefused};
 pub use script_hub::ScriptHub;
+pub use written::SwitchError;

@@ -10,7 +10,10 @@ pub fn own_of(told: Record, is_live: bool) -> Option<Happening>
     ensures { result ≡ own_where is_live told }
 {
     let Record {
-        kind, conn, body, ..
+        kind,
+        conn,
+        body,
+        ..
     } = told;
     match kind {
         RecordKind::Open => Some(Happening::Opened(conn)),

@@ -1,4 +1,4 @@
-use Rattle.std.proofs.Common.{◌≡◌, [], Option, Some, None, ◌∙◌, ap}
+use Rattle.std.proofs.Common.{◌≡◌, [], Some, None, ◌∙◌, ap}
 use Rattle.recording.specs.declared.reader.Reader.{Reader}
 use Rattle.recording.specs.Reader.{source_of}
 use Rattle.recording.proofs.Keeping.{Keeps-then}
@@ -14,7 +14,7 @@ returns-in-Some-clause-step g c =
     let start = c.loop-turn.self in
     let own = c.in-Some.ensures in
     step_then left c.args.self.now start c.tell_own.new.self c.in-Some.turn c.loop-turn.invariant.keeps
-      (own_some left start c.tell_own.new.self c.in-Some.turn c.loop-turn.invariant.running own.nothing own.told)
+    (own_some left start c.tell_own.new.self c.in-Some.turn c.loop-turn.invariant.running own.nothing own.told)
 
 pub returns-in-Some-read_on-clause-step : goal.returns-in-Some-read_on-clause-step
 returns-in-Some-read_on-clause-step g c =
@@ -25,7 +25,7 @@ returns-in-Some-read_on-clause-step g c =
     let goes = own_none left start mid c.loop-turn.invariant.running own.nothing own.told in
     let keeps = Keeps-then left c.args.self.now start mid [] c.loop-turn.invariant.keeps goes.keeps in
     step_then left c.args.self.now mid c.read_on.new.self c.in-Some-read_on.turn keeps
-      (read_some left mid c.read_on.new.self c.in-Some-read_on.turn own.gone goes.running c.in-Some-read_on.ensures.step)
+    (read_some left mid c.read_on.new.self c.in-Some-read_on.turn own.gone goes.running c.in-Some-read_on.ensures.step)
 
 pub loop-turn-preserved : goal.loop-turn-preserved
 loop-turn-preserved g c =

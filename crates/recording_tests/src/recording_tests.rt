@@ -1,0 +1,246 @@
+//! Recordings that are read and written: values of the formats' tables, worked out by hand.
+
+use recording::{RecordCause, RecordRefused, ScriptHub, SwitchError, put_closed, put_sent};
+use fg_outside::{
+    CallNos, EndCause, FileSource, Folder, Folders, Happening, HeldFile, HeldFiles, Hub, MemSource,
+    Said, Source, SureFiles, SureSource, Turn,
+};
+use net_base::{Bytes, NoMemory, Text};
+use std::alloc::Global;
+use std::process::Abort;
+use std::test::Fail;
+
+// The bytes of one record.
+fn put(out: &mut Bytes, moment: u8, kind: u8, conn: u8, body: &[u8]) -> Result<(), NoMemory> {
+    out.append(&[0, 0, 0, 0, 0, 0, 0, moment, kind, 0, 0, 0, conn, 0, 0, 0])?;
+    out.push(body.len().min(255) as u8)?;
+    out.append(body)
+}
+
+// A turn in few words: a letter, and the connection or the moment.
+fn word(turn: &Turn) -> (char, u64) {
+    match turn {
+        Turn::Happened(Happening::Opened(conn)) => ('o', u64::from(*conn)),
+        Turn::Happened(Happening::Heard { conn, piece }) if piece.len() < 9 => {
+            ('h', u64::from(*conn))
+        }
+        Turn::Happened(Happening::Heard { .. }) => ('H', 0),
+        Turn::Happened(Happening::Closed { conn, cause }) if *cause == EndCause::End => {
+            ('c', u64::from(*conn))
+        }
+        Turn::Happened(Happening::Closed { .. }) => ('C', 0),
+        Turn::Happened(Happening::Moment(moment)) => ('m', *moment),
+        Turn::Happened(Happening::Reload(_)) => ('r', 0),
+        Turn::Done => ('d', 0),
+        Turn::Failed => ('f', 0),
+        Turn::Memory => ('M', 0),
+    }
+}
+
+// Whether the next turns of a hub are these.
+fn turns_are<H: Hub>(hub: &mut H, want: &[(char, u64)]) -> bool {
+    let mut same = true;
+    for wanted in want {
+        let turn = hub.turn();
+        same = word(&turn) == *wanted && same;
+    }
+    same
+}
+
+// Two connections over three moments, with each kind of record.
+fn story(alloc: Global) -> Result<Bytes, NoMemory> {
+    let mut bytes = Bytes::new(alloc);
+    put(&mut bytes, 0, 1, 1, b"")?;
+    put(&mut bytes, 0, 2, 1, b"hello")?;
+    put(&mut bytes, 7, 1, 2, b"")?;
+    put(&mut bytes, 7, 2, 1, b"")?;
+    put(&mut bytes, 7, 5, 0, b"")?;
+    put(&mut bytes, 9, 4, 0, b"vlans:")?;
+    put(&mut bytes, 9, 3, 1, b"")?;
+    put(&mut bytes, 9, 1, 1, b"")?;
+    Ok(bytes)
+}
+
+const STORY: [(char, u64); 12] = [
+    ('o', 1),
+    ('h', 1),
+    ('m', 7),
+    ('o', 2),
+    ('h', 1),
+    ('m', 7),
+    ('m', 9),
+    ('r', 0),
+    ('c', 1),
+    ('o', 1),
+    ('d', 0),
+    ('d', 0),
+];
+
+#[test]
+fn a_recording_is_told_in_order(rt: HostRuntime) -> Result<(), Fail> {
+    let alloc = rt.alloc();
+    let mut hub = ScriptHub::new(alloc, SureSource::new(story(alloc)?));
+    assert!(rt; turns_are(&mut hub, &STORY));
+    assert_eq!(rt; hub.refused(), None);
+    assert_eq!(rt; hub.say(1, b"x"), Said::Taken);
+    assert_eq!(rt; hub.say(3, b"x"), Said::Gone);
+    // The same out of a file, and with each of its reads failing once.
+    let mut held = HeldFiles::new(alloc);
+    held.push(HeldFile {
+        name: Text::from_str(alloc, "r")?,
+        bytes: story(alloc)?,
+    })?;
+    let mut folders = Folders::new(alloc);
+    folders.push(Folder { held })?;
+    let source = FileSource::new(SureFiles::new(folders), Text::from_str(alloc, "r")?);
+    let mut hub = ScriptHub::new(alloc, source);
+    assert!(rt; turns_are(&mut hub, &STORY));
+    Ok(())
+}
+
+#[test]
+fn a_failed_read_loses_nothing(rt: HostRuntime) -> Result<(), Fail> {
+    let alloc = rt.alloc();
+    for no in 1..12u64 {
+        let fail = CallNos::from_slice(alloc, &[no])?;
+        let mut hub = ScriptHub::new(alloc, MemSource::new(story(alloc)?, fail));
+        let mut failed = 0u32;
+        for wanted in &STORY {
+            let mut turn = word(&hub.turn());
+            if turn.0 == 'f' {
+                failed = failed.saturating_add(1);
+                turn = word(&hub.turn());
+            }
+            assert_eq!(rt; turn, *wanted, "{no}");
+        }
+        assert_eq!(rt; failed, 1, "{no}");
+    }
+    Ok(())
+}
+
+#[test]
+fn a_closed_connection_tells_no_more_until_it_is_opened(rt: HostRuntime) -> Result<(), Fail> {
+    let alloc = rt.alloc();
+    let mut hub = ScriptHub::new(alloc, SureSource::new(story(alloc)?));
+    assert!(rt; turns_are(&mut hub, &STORY[..2]));
+    hub.close(1);
+    assert_eq!(rt; hub.say(1, b"x"), Said::Gone);
+    // Its bytes and its close are passed over; it is opened again by the last record.
+    let rest = [
+        ('m', 7),
+        ('o', 2),
+        ('m', 7),
+        ('m', 9),
+        ('r', 0),
+        ('o', 1),
+        ('d', 0),
+    ];
+    assert!(rt; turns_are(&mut hub, &rest));
+    // Closed between the moment of a record and its own: the own is passed over.
+    let mut bytes = Bytes::new(alloc);
+    put(&mut bytes, 0, 1, 1, b"")?;
+    put(&mut bytes, 3, 2, 1, b"x")?;
+    put(&mut bytes, 3, 3, 1, b"")?;
+    let mut hub = ScriptHub::new(alloc, SureSource::new(bytes));
+    assert!(rt; turns_are(&mut hub, &[('o', 1), ('m', 3)]));
+    hub.close(1);
+    assert!(rt; turns_are(&mut hub, &[('d', 0)]));
+    Ok(())
+}
+
+#[test]
+fn a_recording_is_cut_where_it_ends_inside_a_record(rt: HostRuntime) -> Result<(), Fail> {
+    let alloc = rt.alloc();
+    let bytes = story(alloc)?;
+    // Where the records end.
+    let ends = [0, 17, 39, 56, 73, 90, 113, 130, 147];
+    for len in 0..=bytes.len() {
+        let whole = ends.iter().filter(|end| **end <= len).count();
+        let front = Bytes::from_slice(alloc, &bytes.as_slice()[..len])?;
+        let mut hub = ScriptHub::new(alloc, SureSource::new(front));
+        for _ in 0..12 {
+            let _ = hub.turn();
+        }
+        let refused = if ends.contains(&len) {
+            None
+        } else {
+            Some(RecordRefused {
+                number: whole as u64,
+                cause: RecordCause::Cut,
+            })
+        };
+        assert_eq!(rt; hub.refused(), refused, "{len}");
+    }
+    Ok(())
+}
+
+#[test]
+fn each_cause_at_its_least_place(rt: HostRuntime) -> Result<(), Fail> {
+    let alloc = rt.alloc();
+    // Kind, connection, moment and the highest three bytes of the length, of a record behind one that
+    // opens connection 1 at moment 5; and the cause.
+    let cases: [(u8, u8, u8, [u8; 4], RecordCause); 12] = [
+        (0, 1, 5, [0; 4], RecordCause::Kind),
+        (6, 0, 4, [0, 16, 0, 1], RecordCause::Kind),
+        (130, 1, 5, [0; 4], RecordCause::Kind),
+        (1, 2, 5, [0, 0, 0, 1], RecordCause::Length),
+        (3, 9, 4, [0, 0, 0, 1], RecordCause::Length),
+        (5, 0, 5, [0, 0, 0, 1], RecordCause::Length),
+        (2, 1, 5, [0, 16, 0, 1], RecordCause::Length),
+        (2, 9, 4, [0; 4], RecordCause::Falls),
+        (1, 1, 5, [0; 4], RecordCause::Conn),
+        (2, 2, 5, [0; 4], RecordCause::Conn),
+        (4, 1, 5, [0, 16, 0, 0], RecordCause::Conn),
+        (2, 1, 5, [0, 16, 0, 0], RecordCause::Cut),
+    ];
+    for (kind, conn, moment, len, cause) in cases {
+        let mut bytes = Bytes::new(alloc);
+        put(&mut bytes, 5, 1, 1, b"")?;
+        bytes.append(&[0, 0, 0, 0, 0, 0, 0, moment, kind, 0, 0, 0, conn])?;
+        bytes.append(&len)?;
+        let mut hub = ScriptHub::new(alloc, SureSource::new(bytes));
+        assert!(rt; turns_are(&mut hub, &[('m', 5), ('o', 1), ('d', 0), ('d', 0)]));
+        let want = RecordRefused { number: 2, cause };
+        assert_eq!(rt; hub.refused(), Some(want), "{kind} {conn}");
+    }
+    Ok(())
+}
+
+#[test]
+fn nothing_is_read_past_a_record(rt: HostRuntime) -> Result<(), Fail> {
+    let alloc = rt.alloc();
+    let mut hub = ScriptHub::new(alloc, SureSource::new(story(alloc)?));
+    assert!(rt; turns_are(&mut hub, &STORY[..3]));
+    // The record behind which it stands, of which only the moment was told, ends at byte 56.
+    let mut source = hub.into_source();
+    let mut buf = [0; 200];
+    match source.read(&mut buf) {
+        Ok(n) => assert_eq!(rt; &buf[..n], &story(alloc)?.as_slice()[56..]),
+        Err(_) => assert!(rt; false),
+    }
+    Ok(())
+}
+
+#[test]
+fn written_records(rt: HostRuntime) -> Result<(), Fail> {
+    let alloc = rt.alloc();
+    let mut out = Bytes::new(alloc);
+    let hello = [4, 0, 0, 16, 0, 0, 0, 1, 0, 1, 0, 8, 0, 0, 0, 16];
+    put_sent(&mut out, 0, 1, &hello)?;
+    let error = SwitchError { kind: 5, code: 1 };
+    put_closed(alloc, &mut out, 258, 1, 7, Some(error))?;
+    put_closed(alloc, &mut out, 258, 2, 2, None)?;
+    let mut want = Bytes::from_slice(
+        alloc,
+        &[0, 0, 0, 0, 0, 0, 0, 0, 130, 0, 0, 0, 1, 0, 0, 0, 16],
+    )?;
+    want.append(&hello)?;
+    want.append(&[
+        0, 0, 0, 0, 0, 0, 1, 2, 131, 0, 0, 0, 1, 0, 0, 0, 5, 7, 0, 5, 0, 1,
+    ])?;
+    want.append(&[0, 0, 0, 0, 0, 0, 1, 2, 131, 0, 0, 0, 2, 0, 0, 0, 1, 2])?;
+    assert_eq!(rt; out.as_slice(), want.as_slice());
+    assert_eq!(rt; RecordCause::Falls.number(), 4);
+    assert_eq!(rt; RecordCause::Cut.name(), "Cut");
+    Ok(())
+}
