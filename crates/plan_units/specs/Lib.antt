@@ -6,3 +6,4 @@ pub mod Laws
 pub mod Agrees
 pub mod Facts
 pub mod PortVlans
+pub mod Copies
