@@ -1,11 +1,11 @@
 //! Recordings that are read and written: values of the formats' tables, worked out by hand.
 
-use recording::{RecordCause, RecordRefused, ScriptHub, SwitchError, put_closed, put_sent};
 use fg_outside::{
     CallNos, EndCause, FileSource, Folder, Folders, Happening, HeldFile, HeldFiles, Hub, MemSource,
     Said, Source, SureFiles, SureSource, Turn,
 };
 use net_base::{Bytes, NoMemory, Text};
+use recording::{RecordCause, RecordRefused, ScriptHub, SwitchError, put_closed, put_sent};
 use std::alloc::Global;
 use std::process::Abort;
 use std::test::Fail;
