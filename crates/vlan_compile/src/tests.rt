@@ -1,6 +1,6 @@
 //! Each row's entries, written out by hand.
 //!
-//! Datapath 1 has the ports of `PORTS`; a stack link leads by port 6 to datapath 2, none to datapath 3. VLANs
+//! Datapath 1 has the ports of `given_ports`; a stack link leads by port 6 to datapath 2, none to datapath 3. VLANs
 //! aren't looked up here: the calls get a configuration without any, and what is made of a VLAN gets the
 //! VLAN itself.
 
@@ -180,53 +180,55 @@ const PLAIN: Given = Given {
     stack: None,
 };
 
-const PORTS: [Given; 8] = [
-    Given {
-        no: 1,
-        native: Some(100),
-        hairpin: true,
-        ..PLAIN
-    },
-    Given {
-        no: 2,
-        native: Some(100),
-        unicast_flood: false,
-        ..PLAIN
-    },
-    Given {
-        no: 3,
-        tagged: &[100, 200],
-        ..PLAIN
-    },
-    Given {
-        no: 4,
-        mirror: &[1, 3],
-        ..PLAIN
-    },
-    Given {
-        no: 5,
-        enabled: false,
-        mirror: &[2],
-        ..PLAIN
-    },
-    Given {
-        no: 6,
-        stack: Some(2),
-        ..PLAIN
-    },
-    Given {
-        no: 7,
-        enabled: false,
-        native: Some(100),
-        ..PLAIN
-    },
-    Given {
-        no: 8,
-        native: Some(100),
-        output_only: true,
-        ..PLAIN
-    },
-];
+fn given_ports() -> [Given; 8] {
+    [
+        Given {
+            no: 1,
+            native: Some(100),
+            hairpin: true,
+            ..PLAIN
+        },
+        Given {
+            no: 2,
+            native: Some(100),
+            unicast_flood: false,
+            ..PLAIN
+        },
+        Given {
+            no: 3,
+            tagged: &[100, 200],
+            ..PLAIN
+        },
+        Given {
+            no: 4,
+            mirror: &[1, 3],
+            ..PLAIN
+        },
+        Given {
+            no: 5,
+            enabled: false,
+            mirror: &[2],
+            ..PLAIN
+        },
+        Given {
+            no: 6,
+            stack: Some(2),
+            ..PLAIN
+        },
+        Given {
+            no: 7,
+            enabled: false,
+            native: Some(100),
+            ..PLAIN
+        },
+        Given {
+            no: 8,
+            native: Some(100),
+            output_only: true,
+            ..PLAIN
+        },
+    ]
+}
 
 fn vids(alloc: Global, listed: &[u16]) -> Result<Vids, Fail> {
     let mut vids = Vids::new(alloc);
@@ -281,8 +283,8 @@ fn make_port(alloc: Global, given: &Given) -> Result<Port, Fail> {
 
 fn make_ports(alloc: Global) -> Result<Ports, Fail> {
     let mut ports = Ports::new(alloc);
-    for given in &PORTS {
-        ports.push(make_port(alloc, given)?)?;
+    for given in given_ports() {
+        ports.push(make_port(alloc, &given)?)?;
     }
     Ok(ports)
 }
@@ -391,14 +393,14 @@ fn ports_admit_their_vlans(rt: HostRuntime) -> Result<(), Fail> {
     assert!(rt;
         is(
             alloc,
-            &admission(alloc, &dp, &PORTS[5], &vlan)?,
+            &admission(alloc, &dp, &given_ports()[5], &vlan)?,
             &FROM_STACK
         )?
     );
     assert!(rt;
         is(
             alloc,
-            &admission(alloc, &dp, &PORTS[0], &vlan)?,
+            &admission(alloc, &dp, &given_ports()[0], &vlan)?,
             &WITHOUT_TAG
         )?
     );
@@ -406,11 +408,11 @@ fn ports_admit_their_vlans(rt: HostRuntime) -> Result<(), Fail> {
     assert!(rt;
         is(
             alloc,
-            &admission(alloc, &dp, &PORTS[2], &vlan)?,
+            &admission(alloc, &dp, &given_ports()[2], &vlan)?,
             &WITH_TAG_AND_ACLS
         )?
     );
-    let port = make_port(alloc, &PORTS[0])?;
+    let port = make_port(alloc, &given_ports()[0])?;
     let mut units = Units { count: 0 };
     let made = admit_entries(alloc, &no_vlans(alloc), &dp, &port, &mut units)?;
     assert!(rt; made.is_empty());
@@ -421,31 +423,33 @@ fn ports_admit_their_vlans(rt: HostRuntime) -> Result<(), Fail> {
 type SourceCase = (u64, u64, &'static [Row]);
 
 /// A host's datapath, the moment, and the entries.
-const SOURCES: [SourceCase; 3] = [
-    (
-        1,
-        4,
-        &[(
-            3,
-            30,
-            &[Has::In(1), Has::Src(HOST), Has::Vid(100)],
-            &[],
-            Some(4),
-        )],
-    ),
-    (
-        1,
-        5,
-        &[(
-            3,
-            30,
-            &[Has::In(1), Has::Src(HOST), Has::Vid(100)],
-            &[Does::Controller],
-            Some(4),
-        )],
-    ),
-    (2, 4, &[]),
-];
+fn source_cases() -> [SourceCase; 3] {
+    [
+        (
+            1,
+            4,
+            &[(
+                3,
+                30,
+                &[Has::In(1), Has::Src(HOST), Has::Vid(100)],
+                &[],
+                Some(4),
+            )],
+        ),
+        (
+            1,
+            5,
+            &[(
+                3,
+                30,
+                &[Has::In(1), Has::Src(HOST), Has::Vid(100)],
+                &[Does::Controller],
+                Some(4),
+            )],
+        ),
+        (2, 4, &[]),
+    ]
+}
 
 const ELSEWHERE: Row = (3, 20, &[Has::Src(HOST), Has::Vid(100)], &[], None);
 
@@ -455,7 +459,7 @@ fn hosts_are_heard_at_their_ports(rt: HostRuntime) -> Result<(), Fail> {
     let dp = make_dp(alloc)?;
     let conf = no_vlans(alloc);
     let mut units = Units { count: 0 };
-    for (id, moment, rows) in SOURCES {
+    for (id, moment, rows) in source_cases() {
         let moment = Moment(moment);
         let made = src_entries(alloc, &conf, &dp, &host(id, 1)?, moment, &mut units)?;
         assert!(rt; are(alloc, &made, rows)?);
@@ -469,62 +473,64 @@ type MissCase = (u32, u32, &'static [(u64, u32)], Row);
 
 /// A port, how many hosts it has at most, the hosts by datapath and port, and the entry in VLAN 100, which
 /// has at most 2 hosts.
-const MISSES: [MissCase; 6] = [
-    (
-        1,
-        1,
-        &[],
+fn miss_cases() -> [MissCase; 6] {
+    [
         (
-            3,
-            10,
-            &[Has::In(1), Has::Vid(100)],
-            &[Does::Controller],
-            Some(4),
+            1,
+            1,
+            &[],
+            (
+                3,
+                10,
+                &[Has::In(1), Has::Vid(100)],
+                &[Does::Controller],
+                Some(4),
+            ),
         ),
-    ),
-    (
-        1,
-        1,
-        &[(1, 1)],
-        (3, 10, &[Has::In(1), Has::Vid(100)], &[], Some(4)),
-    ),
-    (
-        1,
-        9,
-        &[(1, 3), (1, 3)],
-        (3, 10, &[Has::In(1), Has::Vid(100)], &[], Some(4)),
-    ),
-    (
-        1,
-        9,
-        &[(2, 1), (1, 3), (2, 1)],
         (
-            3,
-            10,
-            &[Has::In(1), Has::Vid(100)],
-            &[Does::Controller],
-            Some(4),
+            1,
+            1,
+            &[(1, 1)],
+            (3, 10, &[Has::In(1), Has::Vid(100)], &[], Some(4)),
         ),
-    ),
-    (
-        2,
-        9,
-        &[(1, 2)],
-        (3, 10, &[Has::In(2), Has::Vid(100)], &[], None),
-    ),
-    (
-        2,
-        9,
-        &[(1, 1)],
         (
-            3,
-            10,
-            &[Has::In(2), Has::Vid(100)],
-            &[Does::Controller],
-            Some(4),
+            1,
+            9,
+            &[(1, 3), (1, 3)],
+            (3, 10, &[Has::In(1), Has::Vid(100)], &[], Some(4)),
         ),
-    ),
-];
+        (
+            1,
+            9,
+            &[(2, 1), (1, 3), (2, 1)],
+            (
+                3,
+                10,
+                &[Has::In(1), Has::Vid(100)],
+                &[Does::Controller],
+                Some(4),
+            ),
+        ),
+        (
+            2,
+            9,
+            &[(1, 2)],
+            (3, 10, &[Has::In(2), Has::Vid(100)], &[], None),
+        ),
+        (
+            2,
+            9,
+            &[(1, 1)],
+            (
+                3,
+                10,
+                &[Has::In(2), Has::Vid(100)],
+                &[Does::Controller],
+                Some(4),
+            ),
+        ),
+    ]
+}
 
 #[test]
 fn misses_go_by_what_was_learned(rt: HostRuntime) -> Result<(), Fail> {
@@ -533,7 +539,7 @@ fn misses_go_by_what_was_learned(rt: HostRuntime) -> Result<(), Fail> {
     let vlan = make_vlan(alloc, 100, true)?;
     let conf = no_vlans(alloc);
     let mut units = Units { count: 0 };
-    for (no, max_hosts, listed, row) in MISSES {
+    for (no, max_hosts, listed, row) in miss_cases() {
         let given = Given {
             no,
             native: Some(100),
@@ -558,80 +564,82 @@ fn misses_go_by_what_was_learned(rt: HostRuntime) -> Result<(), Fail> {
 type DestinationCase = (u64, u32, &'static [Row]);
 
 /// A host's datapath and port, and the entries.
-const DESTINATIONS: [DestinationCase; 5] = [
-    (
-        1,
-        1,
-        &[
-            (
-                7,
-                20,
-                &[Has::In(1), Has::Dst(HOST), Has::Vid(100)],
-                &[Does::Pop, Does::Back, Does::Out(4)],
-                None,
-            ),
-            (
+fn destination_cases() -> [DestinationCase; 5] {
+    [
+        (
+            1,
+            1,
+            &[
+                (
+                    7,
+                    20,
+                    &[Has::In(1), Has::Dst(HOST), Has::Vid(100)],
+                    &[Does::Pop, Does::Back, Does::Out(4)],
+                    None,
+                ),
+                (
+                    7,
+                    10,
+                    &[Has::Dst(HOST), Has::Vid(100)],
+                    &[Does::Pop, Does::Out(1), Does::Out(4)],
+                    None,
+                ),
+            ],
+        ),
+        (
+            1,
+            2,
+            &[
+                (
+                    7,
+                    20,
+                    &[Has::In(2), Has::Dst(HOST), Has::Vid(100)],
+                    &[],
+                    None,
+                ),
+                (
+                    7,
+                    10,
+                    &[Has::Dst(HOST), Has::Vid(100)],
+                    &[Does::Pop, Does::Out(2)],
+                    None,
+                ),
+            ],
+        ),
+        (
+            1,
+            3,
+            &[
+                (
+                    7,
+                    20,
+                    &[Has::In(3), Has::Dst(HOST), Has::Vid(100)],
+                    &[],
+                    None,
+                ),
+                (
+                    7,
+                    10,
+                    &[Has::Dst(HOST), Has::Vid(100)],
+                    &[Does::Out(3), Does::Out(4)],
+                    None,
+                ),
+            ],
+        ),
+        (
+            2,
+            5,
+            &[(
                 7,
                 10,
                 &[Has::Dst(HOST), Has::Vid(100)],
-                &[Does::Pop, Does::Out(1), Does::Out(4)],
+                &[Does::Out(6)],
                 None,
-            ),
-        ],
-    ),
-    (
-        1,
-        2,
-        &[
-            (
-                7,
-                20,
-                &[Has::In(2), Has::Dst(HOST), Has::Vid(100)],
-                &[],
-                None,
-            ),
-            (
-                7,
-                10,
-                &[Has::Dst(HOST), Has::Vid(100)],
-                &[Does::Pop, Does::Out(2)],
-                None,
-            ),
-        ],
-    ),
-    (
-        1,
-        3,
-        &[
-            (
-                7,
-                20,
-                &[Has::In(3), Has::Dst(HOST), Has::Vid(100)],
-                &[],
-                None,
-            ),
-            (
-                7,
-                10,
-                &[Has::Dst(HOST), Has::Vid(100)],
-                &[Does::Out(3), Does::Out(4)],
-                None,
-            ),
-        ],
-    ),
-    (
-        2,
-        5,
-        &[(
-            7,
-            10,
-            &[Has::Dst(HOST), Has::Vid(100)],
-            &[Does::Out(6)],
-            None,
-        )],
-    ),
-    (3, 5, &[]),
-];
+            )],
+        ),
+        (3, 5, &[]),
+    ]
+}
 
 #[test]
 fn known_destinations_are_sent_to(rt: HostRuntime) -> Result<(), Fail> {
@@ -640,7 +648,7 @@ fn known_destinations_are_sent_to(rt: HostRuntime) -> Result<(), Fail> {
     let conf = no_vlans(alloc);
     let paths = make_paths(alloc)?;
     let mut units = Units { count: 0 };
-    for (id, port, rows) in DESTINATIONS {
+    for (id, port, rows) in destination_cases() {
         let made = dst_entries(alloc, &conf, &dp, &host(id, port)?, &paths, &mut units)?;
         assert!(rt; are(alloc, &made, rows)?);
     }
@@ -651,163 +659,165 @@ fn known_destinations_are_sent_to(rt: HostRuntime) -> Result<(), Fail> {
 type FloodCase = (u16, bool, &'static [Row]);
 
 /// A VLAN, whether it floods to single addresses, and the entries.
-const FLOODS: [FloodCase; 3] = [
-    (
-        100,
-        true,
-        &[
-            (
-                8,
-                10,
-                &[Has::Vid(100)],
-                &[
-                    Does::Out(3),
-                    Does::Out(4),
-                    Does::Out(6),
-                    Does::Pop,
-                    Does::Out(1),
-                    Does::Out(4),
-                    Does::Out(8),
-                ],
-                None,
-            ),
-            (
-                8,
-                20,
-                &[Has::In(1), Has::Vid(100)],
-                &[
-                    Does::Out(3),
-                    Does::Out(4),
-                    Does::Out(6),
-                    Does::Pop,
-                    Does::Back,
-                    Does::Out(4),
-                    Does::Out(8),
-                ],
-                None,
-            ),
-            (
-                8,
-                20,
-                &[Has::In(2), Has::Vid(100)],
-                &[
-                    Does::Out(3),
-                    Does::Out(4),
-                    Does::Out(6),
-                    Does::Pop,
-                    Does::Out(1),
-                    Does::Out(4),
-                    Does::Out(8),
-                ],
-                None,
-            ),
-            (
-                8,
-                20,
-                &[Has::In(3), Has::Vid(100)],
-                &[
-                    Does::Out(6),
-                    Does::Pop,
-                    Does::Out(1),
-                    Does::Out(4),
-                    Does::Out(8),
-                ],
-                None,
-            ),
-            (
-                8,
-                30,
-                &[Has::Group, Has::Vid(100)],
-                &[
-                    Does::Out(3),
-                    Does::Out(4),
-                    Does::Out(6),
-                    Does::Pop,
-                    Does::Out(1),
-                    Does::Out(4),
-                    Does::Out(2),
-                    Does::Out(8),
-                ],
-                None,
-            ),
-            (
-                8,
-                40,
-                &[Has::In(1), Has::Group, Has::Vid(100)],
-                &[
-                    Does::Out(3),
-                    Does::Out(4),
-                    Does::Out(6),
-                    Does::Pop,
-                    Does::Back,
-                    Does::Out(4),
-                    Does::Out(2),
-                    Does::Out(8),
-                ],
-                None,
-            ),
-            (
-                8,
-                40,
-                &[Has::In(2), Has::Group, Has::Vid(100)],
-                &[
-                    Does::Out(3),
-                    Does::Out(4),
-                    Does::Out(6),
-                    Does::Pop,
-                    Does::Out(1),
-                    Does::Out(4),
-                    Does::Out(8),
-                ],
-                None,
-            ),
-            (
-                8,
-                40,
-                &[Has::In(3), Has::Group, Has::Vid(100)],
-                &[
-                    Does::Out(6),
-                    Does::Pop,
-                    Does::Out(1),
-                    Does::Out(4),
-                    Does::Out(2),
-                    Does::Out(8),
-                ],
-                None,
-            ),
-        ],
-    ),
-    (
-        200,
-        false,
-        &[
-            (8, 10, &[Has::Vid(200)], &[], None),
-            (8, 20, &[Has::In(3), Has::Vid(200)], &[], None),
-            (
-                8,
-                30,
-                &[Has::Group, Has::Vid(200)],
-                &[Does::Out(3), Does::Out(4), Does::Out(6)],
-                None,
-            ),
-            (
-                8,
-                40,
-                &[Has::In(3), Has::Group, Has::Vid(200)],
-                &[Does::Out(6)],
-                None,
-            ),
-        ],
-    ),
-    (
-        300,
-        true,
-        &[
-            (8, 10, &[Has::Vid(300)], &[Does::Out(6)], None),
-            (8, 30, &[Has::Group, Has::Vid(300)], &[Does::Out(6)], None),
-        ],
-    ),
-];
+fn flood_cases() -> [FloodCase; 3] {
+    [
+        (
+            100,
+            true,
+            &[
+                (
+                    8,
+                    10,
+                    &[Has::Vid(100)],
+                    &[
+                        Does::Out(3),
+                        Does::Out(4),
+                        Does::Out(6),
+                        Does::Pop,
+                        Does::Out(1),
+                        Does::Out(4),
+                        Does::Out(8),
+                    ],
+                    None,
+                ),
+                (
+                    8,
+                    20,
+                    &[Has::In(1), Has::Vid(100)],
+                    &[
+                        Does::Out(3),
+                        Does::Out(4),
+                        Does::Out(6),
+                        Does::Pop,
+                        Does::Back,
+                        Does::Out(4),
+                        Does::Out(8),
+                    ],
+                    None,
+                ),
+                (
+                    8,
+                    20,
+                    &[Has::In(2), Has::Vid(100)],
+                    &[
+                        Does::Out(3),
+                        Does::Out(4),
+                        Does::Out(6),
+                        Does::Pop,
+                        Does::Out(1),
+                        Does::Out(4),
+                        Does::Out(8),
+                    ],
+                    None,
+                ),
+                (
+                    8,
+                    20,
+                    &[Has::In(3), Has::Vid(100)],
+                    &[
+                        Does::Out(6),
+                        Does::Pop,
+                        Does::Out(1),
+                        Does::Out(4),
+                        Does::Out(8),
+                    ],
+                    None,
+                ),
+                (
+                    8,
+                    30,
+                    &[Has::Group, Has::Vid(100)],
+                    &[
+                        Does::Out(3),
+                        Does::Out(4),
+                        Does::Out(6),
+                        Does::Pop,
+                        Does::Out(1),
+                        Does::Out(4),
+                        Does::Out(2),
+                        Does::Out(8),
+                    ],
+                    None,
+                ),
+                (
+                    8,
+                    40,
+                    &[Has::In(1), Has::Group, Has::Vid(100)],
+                    &[
+                        Does::Out(3),
+                        Does::Out(4),
+                        Does::Out(6),
+                        Does::Pop,
+                        Does::Back,
+                        Does::Out(4),
+                        Does::Out(2),
+                        Does::Out(8),
+                    ],
+                    None,
+                ),
+                (
+                    8,
+                    40,
+                    &[Has::In(2), Has::Group, Has::Vid(100)],
+                    &[
+                        Does::Out(3),
+                        Does::Out(4),
+                        Does::Out(6),
+                        Does::Pop,
+                        Does::Out(1),
+                        Does::Out(4),
+                        Does::Out(8),
+                    ],
+                    None,
+                ),
+                (
+                    8,
+                    40,
+                    &[Has::In(3), Has::Group, Has::Vid(100)],
+                    &[
+                        Does::Out(6),
+                        Does::Pop,
+                        Does::Out(1),
+                        Does::Out(4),
+                        Does::Out(2),
+                        Does::Out(8),
+                    ],
+                    None,
+                ),
+            ],
+        ),
+        (
+            200,
+            false,
+            &[
+                (8, 10, &[Has::Vid(200)], &[], None),
+                (8, 20, &[Has::In(3), Has::Vid(200)], &[], None),
+                (
+                    8,
+                    30,
+                    &[Has::Group, Has::Vid(200)],
+                    &[Does::Out(3), Does::Out(4), Does::Out(6)],
+                    None,
+                ),
+                (
+                    8,
+                    40,
+                    &[Has::In(3), Has::Group, Has::Vid(200)],
+                    &[Does::Out(6)],
+                    None,
+                ),
+            ],
+        ),
+        (
+            300,
+            true,
+            &[
+                (8, 10, &[Has::Vid(300)], &[Does::Out(6)], None),
+                (8, 30, &[Has::Group, Has::Vid(300)], &[Does::Out(6)], None),
+            ],
+        ),
+    ]
+}
 
 #[test]
 fn vlans_are_flooded(rt: HostRuntime) -> Result<(), Fail> {
@@ -816,7 +826,7 @@ fn vlans_are_flooded(rt: HostRuntime) -> Result<(), Fail> {
     let conf = no_vlans(alloc);
     let paths = make_paths(alloc)?;
     let mut units = Units { count: 0 };
-    for (n, unicast_flood, rows) in FLOODS {
+    for (n, unicast_flood, rows) in flood_cases() {
         let vlan = make_vlan(alloc, n, unicast_flood)?;
         let made = flood_entries(alloc, &conf, &dp, &vlan, &paths, &mut units)?;
         assert!(rt; are(alloc, &made, rows)?);
