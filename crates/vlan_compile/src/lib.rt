@@ -18,6 +18,3 @@ pub use destinations::dst_entries;
 pub use floods::flood_entries;
 pub use misses::miss_entries;
 pub use sources::src_entries;
-
-#[cfg(test)]
-mod tests;
