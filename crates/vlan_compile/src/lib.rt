@@ -19,6 +19,3 @@ pub use flood::{Flood, Ingress};
 pub use floods::flood_entries;
 pub use misses::miss_entries;
 pub use sources::src_entries;
-
-#[cfg(test)]
-mod tests;
