@@ -8,3 +8,6 @@ mod slices;
 mod targets;
 
 pub use slices::{port_acl_entries, vlan_acl_entries};
+
+#[cfg(test)]
+mod tests;

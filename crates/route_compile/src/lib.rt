@@ -9,3 +9,6 @@ mod vips;
 
 pub use routes::fib_entries;
 pub use vips::vip_entries;
+
+#[cfg(test)]
+mod tests;
