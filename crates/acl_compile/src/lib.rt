@@ -7,6 +7,7 @@ mod rules;
 mod slices;
 mod targets;
 
+pub use place::Place;
 pub use slices::{port_acl_entries, vlan_acl_entries};
 
 #[cfg(test)]

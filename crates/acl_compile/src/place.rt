@@ -6,7 +6,7 @@ use plan_base::{Table, in_port, vid_field};
 
 /// Where ACLs are attached.
 #[derive(Drop)]
-pub(crate) enum Place {
+pub enum Place {
     AtPort(PortNo),
     AtVlan(Vid),
 }

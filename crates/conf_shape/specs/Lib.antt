@@ -7,3 +7,4 @@ pub mod Refused
 pub mod Scalars
 pub mod Sections
 pub mod Values
+pub mod Written

@@ -1,7 +1,8 @@
 //! Texts with their trees and their faults, and trees with their canonical form.
 
-use net_base::{NoMemory, Text, TryCopy};
+use net_base::{NoMemory, TryCopy};
 use std::alloc::Global;
+use std::process::Abort;
 use std::test::*;
 use yaml_subset::{Key, Pair, Tree, YamlFault, YamlRefused, print_yaml, read_yaml};
 
@@ -382,16 +383,18 @@ const FAULTS: [(&str, &str); 152] = [
     ("a: <<b: c", "line 1: Syntax"),
 ];
 
+fn check_answers(rt: &impl Abort, alloc: Global, cases: &[(&str, &str)]) -> Result<(), NoMemory> {
+    for (text, wanted) in cases {
+        let found = answer(alloc, text.as_bytes())?;
+        assert!(rt; found.as_str() == *wanted, "{text:?}: {found:?}");
+    }
+    Ok(())
+}
+
 #[test]
-fn yaml_trees_and_faults(rt: HostRuntime) -> Result<(), Fail> {
-    for (text, wanted) in &TREES {
-        let found = answer(rt.alloc(), text.as_bytes())?;
-        assert_eq!(rt; found.as_str(), *wanted, "{text:?}");
-    }
-    for (text, wanted) in &FAULTS {
-        let found = answer(rt.alloc(), text.as_bytes())?;
-        assert_eq!(rt; found.as_str(), *wanted, "{text:?}");
-    }
+fn trees_and_faults(rt: HostRuntime) -> Result<(), Fail> {
+    check_answers(&rt, rt.alloc(), &TREES)?;
+    check_answers(&rt, rt.alloc(), &FAULTS)?;
     Ok(())
 }
 
@@ -405,7 +408,8 @@ fn repeated(alloc: Global, piece: &str, count: usize, last: &str) -> Result<Stri
     Ok(out)
 }
 
-const DEEP: [(&str, usize, &str, &str); 10] = [
+// A piece, how often it stands, what comes behind, and the answer.
+const REPEATED: [(&str, usize, &str, &str); 14] = [
     ("[", 32, "&", "line 1: LeftOut Anchor"),
     ("[", 33, "&", "line 1: TooDeep"),
     ("- ", 32, "&", "line 1: LeftOut Anchor"),
@@ -416,32 +420,26 @@ const DEEP: [(&str, usize, &str, &str); 10] = [
     ("{a: ", 33, "", "line 1: TooDeep"),
     ("a:\n", 1, "- - &", "line 2: LeftOut Anchor"),
     ("- ", 32, "<<: 1", "line 1: TooDeep"),
+    (" ", 1_048_575, "a", "'a'"),
+    (" ", 1_048_576, "a", "line 0: TooLong"),
+    ("a\n", 2, "", "line 2: Syntax"),
+    ("# a\n", 70_000, "\tb", "line 70001: Tab"),
 ];
 
 #[test]
-fn yaml_levels(rt: HostRuntime) -> Result<(), Fail> {
-    for (piece, count, last, wanted) in &DEEP {
-        let text = repeated(rt.alloc(), piece, *count, last)?;
+fn levels_and_lengths(rt: HostRuntime) -> Result<(), Fail> {
+    for (piece, count, last, wanted) in REPEATED {
+        let text = repeated(rt.alloc(), piece, count, last)?;
         let found = answer(rt.alloc(), text.as_bytes())?;
-        assert_eq!(rt; found.as_str(), *wanted, "{text:?}");
+        assert!(rt; found.as_str() == wanted, "{count} of {piece:?}: {found:?}");
     }
-    Ok(())
-}
-
-#[test]
-fn yaml_bytes(rt: HostRuntime) -> Result<(), Fail> {
-    assert_eq!(rt; answer(rt.alloc(), b"\xff")?.as_str(), "line 1: NotUtf8");
-    assert_eq!(rt;
-        answer(rt.alloc(), b"\ta\nb\n\xc3")?.as_str(),
-        "line 3: NotUtf8"
-    );
-    let most = repeated(rt.alloc(), " ", 1_048_575, "a")?;
-    assert_eq!(rt; answer(rt.alloc(), most.as_bytes())?.as_str(), "'a'");
-    let more = repeated(rt.alloc(), " ", 1_048_576, "a")?;
-    assert_eq!(rt;
-        answer(rt.alloc(), more.as_bytes())?.as_str(),
-        "line 0: TooLong"
-    );
+    for (bytes, wanted) in [
+        (b"\xff".as_slice(), "line 1: NotUtf8"),
+        (b"\ta\nb\n\xc3", "line 3: NotUtf8"),
+    ] {
+        let found = answer(rt.alloc(), bytes)?;
+        assert!(rt; found.as_str() == wanted, "{bytes:?}: {found:?}");
+    }
     Ok(())
 }
 
@@ -486,34 +484,27 @@ const PRINTED: [(&str, &str); 24] = [
 ];
 
 #[test]
-fn yaml_is_printed_and_read_back(rt: HostRuntime) -> Result<(), Fail> {
+fn trees_are_printed_and_read_back(rt: HostRuntime) -> Result<(), Fail> {
     let alloc = rt.alloc();
     for (given, wanted) in &PRINTED {
         let tree = read_yaml(alloc, given.as_bytes()).ok().ok_or("a tree")?;
         let printed = print_yaml(alloc, &tree)?;
-        assert_eq!(rt; printed.as_slice(), wanted.as_bytes(), "{given:?}");
+        assert!(rt; printed.as_slice() == wanted.as_bytes(), "{given:?}");
         let before = answer(alloc, given.as_bytes())?;
         let again = answer(alloc, printed.as_slice())?;
-        assert_eq!(rt; again.as_str(), before.as_str(), "{given:?}");
+        assert!(rt; again.as_str() == before.as_str(), "{given:?}");
     }
     Ok(())
 }
 
 #[test]
-fn yaml_trees_are_copied(rt: HostRuntime) -> Result<(), Fail> {
-    let alloc = rt.alloc();
+fn trees_are_copied(rt: HostRuntime) -> Result<(), Fail> {
     let given = "a: [1, true, ~, {2: b}]\n";
-    let tree = read_yaml(alloc, given.as_bytes()).ok().ok_or("a tree")?;
-    let made = tree.copy(alloc)?;
-    let mut shown = String::new(alloc);
-    show_tree(&mut shown, &made)?;
-    assert_eq!(rt; shown.as_str(), "{'a': [1,true,~,{2: 'b',},],}");
-    if let Tree::Map(pairs) = &made {
-        let mut shown = String::new(alloc);
-        show_pairs(&mut shown, pairs.copy(alloc)?.as_slice())?;
-        assert_eq!(rt; shown.as_str(), "{'a': [1,true,~,{2: 'b',},],}");
-    }
-    let key = Key::Text(Text::from_str(alloc, "k")?).copy(alloc)?;
-    assert!(rt; matches!(&key, Key::Text(text) if text.as_str() == "k"));
+    let tree = read_yaml(rt.alloc(), given.as_bytes())
+        .ok()
+        .ok_or("a tree")?;
+    let mut shown = String::new(rt.alloc());
+    show_tree(&mut shown, &tree.copy(rt.alloc())?)?;
+    assert!(rt; shown.as_str() == "{'a': [1,true,~,{2: 'b',},],}");
     Ok(())
 }

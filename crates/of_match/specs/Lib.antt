@@ -1,4 +1,5 @@
 pub mod KeyOrder
+pub mod InPort
 pub mod KeyLaws
 pub mod Hit
 pub mod Act

@@ -4,6 +4,7 @@
 mod action;
 mod entry;
 mod hit;
+mod ingress;
 pub mod laws;
 mod order;
 mod packet;
@@ -14,6 +15,7 @@ mod tables;
 pub use action::{ANY_PORT, Action, Actions, CONTROLLER, IN_PORT, Instr, Instrs};
 pub use entry::{Command, Commands, Entries, Entry, Key};
 pub use hit::{hits, value_of};
+pub use ingress::in_port;
 pub use order::{compare_matches, is_masked};
 pub use packet::{Acted, L4, Packet, Sent, Sents, Tag, Tags, Upper};
 pub use perform::act;

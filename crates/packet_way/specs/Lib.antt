@@ -9,3 +9,4 @@ pub mod Routes
 pub mod Known
 pub mod Flood
 pub mod Description
+pub mod Worked

@@ -12,7 +12,7 @@ use stack_paths::Paths;
 use std::alloc::Global;
 
 /// Where a packet goes on by its destination.
-pub(crate) enum Onward {
+pub enum Onward {
     /// By the port of a host.
     ByPort(PortNo),
     /// By the port of a stack link.

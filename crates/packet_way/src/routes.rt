@@ -37,7 +37,7 @@ pub type RouteItems = Items<RouteItem>;
 
 /// What becomes of a packet by routing.
 #[derive(Drop)]
-pub(crate) enum Routed {
+pub enum Routed {
     /// It goes on in a VLAN.
     GoesOn { vid: Vid, packet: Packet },
     /// It goes to the controller and no further.

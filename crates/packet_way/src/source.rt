@@ -11,7 +11,7 @@ use conf_types::{Conf, Dp, HostRec, Port, Vlan, is_table_full};
 use net_base::{DpId, Mac, Moment, PortNo, Vid};
 
 /// What becomes of a packet by its source.
-pub(crate) enum Heard {
+pub enum Heard {
     GoesOn,
     /// It goes on, and the controller gets a copy.
     IsCopied,

@@ -4,8 +4,8 @@ use net_base::{Bytes, DpId, Field, FieldId, Items, Mac, NoMemory, TryCopy};
 use of_match::{Action, Instr};
 use of_wire::{PartCause, PartFault, put_zeros};
 use of13_codec::{
-    FeaturesReply, FlowMod, FrameHead, Message, PacketIn, PacketOut, PortDesc, PortStats,
-    WireRefused, decode, encode, header,
+    FeaturesReply, FlowMod, Message, PacketIn, PacketOut, PortDesc, PortStats, WireRefused, decode,
+    encode, header,
 };
 use std::alloc::Global;
 use std::test::Fail;
@@ -285,18 +285,18 @@ const FRAMES: [(&[u8], Option<u32>, Option<(u32, PartCause)>); 22] = [
 ];
 
 #[test]
-fn each_message_is_written_and_read_back(rt: HostRuntime) -> Result<(), Fail> {
+fn each_message_is_written_copied_and_read(rt: HostRuntime) -> Result<(), Fail> {
     let alloc = rt.alloc();
     let messages = messages(alloc)?;
-    assert_eq!(rt; messages.len(), FRAMES.len());
+    assert!(rt; messages.len() == FRAMES.len());
     for (message, (frame, _, _)) in messages.as_slice().iter().zip(FRAMES) {
         let mut out = Bytes::new(alloc);
-        encode(alloc, message, XID, &mut out)?;
-        assert_eq!(rt; out.as_slice(), frame);
+        encode(alloc, &message.copy(alloc)?, XID, &mut out)?;
+        assert!(rt; out.as_slice() == frame, "{message:?}");
         let (read, xid) = decode(alloc, frame).ok().ok_or("not decoded")?;
-        let wanted = format!(in alloc; "{message:?}")?;
-        assert_eq!(rt; format!(in alloc; "{read:?}")?, wanted);
-        assert_eq!(rt; xid, XID);
+        let mut again = Bytes::new(alloc);
+        encode(alloc, &read, xid, &mut again)?;
+        assert!(rt; again.as_slice() == frame, "{message:?}");
     }
     Ok(())
 }
@@ -331,16 +331,14 @@ fn a_byte_less_or_more_is_refused_at_its_place(rt: HostRuntime) -> Result<(), Fa
         let size = header(frame).ok_or("a header")?.length;
         let cut = resized(alloc, frame, size.saturating_sub(1))?;
         let wanted = less.map(|at| refusal_at(at, PartCause::Short));
-        assert_eq!(rt;
-            decode(alloc, cut.as_slice()).err(),
-            wanted,
+        assert!(rt;
+            decode(alloc, cut.as_slice()).err() == wanted,
             "cut: {frame:?}"
         );
         let grown = resized(alloc, frame, size.saturating_add(1))?;
         let wanted = more.map(|(at, cause)| refusal_at(at, cause));
-        assert_eq!(rt;
-            decode(alloc, grown.as_slice()).err(),
-            wanted,
+        assert!(rt;
+            decode(alloc, grown.as_slice()).err() == wanted,
             "grown: {frame:?}"
         );
     }
@@ -462,7 +460,7 @@ fn other_spellings_are_read_and_written_plainly(rt: HostRuntime) -> Result<(), F
         let mut out = Bytes::new(alloc);
         encode(alloc, &message, xid, &mut out)?;
         let wanted = frame_of(alloc, kind, zeros, plain)?;
-        assert_eq!(rt; out.as_slice(), wanted.as_slice(), "type {kind}: {tail:?}");
+        assert!(rt; out == wanted, "type {kind}: {tail:?}");
     }
     Ok(())
 }
@@ -581,37 +579,10 @@ fn faults_of_parts_count_from_the_first_byte_of_the_frame(rt: HostRuntime) -> Re
     for (kind, zeros, tail, at, cause) in FAULTS {
         let frame = frame_of(alloc, kind, zeros, tail)?;
         let fault = WireRefused::Body(PartFault { at, cause });
-        assert_eq!(rt;
-            decode(alloc, frame.as_slice()).err(),
-            Some(fault),
-            "type {kind}: {tail:?}"
-        );
+        let found = decode(alloc, frame.as_slice()).err();
+        assert!(rt; found == Some(fault), "type {kind}: {tail:?}");
     }
     Ok(())
-}
-
-fn bitmap_of(alloc: Global, frame: &[u8]) -> Option<u32> {
-    match decode(alloc, frame) {
-        Ok((Message::Hello { bitmap, .. }, _)) => bitmap,
-        _ => None,
-    }
-}
-
-#[test]
-fn hellos_are_read(rt: HostRuntime) {
-    let unknown_first = [
-        5, 0, 0, 24, 0, 0, 0, 1, 0, 2, 0, 5, 9, 0, 0, 0, 0, 1, 0, 8, 0, 0, 0, 0x12,
-    ];
-    assert_eq!(rt; bitmap_of(rt.alloc(), &unknown_first), Some(0x12));
-    let twice = [
-        4, 0, 0, 24, 0, 0, 0, 1, 0, 1, 0, 8, 0, 0, 0, 0x10, 0, 1, 0, 8, 0, 0, 0, 0x20,
-    ];
-    assert_eq!(rt; bitmap_of(rt.alloc(), &twice), Some(0x10));
-    assert_eq!(rt; bitmap_of(rt.alloc(), &[1, 0, 0, 8, 0, 0, 0, 1]), None);
-}
-
-fn refusal(alloc: Global, frame: &[u8]) -> Option<WireRefused> {
-    decode(alloc, frame).err()
 }
 
 #[test]
@@ -622,47 +593,32 @@ fn frames_are_refused(rt: HostRuntime) {
         (&[0, 0, 0, 8, 0, 0, 0, 1], WireRefused::Version),
         (&[4, 20, 0, 7, 0, 0, 0, 1], WireRefused::Length),
         (&[4, 20, 0, 9, 0, 0, 0, 1], WireRefused::Length),
-        (&[4, 20, 0, 9, 0, 0, 0, 1, 0], body(8, PartCause::BadLength)),
+        (
+            &[4, 20, 0, 9, 0, 0, 0, 1, 0],
+            WireRefused::Body(PartFault {
+                at: 8,
+                cause: PartCause::BadLength,
+            }),
+        ),
         (
             &[4, 1, 0, 11, 0, 0, 0, 1, 0, 0, 0],
-            body(11, PartCause::Short),
+            WireRefused::Body(PartFault {
+                at: 11,
+                cause: PartCause::Short,
+            }),
         ),
         (
             &[4, 0, 0, 12, 0, 0, 0, 1, 0, 1, 0, 4],
-            body(10, PartCause::BadLength),
+            WireRefused::Body(PartFault {
+                at: 10,
+                cause: PartCause::BadLength,
+            }),
         ),
     ];
     for (frame, refused) in cases {
-        assert_eq!(rt; refusal(rt.alloc(), frame), Some(refused));
+        assert!(rt;
+            decode(rt.alloc(), frame).err() == Some(refused),
+            "{frame:?}"
+        );
     }
-}
-
-fn body(at: u32, cause: PartCause) -> WireRefused {
-    WireRefused::Body(PartFault { at, cause })
-}
-
-#[test]
-fn header_is_read(rt: HostRuntime) -> Result<(), Fail> {
-    let head = header(&FLOW_MOD).ok_or("a header")?;
-    let want = FrameHead {
-        version: 4,
-        kind: 14,
-        length: 104,
-        xid: XID,
-    };
-    assert_eq!(rt; head, want);
-    assert_eq!(rt; header(&[4, 0, 0, 8, 0, 0, 0]), None);
-    Ok(())
-}
-
-#[test]
-fn copies_are_equal(rt: HostRuntime) -> Result<(), Fail> {
-    let alloc = rt.alloc();
-    let messages = messages(alloc)?;
-    for message in messages.as_slice() {
-        let copy = message.copy(alloc)?;
-        let wanted = format!(in alloc; "{message:?}")?;
-        assert_eq!(rt; format!(in alloc; "{copy:?}")?, wanted);
-    }
-    Ok(())
 }

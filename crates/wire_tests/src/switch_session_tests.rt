@@ -1,7 +1,8 @@
 //! Sessions: frames in pieces, the setup of a connection, ports told, moments, closings.
 
+use Wanted::{Ask, Changed, Echo, Known, Nothing, Packet, PortsKnown, Settled, Shut, Wiped, Wrong};
 use net_base::{Bytes, DpId, Items, Mac, Moment, NoMemory, PortNo};
-use of13_codec::{FeaturesReply, Message, PacketIn, PortDesc, PortDescs};
+use of13_codec::{FeaturesReply, Message, PacketIn, PortDesc};
 use std::alloc::Global;
 use std::process::Abort;
 use std::test::Fail;
@@ -10,19 +11,24 @@ use switch_session::{Closing, Got, PortTold, Quiet, Session, Stage, Step, Stream
 /// The transaction id that is outstanding in every session here.
 const AWAITED: u32 = 7;
 
-const FEATURES: FeaturesReply = FeaturesReply {
-    dp: DpId(5),
-    n_buffers: 0,
-    n_tables: 254,
-    auxiliary: 0,
-    capabilities: 0,
-};
-
-fn hello(version: u8, bitmap: Option<u32>) -> Message {
-    Message::Hello { version, bitmap }
+/// What a switch says.
+#[derive(Clone, Copy, Debug)]
+enum Said {
+    /// A version, and a bitmap of versions.
+    Hello(u8, Option<u32>),
+    Features,
+    /// Whether more parts follow, and ports that are up.
+    Ports(bool, &'static [u32]),
+    /// A reason, a port, its config and its state.
+    Status(u8, u32, u32, u32),
+    Barrier,
+    Packet,
+    Error,
+    EchoRequest,
+    EchoReply,
+    Unknown,
 }
 
-/// A port with a config and a state.
 fn desc(alloc: Global, no: u32, config: u32, state: u32) -> Result<PortDesc, NoMemory> {
     Ok(PortDesc {
         no,
@@ -34,378 +40,400 @@ fn desc(alloc: Global, no: u32, config: u32, state: u32) -> Result<PortDesc, NoM
     })
 }
 
-/// Ports that are told up.
-fn descs(alloc: Global, numbers: &[u32]) -> Result<PortDescs, NoMemory> {
+fn reply(alloc: Global, more: bool, numbers: &[u32]) -> Result<Message, NoMemory> {
     let mut ports = Items::new(alloc);
     for no in numbers {
         ports.push(desc(alloc, *no, 0, 0)?)?;
     }
-    Ok(ports)
+    Ok(Message::PortDescReply { more, ports })
 }
 
-fn reply(alloc: Global, more: bool, numbers: &[u32]) -> Result<Message, NoMemory> {
-    Ok(Message::PortDescReply {
-        more,
-        ports: descs(alloc, numbers)?,
+fn message(alloc: Global, said: Said) -> Result<Message, NoMemory> {
+    Ok(match said {
+        Said::Hello(version, bitmap) => Message::Hello { version, bitmap },
+        Said::Features => Message::FeaturesReply(FeaturesReply {
+            dp: DpId(5),
+            n_buffers: 0,
+            n_tables: 254,
+            auxiliary: 0,
+            capabilities: 0,
+        }),
+        Said::Ports(more, numbers) => reply(alloc, more, numbers)?,
+        Said::Status(reason, no, config, state) => Message::PortStatus {
+            reason,
+            port: desc(alloc, no, config, state)?,
+        },
+        Said::Barrier => Message::BarrierReply,
+        Said::Packet => Message::PacketIn(PacketIn {
+            buffer: 0xffff_ffff,
+            total: 0,
+            reason: 0,
+            table: 3,
+            cookie: 0,
+            fields: Items::new(alloc),
+            payload: Bytes::new(alloc),
+        }),
+        Said::Error => Message::Error {
+            kind: 5,
+            code: 1,
+            payload: Bytes::new(alloc),
+        },
+        Said::EchoRequest => Message::EchoRequest(Bytes::new(alloc)),
+        Said::EchoReply => Message::EchoReply(Bytes::new(alloc)),
+        Said::Unknown => Message::Other {
+            kind: 8,
+            body: Bytes::new(alloc),
+        },
     })
 }
 
-fn status(
-    alloc: Global,
-    reason: u8,
-    no: u32,
-    config: u32,
-    state: u32,
-) -> Result<Message, NoMemory> {
-    Ok(Message::PortStatus {
-        reason,
-        port: desc(alloc, no, config, state)?,
-    })
+/// A step.
+#[derive(Clone, Copy, Debug)]
+enum Wanted {
+    Nothing,
+    Ask,
+    /// The switch of `Said::Features` is known.
+    Known,
+    PortsKnown,
+    Wiped,
+    Settled,
+    Packet,
+    Echo,
+    /// The port with this number was told.
+    Changed(u32),
+    /// It is closed for `Said::Error`, or for its version.
+    Shut,
+    Wrong,
 }
 
-fn packet_in(alloc: Global) -> Message {
-    Message::PacketIn(PacketIn {
-        buffer: 0xffff_ffff,
-        total: 0,
-        reason: 0,
-        table: 3,
-        cookie: 0,
-        fields: Items::new(alloc),
-        payload: Bytes::new(alloc),
-    })
-}
-
-fn error(alloc: Global) -> Message {
-    Message::Error {
-        kind: 5,
-        code: 1,
-        payload: Bytes::new(alloc),
+fn step(rt: &impl Abort, wanted: Wanted) -> Step {
+    match wanted {
+        Nothing => Step::Nothing,
+        Ask => Step::AskFeatures,
+        Known => Step::Features {
+            dp: DpId(5),
+            n_tables: 254,
+            auxiliary: 0,
+        },
+        PortsKnown => Step::PortsKnown,
+        Wiped => Step::Wiped,
+        Settled => Step::Settled,
+        Packet => Step::Packet,
+        Echo => Step::Echo,
+        Changed(no) => Step::PortChanged(PortNo::new(no).expect(rt, "a port")),
+        Shut => Step::Close(Closing::SwitchError { kind: 5, code: 1 }),
+        Wrong => Step::Close(Closing::WrongVersion),
     }
 }
 
-/// A session that stands in a stage, `AWAITED` outstanding.
-fn in_stage(alloc: Global, stage: Stage) -> Result<Session, NoMemory> {
+/// What is heard, its transaction id, and the step that it leads to.
+type Heard = (Said, u32, Wanted);
+
+fn hear(
+    rt: &impl Abort,
+    alloc: Global,
+    session: &mut Session,
+    rows: &[Heard],
+) -> Result<(), NoMemory> {
+    for (said, xid, wanted) in rows {
+        let found = session.hear(&message(alloc, *said)?, *xid)?;
+        assert!(rt; found == step(rt, *wanted), "{said:?}: {found:?}");
+    }
+    Ok(())
+}
+
+const SETUP: [(Said, u32); 5] = [
+    (Said::Hello(4, Some(0x10)), 1),
+    (Said::Features, 2),
+    (Said::Ports(false, &[]), AWAITED),
+    (Said::Barrier, AWAITED),
+    (Said::Error, 3),
+];
+
+/// A session behind so many messages of the setup, `AWAITED` outstanding.
+fn behind(alloc: Global, count: usize) -> Result<Session, NoMemory> {
     let mut session = Session::open(alloc, Moment(0));
     session.asked(AWAITED);
-    if stage == Stage::Greeting {
-        return Ok(session);
+    for (said, xid) in SETUP.iter().take(count) {
+        let _ = session.hear(&message(alloc, *said)?, *xid)?;
+        session.asked(AWAITED);
     }
-    let _ = session.hear(&hello(4, Some(0x10)), 1)?;
-    if stage == Stage::Features {
-        return Ok(session);
-    }
-    let _ = session.hear(&Message::FeaturesReply(FEATURES), 2)?;
-    if stage == Stage::Ports {
-        return Ok(session);
-    }
-    let _ = session.hear(&reply(alloc, false, &[])?, AWAITED)?;
-    session.asked(AWAITED);
-    if stage == Stage::Wiping {
-        return Ok(session);
-    }
-    let _ = session.hear(&Message::BarrierReply, AWAITED)?;
-    session.asked(AWAITED);
-    if stage == Stage::Running {
-        return Ok(session);
-    }
-    let _ = session.hear(&error(alloc), 3)?;
     Ok(session)
 }
 
-/// HELLO, FEATURES_REPLY, the ports, BARRIER_REPLY, PACKET_IN, ERROR, ECHO_REQUEST, PORT_STATUS,
-/// and what nothing awaits: ECHO_REPLY, a message of another type.
-fn messages(alloc: Global) -> Result<Items<Message>, NoMemory> {
-    let mut all = Items::new(alloc);
-    all.push(hello(4, None))?;
-    all.push(Message::FeaturesReply(FEATURES))?;
-    all.push(reply(alloc, false, &[])?)?;
-    all.push(Message::BarrierReply)?;
-    all.push(packet_in(alloc))?;
-    all.push(error(alloc))?;
-    all.push(Message::EchoRequest(Bytes::new(alloc)))?;
-    all.push(status(alloc, 0, 3, 0, 0)?)?;
-    all.push(Message::EchoReply(Bytes::new(alloc)))?;
-    all.push(Message::Other {
-        kind: 8,
-        body: Bytes::new(alloc),
-    })?;
-    Ok(all)
-}
+const SAID: [Said; 10] = [
+    Said::Hello(4, None),
+    Said::Features,
+    Said::Ports(false, &[]),
+    Said::Barrier,
+    Said::Packet,
+    Said::Error,
+    Said::EchoRequest,
+    Said::Status(0, 3, 0, 0),
+    Said::EchoReply,
+    Said::Unknown,
+];
 
-fn known() -> Step {
-    Step::Features {
-        dp: DpId(5),
-        n_tables: 254,
-        auxiliary: 0,
-    }
-}
-
-fn shut() -> Step {
-    Step::Close(Closing::SwitchError { kind: 5, code: 1 })
-}
-
-fn changed(no: u32) -> Step {
-    match PortNo::new(no) {
-        Some(no) => Step::PortChanged(no),
-        None => Step::Nothing,
-    }
-}
-
-/// What a stage awaits, by the place of the message.
-fn awaited(stage: Stage, at: usize) -> Step {
-    match stage {
-        Stage::Greeting if at == 0 => Step::AskFeatures,
-        Stage::Features if at == 1 => known(),
-        Stage::Ports if at == 2 => Step::PortsKnown,
-        Stage::Wiping if at == 3 => Step::Wiped,
-        Stage::Running if at == 3 => Step::Settled,
-        Stage::Running if at == 4 => Step::Packet,
-        _ => Step::Nothing,
-    }
-}
-
-/// What counts in every stage, and else what the stage awaits.
-fn expected(stage: Stage, at: usize) -> Step {
-    match at {
-        _ if stage == Stage::Shut => Step::Nothing,
-        5 => shut(),
-        6 => Step::Echo,
-        7 => changed(3),
-        _ => awaited(stage, at),
-    }
-}
+// The stages in their order, and what each of `SAID` leads to in them.
+const STAGES: [(Stage, [Wanted; 10]); 6] = [
+    (
+        Stage::Greeting,
+        [
+            Ask,
+            Nothing,
+            Nothing,
+            Nothing,
+            Nothing,
+            Shut,
+            Echo,
+            Changed(3),
+            Nothing,
+            Nothing,
+        ],
+    ),
+    (
+        Stage::Features,
+        [
+            Nothing,
+            Known,
+            Nothing,
+            Nothing,
+            Nothing,
+            Shut,
+            Echo,
+            Changed(3),
+            Nothing,
+            Nothing,
+        ],
+    ),
+    (
+        Stage::Ports,
+        [
+            Nothing,
+            Nothing,
+            PortsKnown,
+            Nothing,
+            Nothing,
+            Shut,
+            Echo,
+            Changed(3),
+            Nothing,
+            Nothing,
+        ],
+    ),
+    (
+        Stage::Wiping,
+        [
+            Nothing,
+            Nothing,
+            Nothing,
+            Wiped,
+            Nothing,
+            Shut,
+            Echo,
+            Changed(3),
+            Nothing,
+            Nothing,
+        ],
+    ),
+    (
+        Stage::Running,
+        [
+            Nothing,
+            Nothing,
+            Nothing,
+            Settled,
+            Packet,
+            Shut,
+            Echo,
+            Changed(3),
+            Nothing,
+            Nothing,
+        ],
+    ),
+    (Stage::Shut, [Nothing; 10]),
+];
 
 #[test]
 fn each_stage_with_each_message(rt: HostRuntime) -> Result<(), Fail> {
-    let alloc = rt.alloc();
-    let all = messages(alloc)?;
-    for stage in [
-        Stage::Greeting,
-        Stage::Features,
-        Stage::Ports,
+    for (place, (stage, steps)) in STAGES.iter().enumerate() {
+        for (said, wanted) in SAID.iter().zip(steps) {
+            let mut session = behind(rt.alloc(), place)?;
+            assert!(rt; session.stage() == *stage);
+            hear(&rt, rt.alloc(), &mut session, &[(*said, AWAITED, *wanted)])?;
+        }
+    }
+    Ok(())
+}
+
+/// Whether the ports that were told have these numbers and are up.
+fn are_told(ports: &[PortTold], wanted: &[(u32, bool)]) -> bool {
+    ports.len() == wanted.len()
+        && ports
+            .iter()
+            .zip(wanted)
+            .all(|(port, (no, up))| port.no.get() == *no && port.up == *up)
+}
+
+// How much of the setup is done, what is heard then, the stage behind it, and the ports told.
+const STORIES: [(usize, &[Heard], Stage, &[(u32, bool)]); 17] = [
+    // The setup. Any transaction id will do for what the switch is, the awaited one for the rest.
+    (
+        0,
+        &[
+            (Said::Hello(4, Some(0x10)), 1, Ask),
+            (Said::Features, 99, Known),
+            (Said::Ports(false, &[2, 1]), 7, PortsKnown),
+        ],
         Stage::Wiping,
+        &[(2, true), (1, true)],
+    ),
+    (
+        3,
+        &[(Said::Barrier, 4, Nothing), (Said::Barrier, 7, Wiped)],
         Stage::Running,
+        &[],
+    ),
+    // Behind a closing all is passed over.
+    (
+        4,
+        &[
+            (Said::Error, 0, Shut),
+            (Said::Status(0, 9, 0, 0), 0, Nothing),
+        ],
         Stage::Shut,
-    ] {
-        for (at, message) in all.as_slice().iter().enumerate() {
-            let mut session = in_stage(alloc, stage)?;
-            assert_eq!(rt; session.stage(), stage);
-            assert_eq!(rt; session.hear(message, AWAITED)?, expected(stage, at));
-        }
-    }
-    Ok(())
-}
-
-/// Hears a message, and compares the step.
-fn expect(
-    rt: &impl Abort,
-    session: &mut Session,
-    message: Message,
-    xid: u32,
-    step: Step,
-) -> Result<(), NoMemory> {
-    let heard = session.hear(&message, xid)?;
-    assert_eq!(rt; heard, step);
-    Ok(())
-}
-
-#[test]
-fn a_handshake(rt: HostRuntime) -> Result<(), Fail> {
-    let alloc = rt.alloc();
-    let mut session = Session::open(alloc, Moment(5));
-    let ports = reply(alloc, false, &[2, 1])?;
-    expect(
-        &rt,
-        &mut session,
-        hello(4, Some(0x10)),
-        1,
-        Step::AskFeatures,
-    )?;
-    // any transaction id
-    expect(
-        &rt,
-        &mut session,
-        Message::FeaturesReply(FEATURES),
-        99,
-        known(),
-    )?;
-    session.asked(3);
-    expect(&rt, &mut session, ports, 3, Step::PortsKnown)?;
-    assert_eq!(rt; session.awaited(), None);
-    session.asked(5);
-    expect(&rt, &mut session, Message::BarrierReply, 4, Step::Nothing)?;
-    assert_eq!(rt; session.awaited(), Some(5));
-    expect(&rt, &mut session, Message::BarrierReply, 5, Step::Wiped)?;
-    assert_eq!(rt; session.stage(), Stage::Running);
-    assert_eq!(rt; session.ports().len(), 2);
-    Ok(())
-}
-
-#[test]
-fn what_comes_behind_a_closing_is_passed_over(rt: HostRuntime) -> Result<(), Fail> {
-    let alloc = rt.alloc();
-    let mut session = in_stage(alloc, Stage::Running)?;
-    let port = status(alloc, 0, 9, 0, 0)?;
-    expect(&rt, &mut session, error(alloc), 0, shut())?;
-    expect(&rt, &mut session, port, 0, Step::Nothing)?;
-    assert_eq!(rt; session.ports().len(), 0);
-    Ok(())
-}
-
-/// The next frame has these bytes.
-fn expect_frame(rt: &impl Abort, session: &mut Session, bytes: &[u8]) {
-    match session.next() {
-        Got::Frame(frame) => assert_eq!(rt; frame.bytes, bytes),
-        _ => assert!(rt; false),
-    }
-}
-
-#[test]
-fn two_frames_in_one_piece(rt: HostRuntime) -> Result<(), Fail> {
-    let mut session = Session::open(rt.alloc(), Moment(5));
-    let first = [4, 0, 0, 8, 0, 0, 0, 1];
-    let second = [4, 2, 0, 9, 0, 0, 0, 2, 9];
-    let piece = [4, 0, 0, 8, 0, 0, 0, 1, 4, 2, 0, 9, 0, 0, 0, 2, 9, 4, 21];
-    session.feed(&piece, Moment(6))?;
-    expect_frame(&rt, &mut session, &first);
-    expect_frame(&rt, &mut session, &second);
-    assert!(rt; matches!(session.next(), Got::NotYet));
-    Ok(())
-}
-
-#[test]
-fn transaction_ids_count_from_1(rt: HostRuntime) {
-    let mut session = Session::open(rt.alloc(), Moment(0));
-    assert_eq!(rt; session.next_xid(), 1);
-    assert_eq!(rt; session.next_xid(), 2);
-}
+        &[],
+    ),
+    // Versions: the bitmap decides where there is one, else the number.
+    (0, &[(Said::Hello(6, None), 1, Ask)], Stage::Features, &[]),
+    (0, &[(Said::Hello(4, None), 1, Ask)], Stage::Features, &[]),
+    (0, &[(Said::Hello(3, None), 1, Wrong)], Stage::Shut, &[]),
+    (
+        0,
+        &[(Said::Hello(6, Some(0x52)), 1, Ask)],
+        Stage::Features,
+        &[],
+    ),
+    (
+        0,
+        &[(Said::Hello(6, Some(0x42)), 1, Wrong)],
+        Stage::Shut,
+        &[],
+    ),
+    (
+        0,
+        &[(Said::Hello(1, Some(0x10)), 1, Ask)],
+        Stage::Features,
+        &[],
+    ),
+    (0, &[(Said::Hello(4, Some(0)), 1, Wrong)], Stage::Shut, &[]),
+    // Ports in three parts, with LOCAL and one that is told again.
+    (
+        2,
+        &[
+            (Said::Ports(true, &[9, 2]), 7, Nothing),
+            (Said::Ports(true, &[3]), 7, Nothing),
+            (Said::Ports(false, &[0xffff_fffe, 4, 3]), 7, PortsKnown),
+        ],
+        Stage::Wiping,
+        &[(9, true), (2, true), (3, true), (4, true)],
+    ),
+    // An old reply is passed over; a port told before the reply stays.
+    (
+        2,
+        &[(Said::Ports(false, &[8]), 6, Nothing)],
+        Stage::Ports,
+        &[],
+    ),
+    (
+        2,
+        &[
+            (Said::Status(2, 9, 1, 0), 0, Changed(9)),
+            (Said::Ports(false, &[3]), 7, PortsKnown),
+        ],
+        Stage::Wiping,
+        &[(9, false), (3, true)],
+    ),
+    // A port's link or config is down, or neither; it is gone.
+    (
+        0,
+        &[(Said::Status(0, 5, 0, 4), 0, Changed(5))],
+        Stage::Greeting,
+        &[(5, true)],
+    ),
+    (
+        2,
+        &[
+            (Said::Status(0, 5, 0, 4), 0, Changed(5)),
+            (Said::Status(2, 5, 0, 1), 0, Changed(5)),
+        ],
+        Stage::Ports,
+        &[(5, false)],
+    ),
+    (
+        4,
+        &[
+            (Said::Status(0, 5, 0x20, 0), 0, Changed(5)),
+            (Said::Status(2, 5, 1, 0), 0, Changed(5)),
+            (Said::Status(0, 0xffff_ff00, 0, 0), 0, Changed(0xffff_ff00)),
+        ],
+        Stage::Running,
+        &[(5, false), (0xffff_ff00, true)],
+    ),
+    (
+        4,
+        &[
+            (Said::Status(0, 5, 0, 0), 0, Changed(5)),
+            (Said::Status(0, 6, 0, 0), 0, Changed(6)),
+            (Said::Status(0, 0xffff_fffe, 0, 0), 0, Nothing),
+            (Said::Status(0, 0, 0, 0), 0, Nothing),
+            (Said::Status(1, 5, 0, 0), 0, Changed(5)),
+        ],
+        Stage::Running,
+        &[(6, true)],
+    ),
+];
 
 #[test]
-fn versions_of_a_hello(rt: HostRuntime) -> Result<(), Fail> {
-    let rows = [
-        (6, None, true),
-        (4, None, true),
-        (3, None, false),
-        (6, Some(0x52), true),
-        (6, Some(0x42), false),
-        (1, Some(0x10), true),
-        (4, Some(0), false),
-    ];
-    for (version, bitmap, speaks) in rows {
-        let mut session = Session::open(rt.alloc(), Moment(0));
-        let step = session.hear(&hello(version, bitmap), 1)?;
-        let wanted = if speaks {
-            (Step::AskFeatures, Stage::Features)
-        } else {
-            (Step::Close(Closing::WrongVersion), Stage::Shut)
-        };
-        assert_eq!(rt; (step, session.stage()), wanted);
-    }
-    Ok(())
-}
-
-fn told(no: u32, up: bool) -> Result<PortTold, Fail> {
-    Ok(PortTold {
-        no: PortNo::new(no).ok_or("a number")?,
-        up,
-    })
-}
-
-#[test]
-fn ports_come_in_parts(rt: HostRuntime) -> Result<(), Fail> {
-    let alloc = rt.alloc();
-    let mut session = in_stage(alloc, Stage::Ports)?;
-    let first = reply(alloc, true, &[9, 2])?;
-    let second = reply(alloc, true, &[3])?;
-    // with LOCAL
-    let last = reply(alloc, false, &[0xffff_fffe, 4, 3])?;
-    expect(&rt, &mut session, first, AWAITED, Step::Nothing)?;
-    expect(&rt, &mut session, second, AWAITED, Step::Nothing)?;
-    expect(&rt, &mut session, last, AWAITED, Step::PortsKnown)?;
-    let numbers = [9, 2, 3, 4];
-    assert_eq!(rt; session.ports().len(), 4);
-    for (port, no) in session.ports().iter().zip(&numbers) {
-        assert_eq!(rt; (port.no.get(), port.up), (*no, true));
-    }
-    Ok(())
-}
-
-#[test]
-fn an_old_reply_is_passed_over(rt: HostRuntime) -> Result<(), Fail> {
-    let alloc = rt.alloc();
-    let mut session = in_stage(alloc, Stage::Ports)?;
-    let old = reply(alloc, false, &[8])?;
-    expect(&rt, &mut session, old, 6, Step::Nothing)?;
-    assert_eq!(rt; session.ports().len(), 0);
-    assert_eq!(rt; session.stage(), Stage::Ports);
-    Ok(())
-}
-
-#[test]
-fn a_port_told_before_the_reply_stays(rt: HostRuntime) -> Result<(), Fail> {
-    let alloc = rt.alloc();
-    let mut session = in_stage(alloc, Stage::Ports)?;
-    let down = status(alloc, 2, 9, 1, 0)?;
-    let last = reply(alloc, false, &[3])?;
-    expect(&rt, &mut session, down, 0, changed(9))?;
-    expect(&rt, &mut session, last, AWAITED, Step::PortsKnown)?;
-    assert_eq!(rt;
-        session.ports(),
-        [told(9, false)?, told(3, true)?].as_slice()
-    );
-    Ok(())
-}
-
-#[test]
-fn ports_change_in_every_stage(rt: HostRuntime) -> Result<(), Fail> {
-    let alloc = rt.alloc();
-    // reason, number, config, state, and whether it is up
-    let rows = [
-        (0, 5, 0, 4, true),
-        (2, 5, 0, 1, false),
-        (2, 5, 1, 0, false),
-        (0, 5, 0x20, 0, true),
-        (0, 0xffff_ff00, 0, 0, true),
-    ];
-    for stage in [Stage::Greeting, Stage::Ports, Stage::Running] {
-        let mut session = in_stage(alloc, stage)?;
-        for (reason, no, config, state, up) in rows {
-            let port = told(no, up)?;
-            let step = session.hear(&status(alloc, reason, no, config, state)?, 0)?;
-            assert_eq!(rt; step, Step::PortChanged(port.no));
-            assert_eq!(rt; session.ports().last().copied(), Some(port));
-        }
-        assert_eq!(rt;
-            session.hear(&status(alloc, 0, 0xffff_fffe, 0, 0)?, 0)?,
-            Step::Nothing
-        );
-        assert_eq!(rt;
-            session.hear(&status(alloc, 0, 0, 0, 0)?, 0)?,
-            Step::Nothing
-        );
-        let _ = session.hear(&status(alloc, 1, 5, 0, 0)?, 0)?;
-        assert_eq!(rt; session.ports(), [told(0xffff_ff00, true)?].as_slice());
-        assert_eq!(rt; session.stage(), stage);
+fn stories_of_sessions(rt: HostRuntime) -> Result<(), Fail> {
+    for (count, rows, stage, ports) in STORIES {
+        let mut session = behind(rt.alloc(), count)?;
+        hear(&rt, rt.alloc(), &mut session, rows)?;
+        assert!(rt; session.stage() == stage, "{rows:?}");
+        assert!(rt; are_told(session.ports(), ports), "{rows:?}");
     }
     Ok(())
 }
 
 #[test]
 fn at_most_4096_ports_are_told(rt: HostRuntime) -> Result<(), Fail> {
-    let alloc = rt.alloc();
-    let mut session = in_stage(alloc, Stage::Running)?;
+    let mut session = behind(rt.alloc(), 4)?;
     for no in 1..4097 {
-        let _ = session.hear(&status(alloc, 0, no, 0, 0)?, 0)?;
+        let _ = session.hear(&message(rt.alloc(), Said::Status(0, no, 0, 0))?, 0)?;
     }
-    assert_eq!(rt; session.ports().len(), 4096);
-    assert_eq!(rt;
-        session.hear(&status(alloc, 0, 4097, 0, 0)?, 0)?,
-        Step::Nothing
+    let rows = [
+        (Said::Status(0, 4097, 0, 0), 0, Nothing),
+        (Said::Status(2, 4096, 1, 0), 0, Changed(4096)),
+    ];
+    hear(&rt, rt.alloc(), &mut session, &rows)?;
+    assert!(rt; session.ports().len() == 4096);
+    assert!(rt;
+        session
+            .ports()
+            .last()
+            .is_some_and(|port| port.no.get() == 4096 && !port.up)
     );
-    assert_eq!(rt; session.ports().len(), 4096);
-    let known = Step::PortChanged(told(4096, false)?.no);
-    assert_eq!(rt; session.hear(&status(alloc, 2, 4096, 1, 0)?, 0)?, known);
-    assert_eq!(rt; session.ports().last().copied(), Some(told(4096, false)?));
+    Ok(())
+}
+
+#[test]
+fn two_frames_in_one_piece(rt: HostRuntime) -> Result<(), Fail> {
+    let mut session = Session::open(rt.alloc(), Moment(5));
+    let piece = [4, 0, 0, 8, 0, 0, 0, 1, 4, 2, 0, 9, 0, 0, 0, 2, 9, 4, 21];
+    session.feed(&piece, Moment(6))?;
+    assert!(rt; matches!(session.next(), Got::Frame(frame) if frame.bytes == &piece[..8]));
+    assert!(rt; matches!(session.next(), Got::Frame(frame) if frame.bytes == &piece[8..17]));
+    assert!(rt; matches!(session.next(), Got::NotYet));
     Ok(())
 }
 
@@ -416,9 +444,9 @@ fn lengths_of_headers(rt: HostRuntime) -> Result<(), Fail> {
         stream.feed(&[4, 0, 0, len])?;
         assert!(rt; matches!(stream.next(), Got::NotYet));
         stream.feed(&[0, 0, 0, 1])?;
-        assert_eq!(rt; matches!(stream.next(), Got::Bad), bad);
         // a bad header stays, a frame is taken
-        assert_eq!(rt; matches!(stream.next(), Got::Bad), bad);
+        let first = matches!(stream.next(), Got::Bad);
+        assert!(rt; (first, matches!(stream.next(), Got::Bad)) == (bad, bad));
     }
     Ok(())
 }
@@ -437,29 +465,28 @@ fn the_longest_frame_in_single_bytes(rt: HostRuntime) -> Result<(), Fail> {
 }
 
 #[test]
-fn silence(rt: HostRuntime) -> Result<(), Fail> {
+fn silence_and_transaction_ids(rt: HostRuntime) -> Result<(), Fail> {
     let mut session = Session::open(rt.alloc(), Moment(1000));
-    let rows = [
+    for (at, quiet) in [
         (20_999, Quiet::Well),
         (21_000, Quiet::Echo),
         (60_999, Quiet::Well),
         (61_000, Quiet::Silent),
-    ];
-    for (at, quiet) in rows {
-        assert_eq!(rt; session.quiet(Moment(at)), quiet);
+    ] {
+        assert!(rt; session.quiet(Moment(at)) == quiet, "{at}");
     }
     // an empty piece is no heard byte
     session.feed(&[], Moment(2000))?;
-    assert_eq!(rt; session.heard(), Moment(1000));
+    let before = session.heard();
     session.feed(&[4], Moment(3000))?;
-    assert_eq!(rt; session.heard(), Moment(3000));
-    assert_eq!(rt; session.quiet(Moment(23_000)), Quiet::Echo);
+    assert!(rt; (before, session.heard()) == (Moment(1000), Moment(3000)));
+    assert!(rt; (session.next_xid(), session.next_xid()) == (1, 2));
     Ok(())
 }
 
 #[test]
-fn closings_have_numbers_and_names(rt: HostRuntime) -> Result<(), Fail> {
-    let rows = [
+fn closings_have_numbers_and_names(rt: HostRuntime) {
+    for (closing, number, name) in [
         (Closing::WrongVersion, 1, "WrongVersion"),
         (Closing::BadFrame, 2, "BadFrame"),
         (Closing::UnknownDp, 3, "UnknownDp"),
@@ -471,10 +498,7 @@ fn closings_have_numbers_and_names(rt: HostRuntime) -> Result<(), Fail> {
         (Closing::Overfull, 9, "Overfull"),
         (Closing::LinkFault, 10, "LinkFault"),
         (Closing::End, 11, "End"),
-    ];
-    for (closing, number, name) in rows {
-        assert_eq!(rt; closing.number(), number);
-        assert_eq!(rt; closing.name(), name);
+    ] {
+        assert!(rt; (closing.number(), closing.name()) == (number, name));
     }
-    Ok(())
 }

@@ -1,0 +1,101 @@
+-- What datapaths are told to send, to ask for a neighbour or to answer (OpenFlow 1.3, 7.3.7).
+use Rattle.std.specs.Prelude.{ℕ, ◌+◌, ◌==◌, ◌++◌, Bool, true, false, Option, Some, None, List, [], ◌∷◌, length, map, filter, nat_lt, if◌then◌else◌}
+use Rattle.std.specs.List.{filter_map}
+use Rattle.std.specs.Option.{option_map, option_and_then}
+use Rattle.net_base.specs.Field.{exact}
+use Rattle.net_base.specs.declared.address.Ip4.{Ip4}
+use Rattle.net_base.specs.declared.field.FieldId.TheVariants.{VlanVid}
+use Rattle.net_base.specs.declared.numbers.DpId.{DpId}
+use Rattle.conf_types.specs.declared.datapath.Dp.{Dp}
+use Rattle.conf_types.specs.declared.datapath.Member.{Member}
+use Rattle.conf_types.specs.declared.datapath.Member.TheVariants.{Native, Tagged, Stack}
+use Rattle.conf_types.specs.declared.datapath.Member.TheVariants as member_case
+use Rattle.conf_types.specs.declared.state.NeighRec.{NeighRec}
+use Rattle.conf_types.specs.declared.vlan.Vlan.{Vlan}
+use Rattle.conf_types.specs.Configuration.{Configuration, dp_with, vlan_with}
+use Rattle.conf_types.specs.Groups.{group_of}
+use Rattle.conf_types.specs.Membership.{has_edge_member, member_of}
+use Rattle.conf_types.specs.Networks.{vip_for}
+use Rattle.of_match.specs.declared.action.Action.{Action}
+use Rattle.of_match.specs.declared.action.Action.TheVariants.{Output, PushVlan, Set}
+use Rattle.pkt_view.specs.Replies.{arp_request}
+use Rattle.neighbour_resolve.specs.declared.asks.Outgoing.{Outgoing}
+
+-- ---- the actions on an untagged frame that leaves in a VLAN
+
+abbrev pub out_of : List ℕ → List Action
+out_of ports = map (λ port. Output port 0) ports
+
+-- a tag of the VLAN is put on (IEEE 802.1Q, 9.5; OpenFlow 1.3, 7.2.3.7: 0x1000 says that there is a tag)
+abbrev pub tag_with : (vid : ℕ) → List Action
+tag_with vid = PushVlan 0x8100 ∷ Set (exact VlanVid (0x1000 + vid)) ∷ []
+
+-- out of the native members as it is; then, where there are any, out of the tagged ones with a tag
+abbrev pub send_in : (vid : ℕ) → (native tagged : List ℕ) → List Action
+send_in vid native tagged = out_of native ++ (if length tagged == 0 then [] else tag_with vid ++ out_of tagged)
+
+-- an answer leaves by the port that the frame came in by
+abbrev pub send_back : (vid port : ℕ) → Member → List Action
+send_back vid port Native = send_in vid (port ∷ []) []
+send_back vid port Tagged = send_in vid [] (port ∷ [])
+send_back vid port Stack = []
+send_back vid port member_case.None = []
+
+-- ---- one datapath's part of an ask
+
+abbrev pub is_native : Member → Bool
+is_native Native = true
+is_native Tagged = false
+is_native Stack = false
+is_native member_case.None = false
+
+abbrev pub is_tagged : Member → Bool
+is_tagged Native = false
+is_tagged Tagged = true
+is_tagged Stack = false
+is_tagged member_case.None = false
+
+-- the edge ports of a VLAN, by number
+abbrev pub native_ports : Dp → ℕ → List ℕ
+native_ports d vid = map (λ p. p.no) (filter (λ p. is_native (member_of p vid)) d.ports)
+
+abbrev pub tagged_ports : Dp → ℕ → List ℕ
+tagged_ports d vid = map (λ p. p.no) (filter (λ p. is_tagged (member_of p vid)) d.ports)
+
+-- an ARP request from the VLAN's gateway address and the VIP whose network holds the address (RFC 826), where
+-- the datapath has edge ports of the VLAN
+abbrev pub ask_on : Dp → Vlan → Ip4 → Option Outgoing
+ask_on d vlan ip =
+    if has_edge_member d vlan.vid
+    then option_map (λ vip. record { frame = arp_request vlan.mac vip.ip ip; actions = send_in vlan.vid (native_ports d vlan.vid) (tagged_ports d vlan.vid) }) (vip_for vlan.vips ip.0)
+    else None
+
+abbrev pub ask : Configuration → DpId → ℕ → Ip4 → Option Outgoing
+ask conf dp vid ip = option_and_then (λ d. option_and_then (λ vlan. ask_on d vlan ip) (vlan_with conf.vlans vid)) (dp_with conf.dps dp)
+
+-- ---- the whole ask
+
+-- identifiers ascending, each once
+abbrev pub put_in_order : DpId → List DpId → List DpId
+put_in_order id [] = id ∷ []
+put_in_order id (first ∷ more) =
+    if nat_lt id.0 first.0 then id ∷ first ∷ more
+    else if id.0 == first.0 then first ∷ more
+    else first ∷ put_in_order id more
+
+abbrev pub in_order : List DpId → List DpId
+in_order [] = []
+in_order (id ∷ more) = put_in_order id (in_order more)
+
+-- the running datapaths of a group, by identifier
+abbrev pub running_in : Configuration → (running : List DpId) → DpId → List DpId
+running_in conf running group = filter (λ dp. (group_of conf dp).0 == group.0) (in_order running)
+
+pub record AskOn : Type 0 where
+  pub dp : DpId
+  pub out : Outgoing
+
+-- what each running datapath of the group is told, those without edge ports of the VLAN being passed over
+abbrev pub asks : Configuration → (running : List DpId) → (group : DpId) → (vid : ℕ) → Ip4 → List AskOn
+asks conf running group vid ip =
+    filter_map (λ dp. option_map (λ out. record { dp = dp; out = out }) (ask conf dp vid ip)) (running_in conf running group)

@@ -1,0 +1,11 @@
+pub mod Answers
+pub mod Asks
+pub mod Counted
+pub mod Due
+pub mod Hearing
+pub mod Kept
+pub mod Parts
+pub mod Regroup
+pub mod Runs
+pub mod Sample
+pub mod Table

@@ -1,0 +1,130 @@
+//! What a VLAN's gateway answers.
+
+ghost use Rattle.std.specs.Prelude.{◌≡◌, ◌≤◌, length, IfOk};
+ghost use Rattle.conf_types.specs.Networks.{is_vip};
+ghost use Rattle.conf_types.specs.Routing.{vips_of};
+ghost use Rattle.pkt_view.specs.Frame.{shown};
+ghost use Rattle.neighbour_resolve.specs.Answers.{answer, answer_in, arp_answer, echo_answer, is_routed_vip};
+
+use crate::counted::counted_vid;
+use conf_types::{Conf, Vlan};
+use net_base::{Bytes, DpId, Ip4, Mac, NoMemory, PortNo, Vid};
+use pkt_view::{FrameView, UpperView, arp_reply, echo_reply, ip4_at};
+use std::alloc::Global;
+
+/// The answer to a frame. It is an untagged frame, which leaves by the port that the other came in
+/// by, with a tag of the VLAN where the port is a tagged member (`send_back`).
+#[derive(Debug, Drop)]
+pub enum Reply {
+    /// An ARP reply (RFC 826).
+    ArpReply(Bytes),
+    /// An ICMP echo reply (RFC 792).
+    EchoReply(Bytes),
+    Nothing,
+}
+
+/// The operation of an ARP request (RFC 826).
+const REQUEST: u16 = 1;
+
+fn is_vip_of(conf: &Conf, vid: Vid, ip: Ip4) -> bool
+    ensures { result ≡ is_vip (vips_of conf.now vid) ip.0 }
+{
+    match conf.vlan(vid) {
+        Some(vlan) => vlan.is_vip(ip),
+        None => false,
+    }
+}
+
+/// Whether an address is a VIP of a VLAN that packets of this one are routed to.
+fn is_routed_vip(alloc: Global, conf: &Conf, vid: Vid, ip: Ip4) -> Result<bool, NoMemory>
+    ensures { IfOk result (λ is. is ≡ is_routed_vip conf.now vid ip.0) }
+{
+    let vids = conf.routing_set(alloc, vid)?;
+    Ok(vids.as_slice().iter().any(|vid| is_vip_of(conf, *vid, ip)))
+}
+
+fn arp_answer(
+    alloc: Global,
+    vlan: &Vlan,
+    to: Mac,
+    op: u16,
+    spa: Ip4,
+    tpa: Ip4,
+) -> Result<Reply, NoMemory>
+    ensures { IfOk result (λ reply. reply ≡ arp_answer vlan.now to op spa tpa) }
+{
+    if op != REQUEST || !vlan.is_vip(tpa) {
+        return Ok(Reply::Nothing);
+    }
+    let reply = arp_reply(alloc, vlan.mac, tpa, to, spa)?;
+    Ok(Reply::ArpReply(reply))
+}
+
+/// The answer to a frame that carries an IPv4 packet with this header.
+fn echo_answer(
+    alloc: Global,
+    conf: &Conf,
+    vlan: &Vlan,
+    frame: &FrameView<'_>,
+    header: &[u8],
+) -> Result<Reply, NoMemory>
+    requires { 20 ≤ length header.now }
+    ensures { IfOk result (λ reply. reply ≡ echo_answer conf.now vlan.now (shown frame.now) header.now) }
+{
+    if !is_routed_vip(alloc, conf, vlan.vid, ip4_at(header, 16))? {
+        return Ok(Reply::Nothing);
+    }
+    match echo_reply(alloc, vlan.mac, frame)? {
+        Some(reply) => Ok(Reply::EchoReply(reply)),
+        None => Ok(Reply::Nothing),
+    }
+}
+
+fn answer_in(
+    alloc: Global,
+    conf: &Conf,
+    vlan: &Vlan,
+    frame: &FrameView<'_>,
+) -> Result<Reply, NoMemory>
+    ensures { IfOk result (λ reply. reply ≡ answer_in conf.now (shown frame.now) vlan.now) }
+{
+    if frame.src.is_group() {
+        return Ok(Reply::Nothing);
+    }
+    match frame.upper {
+        UpperView::Arp { op, spa, tpa, .. } => arp_answer(alloc, vlan, frame.src, op, spa, tpa),
+        UpperView::V4 { header, .. } => {
+            if header.len() < 20 {
+                Ok(Reply::Nothing)
+            } else {
+                echo_answer(alloc, conf, vlan, frame, header)
+            }
+        }
+        UpperView::None => Ok(Reply::Nothing),
+    }
+}
+
+/// The answer to a frame that a datapath had by a port and handed on: to an ARP request for a VIP of
+/// the frame's VLAN, or to an ICMP echo request to a VIP of a VLAN that the frame's is routed to, both
+/// from the VLAN's gateway address to the frame's source.
+///
+/// `Nothing` exactly where no answer is due: the frame doesn't count (`counted_vid`), or its source is
+/// a group address; it is no ARP packet with operation 1 whose target is a VIP of its VLAN; and it is
+/// no echo request to such a VIP, or one to which `pkt_view::echo_reply` gives no answer.
+pub fn answer(
+    alloc: Global,
+    conf: &Conf,
+    dp: DpId,
+    port: PortNo,
+    frame: &FrameView<'_>,
+) -> Result<Reply, NoMemory>
+    ensures { IfOk result (λ reply. reply ≡ answer conf.now dp port (shown frame.now)) }
+{
+    match counted_vid(conf, dp, port, frame) {
+        Some(vid) => match conf.vlan(vid) {
+            Some(vlan) => answer_in(alloc, conf, vlan, frame),
+            None => Ok(Reply::Nothing),
+        },
+        None => Ok(Reply::Nothing),
+    }
+}

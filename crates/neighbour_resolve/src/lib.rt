@@ -1,0 +1,21 @@
+//! Neighbours: which IPv4 addresses are resolved by ARP, when they are asked and given up, what is
+//! sent to ask, and what a VLAN's gateway answers.
+#![tactic(auto)]
+
+mod answers;
+mod asks;
+mod counted;
+mod hearing;
+mod kept;
+pub mod laws;
+mod neighbour;
+mod table;
+#[cfg(test)]
+mod tests;
+
+pub use answers::{Reply, answer};
+pub use asks::{Outgoing, ask, send_back};
+pub use counted::counted_vid;
+pub use hearing::{Sender, heard_sender};
+pub use neighbour::{Due, Want};
+pub use table::Neighbours;

@@ -1,0 +1,12 @@
+pub mod Conns
+pub mod HeaderIs
+pub mod HeaderLimit
+pub mod Kinds
+pub mod Layout
+pub mod Numbers
+pub mod Reader
+pub mod Recording
+pub mod Refused
+pub mod Script
+pub mod Stops
+pub mod Turns
