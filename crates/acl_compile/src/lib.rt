@@ -10,6 +10,3 @@ pub mod worked;
 
 pub use place::Place;
 pub use slices::{port_acl_entries, vlan_acl_entries};
-
-#[cfg(test)]
-mod tests;

@@ -10,6 +10,3 @@ pub mod worked;
 
 pub use routes::fib_entries;
 pub use vips::vip_entries;
-
-#[cfg(test)]
-mod tests;

@@ -71,7 +71,7 @@ fn make_item_entry(alloc: Global, vlan: &Vlan, item: &RouteItem) -> Result<Entry
     make_entry(alloc, Table::Ipv4Route, priority, fields.as_slice(), instrs)
 }
 
-pub(crate) fn push_items(
+fn push_items(
     alloc: Global,
     out: &mut Entries,
     vlan: &Vlan,
