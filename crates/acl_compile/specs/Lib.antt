@@ -2,3 +2,4 @@ pub mod Places
 pub mod Targets
 pub mod Rows
 pub mod Slices
+pub mod Worked

@@ -6,6 +6,7 @@ mod place;
 mod rules;
 mod slices;
 mod targets;
+pub mod worked;
 
 pub use place::Place;
 pub use slices::{port_acl_entries, vlan_acl_entries};

@@ -6,6 +6,7 @@ mod gateways;
 pub mod laws;
 mod routes;
 mod vips;
+pub mod worked;
 
 pub use routes::fib_entries;
 pub use vips::vip_entries;

@@ -1,0 +1,91 @@
+-- A datapath and ACLs of which the entries are worked out by hand: what module `worked` cites.
+use Rattle.std.specs.Prelude.{ℕ, ◌+◌, Bool, true, false, Some, None, List, [], ◌∷◌, codes}
+use Rattle.net_base.specs.declared.field.Field.{Field}
+use Rattle.net_base.specs.declared.field.FieldId.TheVariants.{EthType, VlanVid, VlanPcp, IpProto, TcpDst}
+use Rattle.net_base.specs.Field.{exact}
+use Rattle.of_match.specs.declared.action.Instr.{Instr}
+use Rattle.of_match.specs.declared.entry.Entry.{Entry}
+use Rattle.conf_types.specs.declared.acl.PortRef.TheVariants.{No, Name}
+use Rattle.conf_types.specs.declared.acl.Rule.{Rule}
+use Rattle.conf_types.specs.declared.datapath.Dp.{Dp}
+use Rattle.conf_types.specs.declared.datapath.Port.{Port}
+use Rattle.conf_types.specs.declared.vlan.Vlan.{Vlan}
+use Rattle.conf_types.specs.Configuration.{Configuration}
+
+abbrev pub row : ℕ → ℕ → List Field → List Instr → Entry
+row table priority fields instrs = record { key = record { table = table; priority = priority; fields = fields }; instrs = instrs }
+
+abbrev pub port : ℕ → List ℕ → Bool → List (List ℕ) → Port
+port number name enabled acls = record {
+  no = number;
+  name = name;
+  description = name;
+  enabled = enabled;
+  native = Some 100;
+  tagged = [];
+  acls = acls;
+  output_only = false;
+  hairpin = false;
+  unicast_flood = true;
+  permanent_learn = false;
+  opstatus_reconf = true;
+  max_hosts = 255;
+  mirror = [];
+  stack = None;
+}
+
+-- two ACLs in turn
+abbrev pub both : List (List ℕ)
+both = codes "web" ∷ codes "tags" ∷ []
+
+abbrev pub first_port : Port
+first_port = port 1 (codes "one") true both
+
+-- interface 3 is disabled
+abbrev pub datapath : Dp
+datapath = record {
+  id = record { 0 = 1 };
+  name = codes "sw1";
+  description = codes "sw1";
+  hardware = codes "sw1";
+  timeout = 300;
+  arp_timeout = 30;
+  stack_priority = None;
+  drop_spoofed = true;
+  drop_broadcast = true;
+  drop_bpdu = true;
+  drop_lldp = true;
+  ports = first_port ∷ port 2 (codes "two") true [] ∷ port 3 (codes "three") false [] ∷ port 4 (codes "four") true [] ∷ [];
+}
+
+abbrev pub office : Vlan
+office = record {
+  vid = 100;
+  name = codes "office";
+  description = codes "office";
+  mac = record { 0 = 14 ∷ 0 ∷ 0 ∷ 0 ∷ 0 ∷ 1 ∷ [] };
+  vips = [];
+  routes = [];
+  acls = both;
+  max_hosts = 255;
+  unicast_flood = true;
+}
+
+-- web packets go on, and to ports 4, 2 (named twice), 1 and 3
+abbrev pub web : Rule
+web = record { fields = exact EthType 0x0800 ∷ exact IpProto 6 ∷ exact TcpDst 80 ∷ []; allow = true; output = No 2 ∷ Name (codes "two") ∷ No 1 ∷ No 3 ∷ []; mirror = Name (codes "four") ∷ [] }
+
+-- packets of a VLAN and a priority go on
+abbrev pub of_vlan : ℕ → Rule
+of_vlan vid = record { fields = exact VlanVid (0x1000 + vid) ∷ exact VlanPcp 3 ∷ []; allow = true; output = []; mirror = [] }
+
+abbrev pub conf : Configuration
+conf = record {
+  dps = datapath ∷ [];
+  vlans = office ∷ [];
+  acls =
+      record { name = codes "tags"; rules = of_vlan 200 ∷ of_vlan 100 ∷ [] }
+      ∷ record { name = codes "web"; rules = web ∷ [] }
+      ∷ [];
+  routers = [];
+}
