@@ -68,7 +68,8 @@ module _ (conf : Configuration) (valid : IsValid conf) where
       by (Some x) is (zero, lt, same) = subst (Contains conf.vlans) same (from q.native x is)
       by (Some x) is (suc k, lt, same) = some_in q.tagged w (k, omega (arith, lt), same)
 
-  some_of : (vids : List ℕ) (w : Vlan) → vlan_with conf.vlans w.vid ≡ Some w → Contains vids w.vid → Contains (filter_map (vlan_with conf.vlans) vids) w
+  -- and one that is named is among them
+  pub some_of : (vids : List ℕ) (w : Vlan) → vlan_with conf.vlans w.vid ≡ Some w → Contains vids w.vid → Contains (filter_map (vlan_with conf.vlans) vids) w
   some_of [] w is (k, lt, same) = absurd (omega (arith, lt))
   some_of (n ∷ vids) w is (zero, lt, same) =
       let here : vlan_with conf.vlans n ≡ Some w = ap (vlan_with conf.vlans) same ∙ is in

@@ -1,10 +1,8 @@
-//! Tests of the public calls of the crates that read and write OpenFlow, a module for each crate: tables of
-//! values worked out by hand or taken from the standard.
+//! Tests of messages and sessions, a module for each crate: tables of values worked out by hand or taken
+//! from the standard.
 #![tactic(auto)]
 
 #[cfg(test)]
 mod of13_codec_tests;
-#[cfg(test)]
-mod of_wire_tests;
 #[cfg(test)]
 mod switch_session_tests;

@@ -139,6 +139,7 @@ const MASKS: [(FieldId, u128, u128, &[u8]); 4] = [
 
 /// A match of one field is written as these bytes, and read from them.
 fn check_field(rt: &impl Abort, alloc: Global, field: Field, bytes: &[u8]) -> Result<(), NoMemory> {
+    assert!(rt; bytes.len() < 1000);
     let mut out = Bytes::new(alloc);
     put_match(&[field], &mut out)?;
     assert!(rt; out.as_slice() == bytes, "{field:?}");
@@ -229,6 +230,9 @@ fn matches_are_read(rt: HostRuntime) -> Result<(), Fail> {
 
 /// The first fault of a match: as the controller sends it, or as a switch reports it.
 fn match_fault(alloc: Global, seen: bool, bytes: &[u8]) -> Option<PartFault> {
+    if bytes.len() >= 1000 {
+        return None;
+    }
     let read = if seen {
         get_match_seen(alloc, bytes)
     } else {
@@ -433,6 +437,9 @@ fn instructions_are_written_and_read(rt: HostRuntime) -> Result<(), Fail> {
 
 /// The fault of actions, or of instructions.
 fn list_fault(alloc: Global, instructions: bool, bytes: &[u8]) -> Option<PartFault> {
+    if bytes.len() >= 1000 {
+        return None;
+    }
     let refused = if instructions {
         get_instrs(alloc, bytes).err()
     } else {
