@@ -3,7 +3,6 @@ pub mod Keys
 pub mod Order
 pub mod Places
 pub mod Regrouped
-pub mod Samples
 pub mod Schedule
 pub mod Silent
 pub mod Valid

@@ -7,5 +7,4 @@ pub mod Kept
 pub mod Parts
 pub mod Regroup
 pub mod Runs
-pub mod Sample
 pub mod Table

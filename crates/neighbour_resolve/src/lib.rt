@@ -10,8 +10,6 @@ mod kept;
 pub mod laws;
 mod neighbour;
 mod table;
-#[cfg(test)]
-mod tests;
 
 pub use answers::{Reply, answer};
 pub use asks::{Outgoing, ask, send_back};
