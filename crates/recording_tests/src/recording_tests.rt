@@ -98,6 +98,17 @@ fn a_recording_is_told_in_order(rt: HostRuntime) -> Result<(), Fail> {
 }
 
 #[test]
+fn an_empty_recording_and_one_that_opens_a_connection(rt: HostRuntime) -> Result<(), Fail> {
+    let alloc = rt.alloc();
+    let mut hub = ScriptHub::new(alloc, SureSource::new(Bytes::new(alloc)));
+    assert!(rt; turns_are(&mut hub, &[('d', 0), ('d', 0)]));
+    let open = [0, 0, 0, 0, 0, 0, 0, 0, 1, 0, 0, 0, 1, 0, 0, 0, 0];
+    let mut hub = ScriptHub::new(alloc, SureSource::new(Bytes::from_slice(alloc, &open)?));
+    assert!(rt; turns_are(&mut hub, &[('o', 1), ('d', 0)]));
+    Ok(())
+}
+
+#[test]
 fn a_failed_read_loses_nothing(rt: HostRuntime) -> Result<(), Fail> {
     let alloc = rt.alloc();
     for no in 1..12u64 {

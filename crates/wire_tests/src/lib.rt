@@ -6,3 +6,4 @@
 mod of13_codec_tests;
 #[cfg(test)]
 mod switch_session_tests;
+pub mod worked;

@@ -276,7 +276,7 @@ fn are_told(ports: &[PortTold], wanted: &[(u32, bool)]) -> bool {
 }
 
 // How much of the setup is done, what is heard then, the stage behind it, and the ports told.
-const STORIES: [(usize, &[Heard], Stage, &[(u32, bool)]); 17] = [
+const STORIES: [(usize, &[Heard], Stage, &[(u32, bool)]); 18] = [
     // The setup. Any transaction id will do for what the switch is, the awaited one for the rest.
     (
         0,
@@ -353,6 +353,18 @@ const STORIES: [(usize, &[Heard], Stage, &[(u32, bool)]); 17] = [
         ],
         Stage::Wiping,
         &[(9, false), (3, true)],
+    ),
+    // A port that is taken out before the reply is none of those that the setup knows.
+    (
+        2,
+        &[
+            (Said::Status(0, 5, 0, 0), 0, Changed(5)),
+            (Said::Status(2, 5, 1, 0), 0, Changed(5)),
+            (Said::Status(1, 5, 0, 0), 0, Changed(5)),
+            (Said::Ports(false, &[3]), 7, PortsKnown),
+        ],
+        Stage::Wiping,
+        &[(3, true)],
     ),
     // A port's link or config is down, or neither; it is gone.
     (
