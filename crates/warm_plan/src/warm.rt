@@ -1,0 +1,189 @@
+//! The plan of one datapath, kept from one state to the next. This body makes the whole plan at each
+//! event.
+
+ghost use Rattle.std.specs.Prelude.{◌≡◌, true, false, [], IfOk, OnOk, OnErr, IsErr};
+ghost use Rattle.conf_types.specs.State.{IsValidState};
+ghost use Rattle.packet_way.specs.Present.{state_of};
+ghost use Rattle.plan_difference.specs.Difference.{difference};
+ghost use Rattle.cold_start.specs.Cold.{cold_at};
+ghost use Rattle.warm_plan.specs.Kept.{IsKept};
+
+use crate::change::Change;
+use cold_start::cold;
+use conf_types::{Conf, Tally};
+use net_base::{DpId, NoMemory, TryCopy};
+use of_match::{Commands, Tables};
+use packet_way::Now;
+use plan_difference::difference;
+use std::alloc::{AllocError, Global};
+use std::marker::{Model, Snapshot};
+
+/// The plan of one datapath: the flow entries that its switch was sent, and those that it is to hold.
+/// The configuration and the state that were handed in last are seen by contracts alone.
+#[derive(Drop)]
+pub struct Warm {
+    dp: DpId,
+    conf: Snapshot<Conf>,
+    now: Snapshot<Now>,
+    sent: Tables,
+    wanted: Tables,
+    spent: bool,
+}
+
+impl Model for Warm {
+    ghost use Rattle.packet_way.specs.Present.{state_of};
+    ghost use Rattle.warm_plan.specs.Kept.{Kept, IsKept};
+
+    ghost Value = { Kept };
+
+    ghost view = { λ w. record { dp = w.dp; conf = w.conf.value; now = state_of w.now.value; sent = w.sent; wanted = w.wanted; is_spent = w.spent } };
+
+    ghost invariant = { λ w. IsKept (record { dp = w.dp; conf = w.conf.value; now = state_of w.now.value; sent = w.sent; wanted = w.wanted; is_spent = w.spent }) };
+}
+
+impl Warm {
+    /// The plan of a datapath whose switch was sent nothing yet.
+    pub fn open<T: Tally>(
+        alloc: Global,
+        conf: &Conf,
+        now: &Now,
+        dp: DpId,
+        units: &mut T,
+    ) -> Result<Warm, NoMemory>
+        requires { IsValidState conf.now (state_of now.now) }
+        ensures { IfOk result (λ made. made ≡ record {
+          dp = dp;
+          conf = conf.now;
+          now = state_of now.now;
+          sent = [];
+          wanted = cold_at conf.now (state_of now.now) dp;
+          is_spent = false;
+        }) }
+    {
+        Ok(Warm {
+            dp,
+            conf: Snapshot::of(conf),
+            now: Snapshot::of(now),
+            sent: Tables::new(alloc),
+            wanted: cold(alloc, conf, now, dp, units)?,
+            spent: false,
+        })
+    }
+
+    // Makes the plan of another configuration or state.
+    fn renew<T: Tally>(
+        &mut self,
+        alloc: Global,
+        conf: &Conf,
+        now: &Now,
+        units: &mut T,
+    ) -> Result<(), NoMemory>
+        requires { IsValidState conf.now (state_of now.now) }
+        ensures warm { OnOk result (self.new ≡ record self.old {
+          conf = conf.now;
+          now = state_of now.now;
+          wanted = cold_at conf.now (state_of now.now) self.old.dp;
+        }) }
+        ensures spent { OnErr result (self.new.is_spent ≡ true) }
+        ensures again { self.old.is_spent ≡ true → IsErr result }
+        ensures sent { self.new.sent ≡ self.old.sent }
+    {
+        let was_spent = self.spent;
+        self.spent = true;
+        self.conf = Snapshot::of(conf);
+        self.now = Snapshot::of(now);
+        if was_spent {
+            return Err(AllocError);
+        }
+        self.wanted = cold(alloc, conf, now, self.dp, units)?;
+        self.spent = false;
+        Ok(())
+    }
+
+    /// Takes another state of the same configuration, which differs from the last one at most in what
+    /// `changes` names. Want of memory spends the plan, and a spent one answers nothing else.
+    pub fn event<T: Tally>(
+        &mut self,
+        alloc: Global,
+        conf: &Conf,
+        now: &Now,
+        _changes: &[Change],
+        units: &mut T,
+    ) -> Result<(), NoMemory>
+        requires same { conf.now ≡ self.old.conf }
+        requires state { IsValidState conf.now (state_of now.now) }
+        ensures warm { OnOk result (self.new ≡ record self.old {
+          now = state_of now.now;
+          wanted = cold_at conf.now (state_of now.now) self.old.dp;
+        }) }
+        ensures spent { OnErr result (self.new.is_spent ≡ true) }
+        ensures again { self.old.is_spent ≡ true → IsErr result }
+        ensures sent { self.new.sent ≡ self.old.sent }
+    {
+        self.renew(alloc, conf, now, units)
+    }
+
+    /// Takes another configuration, and the state under it. Want of memory spends the plan, and a spent
+    /// one answers nothing else.
+    pub fn reload<T: Tally>(
+        &mut self,
+        alloc: Global,
+        next: &Conf,
+        now: &Now,
+        units: &mut T,
+    ) -> Result<(), NoMemory>
+        requires { IsValidState next.now (state_of now.now) }
+        ensures warm { OnOk result (self.new ≡ record self.old {
+          conf = next.now;
+          now = state_of now.now;
+          wanted = cold_at next.now (state_of now.now) self.old.dp;
+        }) }
+        ensures spent { OnErr result (self.new.is_spent ≡ true) }
+        ensures again { self.old.is_spent ≡ true → IsErr result }
+        ensures sent { self.new.sent ≡ self.old.sent }
+    {
+        self.renew(alloc, next, now, units)
+    }
+
+    /// The commands that lead from what the switch was sent to what it is to hold, which is from now on
+    /// what it was sent. Want of memory spends the plan, and a spent one answers nothing else.
+    pub fn take(&mut self, alloc: Global) -> Result<Commands, NoMemory>
+        ensures batch { IfOk result (λ batch. batch ≡ difference self.old.sent self.old.wanted) }
+        ensures taken { OnOk result (self.new ≡ record self.old { sent = self.old.wanted }) }
+        ensures spent { OnErr result (self.new.is_spent ≡ true) }
+        ensures again { self.old.is_spent ≡ true → IsErr result }
+        ensures left { OnErr result (self.new.sent ≡ self.old.sent) }
+    {
+        if self.spent {
+            return Err(AllocError);
+        }
+        self.spent = true;
+        let batch = difference(alloc, &self.sent, &self.wanted)?;
+        self.sent = self.wanted.copy(alloc)?;
+        self.spent = false;
+        Ok(batch)
+    }
+
+    /// The entries that the switch holds once it has done all that was taken.
+    pub fn sent(&self) -> &Tables
+        ensures { result.now ≡ self.now.sent }
+    {
+        &self.sent
+    }
+
+    /// The entries that the switch is to hold: the cold start of what was handed in last, unless memory
+    /// ran out.
+    pub fn wanted(&self) -> &Tables
+        ensures value { result.now ≡ self.now.wanted }
+        ensures cold { self.now.is_spent ≡ false → result.now ≡ cold_at self.now.conf self.now.now self.now.dp }
+    {
+        &self.wanted
+    }
+
+    /// Whether memory ran out in an earlier call.
+    pub fn is_spent(&self) -> bool
+        ensures { result ≡ self.now.is_spent }
+    {
+        self.spent
+    }
+}
