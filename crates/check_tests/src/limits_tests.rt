@@ -1,0 +1,293 @@
+//! The limits on the size of a configuration, each at its number and one past it.
+
+use Limit::{
+    AclEntries, AclOutputs, Dps, Gateways, Members, Mirrors, Ports, RouterVlans, Routes, Rules,
+    Special, Vips, Vlans,
+};
+use conf_check::{TextRefused, conf_of_bytes};
+use conf_shape::{ConfCause, LimitName as Limit};
+use net_base::NoMemory;
+use std::alloc::Global;
+use std::test::Fail;
+
+/// Lines behind a text, one for each number from 1 on, which stands between their pieces.
+struct Lines {
+    before: &'static str,
+    pieces: &'static [&'static str],
+    /// How many lines; the number that is limited where there is none.
+    count: Option<u32>,
+}
+
+/// A limit, the text that meets it, and where it is passed.
+struct Case {
+    limit: Limit,
+    most: u32,
+    path: &'static str,
+    lines: &'static [Lines],
+}
+
+const fn limited(before: &'static str, pieces: &'static [&'static str]) -> Lines {
+    Lines {
+        before,
+        pieces,
+        count: None,
+    }
+}
+
+const fn fixed(before: &'static str, pieces: &'static [&'static str], count: u32) -> Lines {
+    Lines {
+        before,
+        pieces,
+        count: Some(count),
+    }
+}
+
+const INTERFACES: &str = "dps:\n  a:\n    dp_id: 1\n    interfaces:\n";
+
+const CASES: [Case; 13] = [
+    Case {
+        limit: Dps,
+        most: 64,
+        path: "dps",
+        lines: &[limited("dps:\n", &["  d", ": {dp_id: ", ", interfaces: {}}\n"])],
+    },
+    Case {
+        limit: Ports,
+        most: 256,
+        path: "dps.a",
+        lines: &[limited(INTERFACES, &["      ", ": {}\n"])],
+    },
+    Case {
+        limit: Vlans,
+        most: 1024,
+        path: "vlans",
+        lines: &[limited("dps: {}\nvlans:\n", &["  ", ": {}\n"])],
+    },
+    Case {
+        limit: Mirrors,
+        most: 4,
+        path: "dps.a.interfaces.x",
+        lines: &[
+            limited(INTERFACES, &["      ", ": {mirror: x}\n"]),
+            fixed("      x: {number: 9}\n", &[], 0),
+        ],
+    },
+    Case {
+        limit: Special,
+        most: 16,
+        path: "dps.a",
+        lines: &[limited(INTERFACES, &["      ", ": {hairpin: true}\n"])],
+    },
+    Case {
+        limit: Rules,
+        most: 1000,
+        path: "dps.a.interfaces.1",
+        lines: &[
+            fixed(INTERFACES, &["      ", ": {acl_in: f}\n"], 1),
+            limited("acls:\n  f:\n", &["  - rule: {actions: {}}\n"]),
+        ],
+    },
+    // each attachment counts for one more
+    Case {
+        limit: AclEntries,
+        most: 20,
+        path: "dps.a",
+        lines: &[
+            limited(INTERFACES, &["      ", ": {acl_in: f}\n"]),
+            fixed("acls:\n  f:\n", &["  - rule: {actions: {}}\n"], 999),
+        ],
+    },
+    // 16 interfaces with 32 rules that name 128 ports
+    Case {
+        limit: AclOutputs,
+        most: 16,
+        path: "dps.a",
+        lines: &[
+            limited(
+                INTERFACES,
+                &[
+                    "      ",
+                    ": {acls_in: [f, f, f, f, f, f, f, f, f, f, f, f, f, f, f, f, f, f, f, f, f, f, f, f, f, f, f, f, f, f, f, f]}\n",
+                ],
+            ),
+            fixed("", &["      1000", ": {}\n"], 128),
+            fixed(
+                "acls:\n  f:\n  - rule:\n      actions:\n        output:\n          ports:\n          - 10001\n",
+                &["          - 1000", "\n"],
+                128,
+            ),
+        ],
+    },
+    // 128 interfaces of 64 VLANs
+    Case {
+        limit: Members,
+        most: 128,
+        path: "dps.a",
+        lines: &[limited(
+            INTERFACES,
+            &[
+                "      ",
+                ": {tagged_vlans: [1, 2, 3, 4, 5, 6, 7, 8, 9, 10, 11, 12, 13, 14, 15, 16, 17, 18, 19, 20, 21, 22, 23, 24, 25, 26, 27, 28, 29, 30, 31, 32, 33, 34, 35, 36, 37, 38, 39, 40, 41, 42, 43, 44, 45, 46, 47, 48, 49, 50, 51, 52, 53, 54, 55, 56, 57, 58, 59, 60, 61, 62, 63, 64]}\n",
+            ],
+        )],
+    },
+    Case {
+        limit: Vips,
+        most: 8,
+        path: "vlans.5",
+        lines: &[limited(
+            "dps: {}\nvlans:\n  5:\n    faucet_vips:\n",
+            &["    - 10.", ".0.1/24\n"],
+        )],
+    },
+    Case {
+        limit: RouterVlans,
+        most: 16,
+        path: "routers.r",
+        lines: &[limited(
+            "dps: {}\nrouters:\n  r:\n    vlans:\n    - 1\n",
+            &["    - ", "\n"],
+        )],
+    },
+    Case {
+        limit: Routes,
+        most: 24,
+        path: "vlans",
+        lines: &[
+            fixed(
+                "dps: {}\nvlans:\n  5:\n    faucet_vips: [10.0.0.1/8]\n    routes:\n",
+                &["    - route: {ip_dst: 20.", ".0.0/16, ip_gw: 10.0.0.2}\n"],
+                250,
+            ),
+            fixed(
+                "  6:\n    faucet_vips: [10.0.0.1/8]\n    routes:\n",
+                &["    - route: {ip_dst: 20.", ".0.0/16, ip_gw: 10.0.0.2}\n"],
+                250,
+            ),
+            fixed(
+                "  7:\n    faucet_vips: [10.0.0.1/8]\n    routes:\n",
+                &["    - route: {ip_dst: 20.", ".0.0/16, ip_gw: 10.0.0.2}\n"],
+                250,
+            ),
+            fixed(
+                "  8:\n    faucet_vips: [10.0.0.1/8]\n    routes:\n",
+                &["    - route: {ip_dst: 20.", ".0.0/16, ip_gw: 10.0.0.2}\n"],
+                250,
+            ),
+            limited(
+                "  9:\n    faucet_vips: [10.0.0.1/8]\n    routes:\n",
+                &["    - route: {ip_dst: 20.", ".0.0/16, ip_gw: 10.0.0.2}\n"],
+            ),
+        ],
+    },
+    // 64 groups, each of one datapath
+    Case {
+        limit: Gateways,
+        most: 16,
+        path: "vlans",
+        lines: &[
+            fixed("dps:\n", &["  d", ": {dp_id: ", ", interfaces: {}}\n"], 64),
+            limited(
+                "vlans:\n  5:\n    faucet_vips: [10.1.0.1/8]\n    routes:\n",
+                &[
+                    "    - route: {ip_dst: 20.",
+                    ".0.0/16, ip_gw: 10.0.0.",
+                    "}\n",
+                ],
+            ),
+        ],
+    },
+];
+
+/// Writes a line: the number between its pieces.
+fn write_line(text: &mut String, pieces: &[&str], number: u32) -> Result<(), NoMemory> {
+    for (i, piece) in pieces.iter().enumerate() {
+        if i > 0 {
+            write!(text, "{number}")?;
+        }
+        text.push_str(piece)?;
+    }
+    Ok(())
+}
+
+/// Writes lines, or as many as the number that is limited.
+fn write_lines(text: &mut String, lines: &Lines, limited: u32) -> Result<(), NoMemory> {
+    text.push_str(lines.before)?;
+    for number in 0..lines.count.unwrap_or(limited) {
+        write_line(text, lines.pieces, number.saturating_add(1))?;
+    }
+    Ok(())
+}
+
+/// What is told: nothing, or the path of the first fault and the limit that is passed.
+fn passes(alloc: Global, case: &Case, limited: u32) -> Result<bool, NoMemory> {
+    let mut text = String::new(alloc);
+    for lines in case.lines {
+        write_lines(&mut text, lines, limited)?;
+    }
+    Ok(match conf_of_bytes(alloc, text.as_str().as_bytes()) {
+        Err(TextRefused::Conf(fault)) => {
+            fault.path.as_str() == case.path && fault.cause == ConfCause::TooMany(case.limit)
+        }
+        _ => false,
+    })
+}
+
+fn is_right(alloc: Global, case: &Case, limited: u32) -> Result<bool, NoMemory> {
+    let mut text = String::new(alloc);
+    for lines in case.lines {
+        write_lines(&mut text, lines, limited)?;
+    }
+    Ok(conf_of_bytes(alloc, text.as_str().as_bytes()).is_ok())
+}
+
+#[test]
+fn each_limit_at_its_number_and_one_past_it(rt: HostRuntime) -> Result<(), Fail> {
+    for case in &CASES {
+        let past = case.most.saturating_add(1);
+        let right = is_right(rt.alloc(), case, case.most)?;
+        let passed = passes(rt.alloc(), case, past)?;
+        let limit = case.limit;
+        assert!(rt; right && passed, "{limit:?}: {right} {passed}");
+    }
+    Ok(())
+}
+
+/// 256 VLANs with 8 VIPs each, 16 to a router: 32,768 pairs of a VLAN and a VIP in its routing set.
+fn routed_vlans(alloc: Global, routes: &str) -> Result<String, NoMemory> {
+    let mut text = String::new(alloc);
+    text.push_str("dps: {}\nvlans:\n")?;
+    for vid in 1..257u32 {
+        let net = vid % 16;
+        writeln!(
+            text,
+            "  {vid}: {{faucet_vips: [10.{net}.1.1/24, 10.{net}.2.1/24, 10.{net}.3.1/24, 10.{net}.4.1/24, 10.{net}.5.1/24, 10.{net}.6.1/24, 10.{net}.7.1/24, 10.{net}.8.1/24]}}"
+        )?;
+    }
+    text.push_str(routes)?;
+    text.push_str("routers:\n")?;
+    for at in 0..256u32 {
+        if at % 16 == 0 {
+            writeln!(text, "  r{at}:\n    vlans:")?;
+        }
+        let vid = at.saturating_add(1);
+        writeln!(text, "    - {vid}")?;
+    }
+    Ok(text)
+}
+
+#[test]
+fn pairs_that_are_routed(rt: HostRuntime) -> Result<(), Fail> {
+    let more = "  300: {faucet_vips: [10.0.1.1/24]}\n";
+    for (routes, path) in [("", ""), (more, "vlans")] {
+        let text = routed_vlans(rt.alloc(), routes)?;
+        let found = match conf_of_bytes(rt.alloc(), text.as_str().as_bytes()) {
+            Err(TextRefused::Conf(fault)) if fault.cause == ConfCause::TooMany(Limit::RouteItems) =>
+                { path == fault.path.as_str() }
+            Ok(_) => path == "",
+            Err(_) => false,
+        };
+        assert!(rt; found, "{path}");
+    }
+    Ok(())
+}
