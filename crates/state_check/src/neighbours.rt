@@ -1,0 +1,64 @@
+//! What holds of the neighbours of a valid state.
+
+ghost use Rattle.std.specs.Prelude.{◌≡◌, ◌==◌, true};
+ghost use Rattle.std.specs.List.{AllByRecursion, list_any};
+ghost use Rattle.conf_types.specs.Groups.{group_of};
+ghost use Rattle.conf_types.specs.Lists.{EachBefore};
+ghost use Rattle.conf_types.specs.Networks.{is_neighbour_address};
+ghost use Rattle.conf_types.specs.Routing.{vips_of};
+ghost use Rattle.conf_types.specs.State.{IsNeighbour, IsSameNeighbour};
+ghost use Rattle.packet_way.specs.Present.{state_of};
+
+use conf_types::{Conf, NeighRec};
+use net_base::DpId;
+use packet_way::Now;
+
+fn has_address(conf: &Conf, neighbour: &NeighRec) -> bool
+    ensures { result ≡ is_neighbour_address (vips_of conf.now neighbour.now.vid) neighbour.now.ip.0 }
+{
+    match conf.vlan(neighbour.vid) {
+        Some(vlan) => vlan.is_neighbour_address(neighbour.ip),
+        None => false,
+    }
+}
+
+/// Whether some datapath of a group runs.
+fn has_running(conf: &Conf, running: &[DpId], group: DpId) -> bool
+    ensures { result ≡ list_any (λ dp. (group_of conf.now dp).0 == group.0) running.now }
+{
+    running.iter().any(|dp| conf.group_number(*dp).0 == group.0)
+}
+
+fn is_neighbour(conf: &Conf, now: &Now, neighbour: &NeighRec) -> bool
+    ensures { result ≡ true → IsNeighbour conf.now (state_of now.now) neighbour.now }
+{
+    has_address(conf, neighbour) && has_running(conf, now.running.as_slice(), neighbour.group)
+}
+
+pub(crate) fn are_neighbours(conf: &Conf, now: &Now) -> bool
+    ensures { result ≡ true → AllByRecursion (IsNeighbour conf.now (state_of now.now)) now.now.neighbours }
+{
+    now.neighbours
+        .as_slice()
+        .iter()
+        .all(|neighbour| is_neighbour(conf, now, neighbour))
+}
+
+/// Whether two neighbours have one key.
+fn is_same_neighbour(a: &NeighRec, b: &NeighRec) -> bool
+    ensures { IsSameNeighbour a.now b.now → result ≡ true }
+{
+    a.group.0 == b.group.0 && a.vid.get() == b.vid.get() && a.ip.0 == b.ip.0
+}
+
+/// Whether no two neighbours have one key.
+pub(crate) fn have_own_keys(neighbours: &[NeighRec]) -> bool
+    ensures { result ≡ true → EachBefore (λ a b. IsSameNeighbour a b → ⊥) neighbours.now }
+{
+    match neighbours {
+        [first, others @ ..] => {
+            others.iter().all(|other| !is_same_neighbour(first, other)) && have_own_keys(others)
+        }
+        [] => true,
+    }
+}

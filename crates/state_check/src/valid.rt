@@ -1,0 +1,47 @@
+//! All that holds of a valid state.
+
+ghost use Rattle.std.specs.Prelude.{◌≡◌, true, IsTrue, is_some};
+ghost use Rattle.std.specs.List.{AllByRecursion};
+ghost use Rattle.conf_types.specs.Configuration.{port_at};
+ghost use Rattle.conf_types.specs.Groups.{IsDp};
+ghost use Rattle.conf_types.specs.State.{IsValidState};
+ghost use Rattle.packet_way.specs.Present.{state_of};
+
+use crate::{hosts, neighbours};
+use conf_types::{Conf, MOST_HOSTS, UpRec};
+use net_base::DpId;
+use packet_way::Now;
+
+/// At most so many neighbours are kept.
+const MOST_NEIGHBOURS: usize = 2048;
+
+fn are_dps(conf: &Conf, running: &[DpId]) -> bool
+    ensures { result ≡ true → AllByRecursion (IsDp conf.now) running.now }
+{
+    running.iter().all(|dp| conf.group(*dp).is_some())
+}
+
+fn are_ports(conf: &Conf, ups: &[UpRec]) -> bool
+    ensures { result ≡ true → AllByRecursion (λ up. IsTrue (is_some (port_at conf.now up.dp up.port))) ups.now }
+{
+    ups.iter().all(|up| conf.port(up.dp, up.port).is_some())
+}
+
+/// Whether the state is valid for the configuration: where it says so, it is.
+pub fn is_valid(conf: &Conf, now: &Now) -> bool
+    ensures { result ≡ true → IsValidState conf.now (state_of now.now) }
+{
+    let all = now.hosts.as_slice();
+    let known = now.neighbours.as_slice();
+    are_dps(conf, now.running.as_slice())
+        && are_ports(conf, now.ups.as_slice())
+        && hosts::are_hosts(conf, now)
+        && hosts::have_own_keys(conf, all)
+        && hosts::stay_alone(conf, all)
+        && hosts::fit_all_ports(conf, all)
+        && hosts::fit_all_vlans(conf, all)
+        && all.len() <= MOST_HOSTS
+        && neighbours::are_neighbours(conf, now)
+        && neighbours::have_own_keys(known)
+        && known.len() <= MOST_NEIGHBOURS
+}
