@@ -1,36 +1,44 @@
 -- What a batch does that was made of a configuration's text.
-use Rattle.std.proofs.Common.{◌≡◌, ℕ, ◌^◌, ◌<◌, nat_lt, inl, inr, Bool, true, false, if◌then◌else◌, List, [], ◌∷◌, ◌++◌, map, Option, Some, None, Result, Ok, Err, refl, sym, ap, subst, ◌∙◌, arith}
+use Rattle.std.proofs.Common.{◌≡◌, ℕ, zero, suc, ◌^◌, ◌<◌, nat_lt, inl, inr, Bool, true, false, List, [], ◌∷◌, ◌++◌, map, Option, Some, None, Result, Ok, Err, IsPermutation, refl, sym, ap, subst, ◌∙◌, arith}
+use Rattle.std.specs.Prelude.{Contains}
 use Rattle.std.specs.List.{AllByRecursion}
 use Rattle.std.specs.Str.{bytes_eq}
 use Rattle.std.proofs.lemmas.Bool.Decides.{eqb_tells}
 use Rattle.std.proofs.lemmas.List.{append_assoc, append-nil}
+use Rattle.std.proofs.lemmas.List.Elements.{All-from_recursion, All-contains}
+use Rattle.std.proofs.lemmas.List.Sorted.{IsPermutation-sym, Contains-permutation}
 use Rattle.std.proofs.lemmas.Slice.Eq.{bytes_eq-Decides}
 use Rattle.yaml_subset.specs.Grammar.{Reads}
 use Rattle.yaml_subset.specs.declared.tree.Tree.{Tree}
-use Rattle.conf_types.specs.declared.first.Conf.{Conf}
-use Rattle.conf_types.specs.First.{IsConf}
+use Rattle.conf_types.specs.declared.datapath.Dp.{Dp}
+use Rattle.conf_types.specs.Configuration.{Configuration, dp_with}
+use Rattle.conf_types.specs.State.{State}
+use Rattle.conf_types.specs.Valid.{IsValid}
+use Rattle.conf_shape.specs.declared.refused.ConfFault.{ConfFault}
+use Rattle.conf_check.specs.Accepted.{conf_of}
 use Rattle.of_match.specs.declared.entry.Command.TheVariants.{Add, DeleteAll}
 use Rattle.of_match.specs.declared.entry.Entry.{Entry}
 use Rattle.of_match.specs.declared.packet.Packet.{Packet}
-use Rattle.of_match.specs.declared.packet.Sent.{Sent}
-use Rattle.of_match.specs.Pipeline.{Pipes}
 use Rattle.of_match.specs.Settled.{SettlesInTurn}
 use Rattle.of_match.specs.Shaped.{IsShaped}
-use Rattle.packet_way.specs.Way.{sends}
-use Rattle.cold_plan.specs.Cold.{cold}
+use Rattle.packet_way.specs.Description.{sends}
+use Rattle.plan_base.specs.Accepted.{IsFlowEntry}
+use Rattle.flow_runs.specs.Runs.{SendsJust}
+use Rattle.plan_units.specs.Laws.{IsSetting}
+use Rattle.plan_units.specs.Units.{plan}
+use Rattle.law_lengths.specs.Short.{IsShort}
+use Rattle.cold_start.specs.Cold.{cold}
 use Rattle.of13_codec.specs.Messages.{written}
 use Rattle.of13_codec.specs.Spelling.{Spells}
 use Rattle.of13_codec.specs.WellFormed.{IsWellFormed, FitsFrame}
 use Rattle.of13_codec.specs.declared.message.Message.{Message}
 use Rattle.of13_codec.specs.declared.message.Message.TheVariants as messages
 use Rattle.faucet_top.specs.declared.plan.PlanRefused.{PlanRefused}
-use Rattle.faucet_top.specs.declared.plan.PlanRefused.TheVariants.{Unresolved}
-use Rattle.faucet_top.specs.Answer.{batch_of, Plans, by_tree, by_fault}
-use Rattle.faucet_top.specs.Form.{conf_of}
+use Rattle.faucet_top.specs.Answer.{dp_called, nothing_learned, batch_for, batch_of, Plans, by_tree, by_fault}
 use Rattle.faucet_top.specs.Messages.{add, delete_all, adds, next_xid, xid_after, opening}
 use Rattle.faucet_top.specs.Opened.{command_in, Says, nothing, barrier, command, written_from, SpellAll, Opens}
-use Rattle.faucet_top.proofs.Framed.{NumberLen, FieldsLen, MatchLen, ActionsLen, IsWritten, IsAdded, wipe, add_of, wipe_written, cold_written}
-use Rattle.faucet_top.proofs.Accepted.{is_conf}
+use Rattle.faucet_top.proofs.Framed.{NumberLen, FieldsLen, MatchLen, ActionsLen, IsWritten, IsAdded, wipe, add_of, wipe_written, all_added}
+use Rattle.faucet_top.proofs.Nothing.{called_is, nothing_valid}
 
 -- ---- the messages of an opening batch
 
@@ -97,49 +105,85 @@ opening_can w es all = (record { formed = w.formed; fits = w.fits }, (record { f
 
 -- ---- a batch that was made of a text
 
-abbrev ok_or : {A E : Type 0} → A → Result A E → A
+abbrev pub ok_or : {A E : Type 0} → A → Result A E → A
 ok_or d (Ok x) = x
 ok_or d (Err e) = d
 
+abbrev pub Accepts : Type 0
+Accepts = (t : Tree) (conf : Configuration) → conf_of t ≡ Ok conf → IsValid conf
+
+abbrev pub AreShort : Type 0
+AreShort = (conf : Configuration) (now : State) (d : Dp) → IsSetting conf now d → AllByRecursion IsShort (plan conf now d)
+
+abbrev pub AreSame : Type 0
+AreSame = (conf : Configuration) (now : State) (d : Dp) → IsSetting conf now d → IsPermutation (plan conf now d) (cold conf now d)
+
+abbrev pub AreFlows : Type 0
+AreFlows = (conf : Configuration) (now : State) (d : Dp) → IsSetting conf now d → AllByRecursion IsFlowEntry (cold conf now d)
+
 abbrev pub Holds : Type 0
-Holds = (conf : Conf) → IsConf conf → (held settled : List Entry) → SettlesInTurn held ((DeleteAll ∷ []) ∷ map Add (cold conf) ∷ []) settled → settled ≡ cold conf
+Holds = (conf : Configuration) (now : State) (d : Dp) (held settled : List Entry) → SettlesInTurn held ((DeleteAll ∷ []) ∷ map Add (cold conf now d) ∷ []) settled → settled ≡ cold conf now d
 
 abbrev pub Goes : Type 0
-Goes = (conf : Conf) (port : ℕ) (p : Packet) → IsConf conf → port < 2 ^ 32 → IsShaped p → Pipes (cold conf) port p (sends conf port p)
+Goes = (conf : Configuration) (now : State) (d : Dp) → IsSetting conf now d → (port : ℕ) (p : Packet) → port < 2 ^ 32 → IsShaped p → SendsJust (cold conf now d) port 0 p (sends conf now d.id port p)
 
-abbrev pub Only : Type 0
-Only = (conf : Conf) (port : ℕ) (p : Packet) (outs : List Sent) → IsConf conf → port < 2 ^ 32 → IsShaped p → Pipes (cold conf) port p outs → outs ≡ sends conf port p
+-- what holds of all of a list holds of all of its parts in another order
+all_of : (P : Entry → Type 0) (all es : List Entry) → AllByRecursion P all → ((e : Entry) → Contains es e → Contains all e) → AllByRecursion P es
+all_of P all es h within = by es (λ e c. All-contains P all e (All-from_recursion P all h) (within e c))
+  where
+    here : (e : Entry) (more : List Entry) → Contains (e ∷ more) e
+    here e more = (zero, omega arith, refl)
 
-module _ (number_len : NumberLen) (fields_len : FieldsLen) (match_len : MatchLen) (actions_len : ActionsLen) (spelled : Spelled) (holds : Holds) (goes : Goes) (only : Only) (text dp batch : List ℕ) where
-  opens : (tree : Tree) (conf : Conf) → Reads text tree → conf_of tree ≡ Some conf → conf.dp.name ≡ dp → opening (cold conf) ≡ batch → Opens text dp batch
-  opens tree conf read accepted named made =
-      let valid = is_conf tree conf accepted in
-      let added = cold_written number_len fields_len match_len actions_len conf valid in
+    there : (e f : Entry) (more : List Entry) → Contains more f → Contains (e ∷ more) f
+    there e f more (k, low, is) = (suc k, omega (arith, low), is)
+
+    by : (fs : List Entry) → ((e : Entry) → Contains fs e → P e) → AllByRecursion P fs
+    by [] k = tt
+    by (f ∷ fs) k = (k f (here f fs), by fs (λ e c. k e (there f e fs c)))
+
+permuted : (P : Entry → Type 0) (xs ys : List Entry) → IsPermutation xs ys → AllByRecursion P xs → AllByRecursion P ys
+permuted P xs ys p all = all_of P xs ys all (λ e c. Contains-permutation ys xs e (IsPermutation-sym xs ys p) c)
+
+setting : (conf : Configuration) → IsValid conf → (d : Dp) → dp_with conf.dps d.id ≡ Some d → IsSetting conf (nothing_learned conf) d
+setting conf valid d is = record { valid = valid; state = nothing_valid conf valid; addresses = record { hosts = tt; neighbours = tt }; is_dp = is }
+
+module _ (number_len : NumberLen) (fields_len : FieldsLen) (match_len : MatchLen) (actions_len : ActionsLen) (spelled : Spelled)
+    (accepts : Accepts) (short : AreShort) (same : AreSame) (flows : AreFlows) (holds : Holds) (goes : Goes) (text dp batch : List ℕ) where
+  opens : (tree : Tree) (conf : Configuration) (d : Dp) → Reads text tree → conf_of tree ≡ Ok conf → dp_with conf.dps d.id ≡ Some d → d.name ≡ dp
+      → opening (cold conf (nothing_learned conf) d) ≡ batch → Opens text dp batch
+  opens tree conf d read accepted is named made =
+      let valid = accepts tree conf accepted in
+      let now = nothing_learned conf in
+      let es = cold conf now d in
+      let set = setting conf valid d is in
+      let added = all_added number_len fields_len match_len actions_len es (flows conf now d set) (permuted IsShort (plan conf now d) es (same conf now d set) (short conf now d set)) in
       record {
         tree = tree;
         conf = conf;
-        messages = opening_messages (cold conf);
-        commands = (DeleteAll ∷ []) ∷ map Add (cold conf) ∷ [];
+        datapath = d;
+        messages = opening_messages es;
+        commands = (DeleteAll ∷ []) ∷ map Add es ∷ [];
         reads = read;
         accepted = accepted;
+        is_dp = is;
         named = named;
-        sent = sym made ∙ opening_written (cold conf);
-        spelled = subst (SpellAll 1 (opening_messages (cold conf))) (sym (sym made ∙ opening_written (cold conf)))
-            (spells_all spelled 1 (omega arith) (opening_messages (cold conf)) (opening_can (wipe_written number_len fields_len match_len actions_len) (cold conf) added));
-        said = opening_said (cold conf) added;
-        holds = holds conf valid;
-        goes = λ port p fits shaped. goes conf port p valid fits shaped;
-        only = λ port p outs fits shaped way. only conf port p outs valid fits shaped way;
+        sent = sym made ∙ opening_written es;
+        spelled = subst (SpellAll 1 (opening_messages es)) (sym (sym made ∙ opening_written es))
+            (spells_all spelled 1 (omega arith) (opening_messages es) (opening_can (wipe_written number_len fields_len match_len actions_len) es added));
+        said = opening_said es added;
+        holds = holds conf now d;
+        goes = goes conf now d set;
       }
 
-  by_name : (tree : Tree) (conf : Conf) → Reads text tree → conf_of tree ≡ Some conf → (b : Bool) → bytes_eq conf.dp.name dp ≡ b
-      → ◌≡◌ {A = Result (List ℕ) PlanRefused} (if b then Ok (opening (cold conf)) else Err Unresolved) (Ok batch) → Opens text dp batch
-  by_name tree conf read accepted true same made = opens tree conf read accepted ((bytes_eq-Decides conf.dp.name dp).0 same) (ap (λ (m : Result (List ℕ) PlanRefused). ok_or batch m) made)
-  by_name tree conf read accepted false same made = absurd cc
+  by_name : (tree : Tree) (conf : Configuration) → Reads text tree → conf_of tree ≡ Ok conf → (o : Option Dp) → dp_called conf.dps dp ≡ o → batch_for conf o ≡ Ok batch → Opens text dp batch
+  by_name tree conf read accepted None is made = absurd cc
+  by_name tree conf read accepted (Some d) is made =
+      let called = called_is conf (accepts tree conf accepted) d dp is in
+      opens tree conf d read accepted called.0 ((bytes_eq-Decides d.name dp).0 called.1) (ap (λ (m : Result (List ℕ) PlanRefused). ok_or batch m) made)
 
-  by_conf : (tree : Tree) → Reads text tree → (c : Option Conf) → conf_of tree ≡ c → batch_of c dp ≡ Ok batch → Opens text dp batch
-  by_conf tree read None none made = absurd cc
-  by_conf tree read (Some conf) accepted made = by_name tree conf read accepted (bytes_eq conf.dp.name dp) refl made
+  by_conf : (tree : Tree) → Reads text tree → (c : Result Configuration ConfFault) → conf_of tree ≡ c → batch_of c dp ≡ Ok batch → Opens text dp batch
+  by_conf tree read (Err fault) is made = absurd cc
+  by_conf tree read (Ok conf) is made = by_name tree conf read is (dp_called conf.dps dp) refl made
 
   pub planned_opens : Plans text dp (Ok batch) → Opens text dp batch
   planned_opens (by_tree tree read made) = by_conf tree read (conf_of tree) refl (sym made)

@@ -1,8 +1,6 @@
 pub mod Adds
-pub mod FormLemmas
-pub mod Ordered
-pub mod Accepted
 pub mod Framed
 pub mod Headline
+pub mod Nothing
 pub mod PlanLemmas
 pub mod TopLemmas

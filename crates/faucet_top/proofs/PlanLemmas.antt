@@ -8,21 +8,20 @@ use Rattle.fg_outside.specs.Contents.{Contents, Tells, told}
 use Rattle.fg_outside.specs.declared.files.ReadRefused.{ReadRefused}
 use Rattle.fg_outside.specs.declared.files.ReadRefused.TheVariants as reads
 use Rattle.yaml_subset.specs.Grammar.{Reads}
-use Rattle.yaml_subset.specs.TextFault.{IsFault, text_too_long, text_not_utf8, text_broken, HasTreeOrItsFault, TellsFault}
-use Rattle.yaml_subset.specs.declared.fault.YamlRefused.{YamlRefused}
-use Rattle.yaml_subset.specs.declared.fault.YamlRefused.TheVariants as yaml
+use Rattle.yaml_subset.specs.TextFault.{IsFault, text_too_long, text_not_utf8, text_broken, HasTreeOrItsFault}
 use Rattle.yaml_subset.specs.declared.fault.YamlFault.{YamlFault}
 use Rattle.yaml_subset.specs.declared.tree.Tree.{Tree}
 use Rattle.faucet_top.specs.declared.plan.PlanRefused.{PlanRefused}
-use Rattle.faucet_top.specs.declared.plan.PlanRefused.TheVariants.{Unread, Refused, NotOfForm, Unresolved, Memory}
+use Rattle.faucet_top.specs.declared.plan.PlanRefused.TheVariants.{Unread, Refused, NotAccepted, Unresolved, Memory}
 use Rattle.faucet_top.specs.Answer.{batch_of, Plans, by_tree, by_fault, PlansFile}
-use Rattle.faucet_top.specs.Form.{conf_of}
+use Rattle.conf_check.specs.Accepted.{conf_of}
 use Rattle.faucet_top.specs.Given.{AsTold, Makes, planned, unread, memory}
-use Rattle.faucet_top.specs.Refusals.{unread_or_memory, form_or_memory, fault_or_memory}
-use Rattle.faucet_top.specs.Shaped.{Gives}
-use Rattle.faucet_top.specs.declared.shape.FormRefused.{FormRefused}
-use Rattle.faucet_top.specs.declared.shape.FormRefused.TheVariants as forms
-use Rattle.conf_types.specs.declared.first.Conf.{Conf}
+use Rattle.faucet_top.specs.Refusals.{unread_or_memory, refused_text}
+use Rattle.conf_types.specs.Configuration.{Configuration}
+use Rattle.conf_shape.specs.declared.refused.ConfFault.{ConfFault}
+use Rattle.conf_check.specs.declared.text.TextRefused.{TextRefused}
+use Rattle.conf_check.specs.declared.text.TextRefused.TheVariants as texts
+use Rattle.conf_check.specs.Accepted.{IsTextRefused}
 
 abbrev pub Made : Type 0
 Made = Result (List ℕ) PlanRefused
@@ -74,19 +73,15 @@ of_front text dp made plans =
 abbrev MadeOf : List ℕ → List ℕ → Made → Type 0
 MadeOf text dp made = IsErrOf made Memory ⊎ Plans text dp made
 
-pub made_of_fault : (text dp : List ℕ) (why : YamlRefused) → TellsFault (Err why) text → MadeOf text dp (Err (fault_or_memory why))
-made_of_fault text dp (yaml.At fault) tells = inr (by_fault fault tells.0 refl)
-made_of_fault text dp yaml.Memory tells = inl refl
+-- what a refusal tells of a text
+pub made_of_refusal : (text dp : List ℕ) (why : TextRefused) → IsTextRefused text why → MadeOf text dp (Err (refused_text why))
+made_of_refusal text dp (texts.Yaml fault) told = inr (by_fault fault told refl)
+made_of_refusal text dp (texts.Conf fault) told =
+    let accepted = told.2 in inr (by_tree told.0 told.1 (sym (ap (λ (c : Result Configuration ConfFault). batch_of c dp) accepted)))
+made_of_refusal text dp texts.Memory told = inl refl
 
-abbrev no_conf : FormRefused → Result Conf FormRefused
-no_conf why = Err why
-
-pub made_of_form : (text dp : List ℕ) (tree : Tree) → Reads text tree → (why : FormRefused) → Gives (no_conf why) (conf_of tree) → MadeOf text dp (Err (form_or_memory why))
-made_of_form text dp tree reads forms.NotOfForm none = inr (by_tree tree reads (sym (ap (λ (c : Option Conf). batch_of c dp) none)))
-made_of_form text dp tree reads forms.Memory none = inl refl
-
-pub made_of_conf : (text dp : List ℕ) (tree : Tree) (conf : Conf) → Reads text tree → conf_of tree ≡ Some conf → (made : Made) → made ≡ batch_of (Some conf) dp → MadeOf text dp made
-made_of_conf text dp tree conf reads accepted made is = inr (by_tree tree reads (is ∙ sym (ap (λ (c : Option Conf). batch_of c dp) accepted)))
+pub made_of_conf : (text dp : List ℕ) (tree : Tree) (conf : Configuration) → Reads text tree → conf_of tree ≡ Ok conf → (made : Made) → made ≡ batch_of (Ok conf) dp → MadeOf text dp made
+made_of_conf text dp tree conf reads accepted made is = inr (by_tree tree reads (is ∙ sym (ap (λ (c : Result Configuration ConfFault). batch_of c dp) accepted)))
 
 -- ---- what is made of a file
 

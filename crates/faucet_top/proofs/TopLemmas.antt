@@ -1,21 +1,19 @@
 -- From the reply that was given to what each status says.
 use Rattle.std.proofs.Common.{◌≡◌, ◌≢◌, ℕ, ◌≤◌, Bool, true, false, ◌⊎◌, inl, inr, List, [], Option, Some, None, Result, Ok, Err, refl, sym, ap, subst, ◌∙◌, arith}
-use Rattle.std.specs.Prelude.{if◌then◌else◌}
-use Rattle.std.specs.Str.{bytes_eq}
 use Rattle.fg_outside.specs.Contents.{Contents, Tells}
 use Rattle.fg_outside.specs.Counts.{Rose}
 use Rattle.fg_outside.proofs.SinkLemmas.{appended-nil, AppendsFront-none}
-use Rattle.conf_types.specs.declared.first.Conf.{Conf}
-use Rattle.cold_plan.specs.Cold.{cold}
+use Rattle.conf_types.specs.declared.datapath.Dp.{Dp}
+use Rattle.conf_types.specs.Configuration.{Configuration}
+use Rattle.conf_shape.specs.declared.refused.ConfFault.{ConfFault}
+use Rattle.conf_check.specs.Accepted.{conf_of}
 use Rattle.faucet_top.specs.declared.plan.PlanRefused.{PlanRefused}
-use Rattle.faucet_top.specs.declared.plan.PlanRefused.TheVariants.{Unread, Refused, NotOfForm, Unresolved, Memory}
-use Rattle.faucet_top.specs.Answer.{Answer, batch_of, Plans, by_tree, by_fault, PlansFile, plan_answer, usage, out_of_memory, AnswersJob, Answers}
+use Rattle.faucet_top.specs.declared.plan.PlanRefused.TheVariants.{Unread, Refused, NotAccepted, Unresolved, Memory}
+use Rattle.faucet_top.specs.Answer.{Answer, dp_called, batch_for, batch_of, Plans, by_tree, by_fault, PlansFile, plan_answer, usage, out_of_memory, AnswersJob, Answers}
 use Rattle.faucet_top.specs.Ends.{Ends}
-use Rattle.faucet_top.specs.Form.{conf_of}
 use Rattle.faucet_top.specs.Status.{number_of_status}
 use Rattle.faucet_top.specs.declared.deliver.Status.{Status}
 use Rattle.faucet_top.specs.declared.deliver.Status.TheVariants.{Usage}
-use Rattle.faucet_top.specs.Messages.{opening}
 use Rattle.faucet_top.specs.Given.{AsTold, Makes, planned, unread, memory, RepliesJob, Replies, Delivers, Gives, IsRefused}
 use Rattle.faucet_top.specs.Opened.{Opens, OpensBy}
 use Rattle.faucet_top.specs.Words.{Job, Plan, meaning}
@@ -30,7 +28,7 @@ module _ (config dp : List ℕ) where
   refused_status : (why : PlanRefused) → (2 ≤ status_for (Err why)) × (status_for (Err why) ≡ 4 → ⊥)
   refused_status Unread = (omega arith, λ e. omega arith)
   refused_status (Refused fault) = (omega arith, λ e. omega arith)
-  refused_status NotOfForm = (omega arith, λ e. omega arith)
+  refused_status (NotAccepted fault) = (omega arith, λ e. omega arith)
   refused_status Unresolved = (omega arith, λ e. omega arith)
   refused_status Memory = (omega arith, λ e. omega arith)
 
@@ -42,13 +40,13 @@ module _ (config dp : List ℕ) where
   not_one (Ok batch) s = omega arith
   not_one (Err why) s = let above = (refused_status why).0 in omega (arith, above, s)
 
-  named_status : (b : Bool) (batch : List ℕ) (made : Made) → made ≡ (if b then Ok batch else Err Unresolved) → status_for made ≤ 2
-  named_status true batch made is = rw is (omega arith)
-  named_status false batch made is = rw is (omega arith)
+  named_status : (conf : Configuration) (d : Option Dp) (made : Made) → made ≡ batch_for conf d → status_for made ≤ 2
+  named_status conf None made is = rw is (omega arith)
+  named_status conf (Some d) made is = rw is (omega arith)
 
-  tree_status : (conf : Option Conf) (made : Made) → made ≡ batch_of conf dp → status_for made ≤ 2
-  tree_status None made is = rw is (omega arith)
-  tree_status (Some conf) made is = named_status (bytes_eq conf.dp.name dp) (opening (cold conf)) made is
+  tree_status : (conf : Result Configuration ConfFault) (made : Made) → made ≡ batch_of conf dp → status_for made ≤ 2
+  tree_status (Err fault) made is = rw is (omega arith)
+  tree_status (Ok conf) made is = named_status conf (dp_called conf.dps dp) made is
 
   -- the status for what a text plans
   text_status : (text : List ℕ) (made : Made) → Plans text dp made → status_for made ≤ 2

@@ -5,8 +5,9 @@ use Rattle.fg_outside.specs.Wrote.{appended, AppendsFront}
 use Rattle.faucet_top.specs.declared.deliver.Status.{Status}
 use Rattle.faucet_top.specs.declared.deliver.Status.TheVariants as statuses
 use Rattle.faucet_top.specs.declared.plan.PlanRefused.{PlanRefused}
-use Rattle.faucet_top.specs.declared.plan.PlanRefused.TheVariants.{Unread, Refused, NotOfForm, Unresolved, Memory}
+use Rattle.faucet_top.specs.declared.plan.PlanRefused.TheVariants.{Unread, Refused, NotAccepted, Unresolved, Memory}
 use Rattle.yaml_subset.specs.declared.fault.YamlFault.{YamlFault}
+use Rattle.conf_shape.specs.declared.refused.ConfFault.{ConfFault}
 use Rattle.faucet_top.specs.Answer.{plan_answer}
 
 -- the bytes were written with no failed write, and the status is this; or a write failed behind a front of them
@@ -19,7 +20,7 @@ Ends status bytes old new faults_old faults_new ended =
 abbrev pub refused_status : PlanRefused → Status
 refused_status Unread = statuses.Unread
 refused_status (Refused fault) = statuses.Refused
-refused_status NotOfForm = statuses.Refused
+refused_status (NotAccepted fault) = statuses.Refused
 refused_status Unresolved = statuses.Refused
 refused_status Memory = statuses.Memory
 
@@ -30,3 +31,7 @@ refusal_line config dp why = (plan_answer config dp (Err why)).err
 -- the line for a text's fault
 abbrev pub fault_line : List ℕ → YamlFault → List ℕ
 fault_line config fault = (plan_answer config [] (Err (Refused fault))).err
+
+-- the line for a configuration's fault
+abbrev pub conf_fault_line : List ℕ → ConfFault → List ℕ
+conf_fault_line config fault = (plan_answer config [] (Err (NotAccepted fault))).err

@@ -50,7 +50,8 @@ Gives words contents absence fault status out_old out_new err_old err_new out_fa
 
 -- ---- statuses
 
--- a refusal is what the text plans: it has a fault, or its tree isn't of the first form or hasn't the datapath
+-- a refusal is what the text plans: it has a fault, or its tree gives no configuration, or one without the
+-- datapath
 abbrev pub IsRefused : (text dp : List ℕ) → Type 0
 IsRefused text dp = (why : PlanRefused) × Plans text dp (Err why)
 

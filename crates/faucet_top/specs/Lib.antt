@@ -1,11 +1,10 @@
 pub mod Answer
 pub mod Asked
+pub mod Causes
 pub mod Ends
-pub mod Form
 pub mod Given
 pub mod Messages
 pub mod Opened
 pub mod Refusals
-pub mod Shaped
 pub mod Status
 pub mod Words

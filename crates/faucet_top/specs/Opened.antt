@@ -1,27 +1,28 @@
 -- What the bytes of an opening batch do to a switch that gets them.
-use Rattle.std.specs.Prelude.{◌≡◌, ℕ, ◌<◌, ◌^◌, ◌==◌, ◌&&◌, nat_lt, Bool, if◌then◌else◌, List, [], ◌∷◌, ◌++◌, length, Option, Some, None}
+use Rattle.std.specs.Prelude.{◌≡◌, ℕ, ◌<◌, ◌^◌, ◌==◌, ◌&&◌, nat_lt, Bool, if◌then◌else◌, List, [], ◌∷◌, ◌++◌, length, Option, Some, None, Ok}
 use Rattle.fg_outside.specs.Wrote.{appended}
 use Rattle.yaml_subset.specs.Grammar.{Reads}
 use Rattle.yaml_subset.specs.declared.tree.Tree.{Tree}
-use Rattle.conf_types.specs.declared.first.Conf.{Conf}
+use Rattle.conf_types.specs.declared.datapath.Dp.{Dp}
+use Rattle.conf_types.specs.Configuration.{Configuration, dp_with}
+use Rattle.conf_check.specs.Accepted.{conf_of}
 use Rattle.of_match.specs.declared.entry.Command.{Command}
 use Rattle.of_match.specs.declared.entry.Command.TheVariants.{Add, DeleteStrict, DeleteAll}
 use Rattle.of_match.specs.declared.entry.Entry.{Entry}
 use Rattle.of_match.specs.declared.entry.Key.{Key}
 use Rattle.of_match.specs.declared.packet.Packet.{Packet}
-use Rattle.of_match.specs.declared.packet.Sent.{Sent}
-use Rattle.of_match.specs.Pipeline.{Pipes}
 use Rattle.of_match.specs.Settled.{SettlesInTurn}
 use Rattle.of_match.specs.Shaped.{IsShaped}
-use Rattle.packet_way.specs.Way.{sends}
-use Rattle.cold_plan.specs.Cold.{cold}
+use Rattle.packet_way.specs.Description.{sends}
+use Rattle.flow_runs.specs.Runs.{SendsJust}
+use Rattle.cold_start.specs.Cold.{cold}
 use Rattle.of_wire.specs.Grammar.{Then}
 use Rattle.of13_codec.specs.Messages.{written}
 use Rattle.of13_codec.specs.Spelling.{Spells}
 use Rattle.of13_codec.specs.declared.flow_mod.FlowMod.{FlowMod}
 use Rattle.of13_codec.specs.declared.message.Message.{Message}
 use Rattle.of13_codec.specs.declared.message.Message.TheVariants as messages
-use Rattle.faucet_top.specs.Form.{conf_of}
+use Rattle.faucet_top.specs.Answer.{nothing_learned}
 use Rattle.faucet_top.specs.Messages.{next_xid}
 
 -- ---- messages as commands of the flow tables (OpenFlow 1.3, 7.3.4.1)
@@ -68,23 +69,26 @@ SpellAll xid (m ∷ more) bytes = Then (Spells m xid) (SpellAll (next_xid xid) m
 
 -- ---- a switch that gets the batch
 
--- The batch opens the datapath that a configuration file's text describes: whatever a switch held that
--- keeps the barrier rule, behind the last barrier it holds exactly the cold start, and these tables send
--- every packet exactly as the configuration describes, whichever of several best entries it takes.
+-- The batch opens the datapath of a name that a configuration file's text describes: whatever a switch held
+-- that keeps the barrier rule, behind the last barrier it holds exactly the cold start. These tables send every
+-- packet, by every port, exactly as the configuration describes, up to order, whichever of several best entries
+-- the switch takes.
 pub record Opens (text dp batch : List ℕ) : Type 0 where
   pub tree : Tree
-  pub conf : Conf
+  pub conf : Configuration
+  pub datapath : Dp
   pub messages : List Message
   pub commands : List (List Command)
   pub reads : Reads text tree
-  pub accepted : conf_of tree ≡ Some conf
-  pub named : conf.dp.name ≡ dp
+  pub accepted : conf_of tree ≡ Ok conf
+  pub is_dp : dp_with conf.dps datapath.id ≡ Some datapath
+  pub named : datapath.name ≡ dp
   pub sent : batch ≡ written_from 1 messages
   pub spelled : SpellAll 1 messages batch
   pub said : Says messages commands
-  pub holds : (held settled : List Entry) → SettlesInTurn held commands settled → settled ≡ cold conf
-  pub goes : (port : ℕ) (p : Packet) → port < 2 ^ 32 → IsShaped p → Pipes (cold conf) port p (sends conf port p)
-  pub only : (port : ℕ) (p : Packet) (outs : List Sent) → port < 2 ^ 32 → IsShaped p → Pipes (cold conf) port p outs → outs ≡ sends conf port p
+  pub holds : (held settled : List Entry) → SettlesInTurn held commands settled → settled ≡ cold conf (nothing_learned conf) datapath
+  pub goes : (port : ℕ) (p : Packet) → port < 2 ^ 32 → IsShaped p
+      → SendsJust (cold conf (nothing_learned conf) datapath) port 0 p (sends conf (nothing_learned conf) datapath.id port p)
 
 -- what was written opens the datapath
 abbrev pub OpensBy : (text dp : List ℕ) → (before after : Option (List ℕ)) → Type 0

@@ -3,9 +3,11 @@ ghost use Rattle.fg_outside.specs.Wrote.{line_of};
 ghost use Rattle.faucet_top.specs.Answer.{plan_answer, usage, out_of_memory, line};
 ghost use Rattle.faucet_top.specs.Given.{Delivers};
 ghost use Rattle.faucet_top.specs.Status.{number_of_status};
-ghost use Rattle.faucet_top.specs.Ends.{Ends, refused_status, refusal_line, fault_line};
+ghost use Rattle.faucet_top.specs.Ends.{Ends, refused_status, refusal_line, fault_line, conf_fault_line};
 
+use crate::causes::limit_name;
 use crate::plan::PlanRefused;
+use conf_shape::{ConfCause, ConfFault};
 use fg_outside::{Sink, write_all, write_line};
 use itoa::Buffer;
 use net_base::Bytes;
@@ -104,6 +106,38 @@ fn deliver_fault<E: Sink>(err: &mut E, config: &str, fault: YamlFault) -> Status
     deliver_cause(err, config, number, cause, form)
 }
 
+/// Says where a configuration was refused, and the cause in two pieces.
+fn deliver_at<E: Sink>(err: &mut E, config: &str, path: &str, cause: &str, more: &str) -> Status
+    ensures ends { Ends Status.Refused (line (config.now ∷ codes ": " ∷ path.now ∷ codes ": " ∷ cause.now ∷ more.now ∷ []))
+        (E.wrote err.old) (E.wrote err.new) (E.faults err.old) (E.faults err.new) result }
+    ensures faults { E.faults err.old ≤ E.faults err.new }
+{
+    let pieces = [config, ": ", path, ": ", cause, more];
+    end_with_line(err, &pieces, Status::Refused)
+}
+
+/// Says where and why a configuration was refused.
+fn deliver_conf_fault<E: Sink>(err: &mut E, config: &str, fault: &ConfFault) -> Status
+    ensures ends { Ends Status.Refused (conf_fault_line config.now fault.now) (E.wrote err.old) (E.wrote err.new) (E.faults err.old) (E.faults err.new) result }
+    ensures faults { E.faults err.old ≤ E.faults err.new }
+{
+    let path = fault.path.as_str();
+    let mut buffer = Buffer::new();
+    let (cause, more) = match fault.cause {
+        ConfCause::UnknownKey => ("UnknownKey", ""),
+        ConfCause::LeftOut => ("LeftOut", ""),
+        ConfCause::Missing => ("Missing", ""),
+        ConfCause::WrongType => ("WrongType", ""),
+        ConfCause::OutOfRange => ("OutOfRange", ""),
+        ConfCause::BadText => ("BadText", ""),
+        ConfCause::Unresolved => ("Unresolved", ""),
+        ConfCause::Duplicate => ("Duplicate", ""),
+        ConfCause::Conflict(rule) => ("Conflict ", buffer.format(rule)),
+        ConfCause::TooMany(limit) => ("TooMany ", limit_name(limit)),
+    };
+    deliver_at(err, config, path, cause, more)
+}
+
 /// Says why there is no batch.
 fn deliver_refusal<E: Sink>(err: &mut E, config: &str, dp: &str, why: PlanRefused) -> Status
     ensures ends { Ends (refused_status why) (refusal_line config.now dp.now why) (E.wrote err.old) (E.wrote err.new) (E.faults err.old) (E.faults err.new) result }
@@ -112,9 +146,7 @@ fn deliver_refusal<E: Sink>(err: &mut E, config: &str, dp: &str, why: PlanRefuse
     match why {
         PlanRefused::Unread => end_with_line(err, &[config, ": read fault"], Status::Unread),
         PlanRefused::Refused(fault) => deliver_fault(err, config, fault),
-        PlanRefused::NotOfForm => {
-            end_with_line(err, &[config, ": not in the first form"], Status::Refused)
-        }
+        PlanRefused::NotAccepted(fault) => deliver_conf_fault(err, config, &fault),
         PlanRefused::Unresolved => {
             let pieces = [config, ": dps.", dp, ": Unresolved"];
             end_with_line(err, &pieces, Status::Refused)

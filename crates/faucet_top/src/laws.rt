@@ -4,19 +4,9 @@
 ghost use Rattle.std.specs.Prelude.{◌≡◌, ◌⊎◌, ℕ, List, [], Option, Some, Ok};
 ghost use Rattle.fg_outside.specs.Contents.{Contents};
 ghost use Rattle.fg_outside.specs.Counts.{Rose};
-ghost use Rattle.yaml_subset.specs.declared.tree.Tree.{Tree};
-ghost use Rattle.conf_types.specs.declared.first.Conf.{Conf};
-ghost use Rattle.conf_types.specs.First.{IsConf};
 ghost use Rattle.faucet_top.specs.Answer.{Answer, Answers, Plans, out_of_memory};
-ghost use Rattle.faucet_top.specs.Form.{conf_of};
 ghost use Rattle.faucet_top.specs.Given.{Replies};
 ghost use Rattle.faucet_top.specs.Opened.{Opens};
-
-/// The configuration that a tree of the first form gives is valid: interfaces and VLANs ascend by
-/// their numbers, which are in range, and each native VLAN is one of the configuration.
-pub fn an_accepted_configuration_is_valid()
-    ensures { (t : Tree) (conf : Conf) → conf_of t ≡ Some conf → IsConf conf }
-{}
 
 /// A batch that is planned of a text opens the datapath: behind its last barrier a switch holds
 /// exactly the cold start, whose tables send every packet as the configuration describes.
@@ -25,8 +15,12 @@ pub fn a_planned_batch_opens_the_datapath()
 {
     of_wire::laws::parts_take_few_bytes();
     of13_codec::laws::written_message_is_spelled();
-    cold_plan::laws::an_opened_switch_holds_the_cold_start();
-    cold_plan::laws::the_cold_start_sends_each_packet_as_described();
+    conf_check::laws::an_accepted_configuration_is_valid();
+    law_lengths::laws::each_entry_is_short();
+    cold_start::laws::a_cold_start_is_the_plan_in_key_order();
+    cold_start::laws::a_switch_accepts_each_entry();
+    cold_start::laws::a_switch_holds_the_cold_start();
+    cold_start::laws::a_cold_start_sends_each_packet_as_described();
 }
 
 /// Words have one answer at most, where these files are held.

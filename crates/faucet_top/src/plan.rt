@@ -1,30 +1,42 @@
-ghost use Rattle.std.specs.Prelude.{◌≡◌, ◌≤◌, ◌⊎◌, IsErrOf};
+ghost use Rattle.std.specs.Prelude.{◌≡◌, ◌++◌, ◌≤◌, ◌⊎◌, IsErrOf, IfOk, OnOk, Some};
+ghost use Rattle.std.specs.List.{flat_map};
+ghost use Rattle.std.specs.Option.{option_copied};
 ghost use Rattle.fg_outside.specs.Counts.{Rose};
-ghost use Rattle.faucet_top.specs.declared.plan.PlanRefused.TheVariants.{Memory, NotOfForm, Unread};
-ghost use Rattle.faucet_top.specs.Answer.{Plans};
+ghost use Rattle.conf_types.specs.Configuration.{dp_with};
+ghost use Rattle.conf_types.specs.State.{IsValidState};
+ghost use Rattle.conf_types.specs.Valid.{IsValid};
+ghost use Rattle.packet_way.specs.Present.{state_of};
+ghost use Rattle.cold_start.specs.Cold.{cold};
+ghost use Rattle.faucet_top.specs.declared.plan.PlanRefused.TheVariants.{Memory, Unread};
+ghost use Rattle.faucet_top.specs.Answer.{Plans, dp_called, ups_of, nothing_learned};
 ghost use Rattle.faucet_top.specs.Given.{Makes};
-ghost use Rattle.faucet_top.specs.Refusals.{unread_or_memory, form_or_memory, fault_or_memory};
+ghost use Rattle.faucet_top.specs.Messages.{opening};
+ghost use Rattle.faucet_top.specs.Refusals.{unread_or_memory, refused_text};
 
 use crate::messages::make_opening;
-use crate::shape::{FormRefused, make_conf};
-use cold_plan::make_cold;
+use crate::units::Units;
+use cold_start::cold;
+use conf_check::{TextRefused, conf_of_bytes};
+use conf_shape::ConfFault;
+use conf_types::{Conf, Dp, HostRecs, NeighRecs, UpRec, UpRecs};
 use fg_outside::{Files, ReadRefused, read_whole};
-use net_base::{Bytes, NoMemory};
+use net_base::{Bytes, Items, Moment, NoMemory};
+use packet_way::Now;
 use std::alloc::Global;
-use yaml_subset::{YamlFault, YamlRefused, read_yaml};
+use yaml_subset::YamlFault;
 
 /// The most bytes of a configuration file.
 const MAX_TEXT: usize = 1_048_576;
 
 /// Why there is no opening batch.
-#[derive(Clone, Copy, Debug, PartialEq, Eq)]
+#[derive(Debug, Drop)]
 pub enum PlanRefused {
     /// The file isn't there, or a read failed.
     Unread,
     /// The file isn't a text of the YAML subset: its first fault.
     Refused(YamlFault),
-    /// The file's tree isn't of the first form.
-    NotOfForm,
+    /// The file's text gives no configuration: its first fault.
+    NotAccepted(ConfFault),
     /// The configuration has no datapath of the name.
     Unresolved,
     /// Memory ran out.
@@ -50,39 +62,82 @@ impl From<ReadRefused> for PlanRefused {
     }
 }
 
-impl From<YamlRefused> for PlanRefused {
-    ghost from_gives = { λ why refused. refused ≡ fault_or_memory why };
+impl From<TextRefused> for PlanRefused {
+    ghost from_gives = { λ why refused. refused ≡ refused_text why };
 
-    fn from(why: YamlRefused) -> PlanRefused {
+    fn from(why: TextRefused) -> PlanRefused {
         match why {
-            YamlRefused::At(fault) => PlanRefused::Refused(fault),
-            YamlRefused::Memory => PlanRefused::Memory,
+            TextRefused::Yaml(fault) => PlanRefused::Refused(fault),
+            TextRefused::Conf(fault) => PlanRefused::NotAccepted(fault),
+            TextRefused::Memory => PlanRefused::Memory,
         }
     }
 }
 
-impl From<FormRefused> for PlanRefused {
-    ghost from_gives = { λ why refused. refused ≡ form_or_memory why };
+fn find_dp<'a>(dps: &'a [Dp], name: &str) -> Option<&'a Dp>
+    ensures { option_copied result ≡ dp_called dps.now name.now }
+{
+    dps.iter().find(|dp| dp.name.as_str() == name)
+}
 
-    fn from(why: FormRefused) -> PlanRefused {
-        match why {
-            FormRefused::NotOfForm => PlanRefused::NotOfForm,
-            FormRefused::Memory => PlanRefused::Memory,
+/// Adds the enabled interfaces of a datapath.
+fn push_ups(ups: &mut UpRecs, dp: &Dp) -> Result<(), NoMemory>
+    ensures { OnOk result (ups.new ≡ ups.old ++ ups_of dp.now) }
+{
+    for port in dp.ports.as_slice() {
+        if port.enabled {
+            ups.push(UpRec {
+                dp: dp.id,
+                port: port.no,
+            })?;
         }
     }
+    Ok(())
+}
+
+fn all_ups(alloc: Global, dps: &[Dp]) -> Result<UpRecs, NoMemory>
+    ensures { IfOk result (λ ups. ups ≡ flat_map ups_of dps.now) }
+{
+    let mut ups = UpRecs::new(alloc);
+    for dp in dps {
+        push_ups(&mut ups, dp)?;
+    }
+    Ok(ups)
+}
+
+/// The state of a configuration of which every enabled interface is up and nothing is learned.
+fn nothing_learned(alloc: Global, conf: &Conf) -> Result<Now, NoMemory>
+    ensures value { IfOk result (λ now. state_of now ≡ nothing_learned conf.now) }
+    ensures valid { IfOk result (λ now. IsValidState conf.now (state_of now)) }
+{
+    Ok(Now {
+        moment: Moment(0),
+        running: Items::new(alloc),
+        ups: all_ups(alloc, conf.dps().as_slice())?,
+        hosts: HostRecs::new(alloc),
+        neighbours: NeighRecs::new(alloc),
+    })
+}
+
+/// The opening batch of a datapath of a configuration.
+fn open_dp(alloc: Global, conf: &Conf, dp: &Dp) -> Result<Bytes, NoMemory>
+    requires { dp_with conf.now.dps dp.now.id ≡ Some dp.now }
+    ensures { IfOk result (λ batch. batch ≡ opening (cold conf.now (nothing_learned conf.now) dp.now)) }
+{
+    let now = nothing_learned(alloc, conf)?;
+    let entries = cold(alloc, conf, &now, dp.id, &mut Units::new())?;
+    make_opening(alloc, entries.as_slice())
 }
 
 /// The opening batch for a datapath of a configuration file's text.
 fn make_batch_of(alloc: Global, text: &[u8], dp: &str) -> Result<Bytes, PlanRefused>
     ensures { IsErrOf result PlanRefused.Memory ⊎ Plans text.now dp.now result }
 {
-    let tree = read_yaml(alloc, text)?;
-    let conf = make_conf(alloc, &tree)?;
-    if conf.dp.name.as_str() != dp {
+    let conf = conf_of_bytes(alloc, text)?;
+    let Some(dp) = find_dp(conf.dps().as_slice(), dp) else {
         return Err(PlanRefused::Unresolved);
-    }
-    let entries = make_cold(alloc, &conf)?;
-    Ok(make_opening(alloc, entries.as_slice())?)
+    };
+    Ok(open_dp(alloc, &conf, dp)?)
 }
 
 /// The opening batch for a datapath of a configuration file.

@@ -124,7 +124,26 @@ fn each_refusal_is_one_line(rt: HostRuntime) -> Result<(), Fail> {
             3,
             "nofile: read fault\n",
         ),
-        (plan, "", 2, "f.yaml: not in the first form\n"),
+        (plan, "", 2, "f.yaml: dps: Missing\n"),
+        (plan, "include: [a.yaml]\n", 2, "f.yaml: include: LeftOut\n"),
+        (
+            plan,
+            "dps: {sw1: {dp_id: 1, interfaces: {1: {native_vlan: ofice}}}}\n",
+            2,
+            "f.yaml: dps.sw1.interfaces.1.native_vlan: Unresolved\n",
+        ),
+        (
+            plan,
+            "dps: {sw1: {dp_id: 1, interfaces: {1: {mirror: 1}}}}\n",
+            2,
+            "f.yaml: dps.sw1.interfaces.1.mirror: Conflict 10\n",
+        ),
+        (
+            plan,
+            "dps: {sw1: {dp_id: 1, interfaces: {1: {}, 2: {mirror: 1}, 3: {mirror: 1}, 4: {mirror: 1}, 5: {mirror: 1}, 6: {mirror: 1}}}}\n",
+            2,
+            "f.yaml: dps.sw1.interfaces.1: TooMany Mirrors\n",
+        ),
         (plan, "a: 1\n\tb: 2\n", 2, "f.yaml: line 2: Tab\n"),
         (
             plan,

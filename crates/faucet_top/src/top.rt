@@ -47,8 +47,8 @@ fn answer_words<F: Files, O: Sink, E: Sink>(
 ///
 /// `plan CONFIG DP` writes on `out` the batch that opens the datapath DP of the configuration file
 /// CONFIG: OpenFlow 1.3 messages, big-endian. Any other words have no meaning. A refusal is one line
-/// on `err`. Statuses: 0 done; 1 the words have no meaning; 2 the file's text is refused, its tree
-/// isn't of the first form, or DP isn't its datapath; 3 the file isn't there, or a read failed; 4 a write failed; 8 out of memory.
+/// on `err`. Statuses: 0 done; 1 the words have no meaning; 2 the file's text is refused, or the
+/// configuration that it gives, or DP isn't one of its datapaths; 3 the file isn't there, or a read failed; 4 a write failed; 8 out of memory.
 pub fn faucet<F: Files, H: Hub, O: Sink, E: Sink>(
     alloc: Global,
     words: &Names,
@@ -67,7 +67,7 @@ pub fn faucet<F: Files, H: Hub, O: Sink, E: Sink>(
     ensures usage { result.0 ≡ 1 → meaning words.now ≡ None }
     ensures no_meaning { meaning words.now ≡ None → (result.0 ≡ 1) ⊎ (result.0 ≡ 4) }
 
-    // Status 2 only where the file's text has a fault, or its tree isn't of the first form or hasn't the datapath.
+    // Status 2 only where the file's text has a fault, or the configuration that it gives, or that hasn't the datapath.
     ensures refused { (config dp text : List ℕ) → meaning words.now ≡ Some (Plan config dp) → Tells (F.contents files) config (Some text)
         → result.0 ≡ 2 → IsRefused text dp }
 

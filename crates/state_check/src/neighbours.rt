@@ -35,13 +35,15 @@ fn is_neighbour(conf: &Conf, now: &Now, neighbour: &NeighRec) -> bool
     has_address(conf, neighbour) && has_running(conf, now.running.as_slice(), neighbour.group)
 }
 
-pub(crate) fn are_neighbours(conf: &Conf, now: &Now) -> bool
-    ensures { result ≡ true → AllByRecursion (IsNeighbour conf.now (state_of now.now)) now.now.neighbours }
+pub(crate) fn are_neighbours(conf: &Conf, now: &Now, neighbours: &[NeighRec]) -> bool
+    ensures { result ≡ true → AllByRecursion (IsNeighbour conf.now (state_of now.now)) neighbours.now }
 {
-    now.neighbours
-        .as_slice()
-        .iter()
-        .all(|neighbour| is_neighbour(conf, now, neighbour))
+    match neighbours {
+        [] => true,
+        [neighbour, more @ ..] => {
+            is_neighbour(conf, now, neighbour) && are_neighbours(conf, now, more)
+        }
+    }
 }
 
 /// Whether two neighbours have one key.
@@ -51,14 +53,22 @@ fn is_same_neighbour(a: &NeighRec, b: &NeighRec) -> bool
     a.group.0 == b.group.0 && a.vid.get() == b.vid.get() && a.ip.0 == b.ip.0
 }
 
+/// Whether no other neighbour has the key of this one.
+fn has_own_key(neighbour: &NeighRec, others: &[NeighRec]) -> bool
+    ensures { result ≡ true → AllByRecursion (λ other. IsSameNeighbour neighbour.now other → ⊥) others.now }
+{
+    match others {
+        [] => true,
+        [other, more @ ..] => !is_same_neighbour(neighbour, other) && has_own_key(neighbour, more),
+    }
+}
+
 /// Whether no two neighbours have one key.
 pub(crate) fn have_own_keys(neighbours: &[NeighRec]) -> bool
     ensures { result ≡ true → EachBefore (λ a b. IsSameNeighbour a b → ⊥) neighbours.now }
 {
     match neighbours {
-        [first, others @ ..] => {
-            others.iter().all(|other| !is_same_neighbour(first, other)) && have_own_keys(others)
-        }
         [] => true,
+        [neighbour, more @ ..] => has_own_key(neighbour, more) && have_own_keys(more),
     }
 }

@@ -33,15 +33,16 @@ pub fn is_valid(conf: &Conf, now: &Now) -> bool
 {
     let all = now.hosts.as_slice();
     let known = now.neighbours.as_slice();
+    let dps = conf.dps().as_slice();
     are_dps(conf, now.running.as_slice())
         && are_ports(conf, now.ups.as_slice())
-        && hosts::are_hosts(conf, now)
+        && hosts::are_hosts(conf, now, all)
         && hosts::have_own_keys(conf, all)
         && hosts::stay_alone(conf, all)
-        && hosts::fit_all_ports(conf, all)
-        && hosts::fit_all_vlans(conf, all)
+        && hosts::fit_all_ports(all, dps)
+        && hosts::fit_all_vlans(conf, all, dps)
         && all.len() <= MOST_HOSTS
-        && neighbours::are_neighbours(conf, now)
+        && neighbours::are_neighbours(conf, now, known)
         && neighbours::have_own_keys(known)
         && known.len() <= MOST_NEIGHBOURS
 }

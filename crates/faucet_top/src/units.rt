@@ -1,0 +1,28 @@
+ghost use Rattle.std.specs.Prelude.{◌≡◌};
+
+use conf_types::Tally;
+
+/// Units of work, counted up to the greatest number.
+pub struct Units {
+    count: u64,
+}
+
+impl Tally for Units {
+    ghost count = { λ units. units.count };
+
+    fn tick(&mut self) {
+        self.count = self.count.saturating_add(1);
+    }
+}
+
+impl Units {
+    /// None yet.
+    pub fn new() -> Units {
+        Units { count: 0 }
+    }
+
+    /// How many there were.
+    pub fn count(&self) -> u64 {
+        self.count
+    }
+}
