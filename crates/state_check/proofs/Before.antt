@@ -1,0 +1,18 @@
+-- A relation of each item of a list to those behind it.
+use Rattle.std.proofs.Common.{◌≡◌, ℕ, ◌≤◌, ◌-◌, List, [], ◌∷◌, length, drop, take, slice_index_or, subst, sym, arith}
+use Rattle.std.specs.List.{AllByRecursion}
+use Rattle.std.proofs.lemmas.List.{take_all}
+use Rattle.conf_types.specs.Lists.{EachBefore}
+
+-- those behind the first
+behind : {X : Type 0} (xs : List X) → take (length xs - 1) (drop 1 xs) ≡ drop 1 xs
+behind {X = X} [] = take_all (length {A = X} [] - 1) [] (omega arith)
+behind (y ∷ ys) = take_all (length (y ∷ ys) - 1) ys (omega arith)
+
+pub each_before : {X : Type 0} (R : X → X → Type 0) (xs : List X) (x : X) → 1 ≤ length xs → x ≡ slice_index_or xs 0 x
+    → AllByRecursion (R x) (take (length xs - 1) (drop 1 xs)) → EachBefore R (take (length xs - 1) (drop 1 xs)) → EachBefore R xs
+each_before {X = X} R xs x some is all more = by xs some is (subst (AllByRecursion (R x)) (behind xs) all) (subst (EachBefore R) (behind xs) more)
+  where
+    by : (xs : List X) → 1 ≤ length xs → x ≡ slice_index_or xs 0 x → AllByRecursion (R x) (drop 1 xs) → EachBefore R (drop 1 xs) → EachBefore R xs
+    by [] some is all more = absurd (omega (arith, some))
+    by (y ∷ ys) some is all more = (subst (λ z. AllByRecursion (R z) ys) is all, more)
