@@ -1,5 +1,5 @@
 -- A relation of each item of a list to those behind it.
-use Rattle.std.proofs.Common.{◌≡◌, ℕ, ◌≤◌, ◌-◌, List, [], ◌∷◌, length, drop, take, slice_index_or, subst, sym, arith}
+use Rattle.std.proofs.Common.{◌≡◌, ◌≤◌, ◌-◌, List, [], ◌∷◌, length, drop, take, slice_index_or, subst, arith}
 use Rattle.std.specs.List.{AllByRecursion}
 use Rattle.std.proofs.lemmas.List.{take_all}
 use Rattle.conf_types.specs.Lists.{EachBefore}
@@ -16,3 +16,12 @@ each_before {X = X} R xs x some is all more = by xs some is (subst (AllByRecursi
     by : (xs : List X) → 1 ≤ length xs → x ≡ slice_index_or xs 0 x → AllByRecursion (R x) (drop 1 xs) → EachBefore R (drop 1 xs) → EachBefore R xs
     by [] some is all more = absurd (omega (arith, some))
     by (y ∷ ys) some is all more = (subst (λ z. AllByRecursion (R z) ys) is all, more)
+
+-- what holds of the first and of all behind it
+pub all_by : {X : Type 0} (P : X → Type 0) (xs : List X) (x : X) → 1 ≤ length xs → x ≡ slice_index_or xs 0 x
+    → P x → AllByRecursion P (take (length xs - 1) (drop 1 xs)) → AllByRecursion P xs
+all_by {X = X} P xs x some is here more = by xs some is (subst (AllByRecursion P) (behind xs) more)
+  where
+    by : (xs : List X) → 1 ≤ length xs → x ≡ slice_index_or xs 0 x → AllByRecursion P (drop 1 xs) → AllByRecursion P xs
+    by [] some is more = absurd (omega (arith, some))
+    by (y ∷ ys) some is more = (subst P is here, more)

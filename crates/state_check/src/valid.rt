@@ -34,15 +34,20 @@ pub fn is_valid(conf: &Conf, now: &Now) -> bool
     let all = now.hosts.as_slice();
     let known = now.neighbours.as_slice();
     let dps = conf.dps().as_slice();
-    are_dps(conf, now.running.as_slice())
-        && are_ports(conf, now.ups.as_slice())
-        && hosts::are_hosts(conf, now, all)
-        && hosts::have_own_keys(conf, all)
-        && hosts::stay_alone(conf, all)
-        && hosts::fit_all_ports(all, dps)
-        && hosts::fit_all_vlans(conf, all, dps)
-        && all.len() <= MOST_HOSTS
-        && neighbours::are_neighbours(conf, now, known)
-        && neighbours::have_own_keys(known)
-        && known.len() <= MOST_NEIGHBOURS
+    if !are_dps(conf, now.running.as_slice()) || !are_ports(conf, now.ups.as_slice()) {
+        return false;
+    }
+    if !hosts::are_hosts(conf, now, all) || !hosts::have_own_keys(conf, all) {
+        return false;
+    }
+    if !hosts::stay_alone(conf, all) || !hosts::fit_all_ports(all, dps) {
+        return false;
+    }
+    if !hosts::fit_all_vlans(conf, all, dps) || all.len() > MOST_HOSTS {
+        return false;
+    }
+    if !neighbours::are_neighbours(conf, now, known) || !neighbours::have_own_keys(known) {
+        return false;
+    }
+    known.len() <= MOST_NEIGHBOURS
 }
