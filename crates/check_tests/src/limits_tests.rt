@@ -26,22 +26,6 @@ struct Case {
     lines: &'static [Lines],
 }
 
-const fn limited(before: &'static str, pieces: &'static [&'static str]) -> Lines {
-    Lines {
-        before,
-        pieces,
-        count: None,
-    }
-}
-
-const fn fixed(before: &'static str, pieces: &'static [&'static str], count: u32) -> Lines {
-    Lines {
-        before,
-        pieces,
-        count: Some(count),
-    }
-}
-
 const INTERFACES: &str = "dps:\n  a:\n    dp_id: 1\n    interfaces:\n";
 
 const CASES: [Case; 13] = [
@@ -49,42 +33,74 @@ const CASES: [Case; 13] = [
         limit: Dps,
         most: 64,
         path: "dps",
-        lines: &[limited("dps:\n", &["  d", ": {dp_id: ", ", interfaces: {}}\n"])],
+        lines: &[Lines {
+            before: "dps:\n",
+            pieces: &["  d", ": {dp_id: ", ", interfaces: {}}\n"],
+            count: None,
+        }],
     },
     Case {
         limit: Ports,
         most: 256,
         path: "dps.a",
-        lines: &[limited(INTERFACES, &["      ", ": {}\n"])],
+        lines: &[Lines {
+            before: INTERFACES,
+            pieces: &["      ", ": {}\n"],
+            count: None,
+        }],
     },
     Case {
         limit: Vlans,
         most: 1024,
         path: "vlans",
-        lines: &[limited("dps: {}\nvlans:\n", &["  ", ": {}\n"])],
+        lines: &[Lines {
+            before: "dps: {}\nvlans:\n",
+            pieces: &["  ", ": {}\n"],
+            count: None,
+        }],
     },
     Case {
         limit: Mirrors,
         most: 4,
         path: "dps.a.interfaces.x",
         lines: &[
-            limited(INTERFACES, &["      ", ": {mirror: x}\n"]),
-            fixed("      x: {number: 9}\n", &[], 0),
+            Lines {
+                before: INTERFACES,
+                pieces: &["      ", ": {mirror: x}\n"],
+                count: None,
+            },
+            Lines {
+                before: "      x: {number: 9}\n",
+                pieces: &[],
+                count: Some(0),
+            },
         ],
     },
     Case {
         limit: Special,
         most: 16,
         path: "dps.a",
-        lines: &[limited(INTERFACES, &["      ", ": {hairpin: true}\n"])],
+        lines: &[Lines {
+            before: INTERFACES,
+            pieces: &["      ", ": {hairpin: true}\n"],
+            count: None,
+        }],
     },
     Case {
         limit: Rules,
         most: 1000,
         path: "dps.a.interfaces.1",
         lines: &[
-            fixed(INTERFACES, &["      ", ": {acl_in: f}\n"], 1),
-            limited("acls:\n  f:\n", &["  - rule: {actions: {}}\n"]),
+            Lines {
+                before: INTERFACES,
+                pieces: &["      ", ": {acl_in: f}\n"],
+                count: Some(1),
+            },
+            Lines {
+                before: "acls:\n  f:\n",
+                pieces: &["  - rule: {actions: {}}\n"],
+                count: None,
+            },
         ],
     },
     // each attachment counts for one more
@@ -93,8 +109,16 @@ const CASES: [Case; 13] = [
         most: 20,
         path: "dps.a",
         lines: &[
-            limited(INTERFACES, &["      ", ": {acl_in: f}\n"]),
-            fixed("acls:\n  f:\n", &["  - rule: {actions: {}}\n"], 999),
+            Lines {
+                before: INTERFACES,
+                pieces: &["      ", ": {acl_in: f}\n"],
+                count: None,
+            },
+            Lines {
+                before: "acls:\n  f:\n",
+                pieces: &["  - rule: {actions: {}}\n"],
+                count: Some(999),
+            },
         ],
     },
     // 16 interfaces with 32 rules that name 128 ports
@@ -103,19 +127,24 @@ const CASES: [Case; 13] = [
         most: 16,
         path: "dps.a",
         lines: &[
-            limited(
-                INTERFACES,
-                &[
+            Lines {
+                before: INTERFACES,
+                pieces: &[
                     "      ",
                     ": {acls_in: [f, f, f, f, f, f, f, f, f, f, f, f, f, f, f, f, f, f, f, f, f, f, f, f, f, f, f, f, f, f, f, f]}\n",
                 ],
-            ),
-            fixed("", &["      1000", ": {}\n"], 128),
-            fixed(
-                "acls:\n  f:\n  - rule:\n      actions:\n        output:\n          ports:\n          - 10001\n",
-                &["          - 1000", "\n"],
-                128,
-            ),
+                count: None,
+            },
+            Lines {
+                before: "",
+                pieces: &["      1000", ": {}\n"],
+                count: Some(128),
+            },
+            Lines {
+                before: "acls:\n  f:\n  - rule:\n      actions:\n        output:\n          ports:\n          - 10001\n",
+                pieces: &["          - 1000", "\n"],
+                count: Some(128),
+            },
         ],
     },
     // 128 interfaces of 64 VLANs
@@ -123,61 +152,65 @@ const CASES: [Case; 13] = [
         limit: Members,
         most: 128,
         path: "dps.a",
-        lines: &[limited(
-            INTERFACES,
-            &[
+        lines: &[Lines {
+            before: INTERFACES,
+            pieces: &[
                 "      ",
                 ": {tagged_vlans: [1, 2, 3, 4, 5, 6, 7, 8, 9, 10, 11, 12, 13, 14, 15, 16, 17, 18, 19, 20, 21, 22, 23, 24, 25, 26, 27, 28, 29, 30, 31, 32, 33, 34, 35, 36, 37, 38, 39, 40, 41, 42, 43, 44, 45, 46, 47, 48, 49, 50, 51, 52, 53, 54, 55, 56, 57, 58, 59, 60, 61, 62, 63, 64]}\n",
             ],
-        )],
+            count: None,
+        }],
     },
     Case {
         limit: Vips,
         most: 8,
         path: "vlans.5",
-        lines: &[limited(
-            "dps: {}\nvlans:\n  5:\n    faucet_vips:\n",
-            &["    - 10.", ".0.1/24\n"],
-        )],
+        lines: &[Lines {
+            before: "dps: {}\nvlans:\n  5:\n    faucet_vips:\n",
+            pieces: &["    - 10.", ".0.1/24\n"],
+            count: None,
+        }],
     },
     Case {
         limit: RouterVlans,
         most: 16,
         path: "routers.r",
-        lines: &[limited(
-            "dps: {}\nrouters:\n  r:\n    vlans:\n    - 1\n",
-            &["    - ", "\n"],
-        )],
+        lines: &[Lines {
+            before: "dps: {}\nrouters:\n  r:\n    vlans:\n    - 1\n",
+            pieces: &["    - ", "\n"],
+            count: None,
+        }],
     },
     Case {
         limit: Routes,
         most: 24,
         path: "vlans",
         lines: &[
-            fixed(
-                "dps: {}\nvlans:\n  5:\n    faucet_vips: [10.0.0.1/8]\n    routes:\n",
-                &["    - route: {ip_dst: 20.", ".0.0/16, ip_gw: 10.0.0.2}\n"],
-                250,
-            ),
-            fixed(
-                "  6:\n    faucet_vips: [10.0.0.1/8]\n    routes:\n",
-                &["    - route: {ip_dst: 20.", ".0.0/16, ip_gw: 10.0.0.2}\n"],
-                250,
-            ),
-            fixed(
-                "  7:\n    faucet_vips: [10.0.0.1/8]\n    routes:\n",
-                &["    - route: {ip_dst: 20.", ".0.0/16, ip_gw: 10.0.0.2}\n"],
-                250,
-            ),
-            fixed(
-                "  8:\n    faucet_vips: [10.0.0.1/8]\n    routes:\n",
-                &["    - route: {ip_dst: 20.", ".0.0/16, ip_gw: 10.0.0.2}\n"],
-                250,
-            ),
-            limited(
-                "  9:\n    faucet_vips: [10.0.0.1/8]\n    routes:\n",
-                &["    - route: {ip_dst: 20.", ".0.0/16, ip_gw: 10.0.0.2}\n"],
-            ),
+            Lines {
+                before: "dps: {}\nvlans:\n  5:\n    faucet_vips: [10.0.0.1/8]\n    routes:\n",
+                pieces: &["    - route: {ip_dst: 20.", ".0.0/16, ip_gw: 10.0.0.2}\n"],
+                count: Some(250),
+            },
+            Lines {
+                before: "  6:\n    faucet_vips: [10.0.0.1/8]\n    routes:\n",
+                pieces: &["    - route: {ip_dst: 20.", ".0.0/16, ip_gw: 10.0.0.2}\n"],
+                count: Some(250),
+            },
+            Lines {
+                before: "  7:\n    faucet_vips: [10.0.0.1/8]\n    routes:\n",
+                pieces: &["    - route: {ip_dst: 20.", ".0.0/16, ip_gw: 10.0.0.2}\n"],
+                count: Some(250),
+            },
+            Lines {
+                before: "  8:\n    faucet_vips: [10.0.0.1/8]\n    routes:\n",
+                pieces: &["    - route: {ip_dst: 20.", ".0.0/16, ip_gw: 10.0.0.2}\n"],
+                count: Some(250),
+            },
+            Lines {
+                before: "  9:\n    faucet_vips: [10.0.0.1/8]\n    routes:\n",
+                pieces: &["    - route: {ip_dst: 20.", ".0.0/16, ip_gw: 10.0.0.2}\n"],
+                count: None,
+            },
         ],
     },
     // 64 groups, each of one datapath
@@ -186,15 +219,20 @@ const CASES: [Case; 13] = [
         most: 16,
         path: "vlans",
         lines: &[
-            fixed("dps:\n", &["  d", ": {dp_id: ", ", interfaces: {}}\n"], 64),
-            limited(
-                "vlans:\n  5:\n    faucet_vips: [10.1.0.1/8]\n    routes:\n",
-                &[
+            Lines {
+                before: "dps:\n",
+                pieces: &["  d", ": {dp_id: ", ", interfaces: {}}\n"],
+                count: Some(64),
+            },
+            Lines {
+                before: "vlans:\n  5:\n    faucet_vips: [10.1.0.1/8]\n    routes:\n",
+                pieces: &[
                     "    - route: {ip_dst: 20.",
                     ".0.0/16, ip_gw: 10.0.0.",
                     "}\n",
                 ],
-            ),
+                count: None,
+            },
         ],
     },
 ];
