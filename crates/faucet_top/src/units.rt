@@ -3,6 +3,7 @@ ghost use Rattle.std.specs.Prelude.{◌≡◌};
 use conf_types::Tally;
 
 /// Units of work, counted up to the greatest number.
+#[derive(Drop)]
 pub struct Units {
     count: u64,
 }

@@ -14,6 +14,7 @@ use std::process::Abort;
 use std::test::Fail;
 
 /// Counts units of work, up to the greatest number.
+#[derive(Drop)]
 struct Units {
     count: u64,
 }
