@@ -1,5 +1,7 @@
 //! What is answered to frames, and what is asked, in hexadecimal digits.
 
+ghost use Rattle.std.specs.Prelude.{◌<◌};
+
 use conf_check::conf_of_bytes;
 use conf_types::{Conf, Member};
 use neighbour_resolve::{Reply, answer, ask, send_back};
@@ -19,7 +21,9 @@ fn conf(rt: &impl Abort, alloc: Global) -> Conf {
 }
 
 /// The value of a hexadecimal digit.
-fn digit(letter: u8) -> u8 {
+fn digit(letter: u8) -> u8
+    ensures { result < 16 }
+{
     match letter {
         b'0'..=b'9' => letter - b'0',
         b'a'..=b'f' => letter - b'a' + 10,
@@ -241,22 +245,30 @@ fn what_is_answered(rt: HostRuntime) -> Result<(), Fail> {
     Ok(())
 }
 
-/// An action in few letters: where it puts out, a tag that it pushes, the VLAN that it sets.
-fn letter(action: &Action) -> (char, u32) {
+/// An action: it puts out, pushes a tag, or sets the VLAN.
+#[derive(Clone, Copy, PartialEq, Eq)]
+enum Does {
+    Out(u32),
+    Push(u16),
+    Set(u128),
+    Other,
+}
+
+fn does(action: &Action) -> Does {
     match action {
-        Action::Output { port, max_len: 0 } => ('o', *port),
-        Action::PushVlan(tpid) => ('p', u32::from(*tpid)),
-        Action::Set(field) => ('s', field.value as u32),
-        _ => ('?', 0),
+        Action::Output { port, max_len: 0 } => Does::Out(*port),
+        Action::PushVlan(tpid) => Does::Push(*tpid),
+        Action::Set(field) => Does::Set(field.value),
+        _ => Does::Other,
     }
 }
 
-fn are(actions: &[Action], wanted: &[(char, u32)]) -> bool {
+fn are(actions: &[Action], wanted: &[Does]) -> bool {
     actions.len() == wanted.len()
         && actions
             .iter()
             .zip(wanted)
-            .all(|(action, w)| letter(action) == *w)
+            .all(|(action, w)| does(action) == *w)
 }
 
 // An ask of datapath 1 for 10.0.100.1: out of the native members, though one takes no packets in, then with the tag.
@@ -268,7 +280,13 @@ fn what_is_asked(rt: HostRuntime) -> Result<(), Fail> {
                    0e00000000010a0064fe0000000000000a006401";
     let out = ask(alloc, &conf, DpId(1), vid(&rt, 100), Ip4(0x0a00_6401))?.expect(&rt, "an ask");
     assert!(rt; out.frame.as_slice() == bytes(alloc, request)?.as_slice());
-    let wanted = [('o', 1), ('o', 5), ('p', 0x8100), ('s', 0x1064), ('o', 2)];
+    let wanted = [
+        Does::Out(1),
+        Does::Out(5),
+        Does::Push(0x8100),
+        Does::Set(0x1064),
+        Does::Out(2),
+    ];
     assert!(rt; are(out.actions.as_slice(), &wanted));
     for (dp, number, address) in [
         (2, 100, 0x0a00_6401),
@@ -284,8 +302,11 @@ fn what_is_asked(rt: HostRuntime) -> Result<(), Fail> {
 #[test]
 fn how_an_answer_leaves(rt: HostRuntime) -> Result<(), Fail> {
     for (member, wanted) in [
-        (Member::Native, &[('o', 7)][..]),
-        (Member::Tagged, &[('p', 0x8100), ('s', 0x1064), ('o', 7)]),
+        (Member::Native, &[Does::Out(7)][..]),
+        (
+            Member::Tagged,
+            &[Does::Push(0x8100), Does::Set(0x1064), Does::Out(7)],
+        ),
         (Member::Stack, &[]),
     ] {
         let actions = send_back(rt.alloc(), vid(&rt, 100), port_no(&rt, 7), member)?;
