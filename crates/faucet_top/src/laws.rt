@@ -20,7 +20,7 @@ pub fn a_planned_batch_opens_the_datapath()
     cold_start::laws::a_cold_start_is_the_plan_in_key_order();
     cold_start::laws::a_switch_accepts_each_entry();
     cold_start::laws::a_switch_holds_the_cold_start();
-    cold_start::laws::a_cold_start_sends_each_packet_as_described();
+    cold_laws::laws::a_cold_start_sends_each_packet_as_described();
 }
 
 /// Words have one answer at most, where these files are held.

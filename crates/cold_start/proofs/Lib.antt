@@ -1,0 +1,12 @@
+pub mod Lists
+pub mod Groups
+pub mod Permuted
+pub mod Sorted
+pub mod Owners
+pub mod Distinct
+pub mod Units
+pub mod Runs
+pub mod Opened
+pub mod Accepted
+pub mod Start
+pub mod Gathered

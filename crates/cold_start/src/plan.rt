@@ -1,0 +1,138 @@
+//! All entries of a datapath, unit by unit.
+
+ghost use Rattle.std.specs.Prelude.{◌≡◌, ◌++◌, ◌*◌, Some, length, IfOk, OnOk};
+ghost use Rattle.std.specs.List.{flat_map};
+ghost use Rattle.conf_types.specs.Configuration.{dp_with};
+ghost use Rattle.conf_types.specs.State.{IsValidState};
+ghost use Rattle.packet_way.specs.Present.{state_of};
+ghost use Rattle.plan_units.specs.Units.{plan};
+ghost use Rattle.route_compile.specs.Routes.{fib};
+ghost use Rattle.cold_start.specs.Cold.{units_of};
+ghost use Rattle.cold_start.specs.Counts.{RisesAtMost, RisesAtLeast};
+ghost use Rattle.cold_start.specs.Members.{port_by, vlan_by, host_by};
+
+use crate::append::append;
+use crate::fixed::fixed_entries;
+use crate::hosts::hosts_of;
+use crate::members::{host_entries, port_entries, vlan_entries};
+use conf_types::{Conf, Dp, HostRec, NeighRec, Tally, Vlan};
+use net_base::{Moment, NoMemory};
+use of_match::Entries;
+use packet_way::{Now, make_paths};
+use route_compile::fib_entries;
+use stack_paths::Paths;
+use std::alloc::Global;
+
+#[tactic(auto, using(crate::proofs::Lists::flat_more))]
+fn push_ports<T: Tally>(
+    alloc: Global,
+    all: &mut Entries,
+    conf: &Conf,
+    dp: &Dp,
+    hosts: &[HostRec],
+    units: &mut T,
+) -> Result<(), NoMemory>
+    ensures entries { OnOk result (all.new ≡ all.old ++ flat_map (port_by conf.now dp.now hosts.now) dp.now.ports) }
+    ensures most { RisesAtMost (3 * length dp.now.ports) (T.count units.old) (T.count units.new) }
+    ensures least { OnOk result (RisesAtLeast (length dp.now.ports) (T.count units.old) (T.count units.new)) }
+{
+    for port in dp.ports.as_slice() {
+        let made = port_entries(alloc, conf, dp, port, hosts, units)?;
+        append(alloc, all, made)?;
+    }
+    Ok(())
+}
+
+#[tactic(auto, using(crate::proofs::Lists::flat_more))]
+fn push_vlans<T: Tally>(
+    alloc: Global,
+    all: &mut Entries,
+    conf: &Conf,
+    dp: &Dp,
+    vlans: &[Vlan],
+    paths: &Paths,
+    units: &mut T,
+) -> Result<(), NoMemory>
+    ensures entries { OnOk result (all.new ≡ all.old ++ flat_map (vlan_by conf.now dp.now paths.now) vlans.now) }
+    ensures most { RisesAtMost (3 * length vlans.now) (T.count units.old) (T.count units.new) }
+    ensures least { OnOk result (RisesAtLeast (length vlans.now) (T.count units.old) (T.count units.new)) }
+{
+    for vlan in vlans {
+        let made = vlan_entries(alloc, conf, dp, vlan, paths, units)?;
+        append(alloc, all, made)?;
+    }
+    Ok(())
+}
+
+#[tactic(auto, using(crate::proofs::Lists::flat_more))]
+fn push_hosts<T: Tally>(
+    alloc: Global,
+    all: &mut Entries,
+    conf: &Conf,
+    dp: &Dp,
+    hosts: &[HostRec],
+    moment: Moment,
+    paths: &Paths,
+    units: &mut T,
+) -> Result<(), NoMemory>
+    ensures entries { OnOk result (all.new ≡ all.old ++ flat_map (host_by conf.now dp.now moment.0 paths.now) hosts.now) }
+    ensures most { RisesAtMost (3 * length hosts.now) (T.count units.old) (T.count units.new) }
+    ensures least { OnOk result (RisesAtLeast (length hosts.now) (T.count units.old) (T.count units.new)) }
+{
+    for host in hosts {
+        let made = host_entries(alloc, conf, dp, host, moment, paths, units)?;
+        append(alloc, all, made)?;
+    }
+    Ok(())
+}
+
+#[tactic(auto, using(crate::proofs::Lists::flat_more))]
+fn push_routes<T: Tally>(
+    alloc: Global,
+    all: &mut Entries,
+    conf: &Conf,
+    dp: &Dp,
+    vlans: &[Vlan],
+    neighbours: &[NeighRec],
+    units: &mut T,
+) -> Result<(), NoMemory>
+    ensures entries { OnOk result (all.new ≡ all.old ++ flat_map (fib conf.now neighbours.now dp.now) vlans.now) }
+    ensures most { RisesAtMost (3 * length vlans.now) (T.count units.old) (T.count units.new) }
+    ensures least { OnOk result (RisesAtLeast (length vlans.now) (T.count units.old) (T.count units.new)) }
+{
+    for vlan in vlans {
+        let made = fib_entries(alloc, conf, dp, vlan, neighbours, units)?;
+        append(alloc, all, made)?;
+    }
+    Ok(())
+}
+
+/// All entries of a datapath. For each of its units at least one unit of work is counted where they are
+/// made, and at most three.
+#[tactic(auto, using(crate::proofs::Groups::units_count))]
+pub(crate) fn plan_entries<T: Tally>(
+    alloc: Global,
+    conf: &Conf,
+    now: &Now,
+    dp: &Dp,
+    units: &mut T,
+) -> Result<Entries, NoMemory>
+    requires dp { dp_with conf.now.dps dp.now.id ≡ Some dp.now }
+    requires state { IsValidState conf.now (state_of now.now) }
+    ensures entries { IfOk result (λ all. all ≡ plan conf.now (state_of now.now) dp.now) }
+    ensures most { RisesAtMost (3 * length (units_of conf.now (state_of now.now) dp.now)) (T.count units.old) (T.count units.new) }
+    ensures least { OnOk result (RisesAtLeast (length (units_of conf.now (state_of now.now) dp.now)) (T.count units.old) (T.count units.new)) }
+{
+    let paths = make_paths(alloc, conf, now.ups.as_slice())?;
+    let hosts = hosts_of(alloc, conf, now, dp)?;
+    let hosts = hosts.as_slice();
+    let vlans = conf.vlans().as_slice();
+    let neighbours = now.neighbours.as_slice();
+    units.tick();
+    let mut all = fixed_entries(alloc, conf, dp)?;
+    push_ports(alloc, &mut all, conf, dp, now.hosts.as_slice(), units)?;
+    push_vlans(alloc, &mut all, conf, dp, vlans, &paths, units)?;
+    push_hosts(alloc, &mut all, conf, dp, hosts, now.moment, &paths, units)?;
+    push_routes(alloc, &mut all, conf, dp, vlans, neighbours, units)?;
+    Ok(all)
+}

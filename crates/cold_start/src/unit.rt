@@ -1,0 +1,137 @@
+//! The entries of one unit.
+
+ghost use Rattle.std.specs.Prelude.{◌≡◌, [], IfOk, OnOk};
+ghost use Rattle.packet_way.specs.Present.{state_of};
+ghost use Rattle.plan_units.specs.declared.unit.Unit.TheVariants as unit_case;
+ghost use Rattle.plan_units.specs.Units.{entries};
+ghost use Rattle.cold_start.specs.Cold.{entries_at};
+ghost use Rattle.cold_start.specs.Counts.{RisesAtMost, RisesAtLeast};
+
+use crate::fixed::fixed_entries;
+use crate::hosts::find_host;
+use crate::members::{host_entries, port_entries, vlan_entries};
+use conf_types::{Conf, Dp, Tally};
+use net_base::{DpId, Mac, NoMemory, PortNo, Vid};
+use of_match::Entries;
+use packet_way::{Now, make_paths};
+use plan_units::Unit;
+use route_compile::fib_entries;
+use std::alloc::Global;
+
+/// What is there of a unit that isn't the datapath's.
+fn no_entries<T: Tally>(alloc: Global, units: &mut T) -> Entries
+    ensures entries { result ≡ [] }
+    ensures most { RisesAtMost 3 (T.count units.old) (T.count units.new) }
+    ensures least { RisesAtLeast 1 (T.count units.old) (T.count units.new) }
+{
+    units.tick();
+    Entries::new(alloc)
+}
+
+fn of_port<T: Tally>(
+    alloc: Global,
+    conf: &Conf,
+    now: &Now,
+    dp: &Dp,
+    no: PortNo,
+    units: &mut T,
+) -> Result<Entries, NoMemory>
+    ensures entries { IfOk result (λ made. made ≡ entries conf.now (state_of now.now) dp.now (unit_case.Port no)) }
+    ensures most { RisesAtMost 3 (T.count units.old) (T.count units.new) }
+    ensures least { OnOk result (RisesAtLeast 1 (T.count units.old) (T.count units.new)) }
+{
+    match dp.port(no) {
+        Some(port) => port_entries(alloc, conf, dp, port, now.hosts.as_slice(), units),
+        None => Ok(no_entries(alloc, units)),
+    }
+}
+
+fn of_vlan<T: Tally>(
+    alloc: Global,
+    conf: &Conf,
+    now: &Now,
+    dp: &Dp,
+    vid: Vid,
+    units: &mut T,
+) -> Result<Entries, NoMemory>
+    ensures entries { IfOk result (λ made. made ≡ entries conf.now (state_of now.now) dp.now (unit_case.Vlan vid)) }
+    ensures most { RisesAtMost 3 (T.count units.old) (T.count units.new) }
+    ensures least { OnOk result (RisesAtLeast 1 (T.count units.old) (T.count units.new)) }
+{
+    match conf.vlan(vid) {
+        Some(vlan) => {
+            let paths = make_paths(alloc, conf, now.ups.as_slice())?;
+            vlan_entries(alloc, conf, dp, vlan, &paths, units)
+        }
+        None => Ok(no_entries(alloc, units)),
+    }
+}
+
+fn of_host<T: Tally>(
+    alloc: Global,
+    conf: &Conf,
+    now: &Now,
+    dp: &Dp,
+    vid: Vid,
+    mac: Mac,
+    units: &mut T,
+) -> Result<Entries, NoMemory>
+    ensures entries { IfOk result (λ made. made ≡ entries conf.now (state_of now.now) dp.now (unit_case.Host vid mac)) }
+    ensures most { RisesAtMost 3 (T.count units.old) (T.count units.new) }
+    ensures least { OnOk result (RisesAtLeast 1 (T.count units.old) (T.count units.new)) }
+{
+    match find_host(conf, now.hosts.as_slice(), dp, vid, mac) {
+        Some(host) => {
+            let paths = make_paths(alloc, conf, now.ups.as_slice())?;
+            host_entries(alloc, conf, dp, host, now.moment, &paths, units)
+        }
+        None => Ok(no_entries(alloc, units)),
+    }
+}
+
+fn of_routes<T: Tally>(
+    alloc: Global,
+    conf: &Conf,
+    now: &Now,
+    dp: &Dp,
+    vid: Vid,
+    units: &mut T,
+) -> Result<Entries, NoMemory>
+    ensures entries { IfOk result (λ made. made ≡ entries conf.now (state_of now.now) dp.now (unit_case.Route vid)) }
+    ensures most { RisesAtMost 3 (T.count units.old) (T.count units.new) }
+    ensures least { OnOk result (RisesAtLeast 1 (T.count units.old) (T.count units.new)) }
+{
+    match conf.vlan(vid) {
+        Some(vlan) => fib_entries(alloc, conf, dp, vlan, now.neighbours.as_slice(), units),
+        None => Ok(no_entries(alloc, units)),
+    }
+}
+
+/// The entries of one unit of a datapath; none where the configuration has no such datapath, or the
+/// datapath no such unit. At least one unit of work is counted where they are made, and at most three.
+pub fn unit_entries<T: Tally>(
+    alloc: Global,
+    conf: &Conf,
+    now: &Now,
+    dp: DpId,
+    unit: &Unit,
+    units: &mut T,
+) -> Result<Entries, NoMemory>
+    ensures entries { IfOk result (λ made. made ≡ entries_at conf.now (state_of now.now) dp unit.now) }
+    ensures most { RisesAtMost 3 (T.count units.old) (T.count units.new) }
+    ensures least { OnOk result (RisesAtLeast 1 (T.count units.old) (T.count units.new)) }
+{
+    let Some(dp) = conf.dp(dp) else {
+        return Ok(no_entries(alloc, units));
+    };
+    match unit {
+        Unit::Dp => {
+            units.tick();
+            fixed_entries(alloc, conf, dp)
+        }
+        Unit::Port(no) => of_port(alloc, conf, now, dp, *no, units),
+        Unit::Vlan(vid) => of_vlan(alloc, conf, now, dp, *vid, units),
+        Unit::Host(vid, mac) => of_host(alloc, conf, now, dp, *vid, *mac, units),
+        Unit::Route(vid) => of_routes(alloc, conf, now, dp, *vid, units),
+    }
+}

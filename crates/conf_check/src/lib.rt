@@ -1,0 +1,10 @@
+//! The check of a configuration: of a text or a tree the accepted configuration, or the first place
+//! where it is wrong.
+#![tactic(auto)]
+
+mod checking;
+pub mod laws;
+mod text;
+
+pub use checking::{check, conf_of_tree};
+pub use text::{TextRefused, conf_of_bytes};

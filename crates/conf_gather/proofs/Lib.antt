@@ -1,0 +1,4 @@
+pub mod GatherLemmas
+pub mod JoinLemmas
+pub mod NameLemmas
+pub mod ReadLemmas

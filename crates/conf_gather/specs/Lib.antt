@@ -1,0 +1,6 @@
+pub mod Gathered
+pub mod Gives
+pub mod Includes
+pub mod Joined
+pub mod WholeName
+pub mod WrongTypes

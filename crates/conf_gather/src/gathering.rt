@@ -1,0 +1,104 @@
+ghost use Rattle.std.specs.Prelude.{◌≡◌, ◌≤◌, ℕ, List, Some, OnOk, IfErr, IsErrOf};
+ghost use Rattle.fg_outside.specs.Contents.{Contents};
+ghost use Rattle.fg_outside.specs.Counts.{Rose};
+ghost use Rattle.conf_gather.specs.Gives.{Gives, GivesTold, FaultsTell, AbsencesTell};
+ghost use Rattle.conf_gather.specs.Gathered.{each, gather, gathered};
+
+use crate::include::{Include, Role, includes_of};
+use crate::keys::entries_of;
+use crate::refused::GatherRefused;
+use crate::take::{Gathered, read_tree, take_tree, was_reached};
+use fg_outside::Files;
+use net_base::{Names, Text, TryCopy};
+use std::alloc::Global;
+use yaml_subset::{Pairs, Tree};
+
+/// The most files that lie one below the other: the main one, and includes that lie 8 deep.
+const LEVELS: usize = 9;
+
+/// A file and its includes, depth first, behind what was gathered before.
+#[cycle(walk)]
+fn gather_file<F: Files>(
+    alloc: Global,
+    files: &mut F,
+    levels: usize,
+    include: &Include,
+    so_far: Gathered,
+) -> Result<Gathered, GatherRefused>
+    ensures told { GivesTold (F.contents files.old) result (λ held. gather held levels include.now so_far) }
+    ensures contents { F.contents files.new ≡ F.contents files.old }
+    ensures faults { IfErr result (λ e. FaultsTell e (F.faults files.old) (F.faults files.new)) }
+    ensures no_fault { OnOk result (F.faults files.new ≡ F.faults files.old) }
+    ensures missing { IfErr result (λ e. AbsencesTell e (F.absences files.old) (F.absences files.new)) }
+    ensures absences { F.absences files.old ≤ F.absences files.new }
+{
+    if was_reached(include.name.as_str(), so_far.reached.as_slice()) {
+        return Err(GatherRefused::IncludeTwice(include.name.copy(alloc)?));
+    }
+    if levels == 0 {
+        return Err(GatherRefused::IncludeDepth(include.name.copy(alloc)?));
+    }
+    match read_tree(alloc, files, include)? {
+        Some(tree) => {
+            let so_far = take_tree(alloc, include, so_far, &tree)?;
+            let includes = includes_of(alloc, include.name.as_str(), entries_of(&tree))?;
+            gather_all(alloc, files, levels - 1, includes.as_slice(), so_far)
+        }
+        None => Ok(so_far),
+    }
+}
+
+/// Files one after the other, each with its includes.
+#[cycle(walk)]
+fn gather_all<F: Files>(
+    alloc: Global,
+    files: &mut F,
+    levels: usize,
+    includes: &[Include],
+    so_far: Gathered,
+) -> Result<Gathered, GatherRefused>
+    ensures told { GivesTold (F.contents files.old) result (λ held. each (gather held levels) includes.now so_far) }
+    ensures contents { F.contents files.new ≡ F.contents files.old }
+    ensures faults { IfErr result (λ e. FaultsTell e (F.faults files.old) (F.faults files.new)) }
+    ensures no_fault { OnOk result (F.faults files.new ≡ F.faults files.old) }
+    ensures missing { IfErr result (λ e. AbsencesTell e (F.absences files.old) (F.absences files.new)) }
+    ensures absences { F.absences files.old ≤ F.absences files.new }
+{
+    let mut all = so_far;
+    for include in includes {
+        all = gather_file(alloc, files, levels, include, all)?;
+    }
+    Ok(all)
+}
+
+/// The tree of a configuration file with all that it includes, depth first, the files under `include`
+/// before those under `include-optional`. The sections `vlans`, `dps`, `acls` and `routers` of all files
+/// are joined in this order; of any other key the first file's value counts.
+///
+/// `IncludeTwice` where a file is reached again, else `IncludeDepth` where it lies more than 8 includes
+/// deep, else `Read` or `Absent` where it can't be read or has to be there and isn't, else `Yaml`, else
+/// `Conf` with `WrongType` for a document, an include list or an included section of a wrong type, else
+/// `Conf` with `Duplicate` for a name of a section that another file gave. The first of these that is
+/// met decides.
+pub fn gather<F: Files>(alloc: Global, files: &mut F, name: &str) -> Result<Tree, GatherRefused>
+    ensures told { (held : Contents) → F.contents files.old ≡ Some held → Gives result (gathered (held 0) name.now) }
+    ensures read { (file : List ℕ) → IsErrOf result (GatherRefused.Read file)
+        → Rose (F.faults files.old) (F.faults files.new) }
+    ensures no_fault { ((file : List ℕ) → IsErrOf result (GatherRefused.Read file) → ⊥)
+        → F.faults files.new ≡ F.faults files.old }
+    ensures absent { (file : List ℕ) → IsErrOf result (GatherRefused.Absent file)
+        → Rose (F.absences files.old) (F.absences files.new) }
+    ensures absences { F.absences files.old ≤ F.absences files.new }
+    ensures contents { F.contents files.new ≡ F.contents files.old }
+{
+    let main = Include {
+        name: Text::from_str(alloc, name)?,
+        role: Role::Main,
+    };
+    let nothing = Gathered {
+        reached: Names::new(alloc),
+        pairs: Pairs::new(alloc),
+    };
+    let all = gather_file(alloc, files, LEVELS, &main, nothing)?;
+    Ok(Tree::Map(all.pairs))
+}

@@ -1,0 +1,16 @@
+//! Laws of the definitions alone, which say nothing of the code.
+
+ghost use Rattle.std.specs.Prelude.{◌≡◌, ℕ, List, Ok, Err};
+ghost use Rattle.yaml_subset.specs.declared.tree.Tree.{Tree};
+ghost use Rattle.yaml_subset.specs.declared.fault.YamlFault.{YamlFault};
+ghost use Rattle.yaml_subset.specs.Grammar.{Reads};
+ghost use Rattle.yaml_subset.specs.Reading.{read_of};
+ghost use Rattle.yaml_subset.specs.TextFault.{IsFault};
+
+/// What a file's text gives is its tree by the grammar or its first fault.
+pub fn a_file_is_read_by_the_grammar()
+    ensures tree { (text : List ℕ) (t : Tree) → Reads text t → read_of text ≡ Ok t }
+    ensures only_tree { (text : List ℕ) (t : Tree) → read_of text ≡ Ok t → Reads text t }
+    ensures fault { (text : List ℕ) (f : YamlFault) → IsFault text f → read_of text ≡ Err f }
+    ensures only_fault { (text : List ℕ) (f : YamlFault) → read_of text ≡ Err f → IsFault text f }
+{}

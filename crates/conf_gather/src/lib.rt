@@ -1,0 +1,15 @@
+//! A configuration file with the files that it includes, as one tree.
+#![tactic(auto)]
+
+mod gathering;
+mod include;
+mod join;
+mod keys;
+pub mod laws;
+mod names;
+mod refused;
+mod take;
+mod wrong;
+
+pub use gathering::gather;
+pub use refused::GatherRefused;

@@ -1,0 +1,150 @@
+//! The tree of one file, and what it adds to those gathered before.
+
+ghost use Rattle.std.specs.Prelude.{◌≡◌, ◌≤◌, IfOk, OnOk, IfErr};
+ghost use Rattle.yaml_subset.specs.Reading.{read_of};
+ghost use Rattle.conf_shape.specs.Reads.{entries_of};
+ghost use Rattle.conf_gather.specs.Gives.{Gives, GivesTold, FaultsTell, AbsencesTell, IsWithin};
+ghost use Rattle.conf_gather.specs.Gathered.{tree_of, text_tree, unread, fault_at, entries_fault, tree_fault, taken, was_reached};
+
+use crate::include::{Include, Role};
+use crate::join::{all_given_again, join};
+use crate::keys::entries_of;
+use crate::refused::GatherRefused;
+use crate::wrong::{is_document, wrong_entries};
+use conf_shape::{ConfCause, ConfFault};
+use fg_outside::{Files, ReadRefused, read_whole};
+use net_base::{Names, NoMemory, Text, TryCopy};
+use std::alloc::Global;
+use yaml_subset::{Pair, Pairs, Tree, YamlRefused, read_yaml};
+
+/// The most bytes of a text of the YAML subset.
+const MAX_TEXT: usize = 1_048_576;
+
+/// What was gathered so far: the whole names of the files that were reached, and the entries of
+/// the tree.
+#[derive(Debug, Drop)]
+pub struct Gathered {
+    pub reached: Names,
+    pub pairs: Pairs,
+}
+
+/// Whether a file was reached before.
+pub fn was_reached(name: &str, reached: &[Text]) -> bool
+    ensures { result ≡ was_reached name.now reached.now }
+{
+    for other in reached {
+        if name == other.as_str() {
+            return true;
+        }
+    }
+    false
+}
+
+/// The tree of a file's text.
+fn parse_text(alloc: Global, name: &Text, text: &[u8]) -> Result<Option<Tree>, GatherRefused>
+    ensures told { Gives result (text_tree name.now (read_of text.now)) }
+    ensures within { IfErr result IsWithin }
+{
+    match read_yaml(alloc, text) {
+        Ok(tree) => Ok(Some(tree)),
+        Err(YamlRefused::At(fault)) => Err(GatherRefused::Yaml(name.copy(alloc)?, fault)),
+        Err(YamlRefused::Memory) => Err(GatherRefused::Memory),
+    }
+}
+
+/// What is answered where a file has no text: one that may be missing is passed over.
+fn unread(include: Include, why: ReadRefused) -> Result<Option<Tree>, GatherRefused>
+    ensures { result ≡ unread include why }
+{
+    match why {
+        ReadRefused::Absent if include.role.is_optional() => Ok(None),
+        ReadRefused::Absent => Err(GatherRefused::Absent(include.name)),
+        ReadRefused::Failed => Err(GatherRefused::Read(include.name)),
+        ReadRefused::Memory => Err(GatherRefused::Memory),
+    }
+}
+
+/// The tree of a file; `None` where it isn't there and may be missing.
+pub fn read_tree<F: Files>(
+    alloc: Global,
+    files: &mut F,
+    include: &Include,
+) -> Result<Option<Tree>, GatherRefused>
+    ensures told { GivesTold (F.contents files.old) result (λ held. tree_of include.now (held include.now.name)) }
+    ensures contents { F.contents files.new ≡ F.contents files.old }
+    ensures faults { IfErr result (λ e. FaultsTell e (F.faults files.old) (F.faults files.new)) }
+    ensures no_fault { OnOk result (F.faults files.new ≡ F.faults files.old) }
+    ensures missing { IfErr result (λ e. AbsencesTell e (F.absences files.old) (F.absences files.new)) }
+    ensures absences { F.absences files.old ≤ F.absences files.new }
+{
+    let copied = include.copy(alloc)?;
+    match read_whole(alloc, files, include.name.as_str(), MAX_TEXT + 1) {
+        Ok(text) => parse_text(alloc, &include.name, text.as_slice()),
+        Err(why) => unread(copied, why),
+    }
+}
+
+/// A fault at a path, where there is one.
+fn fault_at(cause: ConfCause, path: Option<Text>) -> Option<ConfFault>
+    ensures { result ≡ fault_at cause path }
+{
+    match path {
+        Some(path) => Some(ConfFault { path, cause }),
+        None => None,
+    }
+}
+
+/// What is wrong with a file's entries: a type, or else a name that was given before.
+fn entries_fault(
+    alloc: Global,
+    role: Role,
+    gathered: &[Pair],
+    pairs: &[Pair],
+) -> Result<Option<ConfFault>, NoMemory>
+    ensures { IfOk result (λ fault. fault ≡ entries_fault role gathered.now pairs.now) }
+{
+    let wrong = wrong_entries(alloc, role.is_included(), gathered, pairs)?;
+    if wrong.is_some() {
+        return Ok(fault_at(ConfCause::WrongType, wrong));
+    }
+    let again = all_given_again(alloc, gathered, pairs)?;
+    Ok(fault_at(ConfCause::Duplicate, again))
+}
+
+/// What is wrong with a file's tree.
+fn tree_fault(
+    alloc: Global,
+    role: Role,
+    gathered: &[Pair],
+    tree: &Tree,
+) -> Result<Option<ConfFault>, NoMemory>
+    ensures { IfOk result (λ fault. fault ≡ tree_fault role gathered.now tree.now) }
+{
+    if is_document(tree) {
+        return entries_fault(alloc, role, gathered, entries_of(tree));
+    }
+    let whole = Text::from_str(alloc, ".")?;
+    Ok(fault_at(ConfCause::WrongType, Some(whole)))
+}
+
+/// Joins a file's tree with what was gathered before.
+pub fn take_tree(
+    alloc: Global,
+    include: &Include,
+    so_far: Gathered,
+    tree: &Tree,
+) -> Result<Gathered, GatherRefused>
+    ensures told { Gives result (taken include.now so_far tree.now) }
+    ensures within { IfErr result IsWithin }
+{
+    let Gathered {
+        mut reached,
+        mut pairs,
+    } = so_far;
+    if let Some(fault) = tree_fault(alloc, include.role, pairs.as_slice(), tree)? {
+        return Err(GatherRefused::Conf(fault));
+    }
+    reached.push(include.name.copy(alloc)?)?;
+    join(alloc, &mut pairs, entries_of(tree))?;
+    Ok(Gathered { reached, pairs })
+}

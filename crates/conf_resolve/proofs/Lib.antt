@@ -1,0 +1,4 @@
+pub mod Adding
+pub mod Once
+pub mod Placing
+pub mod Unwritten

@@ -1,0 +1,4 @@
+pub mod Added
+pub mod InOrder
+pub mod InRange
+pub mod Resolved

@@ -1,0 +1,21 @@
+//! A raw configuration in the order in which it is checked, and what its names stand for.
+#![tactic(auto)]
+
+mod lookups;
+mod made;
+mod numbers;
+mod order;
+mod ordered;
+mod ordering;
+mod ports;
+mod ranks;
+mod resolved;
+mod resolving;
+mod rules;
+mod vlans;
+
+pub use lookups::number_named;
+pub use ordered::{OrderedConf, PlacedVlan, PlacedVlans};
+pub use ordering::arrange;
+pub use resolved::Resolved;
+pub use resolving::resolve;

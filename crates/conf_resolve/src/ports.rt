@@ -1,0 +1,162 @@
+//! What datapaths and interfaces stand for.
+
+ghost use Rattle.std.specs.Prelude.{◌≡◌, [], ◌∷◌, map, unwrap_or, IfOk};
+ghost use Rattle.std.specs.Option.{option_map};
+ghost use Rattle.conf_resolve.specs.Resolved.{items_of, once, number_named, far_end, port_of, dp_of};
+
+use crate::lookups::number_named;
+use crate::numbers::{acl_names, native_of, numbers_once, vids_of};
+use crate::ordered::OrderedConf;
+use conf_shape::{OneOrList, RawDp, RawPort, RawStackEnd};
+use conf_types::{Dp, Dps, Port, PortNos, PortRef, Ports, StackEnd};
+use net_base::{NoMemory, PortNo, TryCopy};
+use std::alloc::Global;
+
+/// The interface that is named; the interface `own` where none is.
+fn number_or(dp: &RawDp, own: PortNo, name: &PortRef) -> PortNo
+    ensures { result ≡ unwrap_or (number_named dp.now name.now) own }
+{
+    match number_named(dp, name) {
+        Some(number) => number,
+        None => own,
+    }
+}
+
+fn all_numbers(
+    alloc: Global,
+    dp: &RawDp,
+    own: PortNo,
+    names: &[PortRef],
+) -> Result<PortNos, NoMemory>
+    ensures { IfOk result (λ made. made ≡ map (λ name. unwrap_or (number_named dp.now name) own) names.now) }
+{
+    let mut made = PortNos::new(alloc);
+    for name in names {
+        made.push(number_or(dp, own, name))?;
+    }
+    Ok(made)
+}
+
+fn one_number(alloc: Global, number: PortNo) -> Result<PortNos, NoMemory>
+    ensures { IfOk result (λ made. made ≡ number ∷ []) }
+{
+    let mut made = PortNos::new(alloc);
+    made.push(number)?;
+    Ok(made)
+}
+
+fn named_numbers(
+    alloc: Global,
+    dp: &RawDp,
+    own: PortNo,
+    names: &OneOrList<PortRef>,
+) -> Result<PortNos, NoMemory>
+    ensures { IfOk result (λ made. made ≡ map (λ name. unwrap_or (number_named dp.now name) own) (items_of names.now)) }
+{
+    match names {
+        OneOrList::One(name) => one_number(alloc, number_or(dp, own, name)),
+        OneOrList::List(names) => all_numbers(alloc, dp, own, names.as_slice()),
+    }
+}
+
+/// The mirrored ports, each once.
+fn mirrored(alloc: Global, dp: &RawDp, port: &RawPort) -> Result<PortNos, NoMemory>
+    ensures { IfOk result (λ made. made ≡ once (map (λ name. unwrap_or (number_named dp.now name) port.now.no) (items_of port.now.mirror))) }
+{
+    let numbers = named_numbers(alloc, dp, port.no, &port.mirror)?;
+    numbers_once(alloc, numbers.as_slice())
+}
+
+/// The far end that is named; the end `own` where there is none.
+fn end_or(conf: &OrderedConf, own: StackEnd, end: &RawStackEnd) -> StackEnd
+    ensures { result ≡ unwrap_or (far_end conf.now.dps end.now) own }
+{
+    match conf.far_end(end) {
+        Some(end) => end,
+        None => own,
+    }
+}
+
+fn stack_of(conf: &OrderedConf, own: StackEnd, stack: &Option<RawStackEnd>) -> Option<StackEnd>
+    ensures { result ≡ option_map (λ end. unwrap_or (far_end conf.now.dps end) own) stack.now }
+{
+    match stack {
+        Some(end) => Some(end_or(conf, own, end)),
+        None => None,
+    }
+}
+
+fn resolve_port(
+    alloc: Global,
+    conf: &OrderedConf,
+    dp: &RawDp,
+    port: &RawPort,
+) -> Result<Port, NoMemory>
+    ensures { IfOk result (λ made. made ≡ port_of conf.now dp.now port.now) }
+{
+    let own = StackEnd {
+        dp: dp.id,
+        port: port.no,
+    };
+    Ok(Port {
+        no: port.no,
+        name: port.names.name.copy(alloc)?,
+        description: port.names.description.copy(alloc)?,
+        enabled: port.flags.enabled,
+        native: native_of(conf, &port.native),
+        tagged: vids_of(alloc, conf, port.tagged.as_slice())?,
+        acls: acl_names(alloc, &port.acls)?,
+        output_only: port.flags.output_only,
+        hairpin: port.flags.hairpin,
+        unicast_flood: port.flags.unicast_flood,
+        permanent_learn: port.flags.permanent_learn,
+        opstatus_reconf: port.flags.opstatus_reconf,
+        max_hosts: port.max_hosts,
+        mirror: mirrored(alloc, dp, port)?,
+        stack: stack_of(conf, own, &port.stack),
+    })
+}
+
+fn resolve_ports(
+    alloc: Global,
+    conf: &OrderedConf,
+    dp: &RawDp,
+    ports: &[RawPort],
+) -> Result<Ports, NoMemory>
+    ensures { IfOk result (λ made. made ≡ map (port_of conf.now dp.now) ports.now) }
+{
+    let mut made = Ports::new(alloc);
+    for port in ports {
+        made.push(resolve_port(alloc, conf, dp, port)?)?;
+    }
+    Ok(made)
+}
+
+fn resolve_dp(alloc: Global, conf: &OrderedConf, dp: &RawDp) -> Result<Dp, NoMemory>
+    ensures { IfOk result (λ made. made ≡ dp_of conf.now dp.now) }
+{
+    Ok(Dp {
+        id: dp.id,
+        name: dp.names.name.copy(alloc)?,
+        description: dp.names.description.copy(alloc)?,
+        hardware: dp.hardware.copy(alloc)?,
+        timeout: dp.timeout,
+        arp_timeout: dp.arp_timeout,
+        stack_priority: dp.stack_priority,
+        drop_spoofed: dp.drops.spoofed,
+        drop_broadcast: dp.drops.broadcast,
+        drop_bpdu: dp.drops.bpdu,
+        drop_lldp: dp.drops.lldp,
+        ports: resolve_ports(alloc, conf, dp, dp.ports.as_slice())?,
+    })
+}
+
+pub fn resolve_dps(alloc: Global, conf: &OrderedConf, dps: &[RawDp]) -> Result<Dps, NoMemory>
+    ensures { IfOk result (λ made. made ≡ map (dp_of conf.now) dps.now) }
+{
+    let mut made = Dps::new(alloc);
+    for dp in dps {
+        made.push(resolve_dp(alloc, conf, dp)?)?;
+    }
+    Ok(made)
+}

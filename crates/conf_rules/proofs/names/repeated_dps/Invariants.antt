@@ -1,0 +1,9 @@
+use Rattle.std.proofs.Common.{◌≡◌, drop, take, []}
+use Rattle.conf_rules.specs.Names.{repeated_dp}
+use Rattle.conf_rules.specs.Places.{first, with_earlier}
+use Rattle.std.specs.List.{flat_map}
+use Rattle.conf_rules.proofs.names.repeated_dps.Given as goal
+
+-- none so far breaks the rule
+abbrev pub invariant-loop-i : goal.invariant-loop-i
+invariant-loop-i l = first (flat_map repeated_dp (with_earlier (take l.i l.ordered.dps) (drop l.i l.ordered.dps))) ≡ first (flat_map repeated_dp (with_earlier [] l.ordered.dps))

@@ -1,0 +1,7 @@
+pub mod Limits
+pub mod Names
+pub mod Places
+pub mod Ports
+pub mod Routing
+pub mod Rules
+pub mod Sizes

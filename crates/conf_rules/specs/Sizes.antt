@@ -1,0 +1,20 @@
+-- What ACLs and routes cost, where they are attached or routed.
+use Rattle.std.specs.Prelude.{ℕ, ◌==◌, not, List, [], length, cond}
+use Rattle.std.specs.Option.{option_map_or}
+use Rattle.conf_types.specs.declared.acl.Rule.{Rule}
+use Rattle.conf_types.specs.declared.datapath.Dp.{Dp}
+use Rattle.conf_types.specs.declared.vlan.Vlan.{Vlan}
+use Rattle.conf_types.specs.Attached.{acl_named, rules_of}
+use Rattle.conf_types.specs.Configuration.{Configuration}
+use Rattle.conf_types.specs.Membership.{has_edge_member}
+
+abbrev pub named_rules : Configuration → List ℕ → List Rule
+named_rules conf name = option_map_or (λ acl. acl.rules) (acl_named conf.acls name) []
+
+-- of the ACLs of an interface or a VLAN, where it has any
+abbrev pub cost : (List Rule → ℕ) → Configuration → List (List ℕ) → ℕ
+cost size conf names = cond (not (length names == 0)) (size (rules_of conf names)) 0
+
+-- of a VLAN, where the datapath has an edge port of it
+abbrev pub vlan_cost : (List Rule → ℕ) → Configuration → Dp → Vlan → ℕ
+vlan_cost size conf d v = cond (has_edge_member d v.vid) (cost size conf v.acls) 0

@@ -1,0 +1,342 @@
+//! The networks of VLANs between which packets are routed.
+
+ghost use Rattle.std.specs.Prelude.{◌≡◌, ◌&&◌, ◌∷◌, IfOk, codes};
+ghost use Rattle.std.specs.List.{flat_map, list_any};
+ghost use Rattle.std.specs.Option.{option_copied};
+ghost use Rattle.conf_types.specs.Configuration.{vlan_with};
+ghost use Rattle.conf_types.specs.Lists.{is_among};
+ghost use Rattle.conf_types.specs.Networks.{is_held};
+ghost use Rattle.conf_types.specs.Routing.{router_with, vips_of};
+ghost use Rattle.conf_rules.specs.Places.{first, nth, under};
+ghost use Rattle.conf_rules.specs.Routing.{are_routed, overlap, overlaps_earlier, overlapping_of_vlan, overlapping_vips, is_in_router, shared_of_router, shared_vlans, lies_in, route_site, leads_inside, wrong_route, wrong_routes_of, wrong_routes, is_same_route, repeats_earlier, repeated_of_vlan, repeated_routes};
+
+use crate::places::{Found, broken, nth, router_site, under};
+use conf_resolve::{OrderedConf, PlacedVlan, Resolved};
+use conf_shape::{ConfCause, RawRouter};
+use conf_types::{Route, Router, Vlan};
+use net_base::{Ip4, Names, Net4, NoMemory, TryCopy, Vid};
+use std::alloc::Global;
+
+fn share_router(routers: &[Router], v: Vid, w: Vid) -> bool
+    ensures { result ≡ list_any (λ r. is_among r.vlans v && is_among r.vlans w) routers.now }
+{
+    routers.iter().any(|router| router.has(v) && router.has(w))
+}
+
+/// Whether packets are routed between the two VLANs, or they are one.
+fn are_routed(conf: &Resolved, v: Vid, w: Vid) -> bool
+    ensures { result ≡ are_routed conf.now v w }
+{
+    v.get() == w.get() || share_router(conf.routers().as_slice(), v, w)
+}
+
+fn holds(net: &Net4, ip: Ip4) -> bool
+    ensures { result ≡ is_held net.now ip.0 }
+{
+    net.holds(ip)
+}
+
+/// Whether some address is of both.
+fn overlap(a: &Net4, b: &Net4) -> bool
+    ensures { result ≡ overlap a.now b.now }
+{
+    if a.len <= b.len {
+        holds(a, b.ip)
+    } else {
+        holds(b, a.ip)
+    }
+}
+
+fn overlaps_some(others: &[Net4], vip: &Net4) -> bool
+    ensures { result ≡ list_any (λ other. overlap other vip.now) others.now }
+{
+    others.iter().any(|other| overlap(other, vip))
+}
+
+fn overlaps_vlan(conf: &Resolved, earlier: &[Vlan], vlan: &Vlan, vip: &Net4) -> bool
+    ensures { result ≡ list_any (λ w. are_routed conf.now w.vid vlan.now.vid && list_any (λ other. overlap other vip.now) w.vips) earlier.now }
+{
+    earlier.iter().any(|other| {
+        are_routed(conf, other.vid, vlan.vid) && overlaps_some(other.vips.as_slice(), vip)
+    })
+}
+
+fn overlaps_earlier(
+    conf: &Resolved,
+    earlier: &[Vlan],
+    vlan: &Vlan,
+    vips: &[Net4],
+    vip: &Net4,
+) -> bool
+    ensures { result ≡ overlaps_earlier conf.now (earlier.now, vlan.now) (vips.now, vip.now) }
+{
+    overlaps_vlan(conf, earlier, vlan, vip) || overlaps_some(vips, vip)
+}
+
+/// Where a VIP of a VLAN is written.
+fn vip_site(alloc: Global, placed: &PlacedVlan, at: usize) -> Result<Names, NoMemory>
+    ensures { IfOk result (λ site. site ≡ nth (under placed.now.site (codes "faucet_vips")) at) }
+{
+    let site = under(alloc, placed.site.copy(alloc)?, "faucet_vips")?;
+    nth(alloc, site, at)
+}
+
+#[tactic(auto, using(crate::proofs::First::first_rules))]
+fn overlapping_of_vlan(
+    alloc: Global,
+    conf: &Resolved,
+    placed: &PlacedVlan,
+    earlier: &[Vlan],
+    vlan: &Vlan,
+) -> Found
+    ensures { IfOk result (λ found. found ≡ first (overlapping_of_vlan conf.now (placed.now, (earlier.now, vlan.now)))) }
+{
+    let vips = vlan.vips.as_slice();
+    for (i, vip) in vips.iter().enumerate() {
+        if overlaps_earlier(conf, earlier, vlan, &vips[..i], vip) {
+            return broken(alloc, ConfCause::Conflict(12), vip_site(alloc, placed, i)?);
+        }
+    }
+    Ok(None)
+}
+
+/// VIP networks that packets are routed between don't overlap.
+#[tactic(auto, using(crate::proofs::First::zip_rules))]
+pub(crate) fn overlapping_vips(alloc: Global, ordered: &OrderedConf, conf: &Resolved) -> Found
+    ensures { IfOk result (λ found. found ≡ first (overlapping_vips ordered.now conf.now)) }
+{
+    let vlans = conf.vlans().as_slice();
+    for (i, placed) in ordered.vlans.as_slice().iter().enumerate() {
+        let Some(vlan) = vlans.get(i) else {
+            return Ok(None);
+        };
+        if let Some(found) = overlapping_of_vlan(alloc, conf, placed, &vlans[..i], vlan)? {
+            return Ok(Some(found));
+        }
+    }
+    Ok(None)
+}
+
+fn is_in_router(routers: &[Router], vid: Vid) -> bool
+    ensures { result ≡ list_any (is_in_router vid) routers.now }
+{
+    routers.iter().any(|router| router.has(vid))
+}
+
+#[tactic(auto, using(crate::proofs::First::first_rules))]
+fn shared_of_router(
+    alloc: Global,
+    ordered: &OrderedConf,
+    raw: &RawRouter,
+    earlier: &[Router],
+    router: &Router,
+) -> Found
+    ensures { IfOk result (λ found. found ≡ first (shared_of_router ordered.now (raw.now, (earlier.now, router.now)))) }
+{
+    for (i, name) in raw.vlans.as_slice().iter().enumerate() {
+        if let Some(vid) = ordered.vid_of(name) {
+            if is_in_router(earlier, vid) {
+                let site = under(alloc, router_site(alloc, raw)?, "vlans")?;
+                return broken(alloc, ConfCause::Conflict(13), nth(alloc, site, i)?);
+            }
+        }
+    }
+    Ok(None)
+}
+
+/// A VLAN is in at most one router.
+#[tactic(auto, using(crate::proofs::First::zip_rules))]
+pub(crate) fn shared_vlans(alloc: Global, ordered: &OrderedConf, conf: &Resolved) -> Found
+    ensures { IfOk result (λ found. found ≡ first (shared_vlans ordered.now conf.now)) }
+{
+    let routers = conf.routers().as_slice();
+    for (i, raw) in ordered.routers.as_slice().iter().enumerate() {
+        let Some(router) = routers.get(i) else {
+            return Ok(None);
+        };
+        if let Some(found) = shared_of_router(alloc, ordered, raw, &routers[..i], router)? {
+            return Ok(Some(found));
+        }
+    }
+    Ok(None)
+}
+
+/// Whether the first network equals the second or lies inside it.
+fn lies_in(a: &Net4, b: &Net4) -> bool
+    ensures { result ≡ lies_in a.now b.now }
+{
+    b.len <= a.len && holds(b, a.ip)
+}
+
+fn lies_in_some(dst: &Net4, vips: &[Net4]) -> bool
+    ensures { result ≡ list_any (lies_in dst.now) vips.now }
+{
+    vips.iter().any(|vip| lies_in(dst, vip))
+}
+
+pub(crate) fn find_vlan(vlans: &[Vlan], vid: Vid) -> Option<&Vlan>
+    ensures { option_copied result ≡ vlan_with vlans.now vid }
+{
+    vlans.iter().find(|vlan| vlan.vid.get() == vid.get())
+}
+
+pub(crate) fn find_router(routers: &[Router], vid: Vid) -> Option<&Router>
+    ensures { option_copied result ≡ router_with routers.now vid }
+{
+    routers.iter().find(|router| router.has(vid))
+}
+
+fn leads_into(conf: &Resolved, vid: Vid, dst: &Net4) -> bool
+    ensures { result ≡ list_any (lies_in dst.now) (vips_of conf.now vid) }
+{
+    match find_vlan(conf.vlans().as_slice(), vid) {
+        Some(vlan) => lies_in_some(dst, vlan.vips.as_slice()),
+        None => false,
+    }
+}
+
+fn leads_into_some(conf: &Resolved, vids: &[Vid], dst: &Net4) -> bool
+    ensures { result ≡ list_any (λ vid. list_any (lies_in dst.now) (vips_of conf.now vid)) vids.now }
+{
+    vids.iter().any(|vid| leads_into(conf, *vid, dst))
+}
+
+/// Whether a route leads into a VIP network that packets of the VLAN are routed to.
+#[tactic(auto, using(crate::proofs::First::any_rules))]
+fn leads_inside(conf: &Resolved, vid: Vid, dst: &Net4) -> bool
+    ensures { result ≡ leads_inside conf.now vid dst.now }
+{
+    match find_router(conf.routers().as_slice(), vid) {
+        Some(router) => leads_into_some(conf, router.vlans.as_slice(), dst),
+        None => leads_into_some(conf, &[vid], dst),
+    }
+}
+
+/// Where a key of a VLAN's route is written.
+fn route_site(alloc: Global, placed: &PlacedVlan, at: usize, key: &str) -> Result<Names, NoMemory>
+    ensures { IfOk result (λ site. site ≡ route_site (nth (under placed.now.site (codes "routes")) at) key.now) }
+{
+    let site = under(alloc, placed.site.copy(alloc)?, "routes")?;
+    let site = under(alloc, nth(alloc, site, at)?, "route")?;
+    under(alloc, site, key)
+}
+
+fn wrong_route(
+    alloc: Global,
+    conf: &Resolved,
+    placed: &PlacedVlan,
+    vlan: &Vlan,
+    at: usize,
+    route: &Route,
+) -> Found
+    ensures { IfOk result (λ found. found ≡ first (wrong_route conf.now vlan.now (nth (under placed.now.site (codes "routes")) at, route.now))) }
+{
+    if leads_inside(conf, vlan.vid, &route.dst) {
+        let site = route_site(alloc, placed, at, "ip_dst")?;
+        return broken(alloc, ConfCause::Conflict(14), site);
+    }
+    if !vlan.is_neighbour_address(route.gw) {
+        let site = route_site(alloc, placed, at, "ip_gw")?;
+        return broken(alloc, ConfCause::Conflict(14), site);
+    }
+    Ok(None)
+}
+
+#[tactic(auto, using(crate::proofs::First::first_rules))]
+fn wrong_routes_of(alloc: Global, conf: &Resolved, placed: &PlacedVlan, vlan: &Vlan) -> Found
+    ensures { IfOk result (λ found. found ≡ first (wrong_routes_of conf.now (placed.now, vlan.now))) }
+{
+    for (i, route) in vlan.routes.as_slice().iter().enumerate() {
+        if let Some(found) = wrong_route(alloc, conf, placed, vlan, i, route)? {
+            return Ok(Some(found));
+        }
+    }
+    Ok(None)
+}
+
+/// A route leads into no VIP network that packets of its VLAN are routed to, and its gateway is a
+/// neighbour of its VLAN.
+#[tactic(auto, using(crate::proofs::First::zip_rules))]
+pub(crate) fn wrong_routes(alloc: Global, ordered: &OrderedConf, conf: &Resolved) -> Found
+    ensures { IfOk result (λ found. found ≡ first (wrong_routes ordered.now conf.now)) }
+{
+    let vlans = conf.vlans().as_slice();
+    for (i, placed) in ordered.vlans.as_slice().iter().enumerate() {
+        let Some(vlan) = vlans.get(i) else {
+            return Ok(None);
+        };
+        if let Some(found) = wrong_routes_of(alloc, conf, placed, vlan)? {
+            return Ok(Some(found));
+        }
+    }
+    Ok(None)
+}
+
+fn is_same_route(a: &Route, b: &Route) -> bool
+    ensures { result ≡ is_same_route a.now b.now }
+{
+    a.dst.ip.0 == b.dst.ip.0 && a.dst.len == b.dst.len
+}
+
+fn has_route(routes: &[Route], route: &Route) -> bool
+    ensures { result ≡ list_any (λ other. is_same_route other route.now) routes.now }
+{
+    routes.iter().any(|other| is_same_route(other, route))
+}
+
+fn repeats_vlan(conf: &Resolved, earlier: &[Vlan], vlan: &Vlan, route: &Route) -> bool
+    ensures { result ≡ list_any (λ w. are_routed conf.now w.vid vlan.now.vid && list_any (λ other. is_same_route other route.now) w.routes) earlier.now }
+{
+    earlier.iter().any(|other| {
+        are_routed(conf, other.vid, vlan.vid) && has_route(other.routes.as_slice(), route)
+    })
+}
+
+fn repeats_earlier(
+    conf: &Resolved,
+    earlier: &[Vlan],
+    vlan: &Vlan,
+    routes: &[Route],
+    route: &Route,
+) -> bool
+    ensures { result ≡ repeats_earlier conf.now (earlier.now, vlan.now) (routes.now, route.now) }
+{
+    repeats_vlan(conf, earlier, vlan, route) || has_route(routes, route)
+}
+
+#[tactic(auto, using(crate::proofs::First::first_rules))]
+fn repeated_of_vlan(
+    alloc: Global,
+    conf: &Resolved,
+    placed: &PlacedVlan,
+    earlier: &[Vlan],
+    vlan: &Vlan,
+) -> Found
+    ensures { IfOk result (λ found. found ≡ first (repeated_of_vlan conf.now (placed.now, (earlier.now, vlan.now)))) }
+{
+    let routes = vlan.routes.as_slice();
+    for (i, route) in routes.iter().enumerate() {
+        if repeats_earlier(conf, earlier, vlan, &routes[..i], route) {
+            let site = route_site(alloc, placed, i, "ip_dst")?;
+            return broken(alloc, ConfCause::Duplicate, site);
+        }
+    }
+    Ok(None)
+}
+
+/// Routes that packets are routed by lead to different networks.
+#[tactic(auto, using(crate::proofs::First::zip_rules))]
+pub(crate) fn repeated_routes(alloc: Global, ordered: &OrderedConf, conf: &Resolved) -> Found
+    ensures { IfOk result (λ found. found ≡ first (repeated_routes ordered.now conf.now)) }
+{
+    let vlans = conf.vlans().as_slice();
+    for (i, placed) in ordered.vlans.as_slice().iter().enumerate() {
+        let Some(vlan) = vlans.get(i) else {
+            return Ok(None);
+        };
+        if let Some(found) = repeated_of_vlan(alloc, conf, placed, &vlans[..i], vlan)? {
+            return Ok(Some(found));
+        }
+    }
+    Ok(None)
+}

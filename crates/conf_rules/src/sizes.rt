@@ -1,0 +1,370 @@
+//! How much there is of what limits bound, each count as far as a cap.
+
+ghost use Rattle.std.specs.Prelude.{◌≡◌, ◌==◌, ◌+◌, ◌++◌, length, count_by, map, min, sum_by};
+ghost use Rattle.std.specs.List.{list_any};
+ghost use Rattle.conf_types.specs.Attached.{rules_of, names_in, is_named};
+ghost use Rattle.conf_types.specs.Lists.{is_among, different};
+ghost use Rattle.conf_types.specs.Membership.{is_edge_member};
+ghost use Rattle.conf_types.specs.Routing.{vips_of, vips_in, routes_of, routes_in};
+ghost use Rattle.conf_types.specs.Valid.{members_at, ports_named, route_items};
+ghost use Rattle.conf_rules.specs.Limits.{capped, acl_entries, acl_outputs, members, routes, gateways_of};
+ghost use Rattle.conf_rules.specs.Sizes.{named_rules, cost, vlan_cost};
+
+use crate::routing::{find_router, find_vlan};
+use crate::unknown::find_acl;
+use conf_resolve::Resolved;
+use conf_types::{Dp, Port, PortRef, Route, Rule, Vlan};
+use net_base::{Ip4, Text, Vid};
+
+/// A sum, as far as the cap.
+pub(crate) fn add(cap: usize, a: usize, b: usize) -> usize
+    ensures { result ≡ min cap (a + b) }
+{
+    if a >= cap || b >= cap - a { cap } else { a + b }
+}
+
+fn rules_named(conf: &Resolved, name: &Text) -> usize
+    ensures { result ≡ length (named_rules conf.now name.now) }
+{
+    match find_acl(conf.acls().as_slice(), name) {
+        Some(acl) => acl.rules.len(),
+        None => 0,
+    }
+}
+
+fn add_rules(conf: &Resolved, cap: usize, names: &[Text]) -> usize
+    ensures { result ≡ capped cap (λ name. length (named_rules conf.now name)) names.now }
+{
+    names
+        .iter()
+        .fold(0, |sum, name| add(cap, sum, rules_named(conf, name)))
+}
+
+/// How many rules the named ACLs have.
+pub(crate) fn rules_len(conf: &Resolved, cap: usize, names: &[Text]) -> usize
+    ensures { result ≡ min cap (length (rules_of conf.now names.now)) }
+{
+    add_rules(conf, cap, names)
+}
+
+/// How many entries the named ACLs take where they are attached.
+fn entries(conf: &Resolved, cap: usize, names: &[Text]) -> usize
+    ensures { result ≡ min cap (cost (λ rules. length rules + 1) conf.now names.now) }
+{
+    if names.is_empty() {
+        0
+    } else {
+        add(cap, rules_len(conf, cap, names), 1)
+    }
+}
+
+fn entries_for_vlan(conf: &Resolved, cap: usize, dp: &Dp, vlan: &Vlan) -> usize
+    ensures { result ≡ min cap (vlan_cost (λ rules. length rules + 1) conf.now dp.now vlan.now) }
+{
+    if dp.has_edge_member(vlan.vid) {
+        entries(conf, cap, vlan.acls.as_slice())
+    } else {
+        0
+    }
+}
+
+fn entries_on_ports(conf: &Resolved, cap: usize, dp: &Dp) -> usize
+    ensures { result ≡ capped cap (λ p. min cap (cost (λ rules. length rules + 1) conf.now p.acls)) dp.now.ports }
+{
+    dp.ports.as_slice().iter().fold(
+        0,
+        |sum, port| add(cap, sum, entries(conf, cap, port.acls.as_slice())),
+    )
+}
+
+fn entries_for_vlans(conf: &Resolved, cap: usize, dp: &Dp) -> usize
+    ensures { result ≡ capped cap (λ v. min cap (vlan_cost (λ rules. length rules + 1) conf.now dp.now v)) conf.now.vlans }
+{
+    conf.vlans().as_slice().iter().fold(
+        0,
+        |sum, vlan| add(cap, sum, entries_for_vlan(conf, cap, dp, vlan)),
+    )
+}
+
+/// How many entries the ACLs that are attached on a datapath take.
+pub(crate) fn acl_entries(conf: &Resolved, cap: usize, dp: &Dp) -> usize
+    ensures { result ≡ min cap (acl_entries conf.now dp.now) }
+{
+    add(
+        cap,
+        entries_on_ports(conf, cap, dp),
+        entries_for_vlans(conf, cap, dp),
+    )
+}
+
+fn is_named_in(names: &[PortRef], port: &Port) -> bool
+    ensures { result ≡ list_any (λ name. is_named name port.now) names.now }
+{
+    names.iter().any(|name| name.names(port))
+}
+
+#[tactic(auto, using(crate::proofs::First::any_rules))]
+fn is_named_by(rule: &Rule, port: &Port) -> bool
+    ensures { result ≡ list_any (λ name. is_named name port.now) (names_in rule.now) }
+{
+    is_named_in(rule.mirror.as_slice(), port) || is_named_in(rule.output.as_slice(), port)
+}
+
+fn ports_named(dp: &Dp, rule: &Rule) -> usize
+    ensures { result ≡ ports_named dp.now rule.now }
+{
+    dp.ports
+        .as_slice()
+        .iter()
+        .filter(|port| is_named_by(rule, port))
+        .count()
+}
+
+fn add_outputs(dp: &Dp, cap: usize, rules: &[Rule]) -> usize
+    ensures { result ≡ capped cap (ports_named dp.now) rules.now }
+{
+    rules
+        .iter()
+        .fold(0, |sum, rule| add(cap, sum, ports_named(dp, rule)))
+}
+
+fn outputs_named(conf: &Resolved, dp: &Dp, cap: usize, name: &Text) -> usize
+    ensures { result ≡ capped cap (ports_named dp.now) (named_rules conf.now name.now) }
+{
+    match find_acl(conf.acls().as_slice(), name) {
+        Some(acl) => add_outputs(dp, cap, acl.rules.as_slice()),
+        None => 0,
+    }
+}
+
+fn outputs_of(conf: &Resolved, dp: &Dp, cap: usize, names: &[Text]) -> usize
+    ensures { result ≡ capped cap (λ name. capped cap (ports_named dp.now) (named_rules conf.now name)) names.now }
+{
+    names.iter().fold(
+        0,
+        |sum, name| add(cap, sum, outputs_named(conf, dp, cap, name)),
+    )
+}
+
+/// How many ports the named ACLs name on a datapath, rule by rule.
+fn outputs_len(conf: &Resolved, dp: &Dp, cap: usize, names: &[Text]) -> usize
+    ensures { result ≡ min cap (sum_by (ports_named dp.now) (rules_of conf.now names.now)) }
+{
+    outputs_of(conf, dp, cap, names)
+}
+
+/// The same, where they are attached.
+fn outputs(conf: &Resolved, dp: &Dp, cap: usize, names: &[Text]) -> usize
+    ensures { result ≡ min cap (cost (λ rules. sum_by (ports_named dp.now) rules) conf.now names.now) }
+{
+    if names.is_empty() {
+        0
+    } else {
+        outputs_len(conf, dp, cap, names)
+    }
+}
+
+fn outputs_for_vlan(conf: &Resolved, dp: &Dp, cap: usize, vlan: &Vlan) -> usize
+    ensures { result ≡ min cap (vlan_cost (λ rules. sum_by (ports_named dp.now) rules) conf.now dp.now vlan.now) }
+{
+    if dp.has_edge_member(vlan.vid) {
+        outputs(conf, dp, cap, vlan.acls.as_slice())
+    } else {
+        0
+    }
+}
+
+fn outputs_on_ports(conf: &Resolved, dp: &Dp, cap: usize) -> usize
+    ensures { result ≡ capped cap (λ p. min cap (cost (λ rules. sum_by (ports_named dp.now) rules) conf.now p.acls)) dp.now.ports }
+{
+    dp.ports.as_slice().iter().fold(
+        0,
+        |sum, port| add(cap, sum, outputs(conf, dp, cap, port.acls.as_slice())),
+    )
+}
+
+fn outputs_for_vlans(conf: &Resolved, dp: &Dp, cap: usize) -> usize
+    ensures { result ≡ capped cap (λ v. min cap (vlan_cost (λ rules. sum_by (ports_named dp.now) rules) conf.now dp.now v)) conf.now.vlans }
+{
+    conf.vlans().as_slice().iter().fold(
+        0,
+        |sum, vlan| add(cap, sum, outputs_for_vlan(conf, dp, cap, vlan)),
+    )
+}
+
+/// How many ports the ACLs that are attached on a datapath name there, rule by rule.
+pub(crate) fn acl_outputs(conf: &Resolved, cap: usize, dp: &Dp) -> usize
+    ensures { result ≡ min cap (acl_outputs conf.now dp.now) }
+{
+    add(
+        cap,
+        outputs_on_ports(conf, dp, cap),
+        outputs_for_vlans(conf, dp, cap),
+    )
+}
+
+/// How many VLANs have the interface as a member.
+fn members_at(conf: &Resolved, port: &Port) -> usize
+    ensures { result ≡ members_at conf.now port.now }
+{
+    if port.is_stack() {
+        conf.vlans().len()
+    } else {
+        edge_members(conf, port)
+    }
+}
+
+fn edge_members(conf: &Resolved, port: &Port) -> usize
+    ensures { result ≡ count_by (λ v. is_edge_member port.now v.vid) conf.now.vlans }
+{
+    conf.vlans()
+        .as_slice()
+        .iter()
+        .filter(|vlan| port.is_edge_member(vlan.vid))
+        .count()
+}
+
+fn add_members(conf: &Resolved, cap: usize, dp: &Dp) -> usize
+    ensures { result ≡ capped cap (members_at conf.now) dp.now.ports }
+{
+    dp.ports
+        .as_slice()
+        .iter()
+        .fold(0, |sum, port| add(cap, sum, members_at(conf, port)))
+}
+
+/// How many members the VLANs have on a datapath.
+pub(crate) fn members(conf: &Resolved, cap: usize, dp: &Dp) -> usize
+    ensures { result ≡ min cap (members conf.now dp.now) }
+{
+    add_members(conf, cap, dp)
+}
+
+/// How many routes there are.
+pub(crate) fn routes(conf: &Resolved, cap: usize) -> usize
+    ensures { result ≡ min cap (routes conf.now) }
+{
+    add_routes(conf, cap)
+}
+
+fn add_routes(conf: &Resolved, cap: usize) -> usize
+    ensures { result ≡ capped cap (λ v. length v.routes) conf.now.vlans }
+{
+    conf.vlans()
+        .as_slice()
+        .iter()
+        .fold(0, |sum, vlan| add(cap, sum, vlan.routes.len()))
+}
+
+fn vips_of(conf: &Resolved, vid: Vid) -> usize
+    ensures { result ≡ length (vips_of conf.now vid) }
+{
+    match find_vlan(conf.vlans().as_slice(), vid) {
+        Some(vlan) => vlan.vips.len(),
+        None => 0,
+    }
+}
+
+fn routes_of(conf: &Resolved, vid: Vid) -> usize
+    ensures { result ≡ length (routes_of conf.now vid) }
+{
+    match find_vlan(conf.vlans().as_slice(), vid) {
+        Some(vlan) => vlan.routes.len(),
+        None => 0,
+    }
+}
+
+fn add_vips(conf: &Resolved, cap: usize, vids: &[Vid]) -> usize
+    ensures { result ≡ capped cap (λ vid. length (vips_of conf.now vid)) vids.now }
+{
+    vids.iter()
+        .fold(0, |sum, vid| add(cap, sum, vips_of(conf, *vid)))
+}
+
+fn add_routes_of(conf: &Resolved, cap: usize, vids: &[Vid]) -> usize
+    ensures { result ≡ capped cap (λ vid. length (routes_of conf.now vid)) vids.now }
+{
+    vids.iter()
+        .fold(0, |sum, vid| add(cap, sum, routes_of(conf, *vid)))
+}
+
+fn items_of(conf: &Resolved, cap: usize, vids: &[Vid]) -> usize
+    ensures { result ≡ min cap (length (vips_in conf.now vids.now) + length (routes_in conf.now vids.now)) }
+{
+    add(
+        cap,
+        add_vips(conf, cap, vids),
+        add_routes_of(conf, cap, vids),
+    )
+}
+
+/// The VIPs and routes that packets of a VLAN may take.
+fn route_items(conf: &Resolved, cap: usize, vlan: &Vlan) -> usize
+    ensures { result ≡ min cap (route_items conf.now vlan.now) }
+{
+    if vlan.vips.is_empty() {
+        return 0;
+    }
+    match find_router(conf.routers().as_slice(), vlan.vid) {
+        Some(router) => items_of(conf, cap, router.vlans.as_slice()),
+        None => items_of(conf, cap, &[vlan.vid]),
+    }
+}
+
+fn add_route_items(conf: &Resolved, cap: usize) -> usize
+    ensures { result ≡ capped cap (λ v. min cap (route_items conf.now v)) conf.now.vlans }
+{
+    conf.vlans()
+        .as_slice()
+        .iter()
+        .fold(0, |sum, vlan| add(cap, sum, route_items(conf, cap, vlan)))
+}
+
+/// The VIPs and routes that packets of each VLAN may take, VLAN by VLAN.
+pub(crate) fn all_route_items(conf: &Resolved, cap: usize) -> usize
+    ensures { result ≡ min cap (sum_by (route_items conf.now) conf.now.vlans) }
+{
+    add_route_items(conf, cap)
+}
+
+fn has_gateway(routes: &[Route], ip: Ip4) -> bool
+    ensures { result ≡ list_any (λ r. r.gw.0 == ip.0) routes.now }
+{
+    routes.iter().any(|route| route.gw.0 == ip.0)
+}
+
+fn is_among(routes: &[Route], ip: Ip4) -> bool
+    ensures { result ≡ is_among (map (λ r. r.gw.0) routes.now) ip.0 }
+{
+    has_gateway(routes, ip)
+}
+
+/// How many gateways a VLAN's routes have.
+fn gateways_of(cap: usize, vlan: &Vlan) -> usize
+    ensures { result ≡ min cap (gateways_of vlan.now) }
+{
+    let routes = vlan.routes.as_slice();
+    let mut count = 0;
+    for (i, route) in routes.iter().enumerate() {
+        if !is_among(&routes[i + 1..], route.gw) {
+            count = add(cap, count, 1);
+        }
+    }
+    count
+}
+
+fn add_gateways(conf: &Resolved, cap: usize) -> usize
+    ensures { result ≡ capped cap (λ v. min cap (gateways_of v)) conf.now.vlans }
+{
+    conf.vlans()
+        .as_slice()
+        .iter()
+        .fold(0, |sum, vlan| add(cap, sum, gateways_of(cap, vlan)))
+}
+
+/// The gateways of each VLAN's routes, VLAN by VLAN.
+pub(crate) fn all_gateways(conf: &Resolved, cap: usize) -> usize
+    ensures { result ≡ min cap (sum_by gateways_of conf.now.vlans) }
+{
+    add_gateways(conf, cap)
+}

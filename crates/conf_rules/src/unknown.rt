@@ -1,0 +1,325 @@
+//! VLANs and ACLs that are named: each exists, and an interface names a VLAN at most once.
+
+ghost use Rattle.std.specs.Prelude.{◌≡◌, ◌==◌, ◌++◌, [], IfOk, codes, is_some, is_none};
+ghost use Rattle.std.specs.List.{flat_map, list_any};
+ghost use Rattle.std.specs.Option.{option_copied};
+ghost use Rattle.conf_types.specs.Attached.{acl_named};
+ghost use Rattle.conf_resolve.specs.InOrder.{port_site};
+ghost use Rattle.conf_resolve.specs.Resolved.{to_list};
+ghost use Rattle.conf_rules.specs.Names.{unknown_vlan, native_at, tagged_at, unknown_of_port, unknown_of_dp, unknown_of_router, unknown_vlans, is_same_vlan, named_again, twice_of_port, twice_of_dp, vlans_twice, unknown_acl, unknown_acls_of_vlan, unknown_acls_of_port, unknown_acls_of_dp, unknown_acls};
+ghost use Rattle.conf_rules.specs.Places.{first, nth, under, each_at, one_at, list_at};
+
+use crate::places::{Found, broken, is_same, nth, port_site, router_site, under, under_port};
+use conf_resolve::{OrderedConf, PlacedVlan, Resolved};
+use conf_shape::{ConfCause, RawDp, RawPort, RawRouter, VlanRef};
+use conf_types::Acl;
+use net_base::{Text, TryCopy};
+use std::alloc::Global;
+
+fn unknown_native(alloc: Global, ordered: &OrderedConf, dp: &RawDp, port: &RawPort) -> Found
+    ensures { IfOk result (λ found. found ≡ first (flat_map (unknown_vlan ordered.now) (native_at dp.now port.now))) }
+{
+    if let Some(name) = &port.native {
+        if ordered.vid_of(name).is_none() {
+            let site = under_port(alloc, dp, port, "native_vlan")?;
+            return broken(alloc, ConfCause::Unresolved, site);
+        }
+    }
+    Ok(None)
+}
+
+#[tactic(auto, using(crate::proofs::First::first_rules))]
+fn unknown_tagged(alloc: Global, ordered: &OrderedConf, dp: &RawDp, port: &RawPort) -> Found
+    ensures { IfOk result (λ found. found ≡ first (flat_map (unknown_vlan ordered.now) (tagged_at dp.now port.now))) }
+{
+    for (i, name) in port.tagged.as_slice().iter().enumerate() {
+        if ordered.vid_of(name).is_none() {
+            let site = under_port(alloc, dp, port, "tagged_vlans")?;
+            return broken(alloc, ConfCause::Unresolved, nth(alloc, site, i)?);
+        }
+    }
+    Ok(None)
+}
+
+#[tactic(auto, using(crate::proofs::First::first_rules))]
+fn unknown_of_port(alloc: Global, ordered: &OrderedConf, dp: &RawDp, port: &RawPort) -> Found
+    ensures { IfOk result (λ found. found ≡ first (unknown_of_port ordered.now dp.now port.now)) }
+{
+    if let Some(found) = unknown_native(alloc, ordered, dp, port)? {
+        return Ok(Some(found));
+    }
+    unknown_tagged(alloc, ordered, dp, port)
+}
+
+#[tactic(auto, using(crate::proofs::First::first_rules))]
+fn unknown_of_dp(alloc: Global, ordered: &OrderedConf, dp: &RawDp) -> Found
+    ensures { IfOk result (λ found. found ≡ first (unknown_of_dp ordered.now dp.now)) }
+{
+    for port in dp.ports.as_slice() {
+        if let Some(found) = unknown_of_port(alloc, ordered, dp, port)? {
+            return Ok(Some(found));
+        }
+    }
+    Ok(None)
+}
+
+#[tactic(auto, using(crate::proofs::First::first_rules))]
+fn unknown_of_dps(alloc: Global, ordered: &OrderedConf) -> Found
+    ensures { IfOk result (λ found. found ≡ first (flat_map (unknown_of_dp ordered.now) ordered.now.dps)) }
+{
+    for dp in ordered.dps.as_slice() {
+        if let Some(found) = unknown_of_dp(alloc, ordered, dp)? {
+            return Ok(Some(found));
+        }
+    }
+    Ok(None)
+}
+
+#[tactic(auto, using(crate::proofs::First::first_rules))]
+fn unknown_of_router(alloc: Global, ordered: &OrderedConf, router: &RawRouter) -> Found
+    ensures { IfOk result (λ found. found ≡ first (unknown_of_router ordered.now router.now)) }
+{
+    for (i, name) in router.vlans.as_slice().iter().enumerate() {
+        if ordered.vid_of(name).is_none() {
+            let site = under(alloc, router_site(alloc, router)?, "vlans")?;
+            return broken(alloc, ConfCause::Unresolved, nth(alloc, site, i)?);
+        }
+    }
+    Ok(None)
+}
+
+/// Every VLAN that is named exists; of interfaces, then of routers.
+#[tactic(auto, using(crate::proofs::First::first_rules))]
+pub(crate) fn unknown_vlans(alloc: Global, ordered: &OrderedConf) -> Found
+    ensures { IfOk result (λ found. found ≡ first (unknown_vlans ordered.now)) }
+{
+    if let Some(found) = unknown_of_dps(alloc, ordered)? {
+        return Ok(Some(found));
+    }
+    for router in ordered.routers.as_slice() {
+        if let Some(found) = unknown_of_router(alloc, ordered, router)? {
+            return Ok(Some(found));
+        }
+    }
+    Ok(None)
+}
+
+fn is_same_vlan(ordered: &OrderedConf, a: &VlanRef, b: &VlanRef) -> bool
+    ensures { result ≡ is_same_vlan ordered.now a.now b.now }
+{
+    match (ordered.vid_of(a), ordered.vid_of(b)) {
+        (Some(m), Some(n)) => m.get() == n.get(),
+        _ => false,
+    }
+}
+
+fn is_among(ordered: &OrderedConf, names: &[VlanRef], name: &VlanRef) -> bool
+    ensures { result ≡ list_any (λ other. is_same_vlan ordered.now other name.now) names.now }
+{
+    names.iter().any(|other| is_same_vlan(ordered, other, name))
+}
+
+// Whether the VLAN is the native one, or among the tagged ones before it.
+fn is_named_before(
+    ordered: &OrderedConf,
+    native: &Option<VlanRef>,
+    tagged: &[VlanRef],
+    name: &VlanRef,
+) -> bool
+    ensures { result ≡ list_any (λ other. is_same_vlan ordered.now other name.now) (to_list native.now ++ tagged.now) }
+{
+    match native {
+        Some(native) => { is_same_vlan(ordered, native, name) || is_among(ordered, tagged, name) }
+        None => is_among(ordered, tagged, name),
+    }
+}
+
+fn named_again(
+    alloc: Global,
+    ordered: &OrderedConf,
+    dp: &RawDp,
+    port: &RawPort,
+    earlier: &[VlanRef],
+    at: usize,
+    name: &VlanRef,
+) -> Found
+    ensures { IfOk result (λ found. found ≡ first (named_again ordered.now (nth (under (port_site dp.now port.now) (codes "tagged_vlans")) at, (to_list port.now.native ++ earlier.now, name.now)))) }
+{
+    if is_named_before(ordered, &port.native, earlier, name) {
+        let site = under_port(alloc, dp, port, "tagged_vlans")?;
+        return broken(alloc, ConfCause::Duplicate, nth(alloc, site, at)?);
+    }
+    Ok(None)
+}
+
+#[tactic(auto, using(crate::proofs::First::first_rules))]
+fn twice_of_port(alloc: Global, ordered: &OrderedConf, dp: &RawDp, port: &RawPort) -> Found
+    ensures { IfOk result (λ found. found ≡ first (twice_of_port ordered.now dp.now port.now)) }
+{
+    let tagged = port.tagged.as_slice();
+    for (i, name) in tagged.iter().enumerate() {
+        if let Some(found) = named_again(alloc, ordered, dp, port, &tagged[..i], i, name)? {
+            return Ok(Some(found));
+        }
+    }
+    Ok(None)
+}
+
+#[tactic(auto, using(crate::proofs::First::first_rules))]
+fn twice_of_dp(alloc: Global, ordered: &OrderedConf, dp: &RawDp) -> Found
+    ensures { IfOk result (λ found. found ≡ first (twice_of_dp ordered.now dp.now)) }
+{
+    for port in dp.ports.as_slice() {
+        if let Some(found) = twice_of_port(alloc, ordered, dp, port)? {
+            return Ok(Some(found));
+        }
+    }
+    Ok(None)
+}
+
+/// An interface names a VLAN at most once.
+#[tactic(auto, using(crate::proofs::First::first_rules))]
+pub(crate) fn vlans_twice(alloc: Global, ordered: &OrderedConf) -> Found
+    ensures { IfOk result (λ found. found ≡ first (vlans_twice ordered.now)) }
+{
+    for dp in ordered.dps.as_slice() {
+        if let Some(found) = twice_of_dp(alloc, ordered, dp)? {
+            return Ok(Some(found));
+        }
+    }
+    Ok(None)
+}
+
+pub(crate) fn find_acl<'a>(acls: &'a [Acl], name: &Text) -> Option<&'a Acl>
+    ensures { option_copied result ≡ acl_named acls.now name.now }
+{
+    acls.iter().find(|acl| is_same(&acl.name, name))
+}
+
+fn is_acl(conf: &Resolved, name: &Text) -> bool
+    ensures { result ≡ is_some (acl_named conf.now.acls name.now) }
+{
+    find_acl(conf.acls().as_slice(), name).is_some()
+}
+
+fn unknown_one_of_vlan(alloc: Global, conf: &Resolved, placed: &PlacedVlan) -> Found
+    ensures { IfOk result (λ found. found ≡ first (flat_map (unknown_acl conf.now) (one_at placed.now.site placed.now.vlan.acls))) }
+{
+    if let Some(name) = &placed.vlan.acls.one {
+        if !is_acl(conf, name) {
+            let site = under(alloc, placed.site.copy(alloc)?, "acl_in")?;
+            return broken(alloc, ConfCause::Unresolved, site);
+        }
+    }
+    Ok(None)
+}
+
+#[tactic(auto, using(crate::proofs::First::first_rules))]
+fn unknown_nth_of_vlan(alloc: Global, conf: &Resolved, placed: &PlacedVlan, names: &[Text]) -> Found
+    ensures { IfOk result (λ found. found ≡ first (flat_map (unknown_acl conf.now) (each_at (under placed.now.site (codes "acls_in")) names.now))) }
+{
+    for (i, name) in names.iter().enumerate() {
+        if !is_acl(conf, name) {
+            let site = under(alloc, placed.site.copy(alloc)?, "acls_in")?;
+            return broken(alloc, ConfCause::Unresolved, nth(alloc, site, i)?);
+        }
+    }
+    Ok(None)
+}
+
+#[tactic(auto, using(crate::proofs::First::first_rules))]
+fn unknown_acls_of_vlan(alloc: Global, conf: &Resolved, placed: &PlacedVlan) -> Found
+    ensures { IfOk result (λ found. found ≡ first (unknown_acls_of_vlan conf.now placed.now)) }
+{
+    if let Some(found) = unknown_one_of_vlan(alloc, conf, placed)? {
+        return Ok(Some(found));
+    }
+    match &placed.vlan.acls.list {
+        Some(names) => unknown_nth_of_vlan(alloc, conf, placed, names.as_slice()),
+        None => Ok(None),
+    }
+}
+
+fn unknown_one_of_port(alloc: Global, conf: &Resolved, dp: &RawDp, port: &RawPort) -> Found
+    ensures { IfOk result (λ found. found ≡ first (flat_map (unknown_acl conf.now) (one_at (port_site dp.now port.now) port.now.acls))) }
+{
+    if let Some(name) = &port.acls.one {
+        if !is_acl(conf, name) {
+            let site = under(alloc, port_site(alloc, dp, port)?, "acl_in")?;
+            return broken(alloc, ConfCause::Unresolved, site);
+        }
+    }
+    Ok(None)
+}
+
+#[tactic(auto, using(crate::proofs::First::first_rules))]
+fn unknown_nth_of_port(
+    alloc: Global,
+    conf: &Resolved,
+    dp: &RawDp,
+    port: &RawPort,
+    names: &[Text],
+) -> Found
+    ensures { IfOk result (λ found. found ≡ first (flat_map (unknown_acl conf.now) (each_at (under (port_site dp.now port.now) (codes "acls_in")) names.now))) }
+{
+    for (i, name) in names.iter().enumerate() {
+        if !is_acl(conf, name) {
+            let site = under(alloc, port_site(alloc, dp, port)?, "acls_in")?;
+            return broken(alloc, ConfCause::Unresolved, nth(alloc, site, i)?);
+        }
+    }
+    Ok(None)
+}
+
+#[tactic(auto, using(crate::proofs::First::first_rules))]
+fn unknown_acls_of_port(alloc: Global, conf: &Resolved, dp: &RawDp, port: &RawPort) -> Found
+    ensures { IfOk result (λ found. found ≡ first (unknown_acls_of_port conf.now dp.now port.now)) }
+{
+    if let Some(found) = unknown_one_of_port(alloc, conf, dp, port)? {
+        return Ok(Some(found));
+    }
+    match &port.acls.list {
+        Some(names) => unknown_nth_of_port(alloc, conf, dp, port, names.as_slice()),
+        None => Ok(None),
+    }
+}
+
+#[tactic(auto, using(crate::proofs::First::first_rules))]
+fn unknown_acls_of_vlans(alloc: Global, conf: &Resolved, vlans: &[PlacedVlan]) -> Found
+    ensures { IfOk result (λ found. found ≡ first (flat_map (unknown_acls_of_vlan conf.now) vlans.now)) }
+{
+    for placed in vlans {
+        if let Some(found) = unknown_acls_of_vlan(alloc, conf, placed)? {
+            return Ok(Some(found));
+        }
+    }
+    Ok(None)
+}
+
+#[tactic(auto, using(crate::proofs::First::first_rules))]
+fn unknown_acls_of_dp(alloc: Global, conf: &Resolved, dp: &RawDp) -> Found
+    ensures { IfOk result (λ found. found ≡ first (unknown_acls_of_dp conf.now dp.now)) }
+{
+    for port in dp.ports.as_slice() {
+        if let Some(found) = unknown_acls_of_port(alloc, conf, dp, port)? {
+            return Ok(Some(found));
+        }
+    }
+    Ok(None)
+}
+
+/// Every ACL that is named exists; of VLANs, then of interfaces.
+#[tactic(auto, using(crate::proofs::First::first_rules))]
+pub(crate) fn unknown_acls(alloc: Global, ordered: &OrderedConf, conf: &Resolved) -> Found
+    ensures { IfOk result (λ found. found ≡ first (unknown_acls ordered.now conf.now)) }
+{
+    if let Some(found) = unknown_acls_of_vlans(alloc, conf, ordered.vlans.as_slice())? {
+        return Ok(Some(found));
+    }
+    for dp in ordered.dps.as_slice() {
+        if let Some(found) = unknown_acls_of_dp(alloc, conf, dp)? {
+            return Ok(Some(found));
+        }
+    }
+    Ok(None)
+}

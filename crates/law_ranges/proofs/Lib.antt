@@ -1,0 +1,11 @@
+pub mod Right
+pub mod Values
+pub mod Addresses
+pub mod Fields
+pub mod Ranges
+pub mod Stands
+pub mod Asked
+pub mod Says
+pub mod Alone
+pub mod AloneFields
+pub mod AloneParts
