@@ -11,7 +11,7 @@ pub record Kept : Type 0 where
   pub dp : DpId
   -- the configuration and the state that were handed in last
   pub conf : Configuration
-  pub now : State
+  pub state : State
   -- what the switch holds once it has done all that was taken
   pub sent : List Entry
   -- what it is to hold
@@ -21,6 +21,6 @@ pub record Kept : Type 0 where
 
 -- the kept plan is the cold start, as long as memory didn't run out
 pub record IsKept (k : Kept) : Type 0 where
-  pub warm : k.is_spent ≡ false → k.wanted ≡ cold_at k.conf k.now k.dp
+  pub warm : k.is_spent ≡ false → k.wanted ≡ cold_at k.conf k.state k.dp
   pub sent : IsInKeyOrder k.sent
   pub wanted : IsInKeyOrder k.wanted

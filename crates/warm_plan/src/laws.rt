@@ -12,7 +12,7 @@ ghost use Rattle.warm_plan.specs.Kept.{Kept, IsKept};
 /// the cold start of what was handed in last (OpenFlow 1.3, 6.2).
 pub fn a_switch_that_was_sent_all_holds_the_cold_start()
     ensures { (k : Kept) → IsKept k → k.is_spent ≡ false → (settled : List Entry)
-        → Settles k.sent (difference k.sent k.wanted) settled → settled ≡ cold_at k.conf k.now k.dp }
+        → Settles k.sent (difference k.sent k.wanted) settled → settled ≡ cold_at k.conf k.state k.dp }
 {
     plan_difference::laws::a_difference_leads_from_one_plan_to_the_other();
 }

@@ -16,7 +16,8 @@ use of_match::{Commands, Tables};
 use packet_way::Now;
 use plan_difference::difference;
 use std::alloc::{AllocError, Global};
-use std::marker::{Model, Snapshot};
+use std::marker::Model;
+use std::snapshot::Snapshot;
 
 /// The plan of one datapath: the flow entries that its switch was sent, and those that it is to hold.
 /// The configuration and the state that were handed in last are seen by contracts alone.
@@ -24,7 +25,7 @@ use std::marker::{Model, Snapshot};
 pub struct Warm {
     dp: DpId,
     conf: Snapshot<Conf>,
-    now: Snapshot<Now>,
+    state: Snapshot<Now>,
     sent: Tables,
     wanted: Tables,
     spent: bool,
@@ -36,9 +37,9 @@ impl Model for Warm {
 
     ghost Value = { Kept };
 
-    ghost view = { λ w. record { dp = w.dp; conf = w.conf.value; now = state_of w.now.value; sent = w.sent; wanted = w.wanted; is_spent = w.spent } };
+    ghost view = { λ w. record { dp = w.dp; conf = w.conf.value; state = state_of w.state.value; sent = w.sent; wanted = w.wanted; is_spent = w.spent } };
 
-    ghost invariant = { λ w. IsKept (record { dp = w.dp; conf = w.conf.value; now = state_of w.now.value; sent = w.sent; wanted = w.wanted; is_spent = w.spent }) };
+    ghost invariant = { λ w. IsKept (record { dp = w.dp; conf = w.conf.value; state = state_of w.state.value; sent = w.sent; wanted = w.wanted; is_spent = w.spent }) };
 }
 
 impl Warm {
@@ -54,7 +55,7 @@ impl Warm {
         ensures { IfOk result (λ made. made ≡ record {
           dp = dp;
           conf = conf.now;
-          now = state_of now.now;
+          state = state_of now.now;
           sent = [];
           wanted = cold_at conf.now (state_of now.now) dp;
           is_spent = false;
@@ -63,7 +64,7 @@ impl Warm {
         Ok(Warm {
             dp,
             conf: Snapshot::of(conf),
-            now: Snapshot::of(now),
+            state: Snapshot::of(now),
             sent: Tables::new(alloc),
             wanted: cold(alloc, conf, now, dp, units)?,
             spent: false,
@@ -81,7 +82,7 @@ impl Warm {
         requires { IsValidState conf.now (state_of now.now) }
         ensures warm { OnOk result (self.new ≡ record self.old {
           conf = conf.now;
-          now = state_of now.now;
+          state = state_of now.now;
           wanted = cold_at conf.now (state_of now.now) self.old.dp;
         }) }
         ensures spent { OnErr result (self.new.is_spent ≡ true) }
@@ -91,7 +92,7 @@ impl Warm {
         let was_spent = self.spent;
         self.spent = true;
         self.conf = Snapshot::of(conf);
-        self.now = Snapshot::of(now);
+        self.state = Snapshot::of(now);
         if was_spent {
             return Err(AllocError);
         }
@@ -113,7 +114,7 @@ impl Warm {
         requires same { conf.now ≡ self.old.conf }
         requires state { IsValidState conf.now (state_of now.now) }
         ensures warm { OnOk result (self.new ≡ record self.old {
-          now = state_of now.now;
+          state = state_of now.now;
           wanted = cold_at conf.now (state_of now.now) self.old.dp;
         }) }
         ensures spent { OnErr result (self.new.is_spent ≡ true) }
@@ -135,7 +136,7 @@ impl Warm {
         requires { IsValidState next.now (state_of now.now) }
         ensures warm { OnOk result (self.new ≡ record self.old {
           conf = next.now;
-          now = state_of now.now;
+          state = state_of now.now;
           wanted = cold_at next.now (state_of now.now) self.old.dp;
         }) }
         ensures spent { OnErr result (self.new.is_spent ≡ true) }
@@ -175,7 +176,7 @@ impl Warm {
     /// ran out.
     pub fn wanted(&self) -> &Tables
         ensures value { result.now ≡ self.now.wanted }
-        ensures cold { self.now.is_spent ≡ false → result.now ≡ cold_at self.now.conf self.now.now self.now.dp }
+        ensures cold { self.now.is_spent ≡ false → result.now ≡ cold_at self.now.conf self.now.state self.now.dp }
     {
         &self.wanted
     }
