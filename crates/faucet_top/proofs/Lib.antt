@@ -1,6 +1,7 @@
 pub mod Adds
 pub mod Framed
 pub mod Headline
+pub mod Joined
 pub mod Nothing
 pub mod PlanLemmas
 pub mod TopLemmas

@@ -1,4 +1,5 @@
 ghost use Rattle.std.specs.Prelude.{◌≡◌, ◌≤◌, [], ◌∷◌, Result, codes};
+ghost use Rattle.std.specs.Fmt.{decimal};
 ghost use Rattle.fg_outside.specs.Wrote.{line_of};
 ghost use Rattle.faucet_top.specs.Answer.{plan_answer, usage, out_of_memory, line};
 ghost use Rattle.faucet_top.specs.Given.{Delivers};
@@ -116,26 +117,35 @@ fn deliver_at<E: Sink>(err: &mut E, config: &str, path: &str, cause: &str, more:
     end_with_line(err, &pieces, Status::Refused)
 }
 
+/// Says where a configuration breaks a rule, and the rule's number.
+fn deliver_conflict<E: Sink>(err: &mut E, config: &str, path: &str, rule: u8) -> Status
+    ensures ends { Ends Status.Refused (line (config.now ∷ codes ": " ∷ path.now ∷ codes ": " ∷ codes "Conflict " ∷ decimal rule ∷ []))
+        (E.wrote err.old) (E.wrote err.new) (E.faults err.old) (E.faults err.new) result }
+    ensures faults { E.faults err.old ≤ E.faults err.new }
+{
+    let mut buffer = Buffer::new();
+    let number = buffer.format(rule);
+    deliver_at(err, config, path, "Conflict ", number)
+}
+
 /// Says where and why a configuration was refused.
 fn deliver_conf_fault<E: Sink>(err: &mut E, config: &str, fault: &ConfFault) -> Status
     ensures ends { Ends Status.Refused (conf_fault_line config.now fault.now) (E.wrote err.old) (E.wrote err.new) (E.faults err.old) (E.faults err.new) result }
     ensures faults { E.faults err.old ≤ E.faults err.new }
 {
     let path = fault.path.as_str();
-    let mut buffer = Buffer::new();
-    let (cause, more) = match fault.cause {
-        ConfCause::UnknownKey => ("UnknownKey", ""),
-        ConfCause::LeftOut => ("LeftOut", ""),
-        ConfCause::Missing => ("Missing", ""),
-        ConfCause::WrongType => ("WrongType", ""),
-        ConfCause::OutOfRange => ("OutOfRange", ""),
-        ConfCause::BadText => ("BadText", ""),
-        ConfCause::Unresolved => ("Unresolved", ""),
-        ConfCause::Duplicate => ("Duplicate", ""),
-        ConfCause::Conflict(rule) => ("Conflict ", buffer.format(rule)),
-        ConfCause::TooMany(limit) => ("TooMany ", limit_name(limit)),
-    };
-    deliver_at(err, config, path, cause, more)
+    match fault.cause {
+        ConfCause::UnknownKey => deliver_at(err, config, path, "UnknownKey", ""),
+        ConfCause::LeftOut => deliver_at(err, config, path, "LeftOut", ""),
+        ConfCause::Missing => deliver_at(err, config, path, "Missing", ""),
+        ConfCause::WrongType => deliver_at(err, config, path, "WrongType", ""),
+        ConfCause::OutOfRange => deliver_at(err, config, path, "OutOfRange", ""),
+        ConfCause::BadText => deliver_at(err, config, path, "BadText", ""),
+        ConfCause::Unresolved => deliver_at(err, config, path, "Unresolved", ""),
+        ConfCause::Duplicate => deliver_at(err, config, path, "Duplicate", ""),
+        ConfCause::Conflict(rule) => deliver_conflict(err, config, path, rule),
+        ConfCause::TooMany(limit) => deliver_at(err, config, path, "TooMany ", limit_name(limit)),
+    }
 }
 
 /// Says why there is no batch.

@@ -80,27 +80,30 @@ fn find_dp<'a>(dps: &'a [Dp], name: &str) -> Option<&'a Dp>
     dps.iter().find(|dp| dp.name.as_str() == name)
 }
 
-/// Adds the enabled interfaces of a datapath.
-fn push_ups(ups: &mut UpRecs, dp: &Dp) -> Result<(), NoMemory>
-    ensures { OnOk result (ups.new ≡ ups.old ++ ups_of dp.now) }
+/// The enabled interfaces of a datapath.
+fn dp_ups(alloc: Global, dp: &Dp) -> Result<Vec<UpRec>, NoMemory>
+    ensures { IfOk result (λ ups. ups.items ≡ ups_of dp.now) }
 {
-    for port in dp.ports.as_slice() {
-        if port.enabled {
-            ups.push(UpRec {
-                dp: dp.id,
-                port: port.no,
-            })?;
-        }
-    }
-    Ok(())
+    let id = dp.id;
+    dp.ports
+        .as_slice()
+        .iter()
+        .filter(|port| port.enabled)
+        .map(|port| UpRec {
+            dp: id,
+            port: port.no,
+        })
+        .collect(alloc)
 }
 
+#[tactic(auto, using(crate::proofs::Joined::flat_more))]
 fn all_ups(alloc: Global, dps: &[Dp]) -> Result<UpRecs, NoMemory>
     ensures { IfOk result (λ ups. ups ≡ flat_map ups_of dps.now) }
 {
     let mut ups = UpRecs::new(alloc);
     for dp in dps {
-        push_ups(&mut ups, dp)?;
+        let made = dp_ups(alloc, dp)?;
+        ups.append(made.as_slice())?;
     }
     Ok(ups)
 }
