@@ -7,7 +7,7 @@ work=$(mktemp -d)
 trap 'rm -rf "$work"' EXIT
 "$top/bin/faucet" plan "$top/examples/quick-start/faucet.yaml" sw1 >/dev/null
 
-# one-line entries: read whole, and then not of the first form
+# one-line entries: read whole, and then refused at the first key
 awk 'BEGIN { for (i = 0; i < 60000; i++) printf "key%05d: %d\n", i, i }' >"$work/entries.yaml"
 
 awk 'BEGIN {
