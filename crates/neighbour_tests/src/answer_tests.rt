@@ -247,28 +247,28 @@ fn what_is_answered(rt: HostRuntime) -> Result<(), Fail> {
 
 /// An action: it puts out, pushes a tag, or sets the VLAN.
 #[derive(Clone, Copy, PartialEq, Eq)]
-enum Does {
+enum Effect {
     Out(u32),
     Push(u16),
     Set(u128),
     Other,
 }
 
-fn does(action: &Action) -> Does {
+fn effect_of(action: &Action) -> Effect {
     match action {
-        Action::Output { port, max_len: 0 } => Does::Out(*port),
-        Action::PushVlan(tpid) => Does::Push(*tpid),
-        Action::Set(field) => Does::Set(field.value),
-        _ => Does::Other,
+        Action::Output { port, max_len: 0 } => Effect::Out(*port),
+        Action::PushVlan(tpid) => Effect::Push(*tpid),
+        Action::Set(field) => Effect::Set(field.value),
+        _ => Effect::Other,
     }
 }
 
-fn are(actions: &[Action], wanted: &[Does]) -> bool {
+fn are(actions: &[Action], wanted: &[Effect]) -> bool {
     actions.len() == wanted.len()
         && actions
             .iter()
             .zip(wanted)
-            .all(|(action, w)| does(action) == *w)
+            .all(|(action, w)| effect_of(action) == *w)
 }
 
 // An ask of datapath 1 for 10.0.100.1: out of the native members, though one takes no packets in, then with the tag.
@@ -281,11 +281,11 @@ fn what_is_asked(rt: HostRuntime) -> Result<(), Fail> {
     let out = ask(alloc, &conf, DpId(1), vid(&rt, 100), Ip4(0x0a00_6401))?.expect(&rt, "an ask");
     assert!(rt; out.frame.as_slice() == bytes(alloc, request)?.as_slice());
     let wanted = [
-        Does::Out(1),
-        Does::Out(5),
-        Does::Push(0x8100),
-        Does::Set(0x1064),
-        Does::Out(2),
+        Effect::Out(1),
+        Effect::Out(5),
+        Effect::Push(0x8100),
+        Effect::Set(0x1064),
+        Effect::Out(2),
     ];
     assert!(rt; are(out.actions.as_slice(), &wanted));
     for (dp, number, address) in [
@@ -302,10 +302,10 @@ fn what_is_asked(rt: HostRuntime) -> Result<(), Fail> {
 #[test]
 fn how_an_answer_leaves(rt: HostRuntime) -> Result<(), Fail> {
     for (member, wanted) in [
-        (Member::Native, &[Does::Out(7)][..]),
+        (Member::Native, &[Effect::Out(7)][..]),
         (
             Member::Tagged,
-            &[Does::Push(0x8100), Does::Set(0x1064), Does::Out(7)],
+            &[Effect::Push(0x8100), Effect::Set(0x1064), Effect::Out(7)],
         ),
         (Member::Stack, &[]),
     ] {
