@@ -257,18 +257,25 @@ fn write_lines(text: &mut String, lines: &Lines, limited: u32) -> Result<(), NoM
     Ok(())
 }
 
-/// What is told: nothing, or the path of the first fault and the limit that is passed.
+/// Whether a text is refused for passing the limit at its place.
+fn is_passed(refused: TextRefused, case: &Case) -> bool {
+    match refused {
+        TextRefused::Conf(fault) => {
+            fault.path.as_str() == case.path && fault.cause == ConfCause::TooMany(case.limit)
+        }
+        _ => false,
+    }
+}
+
 fn passes(alloc: Global, case: &Case, limited: u32) -> Result<bool, NoMemory> {
     let mut text = String::new(alloc);
     for lines in case.lines {
         write_lines(&mut text, lines, limited)?;
     }
-    Ok(match conf_of_bytes(alloc, text.as_str().as_bytes()) {
-        Err(TextRefused::Conf(fault)) => {
-            fault.path.as_str() == case.path && fault.cause == ConfCause::TooMany(case.limit)
-        }
-        _ => false,
-    })
+    let Err(refused) = conf_of_bytes(alloc, text.as_str().as_bytes()) else {
+        return Ok(false);
+    };
+    Ok(is_passed(refused, case))
 }
 
 fn is_right(alloc: Global, case: &Case, limited: u32) -> Result<bool, NoMemory> {

@@ -1,22 +1,33 @@
 //! For each rule configurations that break it, at its first place, and ones that just keep it.
 
 use conf_check::{TextRefused, conf_of_bytes};
+use conf_shape::ConfFault;
 use net_base::NoMemory;
 use std::alloc::Global;
 use std::process::Abort;
 use std::test::Fail;
 
+/// What a text is refused for, where it is a fault of its configuration.
+fn fault_of(refused: TextRefused) -> Option<ConfFault> {
+    match refused {
+        TextRefused::Conf(fault) => Some(fault),
+        _ => None,
+    }
+}
+
 /// The path of the first fault and its cause, or `right`.
 fn told(alloc: Global, text: &str) -> Result<String, NoMemory> {
     let mut out = String::new(alloc);
-    match conf_of_bytes(alloc, text.as_bytes()) {
-        Ok(_) => out.push_str("right")?,
-        Err(TextRefused::Conf(fault)) => {
+    let Err(refused) = conf_of_bytes(alloc, text.as_bytes()) else {
+        out.push_str("right")?;
+        return Ok(out);
+    };
+    match fault_of(refused) {
+        None => out.push_str("no configuration")?,
+        Some(fault) => {
             let cause = fault.cause;
             write!(out, "{} {cause:?}", fault.path.as_str())?;
         }
-        Err(TextRefused::Yaml(_)) => out.push_str("no tree")?,
-        Err(TextRefused::Memory) => out.push_str("no memory")?,
     }
     Ok(out)
 }
