@@ -18,7 +18,7 @@ use Rattle.conf_types.specs.Groups.{group_of}
 use Rattle.conf_types.specs.Lists.{EachBefore, is_same}
 use Rattle.conf_types.specs.State.{State, IsSameHost}
 use Rattle.conf_types.specs.Valid.{IsValid, IsVlan}
-use Rattle.packet_way.specs.declared.way.TheConstants.{BROADCAST, LLDP, PVST_GROUP, BRIDGE_GROUP}
+use Rattle.packet_way.specs.declared.drops.TheConstants.{BROADCAST, LLDP, PVST_GROUP, BRIDGE_GROUP}
 use Rattle.packet_way.specs.Known.{stack_of}
 use Rattle.plan_base.specs.Accepted.{HaveDistinctKeys}
 use Rattle.plan_base.specs.declared.table.Table.TheVariants.{Ipv4Route, Ipv6Route, Vip, Destination, Flood}

@@ -1,7 +1,6 @@
 pub mod Attached
 pub mod Configuration
 pub mod Count
-pub mod First
 pub mod Groups
 pub mod Links
 pub mod Marks

@@ -1,11 +1,10 @@
-//! The accepted configuration: datapaths with their interfaces, VLANs, ACLs and routers; the records
-//! of what a controller has learned; and the first form of a configuration, in `first`.
+//! The accepted configuration: datapaths with their interfaces, VLANs, ACLs and routers; and the
+//! records of what a controller has learned.
 #![tactic(auto)]
 
 mod acl;
 mod conf;
 mod datapath;
-pub mod first;
 mod fresh;
 mod group;
 mod hosts;

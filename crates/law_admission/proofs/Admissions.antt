@@ -24,10 +24,9 @@ use Rattle.conf_types.specs.declared.vlan.Vlan.{Vlan}
 use Rattle.conf_types.specs.Configuration.{Configuration, vlan_with}
 use Rattle.conf_types.specs.Membership.{is_stack, is_edge, is_accepting, is_native_in, mirrors_of}
 use Rattle.conf_types.specs.State.{State}
-use Rattle.packet_way.specs.Admission.{tagged_with}
+use Rattle.packet_way.specs.Admission.{tagged_with, with_tag as tag_put}
 use Rattle.packet_way.specs.Drops.{is_dropped}
 use Rattle.packet_way.specs.Leaving.{copies}
-use Rattle.packet_way.specs.Way.{with_tag as tag_put}
 use Rattle.plan_base.specs.declared.table.Table.TheVariants as table
 use Rattle.plan_base.specs.Actions.{push_tag, set_vid}
 use Rattle.plan_base.specs.Entries.{table_number, leads_to, entry}

@@ -28,7 +28,7 @@ use Rattle.packet_way.specs.declared.source.Heard.{Heard}
 use Rattle.packet_way.specs.declared.source.Heard.TheVariants as heard_case
 use Rattle.packet_way.specs.declared.routes.Routed.{Routed}
 use Rattle.packet_way.specs.declared.routes.Routed.TheVariants.{GoesOn, ToController, Ends}
-use Rattle.packet_way.specs.Admission.{admitted_to, tagged_with}
+use Rattle.packet_way.specs.Admission.{admitted_to, is_tagged, with_tag, tagged_with}
 use Rattle.packet_way.specs.Description.{sent_onward, leaving, leaving_in, behind_routing, by_routing, behind_source, in_vlan, admitted, from_edge, from_stack, from_port}
 use Rattle.packet_way.specs.Drops.{is_dropped}
 use Rattle.packet_way.specs.Flood.{is_flooded, gets_flood, flooded}
@@ -37,7 +37,6 @@ use Rattle.packet_way.specs.Leaving.{sent, copies, to_controller, as_sent, deliv
 use Rattle.packet_way.specs.Routes.{route_list, routed}
 use Rattle.packet_way.specs.Source.{heard, heard_from, host_here}
 use Rattle.packet_way.specs.Verdict.{rule_for, names_port, targets, acl_sends, is_allowed}
-use Rattle.packet_way.specs.Way.{is_tagged, with_tag}
 use Rattle.packet_way.proofs.Ports.{found}
 
 module _ (R : ℕ → List Sent → Type 0) where

@@ -1,4 +1,3 @@
-pub mod Way
 pub mod Leaving
 pub mod Verdict
 pub mod Drops

@@ -1,12 +1,14 @@
 ghost use Rattle.std.specs.Prelude.{◌≡◌, Some, None, IfOk, if◌then◌else◌};
 ghost use Rattle.conf_types.specs.Membership.{is_tagged_in};
-ghost use Rattle.packet_way.specs.Admission.{admitted_to, tagged_with};
+ghost use Rattle.packet_way.specs.Admission.{admitted_to, with_tag, tagged_with};
 
-use crate::way::make_tagged;
 use conf_types::Port;
 use net_base::{NoMemory, TryCopy, Vid};
-use of_match::Packet;
+use of_match::{Packet, Tag};
 use std::alloc::Global;
+
+/// The EtherType of a VLAN tag (IEEE 802.1Q, 9.6).
+const VLAN_TAG: u16 = 0x8100;
 
 /// The tagged VLAN of a port with this number.
 fn tagged_vlan(port: &Port, vid: u16) -> Option<Vid>
@@ -28,6 +30,21 @@ pub(crate) fn admitted_to(port: &Port, packet: &Packet) -> Option<Vid>
         [] => port.native,
         [tag, ..] => tagged_vlan(port, tag.vid),
     }
+}
+
+/// The packet with a tag of the VLAN in front.
+fn make_tagged(alloc: Global, vid: Vid, packet: &Packet) -> Result<Packet, NoMemory>
+    ensures { IfOk result (λ made. made ≡ with_tag vid packet.now) }
+{
+    let tag = Tag {
+        tpid: VLAN_TAG,
+        pcp: 0,
+        dei: false,
+        vid: vid.get(),
+    };
+    let mut made = packet.copy(alloc)?;
+    made.tags.insert(0, tag)?;
+    Ok(made)
 }
 
 /// The packet with a tag of its VLAN.

@@ -1,9 +1,20 @@
 ghost use Rattle.std.specs.Prelude.{◌≡◌};
 ghost use Rattle.packet_way.specs.Drops.{is_of_bridges, is_dropped};
 
-use crate::way::{BRIDGE_GROUP, BROADCAST, LLDP, PVST_GROUP};
 use conf_types::{Conf, Dp};
 use of_match::Packet;
+
+/// Ethernet's broadcast address.
+pub const BROADCAST: u128 = 0xffff_ffff_ffff;
+
+/// The EtherType of LLDP.
+pub const LLDP: u16 = 0x88cc;
+
+/// Where Cisco's bridges speak their per-VLAN spanning tree protocol.
+pub const PVST_GROUP: u128 = 0x0100_0ccc_cccd;
+
+/// Where bridges speak their spanning tree protocol (IEEE 802.1D, 7.12.3).
+pub const BRIDGE_GROUP: u128 = 0x0180_c200_0000;
 
 fn is_of_bridges(packet: &Packet) -> bool
     ensures { result ≡ is_of_bridges packet.now }

@@ -13,12 +13,11 @@ mod paths;
 mod routes;
 mod source;
 mod verdict;
-mod way;
 pub mod worked;
 
+pub use drops::{BRIDGE_GROUP, BROADCAST, LLDP, PVST_GROUP};
 pub use known::Onward;
 pub use now::Now;
 pub use paths::make_paths;
 pub use routes::{RouteItem, RouteItems, Routed, Target, route_list};
 pub use source::Heard;
-pub use way::{BRIDGE_GROUP, BROADCAST, GATEWAY, LLDP, PVST_GROUP, sends};
