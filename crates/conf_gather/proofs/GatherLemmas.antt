@@ -8,8 +8,8 @@ use Rattle.fg_outside.specs.declared.files.ReadRefused.TheVariants as reads
 use Rattle.yaml_subset.specs.declared.tree.Tree.{Tree}
 use Rattle.yaml_subset.specs.Reading.{read_of}
 use Rattle.conf_shape.specs.Reads.{entries_of}
-use Rattle.conf_gather.specs.declared.refused.GatherRefused.{GatherRefused}
-use Rattle.conf_gather.specs.declared.refused.GatherRefused.TheVariants.{Read, Yaml, Conf, IncludeTwice, IncludeDepth, Absent, Memory}
+use Rattle.conf_gather.specs.declared.refused.LoadRefused.{LoadRefused}
+use Rattle.conf_gather.specs.declared.refused.LoadRefused.TheVariants.{Read, Yaml, Conf, IncludeTwice, IncludeDepth, Absent, Memory}
 use Rattle.conf_gather.specs.declared.include.Include.{Include}
 use Rattle.conf_gather.specs.declared.take.Gathered.{Gathered}
 use Rattle.conf_gather.specs.Includes.{includes_of}
@@ -18,15 +18,15 @@ use Rattle.conf_gather.specs.Gathered.{Held, tree_of, text_tree, unread, taken, 
 use Rattle.conf_gather.proofs.ReadLemmas.{read_front}
 
 abbrev pub Trees : Type 0
-Trees = Result (Option Tree) GatherRefused
+Trees = Result (Option Tree) LoadRefused
 
 abbrev pub Files : Type 0
-Files = Result Gathered GatherRefused
+Files = Result Gathered LoadRefused
 
 -- ---- refusals
 
 -- what the definition gives is the refusal, or the refusal is for want of memory or of a read
-pub fails_first : {A B : Type 0} (e : GatherRefused) (given : Result A GatherRefused) (more : A → Result B GatherRefused) → Fails e given → Fails e (given >>= more)
+pub fails_first : {A B : Type 0} (e : LoadRefused) (given : Result A LoadRefused) (more : A → Result B LoadRefused) → Fails e given → Fails e (given >>= more)
 fails_first (Read name) given more fails = tt
 fails_first (Yaml name fault) given more fails = ap (λ r. r >>= more) fails
 fails_first (Conf fault) given more fails = ap (λ r. r >>= more) fails
@@ -40,7 +40,7 @@ fails_first Memory given more fails = tt
 abbrev read_as : Result (List ℕ) ReadRefused → Result (List ℕ) ReadRefused
 read_as r = r
 
-gives_same : {Y : Type 0} (r : Result Y GatherRefused) → Gives r r
+gives_same : {Y : Type 0} (r : Result Y LoadRefused) → Gives r r
 gives_same (Ok x) = refl
 gives_same (Err (Read name)) = tt
 gives_same (Err (Yaml name fault)) = refl
@@ -103,7 +103,7 @@ module _ (held : Held) (i : Include) (g : Gathered) where
   gather_within (suc n) is some = let e : suc n - 1 ≡ n = omega arith in rw (e, is) refl
 
   -- the file's tree is refused
-  pub gather_untold : (n : ℕ) (e : GatherRefused) → Reached i g false → 0 < n → Fails e (tree_of i (held i.name)) → Fails e (gather held n i g)
+  pub gather_untold : (n : ℕ) (e : LoadRefused) → Reached i g false → 0 < n → Fails e (tree_of i (held i.name)) → Fails e (gather held n i g)
   gather_untold n e is some fails = subst (λ (r : Files). Fails e r) (sym (gather_within n is some)) (fails_first e (tree_of i (held i.name)) (with_includes (gather held (n - 1)) i g) fails)
 
   -- the file is passed over
@@ -115,7 +115,7 @@ module _ (held : Held) (i : Include) (g : Gathered) where
     gather_tree = gather_within n is some ∙ ap (λ (r : Trees). r >>= with_includes (gather held (n - 1)) i g) told
 
     -- its tree is not taken
-    pub gather_wrong : (e : GatherRefused) → Fails e (taken i g t) → Fails e (gather held n i g)
+    pub gather_wrong : (e : LoadRefused) → Fails e (taken i g t) → Fails e (gather held n i g)
     gather_wrong e fails = subst (λ (r : Files). Fails e r) (sym gather_tree) (fails_first e (taken i g t) (each (gather held (n - 1)) (includes_of i.name (entries_of t))) fails)
 
     -- its tree is taken, and its includes follow
@@ -143,7 +143,7 @@ module _ (one : Include → Gathered → Files) where
       from_item = ap (λ (l : List Include). each one l g) (item_first i below here) ∙ each_first i (drop (k + 1) is) g
 
       -- the next of them is refused
-      pub each_fails : (all : Files) (e : GatherRefused) → each one (drop k is) g ≡ all → Fails e (one i g) → Fails e all
+      pub each_fails : (all : Files) (e : LoadRefused) → each one (drop k is) g ≡ all → Fails e (one i g) → Fails e all
       each_fails all e left fails = subst (λ (r : Files). Fails e r) (sym from_item ∙ left) (fails_first e (one i g) (each one (drop (k + 1) is)) fails)
 
       -- the next of them gives this

@@ -14,8 +14,8 @@ use Rattle.conf_shape.specs.declared.refused.ConfCause.{ConfCause}
 use Rattle.conf_shape.specs.declared.refused.ConfCause.TheVariants.{WrongType, Duplicate}
 use Rattle.conf_shape.specs.declared.refused.ConfFault.{ConfFault}
 use Rattle.conf_shape.specs.Reads.{entries_of}
-use Rattle.conf_gather.specs.declared.refused.GatherRefused.{GatherRefused}
-use Rattle.conf_gather.specs.declared.refused.GatherRefused.TheVariants.{Read, Yaml, Conf, IncludeTwice, IncludeDepth, Absent, Memory}
+use Rattle.conf_gather.specs.declared.refused.LoadRefused.{LoadRefused}
+use Rattle.conf_gather.specs.declared.refused.LoadRefused.TheVariants.{Read, Yaml, Conf, IncludeTwice, IncludeDepth, Absent, Memory}
 use Rattle.conf_gather.specs.declared.include.Role.{Role}
 use Rattle.conf_gather.specs.declared.include.Role.TheVariants.{Main}
 use Rattle.conf_gather.specs.declared.include.Include.{Include}
@@ -32,16 +32,16 @@ Held = List ℕ → Option (List ℕ)
 -- ---- one file
 
 -- the tree of a file that may not be there; none where it is passed over
-abbrev pub text_tree : (name : List ℕ) → Result Tree YamlFault → Result (Option Tree) GatherRefused
+abbrev pub text_tree : (name : List ℕ) → Result Tree YamlFault → Result (Option Tree) LoadRefused
 text_tree name (Ok t) = Ok (Some t)
 text_tree name (Err fault) = Err (Yaml name fault)
 
-abbrev pub tree_of : Include → Option (List ℕ) → Result (Option Tree) GatherRefused
+abbrev pub tree_of : Include → Option (List ℕ) → Result (Option Tree) LoadRefused
 tree_of i None = if is_optional i.role then Ok None else Err (Absent i.name)
 tree_of i (Some text) = text_tree i.name (read_of text)
 
 -- why a file has no text
-abbrev pub unread : Include → ReadRefused → Result (Option Tree) GatherRefused
+abbrev pub unread : Include → ReadRefused → Result (Option Tree) LoadRefused
 unread i reads.Absent = if is_optional i.role then Ok None else Err (Absent i.name)
 unread i reads.Failed = Err (Read i.name)
 unread i reads.Memory = Err Memory
@@ -62,11 +62,11 @@ tree_fault role gathered t = if is_document t then entries_fault role gathered (
 abbrev pub with_tree : Include → Gathered → Tree → Gathered
 with_tree i g t = record { reached = g.reached ++ i.name ∷ []; pairs = joined g.pairs (entries_of t) }
 
-abbrev pub unless_fault : Option ConfFault → Gathered → Result Gathered GatherRefused
+abbrev pub unless_fault : Option ConfFault → Gathered → Result Gathered LoadRefused
 unless_fault None g = Ok g
 unless_fault (Some fault) g = Err (Conf fault)
 
-abbrev pub taken : Include → Gathered → Tree → Result Gathered GatherRefused
+abbrev pub taken : Include → Gathered → Tree → Result Gathered LoadRefused
 taken i g t = unless_fault (tree_fault i.role g.pairs t) (with_tree i g t)
 
 -- ---- a file with its includes
@@ -75,17 +75,17 @@ abbrev pub was_reached : List ℕ → List (List ℕ) → Bool
 was_reached name reached = list_any (bytes_eq name) reached
 
 -- files one after the other, each by the same rule
-unfoldable pub each : (Include → Gathered → Result Gathered GatherRefused) → List Include → Gathered → Result Gathered GatherRefused
+unfoldable pub each : (Include → Gathered → Result Gathered LoadRefused) → List Include → Gathered → Result Gathered LoadRefused
 each one [] g = Ok g
 each one (i ∷ is) g = one i g >>= each one is
 
 -- a file that was read, and its includes by this rule; one that is passed over gives nothing
-abbrev pub with_includes : (Include → Gathered → Result Gathered GatherRefused) → Include → Gathered → Option Tree → Result Gathered GatherRefused
+abbrev pub with_includes : (Include → Gathered → Result Gathered LoadRefused) → Include → Gathered → Option Tree → Result Gathered LoadRefused
 with_includes one i g None = Ok g
 with_includes one i g (Some t) = taken i g t >>= each one (includes_of i.name (entries_of t))
 
 -- a file and its includes, depth first, behind what was gathered before, with at most so many levels of files
-unfoldable pub gather : Held → (levels : ℕ) → Include → Gathered → Result Gathered GatherRefused
+unfoldable pub gather : Held → (levels : ℕ) → Include → Gathered → Result Gathered LoadRefused
 gather held zero i g = if was_reached i.name g.reached then Err (IncludeTwice i.name) else Err (IncludeDepth i.name)
 gather held (suc n) i g =
     if was_reached i.name g.reached then Err (IncludeTwice i.name)
@@ -99,9 +99,9 @@ nothing = record { reached = []; pairs = [] }
 abbrev pub main_file : List ℕ → Include
 main_file name = record { name = name; role = Main }
 
-abbrev pub tree_with : Gathered → Result Tree GatherRefused
+abbrev pub tree_with : Gathered → Result Tree LoadRefused
 tree_with g = Ok (tree.Map g.pairs)
 
 -- the tree of the main file with its includes, which lie at most 8 deep
-abbrev pub gathered : Held → (name : List ℕ) → Result Tree GatherRefused
+abbrev pub gathered : Held → (name : List ℕ) → Result Tree LoadRefused
 gathered held name = gather held 9 (main_file name) nothing >>= tree_with

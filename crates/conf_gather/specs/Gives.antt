@@ -2,16 +2,16 @@
 use Rattle.std.specs.Prelude.{◌≡◌, ℕ, List, Option, Some, Result, Ok, Err}
 use Rattle.fg_outside.specs.Counts.{Rose}
 use Rattle.fg_outside.specs.Contents.{Contents}
-use Rattle.conf_gather.specs.declared.refused.GatherRefused.{GatherRefused}
-use Rattle.conf_gather.specs.declared.refused.GatherRefused.TheVariants.{Read, Yaml, Conf, IncludeTwice, IncludeDepth, Absent, Memory}
+use Rattle.conf_gather.specs.declared.refused.LoadRefused.{LoadRefused}
+use Rattle.conf_gather.specs.declared.refused.LoadRefused.TheVariants.{Read, Yaml, Conf, IncludeTwice, IncludeDepth, Absent, Memory}
 
 infixl 10 ◌>>=◌
-abbrev pub ◌>>=◌ : {A B : Type 0} → Result A GatherRefused → (A → Result B GatherRefused) → Result B GatherRefused
+abbrev pub ◌>>=◌ : {A B : Type 0} → Result A LoadRefused → (A → Result B LoadRefused) → Result B LoadRefused
 (Ok x) >>= f = f x
 (Err e) >>= f = Err e
 
 -- a refusal is the one that the definition gives, unless a read failed or memory ran out
-abbrev pub Fails : {Y : Type 0} → GatherRefused → Result Y GatherRefused → Type 0
+abbrev pub Fails : {Y : Type 0} → LoadRefused → Result Y LoadRefused → Type 0
 Fails Memory given = Unit {0}
 Fails (Read name) given = Unit {0}
 Fails (Yaml name fault) given = given ≡ Err (Yaml name fault)
@@ -21,26 +21,26 @@ Fails (IncludeDepth name) given = given ≡ Err (IncludeDepth name)
 Fails (Absent name) given = given ≡ Err (Absent name)
 
 -- an answer is what the definition gives, unless a read failed or memory ran out
-abbrev pub Gives : {Y : Type 0} → Result Y GatherRefused → Result Y GatherRefused → Type 0
+abbrev pub Gives : {Y : Type 0} → Result Y LoadRefused → Result Y LoadRefused → Type 0
 Gives (Ok x) given = given ≡ Ok x
 Gives (Err e) given = Fails e given
 
 -- The answer is what the definition gives for the files that are told, where they are.
-abbrev pub GivesTold : {Y : Type 0} → Option Contents → Result Y GatherRefused → ((List ℕ → Option (List ℕ)) → Result Y GatherRefused) → Type 0
+abbrev pub GivesTold : {Y : Type 0} → Option Contents → Result Y LoadRefused → ((List ℕ → Option (List ℕ)) → Result Y LoadRefused) → Type 0
 GivesTold contents answer given = (held : Contents) → contents ≡ Some held → Gives answer (given (held 0))
 
 -- what a refusal says of the count of faults: a read failed only where it rose, and else it is as it was
-abbrev pub FaultsTell : GatherRefused → (old new : ℕ) → Type 0
+abbrev pub FaultsTell : LoadRefused → (old new : ℕ) → Type 0
 FaultsTell (Read name) old new = Rose old new
 FaultsTell _ old new = new ≡ old
 
 -- what it says of the count of absences: a file that has to be there is missing only where it rose
-abbrev pub AbsencesTell : GatherRefused → (old new : ℕ) → Type 0
+abbrev pub AbsencesTell : LoadRefused → (old new : ℕ) → Type 0
 AbsencesTell (Absent name) old new = Rose old new
 AbsencesTell _ old new = Unit {0}
 
 -- a text or a name decides, or memory ran out: no read failed, and no file is missing
-abbrev pub IsWithin : GatherRefused → Type 0
+abbrev pub IsWithin : LoadRefused → Type 0
 IsWithin (Read name) = ⊥
 IsWithin (Absent name) = ⊥
 IsWithin _ = Unit {0}

@@ -6,7 +6,7 @@ ghost use Rattle.conf_gather.specs.Gathered.{each, gather, gathered};
 
 use crate::include::{Include, Role, includes_of};
 use crate::keys::entries_of;
-use crate::refused::GatherRefused;
+use crate::refused::LoadRefused;
 use crate::take::{Gathered, read_tree, take_tree, was_reached};
 use fg_outside::Files;
 use net_base::{Names, Text, TryCopy};
@@ -24,19 +24,20 @@ fn gather_file<F: Files>(
     levels: usize,
     include: &Include,
     so_far: Gathered,
-) -> Result<Gathered, GatherRefused>
+) -> Result<Gathered, LoadRefused>
     ensures told { GivesTold (F.contents files.old) result (λ held. gather held levels include.now so_far) }
     ensures contents { F.contents files.new ≡ F.contents files.old }
     ensures faults { IfErr result (λ e. FaultsTell e (F.faults files.old) (F.faults files.new)) }
     ensures no_fault { OnOk result (F.faults files.new ≡ F.faults files.old) }
     ensures missing { IfErr result (λ e. AbsencesTell e (F.absences files.old) (F.absences files.new)) }
     ensures absences { F.absences files.old ≤ F.absences files.new }
+    ensures counted_faults { F.faults files.old ≤ F.faults files.new }
 {
     if was_reached(include.name.as_str(), so_far.reached.as_slice()) {
-        return Err(GatherRefused::IncludeTwice(include.name.copy(alloc)?));
+        return Err(LoadRefused::IncludeTwice(include.name.copy(alloc)?));
     }
     if levels == 0 {
-        return Err(GatherRefused::IncludeDepth(include.name.copy(alloc)?));
+        return Err(LoadRefused::IncludeDepth(include.name.copy(alloc)?));
     }
     match read_tree(alloc, files, include)? {
         Some(tree) => {
@@ -56,13 +57,14 @@ fn gather_all<F: Files>(
     levels: usize,
     includes: &[Include],
     so_far: Gathered,
-) -> Result<Gathered, GatherRefused>
+) -> Result<Gathered, LoadRefused>
     ensures told { GivesTold (F.contents files.old) result (λ held. each (gather held levels) includes.now so_far) }
     ensures contents { F.contents files.new ≡ F.contents files.old }
     ensures faults { IfErr result (λ e. FaultsTell e (F.faults files.old) (F.faults files.new)) }
     ensures no_fault { OnOk result (F.faults files.new ≡ F.faults files.old) }
     ensures missing { IfErr result (λ e. AbsencesTell e (F.absences files.old) (F.absences files.new)) }
     ensures absences { F.absences files.old ≤ F.absences files.new }
+    ensures counted_faults { F.faults files.old ≤ F.faults files.new }
 {
     let mut all = so_far;
     for include in includes {
@@ -80,15 +82,16 @@ fn gather_all<F: Files>(
 /// `Conf` with `WrongType` for a document, an include list or an included section of a wrong type, else
 /// `Conf` with `Duplicate` for a name of a section that another file gave. The first of these that is
 /// met decides.
-pub fn gather<F: Files>(alloc: Global, files: &mut F, name: &str) -> Result<Tree, GatherRefused>
+pub fn gather<F: Files>(alloc: Global, files: &mut F, name: &str) -> Result<Tree, LoadRefused>
     ensures told { (held : Contents) → F.contents files.old ≡ Some held → Gives result (gathered (held 0) name.now) }
-    ensures read { (file : List ℕ) → IsErrOf result (GatherRefused.Read file)
+    ensures read { (file : List ℕ) → IsErrOf result (LoadRefused.Read file)
         → Rose (F.faults files.old) (F.faults files.new) }
-    ensures no_fault { ((file : List ℕ) → IsErrOf result (GatherRefused.Read file) → ⊥)
+    ensures no_fault { ((file : List ℕ) → IsErrOf result (LoadRefused.Read file) → ⊥)
         → F.faults files.new ≡ F.faults files.old }
-    ensures absent { (file : List ℕ) → IsErrOf result (GatherRefused.Absent file)
+    ensures absent { (file : List ℕ) → IsErrOf result (LoadRefused.Absent file)
         → Rose (F.absences files.old) (F.absences files.new) }
     ensures absences { F.absences files.old ≤ F.absences files.new }
+    ensures counted_faults { F.faults files.old ≤ F.faults files.new }
     ensures contents { F.contents files.new ≡ F.contents files.old }
 {
     let main = Include {

@@ -12,4 +12,4 @@ mod take;
 mod wrong;
 
 pub use gathering::gather;
-pub use refused::GatherRefused;
+pub use refused::LoadRefused;

@@ -1,5 +1,5 @@
 ghost use Rattle.std.specs.Prelude.{◌≡◌};
-ghost use Rattle.conf_gather.specs.declared.refused.GatherRefused.TheVariants.{Memory};
+ghost use Rattle.conf_gather.specs.declared.refused.LoadRefused.TheVariants.{Memory};
 
 use conf_shape::ConfFault;
 use net_base::{NoMemory, Text};
@@ -7,7 +7,7 @@ use yaml_subset::YamlFault;
 
 /// Why files give no tree. The texts are whole names of files.
 #[derive(Debug, Drop)]
-pub enum GatherRefused {
+pub enum LoadRefused {
     /// A read of the file failed.
     Read(Text),
     /// The file isn't a text of the YAML subset: its first fault.
@@ -24,10 +24,10 @@ pub enum GatherRefused {
     Memory,
 }
 
-impl From<NoMemory> for GatherRefused {
+impl From<NoMemory> for LoadRefused {
     ghost from_gives = { λ _ refused. refused ≡ Memory };
 
-    fn from(_: NoMemory) -> GatherRefused {
-        GatherRefused::Memory
+    fn from(_: NoMemory) -> LoadRefused {
+        LoadRefused::Memory
     }
 }

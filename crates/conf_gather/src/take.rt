@@ -9,7 +9,7 @@ ghost use Rattle.conf_gather.specs.Gathered.{tree_of, text_tree, unread, fault_a
 use crate::include::{Include, Role};
 use crate::join::{all_given_again, join};
 use crate::keys::entries_of;
-use crate::refused::GatherRefused;
+use crate::refused::LoadRefused;
 use crate::wrong::{is_document, wrong_entries};
 use conf_shape::{ConfCause, ConfFault};
 use fg_outside::{Files, ReadRefused, read_whole};
@@ -41,26 +41,26 @@ pub fn was_reached(name: &str, reached: &[Text]) -> bool
 }
 
 /// The tree of a file's text.
-fn parse_text(alloc: Global, name: &Text, text: &[u8]) -> Result<Option<Tree>, GatherRefused>
+fn parse_text(alloc: Global, name: &Text, text: &[u8]) -> Result<Option<Tree>, LoadRefused>
     ensures told { Gives result (text_tree name.now (read_of text.now)) }
     ensures within { IfErr result IsWithin }
 {
     match read_yaml(alloc, text) {
         Ok(tree) => Ok(Some(tree)),
-        Err(YamlRefused::At(fault)) => Err(GatherRefused::Yaml(name.copy(alloc)?, fault)),
-        Err(YamlRefused::Memory) => Err(GatherRefused::Memory),
+        Err(YamlRefused::At(fault)) => Err(LoadRefused::Yaml(name.copy(alloc)?, fault)),
+        Err(YamlRefused::Memory) => Err(LoadRefused::Memory),
     }
 }
 
 /// What is answered where a file has no text: one that may be missing is passed over.
-fn unread(include: Include, why: ReadRefused) -> Result<Option<Tree>, GatherRefused>
+fn unread(include: Include, why: ReadRefused) -> Result<Option<Tree>, LoadRefused>
     ensures { result ≡ unread include why }
 {
     match why {
         ReadRefused::Absent if include.role.is_optional() => Ok(None),
-        ReadRefused::Absent => Err(GatherRefused::Absent(include.name)),
-        ReadRefused::Failed => Err(GatherRefused::Read(include.name)),
-        ReadRefused::Memory => Err(GatherRefused::Memory),
+        ReadRefused::Absent => Err(LoadRefused::Absent(include.name)),
+        ReadRefused::Failed => Err(LoadRefused::Read(include.name)),
+        ReadRefused::Memory => Err(LoadRefused::Memory),
     }
 }
 
@@ -69,13 +69,14 @@ pub fn read_tree<F: Files>(
     alloc: Global,
     files: &mut F,
     include: &Include,
-) -> Result<Option<Tree>, GatherRefused>
+) -> Result<Option<Tree>, LoadRefused>
     ensures told { GivesTold (F.contents files.old) result (λ held. tree_of include.now (held include.now.name)) }
     ensures contents { F.contents files.new ≡ F.contents files.old }
     ensures faults { IfErr result (λ e. FaultsTell e (F.faults files.old) (F.faults files.new)) }
     ensures no_fault { OnOk result (F.faults files.new ≡ F.faults files.old) }
     ensures missing { IfErr result (λ e. AbsencesTell e (F.absences files.old) (F.absences files.new)) }
     ensures absences { F.absences files.old ≤ F.absences files.new }
+    ensures counted_faults { F.faults files.old ≤ F.faults files.new }
 {
     let copied = include.copy(alloc)?;
     match read_whole(alloc, files, include.name.as_str(), MAX_TEXT + 1) {
@@ -133,7 +134,7 @@ pub fn take_tree(
     include: &Include,
     so_far: Gathered,
     tree: &Tree,
-) -> Result<Gathered, GatherRefused>
+) -> Result<Gathered, LoadRefused>
     ensures told { Gives result (taken include.now so_far tree.now) }
     ensures within { IfErr result IsWithin }
 {
@@ -142,7 +143,7 @@ pub fn take_tree(
         mut pairs,
     } = so_far;
     if let Some(fault) = tree_fault(alloc, include.role, pairs.as_slice(), tree)? {
-        return Err(GatherRefused::Conf(fault));
+        return Err(LoadRefused::Conf(fault));
     }
     reached.push(include.name.copy(alloc)?)?;
     join(alloc, &mut pairs, entries_of(tree))?;

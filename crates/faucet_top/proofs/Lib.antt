@@ -1,7 +1,2 @@
-pub mod Adds
-pub mod Framed
-pub mod Headline
-pub mod Joined
-pub mod Nothing
-pub mod PlanLemmas
+pub mod CheckLemmas
 pub mod TopLemmas

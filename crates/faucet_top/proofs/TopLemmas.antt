@@ -1,246 +1,329 @@
 -- From the reply that was given to what each status says.
-use Rattle.std.proofs.Common.{◌≡◌, ◌≢◌, ℕ, ◌≤◌, Bool, true, false, ◌⊎◌, inl, inr, List, [], Option, Some, None, Result, Ok, Err, refl, sym, ap, subst, ◌∙◌, arith}
-use Rattle.fg_outside.specs.Contents.{Contents, Tells}
+use Rattle.std.proofs.Common.{◌≡◌, ◌≢◌, ℕ, ◌≤◌, ◌⊎◌, inl, inr, List, [], ◌∷◌, ◌++◌, map, Option, Some, None, Result, Ok, Err, refl, sym, ap, subst, ◌∙◌, arith}
+use Rattle.std.specs.List.{AllByRecursion, flat_map}
+use Rattle.std.proofs.lemmas.List.{append_assoc, append-nil}
+use Rattle.fg_outside.specs.Contents.{Contents}
 use Rattle.fg_outside.specs.Counts.{Rose}
-use Rattle.fg_outside.proofs.SinkLemmas.{appended-nil, AppendsFront-none}
-use Rattle.conf_types.specs.declared.datapath.Dp.{Dp}
+use Rattle.fg_outside.specs.Wrote.{appended, AppendsFront}
+use Rattle.fg_outside.proofs.SinkLemmas.{appended-append, appended-nil, AppendsFront-none, AppendsFront-first, AppendsFront-second}
 use Rattle.conf_types.specs.Configuration.{Configuration}
-use Rattle.conf_shape.specs.declared.refused.ConfFault.{ConfFault}
-use Rattle.conf_check.specs.Accepted.{conf_of}
-use Rattle.faucet_top.specs.declared.plan.PlanRefused.{PlanRefused}
-use Rattle.faucet_top.specs.declared.plan.PlanRefused.TheVariants.{Unread, Refused, NotAccepted, Unresolved, Memory}
-use Rattle.faucet_top.specs.Answer.{Answer, dp_called, batch_for, batch_of, Plans, by_tree, by_fault, PlansFile, plan_answer, usage, out_of_memory, AnswersJob, Answers}
-use Rattle.faucet_top.specs.Ends.{Ends}
-use Rattle.faucet_top.specs.Status.{number_of_status}
+use Rattle.conf_types.specs.Valid.{IsValid}
+use Rattle.conf_gather.specs.declared.refused.LoadRefused.{LoadRefused}
+use Rattle.conf_gather.specs.declared.refused.LoadRefused.TheVariants.{Read, Yaml, Conf, IncludeTwice, IncludeDepth, Absent, Memory}
+use Rattle.conf_gather.specs.Gathered.{Held}
+use Rattle.conf_load.specs.Loaded.{loaded}
+use Rattle.command_line.specs.declared.meaning.Job.{Job}
+use Rattle.command_line.specs.declared.meaning.Job.TheVariants.{Check, Plan}
+use Rattle.opening_batch.specs.Opened.{Opens}
+use Rattle.opening_batch.specs.Opening.{opening_of}
 use Rattle.faucet_top.specs.declared.deliver.Status.{Status}
-use Rattle.faucet_top.specs.declared.deliver.Status.TheVariants.{Usage}
-use Rattle.faucet_top.specs.Given.{AsTold, Makes, planned, unread, memory, RepliesJob, Replies, Delivers, Gives, IsRefused}
-use Rattle.faucet_top.specs.Opened.{Opens, OpensBy}
-use Rattle.faucet_top.specs.Words.{Job, Plan, meaning}
-use Rattle.faucet_top.proofs.PlanLemmas.{Made, OneTree, OneFault, Either, plans_file_one}
+use Rattle.faucet_top.specs.declared.deliver.Status.TheVariants as statuses
+use Rattle.faucet_top.specs.Answer.{Answer, Load, usage, out_of_memory, refusal, behind, json_line, check_step, check_answer, planned, plan_answer, job_answer}
+use Rattle.faucet_top.specs.Ends.{Ends}
+use Rattle.faucet_top.specs.Given.{Loads, EachLoads, RepliesJob, Replies, AnswersSoFar, Delivers, Gives, Checks, GoesOn, StatusFor, AreAccepted, IsOpened}
+use Rattle.faucet_top.specs.Status.{number_of_status}
 
--- ---- the statuses of `plan`
+abbrev pub File : Type 0
+File = List ℕ × Load
 
-module _ (config dp : List ℕ) where
-  abbrev status_for : Made → ℕ
-  status_for made = (plan_answer config dp made).status
+-- ---- the statuses of the answers
 
-  refused_status : (why : PlanRefused) → (2 ≤ status_for (Err why)) × (status_for (Err why) ≡ 4 → ⊥)
-  refused_status Unread = (omega arith, λ e. omega arith)
-  refused_status (Refused fault) = (omega arith, λ e. omega arith)
-  refused_status (NotAccepted fault) = (omega arith, λ e. omega arith)
-  refused_status Unresolved = (omega arith, λ e. omega arith)
-  refused_status Memory = (omega arith, λ e. omega arith)
+-- neither that of words without a meaning nor that of a failed write
+abbrev IsInner : ℕ → Type 0
+IsInner n = (n ≡ 1 → ⊥) × (n ≡ 4 → ⊥)
 
-  not_four : (made : Made) → status_for made ≡ 4 → ⊥
-  not_four (Ok batch) s = omega arith
-  not_four (Err why) s = (refused_status why).1 s
+refusal_inner : (config : List ℕ) (why : LoadRefused) → IsInner (refusal config why).status
+refusal_inner config (Read file) = (λ e. omega arith, λ e. omega arith)
+refusal_inner config (Absent file) = (λ e. omega arith, λ e. omega arith)
+refusal_inner config (Yaml file fault) = (λ e. omega arith, λ e. omega arith)
+refusal_inner config (Conf fault) = (λ e. omega arith, λ e. omega arith)
+refusal_inner config (IncludeTwice file) = (λ e. omega arith, λ e. omega arith)
+refusal_inner config (IncludeDepth file) = (λ e. omega arith, λ e. omega arith)
+refusal_inner config Memory = (λ e. omega arith, λ e. omega arith)
 
-  not_one : (made : Made) → status_for made ≡ 1 → ⊥
-  not_one (Ok batch) s = omega arith
-  not_one (Err why) s = let above = (refused_status why).0 in omega (arith, above, s)
+check_inner : (files : List File) → IsInner (check_answer files).status
+check_inner [] = (λ e. omega arith, λ e. omega arith)
+check_inner ((name, Ok conf) ∷ files) = check_inner files
+check_inner ((name, Err why) ∷ files) = refusal_inner name why
 
-  named_status : (conf : Configuration) (d : Option Dp) (made : Made) → made ≡ batch_for conf d → status_for made ≤ 2
-  named_status conf None made is = rw is (omega arith)
-  named_status conf (Some d) made is = rw is (omega arith)
+plan_inner : (config dp : List ℕ) (made : Result (Option (List ℕ)) LoadRefused) → IsInner (plan_answer config dp made).status
+plan_inner config dp (Ok (Some batch)) = (λ e. omega arith, λ e. omega arith)
+plan_inner config dp (Ok None) = (λ e. omega arith, λ e. omega arith)
+plan_inner config dp (Err why) = refusal_inner config why
 
-  tree_status : (conf : Result Configuration ConfFault) (made : Made) → made ≡ batch_of conf dp → status_for made ≤ 2
-  tree_status (Err fault) made is = rw is (omega arith)
-  tree_status (Ok conf) made is = named_status conf (dp_called conf.dps dp) made is
+module _ (contents : Option Contents) (absence fault : Type 0) where
+  abbrev LoadsFile : File → Type 0
+  LoadsFile file = Loads contents absence fault file.0 file.1
 
-  -- the status for what a text plans
-  text_status : (text : List ℕ) (made : Made) → Plans text dp made → status_for made ≤ 2
-  text_status text made (by_tree tree reads is) = tree_status (conf_of tree) made is
-  text_status text made (by_fault fault there is) = rw is (omega arith)
+  -- a file is missing, or a read failed, where the status says so
+  refusal_unread : (config : List ℕ) (name : List ℕ) (why : LoadRefused) → Loads contents absence fault name (Err why) → (refusal config why).status ≡ 3 → absence ⊎ fault
+  refusal_unread config name (Read file) loads s = inr (loads.unread file refl)
+  refusal_unread config name (Absent file) loads s = inl (loads.absent file refl)
+  refusal_unread config name (Yaml file at) loads s = absurd (omega (arith, s))
+  refusal_unread config name (Conf at) loads s = absurd (omega (arith, s))
+  refusal_unread config name (IncludeTwice file) loads s = absurd (omega (arith, s))
+  refusal_unread config name (IncludeDepth file) loads s = absurd (omega (arith, s))
+  refusal_unread config name Memory loads s = absurd (omega (arith, s))
 
-  refusal : (text : List ℕ) (made : Made) → status_for made ≡ 2 → Plans text dp made → IsRefused text dp
-  refusal text (Ok batch) s plans = absurd (omega arith)
-  refusal text (Err why) s plans = (why, plans)
+  check_unread : (files : List File) → AllByRecursion LoadsFile files → (check_answer files).status ≡ 3 → absence ⊎ fault
+  check_unread [] all s = absurd (omega (arith, s))
+  check_unread ((name, Ok conf) ∷ files) all s = check_unread files all.1 s
+  check_unread ((name, Err why) ∷ files) all s = refusal_unread name name why all.0 s
 
-  batch_planned : (text : List ℕ) (made : Made) → status_for made ≡ 0 → Plans text dp made → (batch : List ℕ) × (made ≡ Ok batch) × Plans text dp (Ok batch)
-  batch_planned text (Ok batch) s plans = (batch, refl, plans)
-  batch_planned text (Err why) s plans = let above = (refused_status why).0 in absurd (omega (arith, above, s))
+  plan_unread : (config dp : List ℕ) (made : Load) → Loads contents absence fault config made → (plan_answer config dp (planned dp made)).status ≡ 3 → absence ⊎ fault
+  plan_unread config dp (Err why) loads s = refusal_unread config config why loads s
+  plan_unread config dp (Ok conf) loads s = absurd (found (opening_of conf dp) s)
+    where
+      found : (batch : Option (List ℕ)) → (plan_answer config dp (Ok batch)).status ≡ 3 → ⊥
+      found (Some batch) s = omega (arith, s)
+      found None s = omega (arith, s)
 
-  status_unread : (made : Made) → made ≡ Err Unread → status_for made ≡ 3
-  status_unread made is = ap status_for is
+  job_inner : (job : Option Job) (a : Answer) → RepliesJob job contents absence fault a → ((a.status ≡ 1) → job ≡ None) × (a.status ≡ 4 → ⊥)
+  job_inner None a is = (λ s. refl, λ s. let at = ap (λ (b : Answer). b.status) is in omega (arith, at, s))
+  job_inner (Some (Check names)) a reply =
+      let at = ap (λ (b : Answer). b.status) reply.2 in
+      (λ s. absurd ((check_inner reply.0).0 (sym at ∙ s)), λ s. (check_inner reply.0).1 (sym at ∙ s))
+  job_inner (Some (Plan config dp)) a reply =
+      let at = ap (λ (b : Answer). b.status) reply.2 in
+      let inner = plan_inner config dp (planned dp reply.0) in
+      (λ s. absurd (inner.0 (sym at ∙ s)), λ s. inner.1 (sym at ∙ s))
 
-  status_memory : (made : Made) → made ≡ Err Memory → status_for made ≡ 8
-  status_memory made is = ap status_for is
+  job_unread : (job : Option Job) (a : Answer) → RepliesJob job contents absence fault a → a.status ≡ 3 → absence ⊎ fault
+  job_unread None a is s = let at = ap (λ (b : Answer). b.status) is in absurd (omega (arith, at, s))
+  job_unread (Some (Check names)) a reply s = check_unread reply.0 (reply.1).1 (sym (ap (λ (b : Answer). b.status) reply.2) ∙ s)
+  job_unread (Some (Plan config dp)) a reply s = plan_unread config dp reply.0 reply.1 (sym (ap (λ (b : Answer). b.status) reply.2) ∙ s)
+
+-- ---- what is replied, where the files are told
+
+module _ (held : Contents) (absence fault : Type 0) where
+  abbrev given : List ℕ → Load
+  given name = loaded (held 0) name
+
+  abbrev IsLoaded : File → Type 0
+  IsLoaded file = Loads (Some held) absence fault file.0 file.1
+
+  abbrev named : List File → List File
+  named files = map (λ name. (name, given name)) (map (λ file. file.0) files)
+
+  same : (a b : Answer) → a ≡ b → AnswersSoFar a b fault
+  same a b is = inl is
+
+  -- the refusal that the files give is told; the others end the run
+  refused_told : (config name : List ℕ) (why : LoadRefused) → Loads (Some held) absence fault name (Err why) → (whole : Load → Answer) → ((e : LoadRefused) → whole (Err e) ≡ refusal config e)
+      → AnswersSoFar (refusal config why) (whole (given name)) fault
+  refused_told config name (Read file) loads whole by = inr ((whole (given name)).out, refl, inr (refl, loads.unread file refl))
+  refused_told config name Memory loads whole by = inr ((whole (given name)).out, refl, inl refl)
+  refused_told config name (Yaml file at) loads whole by = inl (sym (ap whole (loads.told held refl) ∙ by (Yaml file at)))
+  refused_told config name (Conf at) loads whole by = inl (sym (ap whole (loads.told held refl) ∙ by (Conf at)))
+  refused_told config name (IncludeTwice file) loads whole by = inl (sym (ap whole (loads.told held refl) ∙ by (IncludeTwice file)))
+  refused_told config name (IncludeDepth file) loads whole by = inl (sym (ap whole (loads.told held refl) ∙ by (IncludeDepth file)))
+  refused_told config name (Absent file) loads whole by = inl (sym (ap whole (loads.told held refl) ∙ by (Absent file)))
+
+  behind_told : (bytes : List ℕ) (a b : Answer) → AnswersSoFar a b fault → AnswersSoFar (behind bytes a) (behind bytes b) fault
+  behind_told bytes a b (inl is) = inl (ap (behind bytes) is)
+  behind_told bytes a b (inr ends) = inr (ends.0, ap (λ more. bytes ++ more) ends.1 ∙ sym (append_assoc bytes a.out ends.0), ends.2)
+
+  check_told : (files : List File) → AllByRecursion IsLoaded files → AnswersSoFar (check_answer files) (check_answer (named files)) fault
+  check_told [] all = inl refl
+  check_told ((name, Ok conf) ∷ files) all =
+      subst (λ (l : Load). AnswersSoFar (behind (json_line conf) (check_answer files)) (check_step name l (check_answer (named files))) fault)
+      (sym ((all.0).told held refl))
+      (behind_told (json_line conf) (check_answer files) (check_answer (named files)) (check_told files all.1))
+  check_told ((name, Err why) ∷ files) all = refused_told name name why all.0 (λ l. check_step name l (check_answer (named files))) (λ e. refl)
+
+  plan_told : (config dp : List ℕ) (made : Load) → Loads (Some held) absence fault config made → AnswersSoFar (plan_answer config dp (planned dp made)) (plan_answer config dp (planned dp (given config))) fault
+  plan_told config dp (Ok conf) loads = inl (sym (ap (λ (l : Load). plan_answer config dp (planned dp l)) (loads.told held refl)))
+  plan_told config dp (Err why) loads = refused_told config config why loads (λ l. plan_answer config dp (planned dp l)) (λ e. refl)
+
+  job_told : (job : Option Job) (a : Answer) → RepliesJob job (Some held) absence fault a → AnswersSoFar a (job_answer job given) fault
+  job_told None a is = inl is
+  job_told (Some (Check names)) a reply =
+      subst (λ (ns : List (List ℕ)). AnswersSoFar a (check_answer (map (λ name. (name, given name)) ns)) fault) (reply.1).0
+      (subst (λ (b : Answer). AnswersSoFar b (check_answer (named reply.0)) fault) (sym reply.2) (check_told reply.0 (reply.1).1))
+  job_told (Some (Plan config dp)) a reply =
+      subst (λ (b : Answer). AnswersSoFar b (plan_answer config dp (planned dp (given config))) fault) (sym reply.2) (plan_told config dp reply.0 reply.1)
+
+  pub told_replied : (job : Option Job) (a : Answer) → Replies job (Some held) absence fault a → AnswersSoFar a (job_answer job given) fault
+  told_replied job a (inl reply) = job_told job a reply
+  told_replied job a (inr memory) =
+      inr ((job_answer job given).out, ap (λ (b : Answer). b.out ++ (job_answer job given).out) (sym memory), inl (ap (λ (b : Answer). b.status) memory))
+
+  status_told : (a b : Answer) → AnswersSoFar a b fault → StatusFor a.status b.status fault
+  status_told a b (inl is) = inl (ap (λ (c : Answer). c.status) is)
+  status_told a b (inr (more, front, inl out)) = inr (inr (inl out))
+  status_told a b (inr (more, front, inr failed)) = inr (inr (inr failed))
+
+  -- ---- the commands
+
+  accepted_all : (files : List File) → AllByRecursion IsLoaded files → (check_answer files).status ≡ 0
+      → (confs : List Configuration) × (map given (map (λ file. file.0) files) ≡ map Ok confs) × ((check_answer files).out ≡ flat_map json_line confs)
+  accepted_all [] all s = ([], refl, refl)
+  accepted_all ((name, Ok conf) ∷ files) all s =
+      let more = accepted_all files all.1 s in
+      (conf ∷ more.0, rw ((all.0).told held refl, more.1) refl, ap (λ l. json_line conf ++ l) more.2)
+  accepted_all ((name, Err why) ∷ files) all s = absurd (never why s)
+    where
+      never : (why : LoadRefused) → (refusal name why).status ≡ 0 → ⊥
+      never (Read file) s = omega (arith, s)
+      never (Absent file) s = omega (arith, s)
+      never (Yaml file fault) s = omega (arith, s)
+      never (Conf fault) s = omega (arith, s)
+      never (IncludeTwice file) s = omega (arith, s)
+      never (IncludeDepth file) s = omega (arith, s)
+      never Memory s = omega (arith, s)
+
+  check_accepted : (names : List (List ℕ)) (a : Answer) (before after : Option (List ℕ)) → RepliesJob (Some (Check names)) (Some held) absence fault a → a.status ≡ 0 → after ≡ appended before a.out
+      → AreAccepted names (held 0) before after
+  check_accepted names a before after reply s wrote =
+      let all = accepted_all reply.0 (reply.1).1 (sym (ap (λ (b : Answer). b.status) reply.2) ∙ s) in
+      record {
+        confs = all.0;
+        accepted = ap (map given) (sym (reply.1).0) ∙ all.1;
+        lines = wrote ∙ ap (λ l. appended before l) (ap (λ (b : Answer). b.out) reply.2 ∙ all.2);
+      }
+
+  module _ (valid : (held : Held) (name : List ℕ) (conf : Configuration) → loaded held name ≡ Ok conf → IsValid conf)
+      (opens : (conf : Configuration) (dp batch : List ℕ) → IsValid conf → opening_of conf dp ≡ Some batch → Opens conf dp batch) where
+    plan_opened : (config dp : List ℕ) (made : Load) (before after : Option (List ℕ)) → Loads (Some held) absence fault config made
+        → (plan_answer config dp (planned dp made)).status ≡ 0 → after ≡ appended before (plan_answer config dp (planned dp made)).out → IsOpened config dp (held 0) before after
+    plan_opened config dp (Ok conf) before after loads s wrote = found (opening_of conf dp) refl s wrote
+      where
+        found : (batch : Option (List ℕ)) → opening_of conf dp ≡ batch → (plan_answer config dp (Ok batch)).status ≡ 0 → after ≡ appended before (plan_answer config dp (Ok batch)).out → IsOpened config dp (held 0) before after
+        found (Some batch) is s wrote =
+            let accepted = loads.told held refl in
+            record { conf = conf; batch = batch; accepted = accepted; written = wrote; opens = opens conf dp batch (valid (held 0) config conf accepted) is }
+        found None is s wrote = absurd (omega (arith, s))
+    plan_opened config dp (Err why) before after loads s wrote = absurd (never why s)
+      where
+        never : (why : LoadRefused) → (refusal config why).status ≡ 0 → ⊥
+        never (Read file) s = omega (arith, s)
+        never (Absent file) s = omega (arith, s)
+        never (Yaml file fault) s = omega (arith, s)
+        never (Conf fault) s = omega (arith, s)
+        never (IncludeTwice file) s = omega (arith, s)
+        never (IncludeDepth file) s = omega (arith, s)
+        never Memory s = omega (arith, s)
+
+    job_opened : (config dp : List ℕ) (a : Answer) (before after : Option (List ℕ)) → RepliesJob (Some (Plan config dp)) (Some held) absence fault a → a.status ≡ 0 → after ≡ appended before a.out
+        → IsOpened config dp (held 0) before after
+    job_opened config dp a before after reply s wrote =
+        plan_opened config dp reply.0 before after reply.1 (sym (ap (λ (b : Answer). b.status) reply.2) ∙ s) (wrote ∙ ap (λ (b : Answer). appended before b.out) reply.2)
 
 -- ---- what a status says, where a reply was delivered
 
-module _ (words : List (List ℕ)) (contents : Option Contents) (absence fault : Type 0) (status : ℕ) (o0 o1 e0 e1 : Option (List ℕ)) (m0 m1 n0 n1 : ℕ)
-    (gives : Gives words contents absence fault status o0 o1 e0 e1 m0 m1 n0 n1) where
-  abbrev Delivered : Answer → Type 0
-  Delivered a = Delivers a status o0 o1 e0 e1 m0 m1 n0 n1
+module _ (job : Option Job) (contents : Option Contents) (absence fault : Type 0) (status : ℕ) (o0 o1 e0 e1 : Option (List ℕ)) (m0 m1 n0 n1 : ℕ)
+    (gives : Gives job contents absence fault status o0 o1 e0 e1 m0 m1 n0 n1) where
+  a : Answer
+  a = gives.0
 
-  ended : (a : Answer) → Delivered a → (status ≡ a.status) ⊎ (status ≡ 4)
-  ended a (inl whole) = inl whole.0
-  ended a (inr front) = inr front.0
+  ended : (status ≡ (gives.0).status) ⊎ (status ≡ 4)
+  ended = elim gives.2 [ inl whole ↦ inl whole.0 | inr front ↦ inr front.0 ]
 
-  fault_at_four : (a : Answer) → (a.status ≡ 4 → ⊥) → Delivered a → status ≡ 4 → Rose m0 m1 ⊎ Rose n0 n1
-  fault_at_four a other (inl whole) s = absurd (other (sym whole.0 ∙ s))
-  fault_at_four a other (inr front) s = front.3
+  -- at a status other than 4 the reply was written whole
+  at : (n : ℕ) → status ≡ n → (n ≡ 4 → ⊥) → ((gives.0).status ≡ n) × (o1 ≡ appended o0 (gives.0).out)
+  at n s other = elim gives.2 [ inl whole ↦ (sym whole.0 ∙ s, whole.1) | inr front ↦ absurd (other (sym s ∙ front.0)) ]
+
+  memory_status : (gives.0) ≡ out_of_memory → (gives.0).status ≡ 8
+  memory_status is = ap (λ (b : Answer). b.status) is
 
   pub kept : (status ≡ 4 → ⊥) → (m1 ≡ m0) × (n1 ≡ n0)
   kept other = elim gives.2 [ inl whole ↦ (whole.3, whole.4) | inr front ↦ absurd (other front.0) ]
 
-  replied : (m : Option Job) → meaning words ≡ m → RepliesJob m contents absence fault gives.0
-  replied m is = subst (λ (j : Option Job). RepliesJob j contents absence fault gives.0) is gives.1
-
-  -- what `plan` made and delivered
-  plan_delivered : (config dp : List ℕ) → meaning words ≡ Some (Plan config dp) → (made : Made) × Makes contents config dp absence fault made × Delivered (plan_answer config dp made)
-  plan_delivered config dp is =
-      let reply = replied (Some (Plan config dp)) is in
-      (reply.0, reply.1, subst Delivered reply.2 gives.2)
-
-  usage_delivered : meaning words ≡ None → Delivered usage
-  usage_delivered is = subst Delivered (replied None is) gives.2
-
-  pub no_meaning : meaning words ≡ None → (status ≡ 1) ⊎ (status ≡ 4)
-  no_meaning is = ended usage (usage_delivered is)
-
-  usage_by : (m : Option Job) → meaning words ≡ m → status ≡ 1 → meaning words ≡ None
-  usage_by None is s = is
-  usage_by (Some (Plan config dp)) is s =
-      let did = plan_delivered config dp is in
-      elim (ended (plan_answer config dp did.0) did.2) [
-        | inl same ↦ absurd (not_one config dp did.0 (sym same ∙ s))
-        | inr four ↦ absurd (omega arith)
+  pub write_fault : status ≡ 4 → Rose m0 m1 ⊎ Rose n0 n1
+  write_fault s =
+      elim gives.2 [
+        | inr front ↦ front.3
+        | inl whole ↦ elim gives.1 [
+          | inl reply ↦ absurd ((job_inner contents absence fault job gives.0 reply).1 (sym whole.0 ∙ s))
+          | inr out ↦ let eight = memory_status out in absurd (omega (arith, eight, whole.0, s))
+        ]
       ]
 
-  pub usage_only : status ≡ 1 → meaning words ≡ None
-  usage_only s = usage_by (meaning words) refl s
-
-  write_fault_by : (m : Option Job) → meaning words ≡ m → status ≡ 4 → Rose m0 m1 ⊎ Rose n0 n1
-  write_fault_by None is s = fault_at_four usage (λ e. omega arith) (usage_delivered is) s
-  write_fault_by (Some (Plan config dp)) is s =
-      let did = plan_delivered config dp is in
-      fault_at_four (plan_answer config dp did.0) (not_four config dp did.0) did.2 s
-
-  pub write_fault : status ≡ 4 → Rose m0 m1 ⊎ Rose n0 n1
-  write_fault s = write_fault_by (meaning words) refl s
-
-  -- at a status other than 4, what was made has it
-  of_status : (config dp : List ℕ) (made : Made) (n : ℕ) → status ≡ n → (n ≡ 4 → ⊥) → Delivered (plan_answer config dp made) → (plan_answer config dp made).status ≡ n
-  of_status config dp made n s other given =
-      elim (ended (plan_answer config dp made) given) [ inl same ↦ sym same ∙ s | inr four ↦ absurd (other (sym s ∙ four)) ]
-
-  told_plans : (config dp text : List ℕ) (made : Made) → Tells contents config (Some text) → (held : List ℕ → Option (List ℕ)) → AsTold contents held → PlansFile (held config) dp made → Plans text dp made
-  told_plans config dp text made tells held told plans = subst (λ (f : Option (List ℕ)). PlansFile f dp made) (told config (Some text) tells) plans
-
-  -- what was made of a told text, at a status of such
-  from_text : (config dp text : List ℕ) (made : Made) → Tells contents config (Some text) → Makes contents config dp absence fault made → (plan_answer config dp made).status ≤ 2 → Plans text dp made
-  from_text config dp text made tells (planned held told plans counted) low = told_plans config dp text made tells held told plans
-  from_text config dp text made tells (unread failed is) low = let at = status_unread config dp made is in absurd (omega (arith, at, low))
-  from_text config dp text made tells (memory is) low = let at = status_memory config dp made is in absurd (omega (arith, at, low))
-
-  pub refused : (config dp text : List ℕ) → meaning words ≡ Some (Plan config dp) → Tells contents config (Some text) → status ≡ 2 → IsRefused text dp
-  refused config dp text is tells s =
-      let did = plan_delivered config dp is in
-      let two = of_status config dp did.0 2 s (λ e. omega arith) did.2 in
-      refusal config dp text did.0 two (from_text config dp text did.0 tells did.1 (omega (arith, two)))
-
-  pub opened : ((text dp batch : List ℕ) → Plans text dp (Ok batch) → Opens text dp batch)
-      → (config dp text : List ℕ) → meaning words ≡ Some (Plan config dp) → Tells contents config (Some text) → status ≡ 0 → OpensBy text dp o0 o1
-  opened law config dp text is tells s =
-      let did = plan_delivered config dp is in
-      let none = of_status config dp did.0 0 s (λ e. omega arith) did.2 in
-      let batch = batch_planned config dp text did.0 none (from_text config dp text did.0 tells did.1 (omega (arith, none))) in
-      let given : Delivered (plan_answer config dp (Ok batch.0)) = subst (λ (m : Made). Delivered (plan_answer config dp m)) batch.1 did.2 in
-      elim given [ inl whole ↦ (batch.0, whole.1, law text dp batch.0 batch.2) | inr front ↦ absurd (omega (arith, front.0, s)) ]
-
-  unread_fault : (config dp text : List ℕ) (made : Made) → Tells contents config (Some text) → Makes contents config dp absence fault made → (plan_answer config dp made).status ≡ 3 → fault
-  unread_fault config dp text made tells (planned held told plans counted) s =
-      let low = text_status config dp text made (told_plans config dp text made tells held told plans) in
-      absurd (omega (arith, low, s))
-  unread_fault config dp text made tells (unread failed is) s = failed
-  unread_fault config dp text made tells (memory is) s = let at = status_memory config dp made is in absurd (omega (arith, at, s))
-
-  pub unread_there : (config dp text : List ℕ) → meaning words ≡ Some (Plan config dp) → Tells contents config (Some text) → status ≡ 3 → fault
-  unread_there config dp text is tells s =
-      let did = plan_delivered config dp is in
-      unread_fault config dp text did.0 tells did.1 (of_status config dp did.0 3 s (λ e. omega arith) did.2)
-
-  file_unread : (file : Option (List ℕ)) (dp : List ℕ) (config : List ℕ) (made : Made) → PlansFile file dp made → (file ≡ None → absence) → (plan_answer config dp made).status ≡ 3 → absence
-  file_unread None dp config made plans counted s = counted refl
-  file_unread (Some text) dp config made plans counted s = let low = text_status config dp text made plans in absurd (omega (arith, low, s))
-
-  unread_made : (config dp : List ℕ) (made : Made) → Makes contents config dp absence fault made → (plan_answer config dp made).status ≡ 3 → absence ⊎ fault
-  unread_made config dp made (planned held told plans counted) s = inl (file_unread (held config) dp config made plans counted s)
-  unread_made config dp made (unread failed is) s = inr failed
-  unread_made config dp made (memory is) s = let at = status_memory config dp made is in absurd (omega (arith, at, s))
-
-  unread_by : (m : Option Job) → meaning words ≡ m → status ≡ 3 → absence ⊎ fault
-  unread_by None is s = elim (no_meaning is) [ inl one ↦ absurd (omega arith) | inr four ↦ absurd (omega arith) ]
-  unread_by (Some (Plan config dp)) is s =
-      let did = plan_delivered config dp is in
-      unread_made config dp did.0 did.1 (of_status config dp did.0 3 s (λ e. omega arith) did.2)
+  pub usage_only : status ≡ 1 → job ≡ None
+  usage_only s =
+      let one = (at 1 s (λ e. omega (arith, e))).0 in
+      elim gives.1 [
+        | inl reply ↦ (job_inner contents absence fault job gives.0 reply).0 one
+        | inr out ↦ let eight = memory_status out in absurd (omega (arith, eight, one))
+      ]
 
   pub unread_only : status ≡ 3 → absence ⊎ fault
-  unread_only s = unread_by (meaning words) refl s
-
-  absent_made : (config dp : List ℕ) (made : Made) → Tells contents config None → Makes contents config dp absence fault made → ((plan_answer config dp made).status ≡ 3) ⊎ ((plan_answer config dp made).status ≡ 8)
-  absent_made config dp made tells (planned held told plans counted) = inl (status_unread config dp made (subst (λ (f : Option (List ℕ)). PlansFile f dp made) (told config None tells) plans))
-  absent_made config dp made tells (unread failed is) = inl (status_unread config dp made is)
-  absent_made config dp made tells (memory is) = inr (status_memory config dp made is)
-
-  pub absent : (config dp : List ℕ) → meaning words ≡ Some (Plan config dp) → Tells contents config None → (status ≡ 3) ⊎ ((status ≡ 4) ⊎ (status ≡ 8))
-  absent config dp is tells =
-      let did = plan_delivered config dp is in
-      elim (ended (plan_answer config dp did.0) did.2) [
-        | inr four ↦ inr (inl four)
-        | inl same ↦ elim (absent_made config dp did.0 tells did.1) [ inl three ↦ inl (same ∙ three) | inr eight ↦ inr (inr (same ∙ eight)) ]
+  unread_only s =
+      let three = (at 3 s (λ e. omega (arith, e))).0 in
+      elim gives.1 [
+        | inl reply ↦ job_unread contents absence fault job gives.0 reply three
+        | inr out ↦ let eight = memory_status out in absurd (omega (arith, eight, three))
       ]
+
+  pub no_meaning : job ≡ None → (status ≡ 1) ⊎ ((status ≡ 4) ⊎ (status ≡ 8))
+  no_meaning none =
+      elim ended [
+        | inr four ↦ inr (inl four)
+        | inl same ↦ elim gives.1 [
+          | inl reply ↦ inl (same ∙ ap (λ (b : Answer). b.status) (subst (λ (j : Option Job). RepliesJob j contents absence fault gives.0) none reply))
+          | inr out ↦ inr (inr (same ∙ memory_status out))
+        ]
+      ]
+
+  told_reply : (held : Contents) → contents ≡ Some held → Replies job (Some held) absence fault gives.0
+  told_reply held told = subst (λ (c : Option Contents). Replies job c absence fault gives.0) told gives.1
+
+  pub told : (held : Contents) → contents ≡ Some held → StatusFor status (job_answer job (loaded (held 0))).status fault
+  told held is =
+      elim ended [
+        | inr four ↦ inr (inl four)
+        | inl same ↦ subst (λ n. StatusFor n (job_answer job (loaded (held 0))).status fault) (sym same)
+            (status_told held absence fault gives.0 (job_answer job (loaded (held 0))) (told_replied held absence fault job gives.0 (told_reply held is)))
+      ]
+
+  -- at status 0 memory hasn't run out
+  done_reply : (held : Contents) → contents ≡ Some held → (gives.0).status ≡ 0 → (j : Option Job) → job ≡ j → RepliesJob j (Some held) absence fault gives.0
+  done_reply held is none j same =
+      elim told_reply held is [
+        | inl reply ↦ subst (λ (k : Option Job). RepliesJob k (Some held) absence fault gives.0) same reply
+        | inr out ↦ let eight = memory_status out in absurd (omega (arith, eight, none))
+      ]
+
+  pub checked : (names : List (List ℕ)) (held : Contents) → job ≡ Some (Check names) → contents ≡ Some held → status ≡ 0 → AreAccepted names (held 0) o0 o1
+  checked names held is told s =
+      let done = at 0 s (λ e. omega (arith, e)) in
+      check_accepted held absence fault names gives.0 o0 o1 (done_reply held told done.0 (Some (Check names)) is) done.0 done.1
+
+  pub opened : ((held : Held) (name : List ℕ) (conf : Configuration) → loaded held name ≡ Ok conf → IsValid conf)
+      → ((conf : Configuration) (dp batch : List ℕ) → IsValid conf → opening_of conf dp ≡ Some batch → Opens conf dp batch)
+      → (config dp : List ℕ) (held : Contents) → job ≡ Some (Plan config dp) → contents ≡ Some held → status ≡ 0 → IsOpened config dp (held 0) o0 o1
+  opened valid opens config dp held is told s =
+      let done = at 0 s (λ e. omega (arith, e)) in
+      job_opened held absence fault valid opens config dp gives.0 o0 o1 (done_reply held told done.0 (Some (Plan config dp)) is) done.0 done.1
 
 -- ---- the reply that was given
 
-module _ (words : List (List ℕ)) (contents : Option Contents) (absence fault : Type 0) (o0 o1 e0 e1 : Option (List ℕ)) (m0 m1 n0 n1 : ℕ) where
-  pub usage_given : (ended : Status) → meaning words ≡ None → Ends Usage usage.err e0 e1 n0 n1 ended
-      → Gives words contents absence fault (number_of_status ended) o0 o0 e0 e1 m0 m0 n0 n1
-  usage_given ended none ends = (
-    usage,
-    subst (λ (m : Option Job). RepliesJob m contents absence fault usage) (sym none) refl,
+module _ (contents : Option Contents) (absence fault : Type 0) (o0 o1 e0 e1 : Option (List ℕ)) (m0 m1 n0 n1 : ℕ) where
+  -- a line on standard error was the whole reply
+  pub line_given : (job : Option Job) (a : Answer) (status ended : Status) → Replies job contents absence fault a → a.out ≡ [] → a.status ≡ number_of_status status → Ends status a.err e0 e1 n0 n1 ended
+      → Gives job contents absence fault (number_of_status ended) o0 o0 e0 e1 m0 m0 n0 n1
+  line_given job a status ended reply none is ends = (
+    a,
+    reply,
     elim ends [
-      | inl whole ↦ inl (ap number_of_status whole.0, sym (appended-nil o0), whole.1, refl, whole.2)
-      | inr front ↦ inr (ap number_of_status front.0, AppendsFront-none o0 [], front.1, inr front.2)
+      | inl whole ↦ inl (ap number_of_status whole.0 ∙ sym is, sym (appended-nil o0) ∙ ap (λ l. appended o0 l) (sym none), whole.1, refl, whole.2)
+      | inr front ↦ inr (ap number_of_status front.0, AppendsFront-none o0 a.out, front.1, inr front.2)
     ],
   )
 
-  pub plan_given : (status : ℕ) (config dp : List ℕ) (made : Made) → meaning words ≡ Some (Plan config dp) → Makes contents config dp absence fault made
-      → Delivers (plan_answer config dp made) status o0 o1 e0 e1 m0 m1 n0 n1 → Gives words contents absence fault status o0 o1 e0 e1 m0 m1 n0 n1
-  plan_given status config dp made is makes delivers =
-      (plan_answer config dp made, subst (λ (m : Option Job). RepliesJob m contents absence fault (plan_answer config dp made)) (sym is) (made, makes, refl), delivers)
+  pub usage_given : (job : Option Job) (ended : Status) → job ≡ None → Ends statuses.Usage usage.err e0 e1 n0 n1 ended
+      → Gives job contents absence fault (number_of_status ended) o0 o0 e0 e1 m0 m0 n0 n1
+  usage_given job ended none ends =
+      line_given job usage statuses.Usage ended (inl (subst (λ (j : Option Job). RepliesJob j contents absence fault usage) (sym none) refl)) refl refl ends
 
--- ---- one answer
+  pub memory_given : (job : Option Job) (ended : Status) → Ends statuses.Memory out_of_memory.err e0 e1 n0 n1 ended
+      → Gives job contents absence fault (number_of_status ended) o0 o0 e0 e1 m0 m0 n0 n1
+  memory_given job ended ends = line_given job out_of_memory statuses.Memory ended (inr refl) refl refl ends
 
-module _ (one_tree : OneTree) (one_fault : OneFault) (either : Either) where
-  answers_one : (m : Option Job) (held : List ℕ → Option (List ℕ)) (a b : Answer) → AnswersJob m held a → AnswersJob m held b → a ≡ b
-  answers_one None held a b p q = p ∙ sym q
-  answers_one (Some (Plan config dp)) held a b p q =
-      p.2 ∙ ap (plan_answer config dp) (plans_file_one one_tree one_fault either (held config) dp p.0 q.0 p.1 q.1) ∙ sym q.2
+  pub plan_given : (status : ℕ) (config dp : List ℕ) (made : Result (Option (List ℕ)) LoadRefused) → ((load : Load) × Loads contents absence fault config load × (made ≡ planned dp load))
+      → Delivers (plan_answer config dp made) status o0 o1 e0 e1 m0 m1 n0 n1 → Gives (Some (Plan config dp)) contents absence fault status o0 o1 e0 e1 m0 m1 n0 n1
+  plan_given status config dp made load delivers = (plan_answer config dp made, inl (load.0, load.1, ap (plan_answer config dp) load.2), delivers)
 
-  pub one_answer : (words : List (List ℕ)) (held : List ℕ → Option (List ℕ)) (a b : Answer) → Answers words held a → Answers words held b → a ≡ b
-  one_answer words held a b p q = answers_one (meaning words) held a b p q
-
--- ---- what is replied, where the files tell
-
-plan_replied : (config dp : List ℕ) (held : Contents) (absence fault : Type 0) (made : Made) → Makes (Some held) config dp absence fault made
-    → PlansFile (held 0 config) dp made ⊎ (((plan_answer config dp made).out ≡ []) × ((plan_answer config dp made ≡ out_of_memory) ⊎ fault))
-plan_replied config dp held absence fault made (planned other told plans counted) = inl (subst (λ (f : Option (List ℕ)). PlansFile f dp made) (told config (held 0 config) refl) plans)
-plan_replied config dp held absence fault made (unread failed is) = inr (ap (λ (m : Made). (plan_answer config dp m).out) is, inr failed)
-plan_replied config dp held absence fault made (memory is) = inr (ap (λ (m : Made). (plan_answer config dp m).out) is, inl (ap (plan_answer config dp) is))
-
-abbrev OrNothing : Type 0 → Answer → Type 0 → Type 0
-OrNothing answered a fault = answered ⊎ ((a.out ≡ []) × ((a ≡ out_of_memory) ⊎ fault))
-
-job_replied : (m : Option Job) (held : Contents) (absence fault : Type 0) (a : Answer) → RepliesJob m (Some held) absence fault a → OrNothing (AnswersJob m (held 0) a) a fault
-job_replied None held absence fault a is = inl is
-job_replied (Some (Plan config dp)) held absence fault a reply =
-    elim (plan_replied config dp held absence fault reply.0 reply.1) [
-      | inl plans ↦ inl (reply.0, plans, reply.2)
-      | inr none ↦ inr (subst (λ (b : Answer). (b.out ≡ []) × ((b ≡ out_of_memory) ⊎ fault)) (sym reply.2) none)
-    ]
-
-pub told_replied : (words : List (List ℕ)) (held : Contents) (absence fault : Type 0) (a : Answer) → Replies words (Some held) absence fault a → Answers words (held 0) a ⊎ ((a.out ≡ []) × ((a ≡ out_of_memory) ⊎ fault))
-told_replied words held absence fault a reply = job_replied (meaning words) held absence fault a reply
+  pub check_given : (status : ℕ) (names : List (List ℕ)) → Checks contents absence fault names status o0 o1 e0 e1 m0 m1 n0 n1
+      → Gives (Some (Check names)) contents absence fault status o0 o1 e0 e1 m0 m1 n0 n1
+  check_given status names checks = (check_answer checks.0, inl (checks.0, checks.1, refl), checks.2)

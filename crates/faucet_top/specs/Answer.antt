@@ -1,60 +1,19 @@
 -- What the program answers: what it writes on its two streams, and its status.
-use Rattle.std.specs.Prelude.{◌≡◌, ℕ, List, [], ◌∷◌, ◌++◌, map, filter, Option, Some, None, Result, Ok, Err, codes}
+use Rattle.std.specs.Prelude.{ℕ, List, [], ◌∷◌, ◌++◌, map, Option, Some, None, Result, Ok, Err, codes}
 use Rattle.std.specs.Fmt.{decimal}
-use Rattle.std.specs.List.{concat, find, flat_map}
-use Rattle.std.specs.Str.{bytes_eq}
-use Rattle.yaml_subset.specs.Grammar.{Reads}
-use Rattle.yaml_subset.specs.TextFault.{IsFault}
+use Rattle.std.specs.List.{concat}
 use Rattle.yaml_subset.specs.Fault.{cause_text}
-use Rattle.yaml_subset.specs.declared.fault.YamlFault.{YamlFault}
-use Rattle.yaml_subset.specs.declared.tree.Tree.{Tree}
-use Rattle.conf_types.specs.declared.datapath.Dp.{Dp}
-use Rattle.conf_types.specs.declared.state.UpRec.{UpRec}
 use Rattle.conf_types.specs.Configuration.{Configuration}
-use Rattle.conf_types.specs.State.{State}
-use Rattle.conf_shape.specs.declared.refused.ConfFault.{ConfFault}
-use Rattle.conf_check.specs.Accepted.{conf_of}
-use Rattle.cold_start.specs.Cold.{cold}
-use Rattle.faucet_top.specs.declared.plan.PlanRefused.{PlanRefused}
-use Rattle.faucet_top.specs.declared.plan.PlanRefused.TheVariants.{Unread, Refused, NotAccepted, Unresolved, Memory}
+use Rattle.conf_gather.specs.declared.refused.LoadRefused.{LoadRefused}
+use Rattle.conf_gather.specs.declared.refused.LoadRefused.TheVariants.{Read, Yaml, Conf, IncludeTwice, IncludeDepth, Absent, Memory}
+use Rattle.conf_gather.specs.Gathered.{Held}
+use Rattle.conf_load.specs.Loaded.{loaded}
+use Rattle.conf_json.specs.Text.{json_text}
+use Rattle.command_line.specs.declared.meaning.Job.{Job}
+use Rattle.command_line.specs.declared.meaning.Job.TheVariants.{Check, Plan}
+use Rattle.command_line.specs.Meaning.{meaning}
+use Rattle.opening_batch.specs.Opening.{opening_of}
 use Rattle.faucet_top.specs.Causes.{conf_cause_text}
-use Rattle.faucet_top.specs.Messages.{opening}
-use Rattle.faucet_top.specs.Words.{Job, Plan, meaning}
-
--- ---- the opening batch of a file's bytes
-
--- the datapath of this name
-abbrev pub dp_called : List Dp → List ℕ → Option Dp
-dp_called dps name = find (λ d. bytes_eq d.name name) dps
-
--- every enabled interface of a datapath is up
-abbrev pub ups_of : Dp → List UpRec
-ups_of d = map (λ p. record { dp = d.id; port = p.no }) (filter (λ p. p.enabled) d.ports)
-
--- every enabled interface is up, and nothing is learned
-abbrev pub nothing_learned : Configuration → State
-nothing_learned conf = record { moment = 0; running = []; ups = flat_map ups_of conf.dps; hosts = []; neighbours = [] }
-
--- the batch for a datapath of a configuration, or why there is none
-abbrev pub batch_for : Configuration → Option Dp → Result (List ℕ) PlanRefused
-batch_for conf None = Err Unresolved
-batch_for conf (Some d) = Ok (opening (cold conf (nothing_learned conf) d))
-
-abbrev pub batch_of : Result Configuration ConfFault → List ℕ → Result (List ℕ) PlanRefused
-batch_of (Err fault) dp = Err (NotAccepted fault)
-batch_of (Ok conf) dp = batch_for conf (dp_called conf.dps dp)
-
--- what a text plans for a datapath: the batch by its tree, or its fault
-pub data Plans (text dp : List ℕ) (made : Result (List ℕ) PlanRefused) : Type 0 where
-  by_tree : (tree : Tree) → Reads text tree → made ≡ batch_of (conf_of tree) dp → Plans text dp made
-  by_fault : (fault : YamlFault) → IsFault text fault → made ≡ Err (Refused fault) → Plans text dp made
-
--- the same, of a file that may not be there
-abbrev pub PlansFile : Option (List ℕ) → List ℕ → Result (List ℕ) PlanRefused → Type 0
-PlansFile None dp made = made ≡ Err Unread
-PlansFile (Some text) dp made = Plans text dp made
-
--- ---- answers
 
 pub record Answer : Type 0 where
   pub out : List ℕ
@@ -71,20 +30,72 @@ usage = record { out = []; err = line (codes "usage: faucet check, plan, replay,
 abbrev pub out_of_memory : Answer
 out_of_memory = record { out = []; err = line (codes "out of memory" ∷ []); status = 8 }
 
+-- ---- why a file gives no configuration
+
+abbrev pub refused_with : List (List ℕ) → Answer
+refused_with pieces = record { out = []; err = line pieces; status = 2 }
+
+abbrev pub unread : (file : List ℕ) → Answer
+unread file = record { out = []; err = line (file ∷ codes ": read fault" ∷ []); status = 3 }
+
+-- a text's fault is told with the name of its file; the others with the name in the words
+abbrev pub refusal : (config : List ℕ) → LoadRefused → Answer
+refusal config (Read file) = unread file
+refusal config (Absent file) = unread file
+refusal config (Yaml file fault) = refused_with (file ∷ codes ": line " ∷ decimal fault.line ∷ codes ": " ∷ cause_text fault.cause ∷ [])
+refusal config (Conf fault) = refused_with (config ∷ codes ": " ∷ fault.path ∷ codes ": " ∷ conf_cause_text fault.cause ∷ [])
+refusal config (IncludeTwice file) = refused_with (config ∷ codes ": " ∷ file ∷ codes ": IncludeTwice" ∷ [])
+refusal config (IncludeDepth file) = refused_with (config ∷ codes ": " ∷ file ∷ codes ": IncludeDepth" ∷ [])
+refusal config Memory = out_of_memory
+
+-- ---- `check`
+
+-- what a file gave
+abbrev pub Load : Type 0
+Load = Result Configuration LoadRefused
+
+abbrev pub nothing : Answer
+nothing = record { out = []; err = []; status = 0 }
+
+-- an answer behind these bytes
+abbrev pub behind : List ℕ → Answer → Answer
+behind bytes a = record { out = bytes ++ a.out; err = a.err; status = a.status }
+
+-- an accepted configuration's line
+abbrev pub json_line : Configuration → List ℕ
+json_line conf = json_text conf ++ 10 ∷ []
+
+-- a file's line and what follows, or the refusal, which ends the run
+abbrev pub check_step : (name : List ℕ) → Load → Answer → Answer
+check_step name (Ok conf) more = behind (json_line conf) more
+check_step name (Err why) more = refusal name why
+
+-- the answer to `check`, of each file's name and what it gave, in order
+abbrev pub check_answer : List (List ℕ × Load) → Answer
+check_answer [] = nothing
+check_answer (file ∷ files) = check_step file.0 file.1 (check_answer files)
+
+-- ---- `plan`
+
+-- what a file gave for a datapath: its opening batch, if there is such a datapath
+abbrev pub planned : (dp : List ℕ) → Load → Result (Option (List ℕ)) LoadRefused
+planned dp (Ok conf) = Ok (opening_of conf dp)
+planned dp (Err why) = Err why
+
 -- the answer to `plan`: the batch, or a line that says why there is none
-abbrev pub plan_answer : List ℕ → List ℕ → Result (List ℕ) PlanRefused → Answer
-plan_answer config dp (Ok batch) = record { out = batch; err = []; status = 0 }
-plan_answer config dp (Err Unread) = record { out = []; err = line (config ∷ codes ": read fault" ∷ []); status = 3 }
-plan_answer config dp (Err (Refused fault)) = record { out = []; err = line (config ∷ codes ": line " ∷ decimal fault.line ∷ codes ": " ∷ cause_text fault.cause ∷ []); status = 2 }
-plan_answer config dp (Err (NotAccepted fault)) = record { out = []; err = line (config ∷ codes ": " ∷ fault.path ∷ codes ": " ∷ conf_cause_text fault.cause ∷ []); status = 2 }
-plan_answer config dp (Err Unresolved) = record { out = []; err = line (config ∷ codes ": dps." ∷ dp ∷ codes ": Unresolved" ∷ []); status = 2 }
-plan_answer config dp (Err Memory) = out_of_memory
+abbrev pub plan_answer : (config dp : List ℕ) → Result (Option (List ℕ)) LoadRefused → Answer
+plan_answer config dp (Ok (Some batch)) = record { out = batch; err = []; status = 0 }
+plan_answer config dp (Ok None) = refused_with (config ∷ codes ": dps." ∷ dp ∷ codes ": Unresolved" ∷ [])
+plan_answer config dp (Err why) = refusal config why
 
--- the answer to a job, where these files are held
-abbrev pub AnswersJob : Option Job → (List ℕ → Option (List ℕ)) → Answer → Type 0
-AnswersJob None held a = a ≡ usage
-AnswersJob (Some (Plan config dp)) held a = (made : Result (List ℕ) PlanRefused) × PlansFile (held config) dp made × (a ≡ plan_answer config dp made)
+-- ---- the words
 
--- this is the answer to these words, where these files are held: what is answered where nothing fails
-abbrev pub Answers : List (List ℕ) → (List ℕ → Option (List ℕ)) → Answer → Type 0
-Answers words held a = AnswersJob (meaning words) held a
+-- the answer to a job, where files give these configurations
+abbrev pub job_answer : Option Job → (List ℕ → Load) → Answer
+job_answer None load = usage
+job_answer (Some (Check files)) load = check_answer (map (λ file. (file, load file)) files)
+job_answer (Some (Plan config dp)) load = plan_answer config dp (planned dp (load config))
+
+-- the answer to these words, where these files are held: what is answered where nothing fails
+abbrev pub answer : (words : List (List ℕ)) → Held → Answer
+answer words held = job_answer (meaning words) (loaded held)

@@ -1,36 +1,47 @@
 -- What a call did, whatever the outside did: which answer it gave, and how much of it was written.
-use Rattle.std.specs.Prelude.{◌≡◌, ℕ, ◌⊎◌, List, Option, Some, None, Result, Err}
-use Rattle.fg_outside.specs.Contents.{Contents, Tells}
+use Rattle.std.specs.Prelude.{◌≡◌, ℕ, ◌⊎◌, List, ◌++◌, map, Option, Some, None, Ok, IsErrOf}
+use Rattle.std.specs.List.{AllByRecursion, flat_map}
+use Rattle.fg_outside.specs.Contents.{Contents}
 use Rattle.fg_outside.specs.Counts.{Rose}
 use Rattle.fg_outside.specs.Wrote.{appended, AppendsFront}
-use Rattle.faucet_top.specs.declared.plan.PlanRefused.{PlanRefused}
-use Rattle.faucet_top.specs.declared.plan.PlanRefused.TheVariants.{Unread, Memory}
+use Rattle.conf_types.specs.Configuration.{Configuration}
+use Rattle.conf_gather.specs.declared.refused.LoadRefused.TheVariants.{Read, Absent}
+use Rattle.conf_gather.specs.Gathered.{Held}
+use Rattle.conf_gather.specs.Gives as load
+use Rattle.conf_load.specs.Loaded.{loaded}
+use Rattle.command_line.specs.declared.meaning.Job.{Job}
+use Rattle.command_line.specs.declared.meaning.Job.TheVariants.{Check, Plan}
+use Rattle.opening_batch.specs.Opened.{Opens}
 use Rattle.faucet_top.specs.declared.deliver.Status.{Status}
-use Rattle.faucet_top.specs.Answer.{Answer, Plans, PlansFile, usage, plan_answer}
+use Rattle.faucet_top.specs.Answer.{Answer, Load, usage, out_of_memory, json_line, check_step, check_answer, planned, plan_answer}
 use Rattle.faucet_top.specs.Status.{number_of_status}
-use Rattle.faucet_top.specs.Words.{Job, Plan, meaning}
 
 -- ---- which answer
 
--- these files are held, as far as anything is told of them
-abbrev pub AsTold : Option Contents → (List ℕ → Option (List ℕ)) → Type 0
-AsTold contents held = (name : List ℕ) (file : Option (List ℕ)) → Tells contents name file → held name ≡ file
+-- What loading a file of this name gave: what the files give, where they are told, unless a read failed or
+-- memory ran out. A file was missing only where its absence was counted, and a read failed only where a fault was.
+pub record Loads (contents : Option Contents) (absence fault : Type 0) (name : List ℕ) (made : Load) : Type 0 where
+  pub told : (held : Contents) → contents ≡ Some held → load.Gives made (loaded (held 0) name)
+  pub absent : (file : List ℕ) → IsErrOf made (Absent file) → absence
+  pub unread : (file : List ℕ) → IsErrOf made (Read file) → fault
 
--- What was made of the file of this name: what it plans, where these files are held, and its absence was
--- counted; or a read failed, or memory ran out.
-pub data Makes (contents : Option Contents) (config dp : List ℕ) (absence fault : Type 0) (made : Result (List ℕ) PlanRefused) : Type 0 where
-  planned : (held : List ℕ → Option (List ℕ)) → AsTold contents held → PlansFile (held config) dp made → (held config ≡ None → absence) → Makes contents config dp absence fault made
-  unread : fault → made ≡ Err Unread → Makes contents config dp absence fault made
-  memory : made ≡ Err Memory → Makes contents config dp absence fault made
+-- files with these names were loaded, and this is what each gave
+abbrev pub EachLoads : Option Contents → (absence fault : Type 0) → List (List ℕ) → List (List ℕ × Load) → Type 0
+EachLoads contents absence fault names files = (map (λ file. file.0) files ≡ names) × AllByRecursion (λ file. Loads contents absence fault file.0 file.1) files
 
--- the reply to a job, whatever fails: the answer for files as they are told, or that a read failed, or that
--- memory ran out
+-- the reply to a job, whatever fails: the answer for what the files gave
 abbrev pub RepliesJob : Option Job → Option Contents → (absence fault : Type 0) → Answer → Type 0
 RepliesJob None contents absence fault a = a ≡ usage
-RepliesJob (Some (Plan config dp)) contents absence fault a = (made : Result (List ℕ) PlanRefused) × Makes contents config dp absence fault made × (a ≡ plan_answer config dp made)
+RepliesJob (Some (Check names)) contents absence fault a = (files : List (List ℕ × Load)) × EachLoads contents absence fault names files × (a ≡ check_answer files)
+RepliesJob (Some (Plan config dp)) contents absence fault a = (made : Load) × Loads contents absence fault config made × (a ≡ plan_answer config dp (planned dp made))
 
-abbrev pub Replies : (words : List (List ℕ)) → Option Contents → (absence fault : Type 0) → Answer → Type 0
-Replies words contents absence fault a = RepliesJob (meaning words) contents absence fault a
+-- the same, or that memory ran out before the job was known
+abbrev pub Replies : Option Job → Option Contents → (absence fault : Type 0) → Answer → Type 0
+Replies job contents absence fault a = RepliesJob job contents absence fault a ⊎ (a ≡ out_of_memory)
+
+-- the answer; or a front of it on standard output, since memory ran out or a read failed
+abbrev pub AnswersSoFar : (a whole : Answer) → (fault : Type 0) → Type 0
+AnswersSoFar a whole fault = (a ≡ whole) ⊎ ((more : List ℕ) × (whole.out ≡ a.out ++ more) × ((a.status ≡ 8) ⊎ ((a.status ≡ 3) × fault)))
 
 -- ---- how much of it
 
@@ -44,17 +55,48 @@ Delivers a status out_old out_new err_old err_new out_faults_old out_faults_new 
     × (Rose out_faults_old out_faults_new ⊎ Rose err_faults_old err_faults_new))
 
 -- one reply was delivered
-abbrev pub Gives : (words : List (List ℕ)) → Option Contents → (absence fault : Type 0) → (status : ℕ) → (out_old out_new err_old err_new : Option (List ℕ)) → (out_faults_old out_faults_new err_faults_old err_faults_new : ℕ) → Type 0
-Gives words contents absence fault status out_old out_new err_old err_new out_faults_old out_faults_new err_faults_old err_faults_new =
-    (a : Answer) × Replies words contents absence fault a × Delivers a status out_old out_new err_old err_new out_faults_old out_faults_new err_faults_old err_faults_new
+abbrev pub Gives : Option Job → Option Contents → (absence fault : Type 0) → (status : ℕ) → (out_old out_new err_old err_new : Option (List ℕ)) → (out_faults_old out_faults_new err_faults_old err_faults_new : ℕ) → Type 0
+Gives job contents absence fault status out_old out_new err_old err_new out_faults_old out_faults_new err_faults_old err_faults_new =
+    (a : Answer) × Replies job contents absence fault a × Delivers a status out_old out_new err_old err_new out_faults_old out_faults_new err_faults_old err_faults_new
+
+-- ---- parts of a run
+
+-- files of these names were loaded in order, and the answer delivered
+abbrev pub Checks : Option Contents → (absence fault : Type 0) → (names : List (List ℕ)) → (status : ℕ) → (out_old out_new err_old err_new : Option (List ℕ)) → (out_faults_old out_faults_new err_faults_old err_faults_new : ℕ) → Type 0
+Checks contents absence fault names status out_old out_new err_old err_new out_faults_old out_faults_new err_faults_old err_faults_new =
+    (files : List (List ℕ × Load)) × EachLoads contents absence fault names files
+    × Delivers (check_answer files) status out_old out_new err_old err_new out_faults_old out_faults_new err_faults_old err_faults_new
+
+-- one file's line was written; or the run ended there, whatever would have followed
+abbrev pub GoesOn : (name : List ℕ) → Load → (ended : Option Status) → (out_old out_new err_old err_new : Option (List ℕ)) → (out_faults_old out_faults_new err_faults_old err_faults_new : ℕ) → Type 0
+GoesOn name made None out_old out_new err_old err_new out_faults_old out_faults_new err_faults_old err_faults_new =
+    (conf : Configuration) × (made ≡ Ok conf) × (out_new ≡ appended out_old (json_line conf)) × (err_new ≡ err_old) × (out_faults_new ≡ out_faults_old) × (err_faults_new ≡ err_faults_old)
+GoesOn name made (Some status) out_old out_new err_old err_new out_faults_old out_faults_new err_faults_old err_faults_new =
+    (more : Answer) → Delivers (check_step name made more) (number_of_status status) out_old out_new err_old err_new out_faults_old out_faults_new err_faults_old err_faults_new
 
 -- ---- statuses
 
--- a refusal is what the text plans: it has a fault, or its tree gives no configuration, or one without the
--- datapath
-abbrev pub IsRefused : (text dp : List ℕ) → Type 0
-IsRefused text dp = (why : PlanRefused) × Plans text dp (Err why)
+-- what a status is where the answer's is this: the same, or that a write failed, that memory ran out, or that
+-- a read failed
+abbrev pub StatusFor : (status answered : ℕ) → (fault : Type 0) → Type 0
+StatusFor status answered fault = (status ≡ answered) ⊎ ((status ≡ 4) ⊎ ((status ≡ 8) ⊎ ((status ≡ 3) × fault)))
 
 -- the statuses that there are
 abbrev pub IsStatus : ℕ → Type 0
 IsStatus n = (status : Status) × (n ≡ number_of_status status)
+
+-- ---- the commands
+
+-- each file is accepted, and their lines were written in order
+pub record AreAccepted (names : List (List ℕ)) (held : Held) (before after : Option (List ℕ)) : Type 0 where
+  pub confs : List Configuration
+  pub accepted : map (loaded held) names ≡ map Ok confs
+  pub lines : after ≡ appended before (flat_map json_line confs)
+
+-- the file is accepted, and what was written opens the datapath
+pub record IsOpened (config dp : List ℕ) (held : Held) (before after : Option (List ℕ)) : Type 0 where
+  pub conf : Configuration
+  pub batch : List ℕ
+  pub accepted : loaded held config ≡ Ok conf
+  pub written : after ≡ appended before batch
+  pub opens : Opens conf dp batch

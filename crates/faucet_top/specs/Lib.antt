@@ -1,10 +1,5 @@
 pub mod Answer
-pub mod Asked
 pub mod Causes
 pub mod Ends
 pub mod Given
-pub mod Messages
-pub mod Opened
-pub mod Refusals
 pub mod Status
-pub mod Words

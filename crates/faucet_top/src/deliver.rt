@@ -1,13 +1,14 @@
 ghost use Rattle.std.specs.Prelude.{◌≡◌, ◌≤◌, [], ◌∷◌, Result, codes};
 ghost use Rattle.std.specs.Fmt.{decimal};
 ghost use Rattle.fg_outside.specs.Wrote.{line_of};
-ghost use Rattle.faucet_top.specs.Answer.{plan_answer, usage, out_of_memory, line};
+ghost use Rattle.conf_gather.specs.declared.refused.LoadRefused.TheVariants.{Yaml, Conf};
+ghost use Rattle.faucet_top.specs.Answer.{refusal, usage, out_of_memory, line, plan_answer};
 ghost use Rattle.faucet_top.specs.Given.{Delivers};
 ghost use Rattle.faucet_top.specs.Status.{number_of_status};
-ghost use Rattle.faucet_top.specs.Ends.{Ends, refused_status, refusal_line, fault_line, conf_fault_line};
+ghost use Rattle.faucet_top.specs.Ends.{Ends, refused_status};
 
 use crate::causes::limit_name;
-use crate::plan::PlanRefused;
+use conf_gather::LoadRefused;
 use conf_shape::{ConfCause, ConfFault};
 use fg_outside::{Sink, write_all, write_line};
 use itoa::Buffer;
@@ -43,7 +44,7 @@ impl Status {
 }
 
 /// Writes bytes, and ends with this status.
-fn end_with_bytes<O: Sink>(out: &mut O, bytes: &[u8], status: Status) -> Status
+pub fn end_with_bytes<O: Sink>(out: &mut O, bytes: &[u8], status: Status) -> Status
     ensures ends { Ends status bytes.now (O.wrote out.old) (O.wrote out.new) (O.faults out.old) (O.faults out.new) result }
     ensures faults { O.faults out.old ≤ O.faults out.new }
 {
@@ -80,31 +81,31 @@ pub fn deliver_out_of_memory<E: Sink>(err: &mut E) -> Status
     end_with_line(err, &["out of memory"], Status::Memory)
 }
 
-/// Says in which line a text was refused, and the cause in two pieces.
+/// Says in which line a file's text was refused, and the cause in two pieces.
 fn deliver_cause<E: Sink>(
     err: &mut E,
-    config: &str,
+    file: &str,
     number: &str,
     cause: &str,
     form: &str,
 ) -> Status
-    ensures ends { Ends Status.Refused (line (config.now ∷ codes ": line " ∷ number.now ∷ codes ": " ∷ cause.now ∷ form.now ∷ []))
+    ensures ends { Ends Status.Refused (line (file.now ∷ codes ": line " ∷ number.now ∷ codes ": " ∷ cause.now ∷ form.now ∷ []))
         (E.wrote err.old) (E.wrote err.new) (E.faults err.old) (E.faults err.new) result }
     ensures faults { E.faults err.old ≤ E.faults err.new }
 {
-    let pieces = [config, ": line ", number, ": ", cause, form];
+    let pieces = [file, ": line ", number, ": ", cause, form];
     end_with_line(err, &pieces, Status::Refused)
 }
 
-/// Says where and why a text was refused.
-fn deliver_fault<E: Sink>(err: &mut E, config: &str, fault: YamlFault) -> Status
-    ensures ends { Ends Status.Refused (fault_line config.now fault) (E.wrote err.old) (E.wrote err.new) (E.faults err.old) (E.faults err.new) result }
+/// Says where and why a file's text was refused.
+fn deliver_fault<E: Sink>(err: &mut E, file: &str, fault: YamlFault) -> Status
+    ensures ends { Ends Status.Refused (refusal [] (Yaml file.now fault)).err (E.wrote err.old) (E.wrote err.new) (E.faults err.old) (E.faults err.new) result }
     ensures faults { E.faults err.old ≤ E.faults err.new }
 {
     let mut buffer = Buffer::new();
     let number = buffer.format(fault.line);
     let (cause, form) = fault.cause.names();
-    deliver_cause(err, config, number, cause, form)
+    deliver_cause(err, file, number, cause, form)
 }
 
 /// Says where a configuration was refused, and the cause in two pieces.
@@ -130,7 +131,7 @@ fn deliver_conflict<E: Sink>(err: &mut E, config: &str, path: &str, rule: u8) ->
 
 /// Says where and why a configuration was refused.
 fn deliver_conf_fault<E: Sink>(err: &mut E, config: &str, fault: &ConfFault) -> Status
-    ensures ends { Ends Status.Refused (conf_fault_line config.now fault.now) (E.wrote err.old) (E.wrote err.new) (E.faults err.old) (E.faults err.new) result }
+    ensures ends { Ends Status.Refused (refusal config.now (Conf fault.now)).err (E.wrote err.old) (E.wrote err.new) (E.faults err.old) (E.faults err.new) result }
     ensures faults { E.faults err.old ≤ E.faults err.new }
 {
     let path = fault.path.as_str();
@@ -148,30 +149,34 @@ fn deliver_conf_fault<E: Sink>(err: &mut E, config: &str, fault: &ConfFault) -> 
     }
 }
 
-/// Says why there is no batch.
-fn deliver_refusal<E: Sink>(err: &mut E, config: &str, dp: &str, why: PlanRefused) -> Status
-    ensures ends { Ends (refused_status why) (refusal_line config.now dp.now why) (E.wrote err.old) (E.wrote err.new) (E.faults err.old) (E.faults err.new) result }
+/// Says why a file gave no configuration.
+pub fn deliver_refusal<E: Sink>(err: &mut E, config: &str, why: &LoadRefused) -> Status
+    ensures ends { Ends (refused_status why.now) (refusal config.now why.now).err (E.wrote err.old) (E.wrote err.new) (E.faults err.old) (E.faults err.new) result }
     ensures faults { E.faults err.old ≤ E.faults err.new }
 {
     match why {
-        PlanRefused::Unread => end_with_line(err, &[config, ": read fault"], Status::Unread),
-        PlanRefused::Refused(fault) => deliver_fault(err, config, fault),
-        PlanRefused::NotAccepted(fault) => deliver_conf_fault(err, config, &fault),
-        PlanRefused::Unresolved => {
-            let pieces = [config, ": dps.", dp, ": Unresolved"];
-            end_with_line(err, &pieces, Status::Refused)
+        LoadRefused::Read(file) | LoadRefused::Absent(file) => {
+            end_with_line(err, &[file.as_str(), ": read fault"], Status::Unread)
         }
-        PlanRefused::Memory => deliver_out_of_memory(err),
+        LoadRefused::Yaml(file, fault) => deliver_fault(err, file.as_str(), *fault),
+        LoadRefused::Conf(fault) => deliver_conf_fault(err, config, fault),
+        LoadRefused::IncludeTwice(file) => {
+            deliver_at(err, config, file.as_str(), "IncludeTwice", "")
+        }
+        LoadRefused::IncludeDepth(file) => {
+            deliver_at(err, config, file.as_str(), "IncludeDepth", "")
+        }
+        LoadRefused::Memory => deliver_out_of_memory(err),
     }
 }
 
-/// Writes the batch, or says why there is none.
+/// Writes a batch, or says why there is none.
 pub fn deliver_plan<O: Sink, E: Sink>(
     out: &mut O,
     err: &mut E,
     config: &str,
     dp: &str,
-    made: Result<Bytes, PlanRefused>,
+    made: Result<Option<Bytes>, LoadRefused>,
 ) -> Status
     ensures answer { Delivers (plan_answer config.now dp.now made) (number_of_status result)
         (O.wrote out.old) (O.wrote out.new) (E.wrote err.old) (E.wrote err.new)
@@ -180,7 +185,11 @@ pub fn deliver_plan<O: Sink, E: Sink>(
     ensures err_faults { E.faults err.old ≤ E.faults err.new }
 {
     match made {
-        Ok(batch) => end_with_bytes(out, batch.as_slice(), Status::Done),
-        Err(why) => deliver_refusal(err, config, dp, why),
+        Ok(Some(batch)) => end_with_bytes(out, batch.as_slice(), Status::Done),
+        Ok(None) => {
+            let pieces = [config, ": dps.", dp, ": Unresolved"];
+            end_with_line(err, &pieces, Status::Refused)
+        }
+        Err(why) => deliver_refusal(err, config, &why),
     }
 }

@@ -2,16 +2,13 @@
 #![tactic(auto)]
 
 mod causes;
+mod check;
 mod deliver;
 pub mod laws;
-mod messages;
 mod plan;
 mod top;
 mod units;
-mod words;
 
-pub use top::{faucet, refuse_for_memory};
+pub use top::{faucet, local, refuse_for_memory};
 pub use units::Units;
 
-#[cfg(test)]
-mod tests;

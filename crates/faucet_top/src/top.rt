@@ -1,30 +1,33 @@
 ghost use Rattle.std.specs.Prelude.{◌≡◌, ◌≢◌, ◌≤◌, ◌⊎◌, ℕ, List, Some, None};
 ghost use Rattle.fg_outside.specs.Counts.{Rose};
-ghost use Rattle.fg_outside.specs.Contents.{Tells};
+ghost use Rattle.fg_outside.specs.Contents.{Contents};
 ghost use Rattle.fg_outside.specs.Wrote.{appended, AppendsFront};
-ghost use Rattle.faucet_top.specs.Given.{Gives, IsRefused, IsStatus};
-ghost use Rattle.faucet_top.specs.Answer.{out_of_memory};
-ghost use Rattle.faucet_top.specs.Opened.{OpensBy};
+ghost use Rattle.command_line.specs.declared.meaning.Job.TheVariants.{Check, Plan};
+ghost use Rattle.command_line.specs.Meaning.{meaning};
+ghost use Rattle.conf_load.specs.Loaded.{loaded};
+ghost use Rattle.faucet_top.specs.Answer.{answer, job_answer, out_of_memory};
+ghost use Rattle.faucet_top.specs.Given.{AreAccepted, Gives, IsOpened, IsStatus, StatusFor};
 ghost use Rattle.faucet_top.specs.Status.{number_of_status};
-ghost use Rattle.faucet_top.specs.Words.{meaning, Plan};
 
+use crate::check::check_files;
 use crate::deliver::{Status, deliver_out_of_memory, deliver_plan, deliver_usage};
-use crate::laws;
-use crate::plan::make_batch;
-use crate::words::{Asked, read_words};
+use crate::plan::make_plan;
+use command_line::{Job, read_words};
+use conf_load::laws::a_loaded_configuration_is_valid;
 use fg_outside::{Files, Hub, Sink};
 use net_base::Names;
+use opening_batch::laws::an_opening_batch_opens_the_datapath;
 use std::alloc::Global;
 
-/// Does what the words ask for.
-fn answer_words<F: Files, O: Sink, E: Sink>(
+/// Does a job.
+fn do_job<F: Files, O: Sink, E: Sink>(
     alloc: Global,
-    words: &Names,
+    job: &Job,
     files: &mut F,
     out: &mut O,
     err: &mut E,
 ) -> Status
-    ensures gives { Gives words.now (F.contents files.old) (Rose (F.absences files.old) (F.absences files.new)) (Rose (F.faults files.old) (F.faults files.new))
+    ensures gives { Gives (Some job.now) (F.contents files.old) (Rose (F.absences files.old) (F.absences files.new)) (Rose (F.faults files.old) (F.faults files.new))
         (number_of_status result) (O.wrote out.old) (O.wrote out.new) (E.wrote err.old) (E.wrote err.new)
         (O.faults out.old) (O.faults out.new) (E.faults err.old) (E.faults err.new) }
 
@@ -34,21 +37,80 @@ fn answer_words<F: Files, O: Sink, E: Sink>(
     ensures out_faults { O.faults out.old ≤ O.faults out.new }
     ensures err_faults { E.faults err.old ≤ E.faults err.new }
 {
-    match read_words(words.as_slice()) {
-        Asked::Nothing => deliver_usage(err),
-        Asked::Plan { config, dp } => {
-            let made = make_batch(alloc, files, config, dp);
-            deliver_plan(out, err, config, dp, made)
+    match job {
+        Job::Check(names) => check_files(alloc, files, names.as_slice(), out, err),
+        Job::Plan { config, dp } => {
+            let made = make_plan(alloc, files, config.as_str(), dp.as_str());
+            deliver_plan(out, err, config.as_str(), dp.as_str(), made)
         }
+    }
+}
+
+/// Does a job that needs no hub, and gives the exit status and the files back (`faucet`).
+pub fn local<F: Files, O: Sink, E: Sink>(
+    alloc: Global,
+    job: &Job,
+    files: F,
+    out: &mut O,
+    err: &mut E,
+) -> (u8, F)
+    // One reply was given, as `faucet` gives it.
+    ensures gives { Gives (Some job.now) (F.contents files) (Rose (F.absences files) (F.absences result.1)) (Rose (F.faults files) (F.faults result.1))
+        result.0 (O.wrote out.old) (O.wrote out.new) (E.wrote err.old) (E.wrote err.new)
+        (O.faults out.old) (O.faults out.new) (E.faults err.old) (E.faults err.new) }
+
+    // The status is that of the answer, where the files are told, but for what fails on the way.
+    ensures told { (held : Contents) → F.contents files ≡ Some held
+        → StatusFor result.0 (job_answer (Some job.now) (loaded (held 0))).status (Rose (F.faults files) (F.faults result.1)) }
+    ensures unread { result.0 ≡ 3 → Rose (F.absences files) (F.absences result.1) ⊎ Rose (F.faults files) (F.faults result.1) }
+    ensures write_fault { result.0 ≡ 4 → Rose (O.faults out.old) (O.faults out.new) ⊎ Rose (E.faults err.old) (E.faults err.new) }
+    ensures no_write_fault { result.0 ≢ 4 → (O.faults out.new ≡ O.faults out.old) × (E.faults err.new ≡ E.faults err.old) }
+
+    // The files are handed back.
+    ensures contents { F.contents result.1 ≡ F.contents files }
+    ensures faults { F.faults files ≤ F.faults result.1 }
+    ensures absences { F.absences files ≤ F.absences result.1 }
+    ensures out_faults { O.faults out.old ≤ O.faults out.new }
+    ensures err_faults { E.faults err.old ≤ E.faults err.new }
+{
+    let mut files = files;
+    let status = do_job(alloc, job, &mut files, out, err);
+    (status.number(), files)
+}
+
+/// Does what the words ask for.
+fn answer_words<F: Files, O: Sink, E: Sink>(
+    alloc: Global,
+    words: &Names,
+    files: F,
+    out: &mut O,
+    err: &mut E,
+) -> (u8, F)
+    ensures gives { Gives (meaning words.now) (F.contents files) (Rose (F.absences files) (F.absences result.1)) (Rose (F.faults files) (F.faults result.1))
+        result.0 (O.wrote out.old) (O.wrote out.new) (E.wrote err.old) (E.wrote err.new)
+        (O.faults out.old) (O.faults out.new) (E.faults err.old) (E.faults err.new) }
+
+    ensures contents { F.contents result.1 ≡ F.contents files }
+    ensures faults { F.faults files ≤ F.faults result.1 }
+    ensures absences { F.absences files ≤ F.absences result.1 }
+    ensures out_faults { O.faults out.old ≤ O.faults out.new }
+    ensures err_faults { E.faults err.old ≤ E.faults err.new }
+{
+    match read_words(alloc, words) {
+        Ok(Some(job)) => local(alloc, &job, files, out, err),
+        Ok(None) => (deliver_usage(err).number(), files),
+        Err(_) => (deliver_out_of_memory(err).number(), files),
     }
 }
 
 /// Does what the words ask for, and gives the exit status, the files and the hub back.
 ///
-/// `plan CONFIG DP` writes on `out` the batch that opens the datapath DP of the configuration file
-/// CONFIG: OpenFlow 1.3 messages, big-endian. Any other words have no meaning. A refusal is one line
-/// on `err`. Statuses: 0 done; 1 the words have no meaning; 2 the file's text is refused, or the
-/// configuration that it gives, or DP isn't one of its datapaths; 3 the file isn't there, or a read failed; 4 a write failed; 8 out of memory.
+/// `check FILE..` writes on `out` one line of JSON for each configuration file, in order; the first
+/// that gives no configuration ends the run. `plan CONFIG DP` writes on `out` the batch that opens the
+/// datapath DP of the configuration file CONFIG: OpenFlow 1.3 messages, big-endian. Any other words have
+/// no meaning. A refusal is one line on `err`. Statuses: 0 done; 1 the words have no meaning; 2 a
+/// configuration was read and is refused, or DP isn't one of its datapaths; 3 a file isn't there, or a
+/// read failed; 4 a write failed; 8 out of memory.
 pub fn faucet<F: Files, H: Hub, O: Sink, E: Sink>(
     alloc: Global,
     words: &Names,
@@ -57,37 +119,38 @@ pub fn faucet<F: Files, H: Hub, O: Sink, E: Sink>(
     out: &mut O,
     err: &mut E,
 ) -> (u8, F, H)
-    // One reply was given: the answer to the words, where these files are held as far as they tell it; or that a
-    // read failed, or that memory ran out. A failed write leaves a front of it, and nothing else is written.
-    ensures gives { Gives words.now (F.contents files) (Rose (F.absences files) (F.absences result.1)) (Rose (F.faults files) (F.faults result.1))
+    // One reply was given: the answer to the words, for what the files gave, of which it says where they tell it,
+    // where a read failed, and where memory ran out. A failed write leaves a front of it, and nothing else is written.
+    ensures gives { Gives (meaning words.now) (F.contents files) (Rose (F.absences files) (F.absences result.1)) (Rose (F.faults files) (F.faults result.1))
         result.0 (O.wrote out.old) (O.wrote out.new) (E.wrote err.old) (E.wrote err.new)
         (O.faults out.old) (O.faults out.new) (E.faults err.old) (E.faults err.new) }
 
-    // Status 1 exactly where the words have no meaning; it yields to a failed write alone.
+    // Where the files are told, the status is that of the answer, so 2 exactly where a configuration was read and
+    // refused, or hasn't the datapath; but for a failed write, want of memory and a failed read.
+    ensures told { (held : Contents) → F.contents files ≡ Some held
+        → StatusFor result.0 (answer words.now (held 0)).status (Rose (F.faults files) (F.faults result.1)) }
+
+    // Status 1 only where the words have no meaning.
     ensures usage { result.0 ≡ 1 → meaning words.now ≡ None }
-    ensures no_meaning { meaning words.now ≡ None → (result.0 ≡ 1) ⊎ (result.0 ≡ 4) }
+    ensures no_meaning { meaning words.now ≡ None → (result.0 ≡ 1) ⊎ ((result.0 ≡ 4) ⊎ (result.0 ≡ 8)) }
 
-    // Status 2 only where the file's text has a fault, or the configuration that it gives, or that hasn't the datapath.
-    ensures refused { (config dp text : List ℕ) → meaning words.now ≡ Some (Plan config dp) → Tells (F.contents files) config (Some text)
-        → result.0 ≡ 2 → IsRefused text dp }
-
-    // Status 3 only where the file isn't there, or a read failed; no other where it isn't there, but 4 and 8.
+    // Status 3 only where a file isn't there, or a read failed.
     ensures unread { result.0 ≡ 3 → Rose (F.absences files) (F.absences result.1) ⊎ Rose (F.faults files) (F.faults result.1) }
-    ensures unread_there { (config dp text : List ℕ) → meaning words.now ≡ Some (Plan config dp) → Tells (F.contents files) config (Some text)
-        → result.0 ≡ 3 → Rose (F.faults files) (F.faults result.1) }
-    ensures absent { (config dp : List ℕ) → meaning words.now ≡ Some (Plan config dp) → Tells (F.contents files) config None
-        → (result.0 ≡ 3) ⊎ ((result.0 ≡ 4) ⊎ (result.0 ≡ 8)) }
 
     // Status 4 only where a write failed, and no other where one did.
     ensures write_fault { result.0 ≡ 4 → Rose (O.faults out.old) (O.faults out.new) ⊎ Rose (E.faults err.old) (E.faults err.new) }
     ensures no_write_fault { result.0 ≢ 4 → (O.faults out.new ≡ O.faults out.old) × (E.faults err.new ≡ E.faults err.old) }
     ensures statuses { IsStatus result.0 }
 
+    // `check`: at status 0 each file is accepted, and their lines stand on `out` in order.
+    ensures checked { (names : List (List ℕ)) (held : Contents) → meaning words.now ≡ Some (Check names) → F.contents files ≡ Some held
+        → result.0 ≡ 0 → AreAccepted names (held 0) (O.wrote out.old) (O.wrote out.new) }
+
     // `plan`, the headline: at status 0 what stands on `out` opens the datapath. Whatever a switch held that
     // keeps the barrier rule, behind the last barrier it holds exactly the cold start of the configuration,
     // and these tables send every packet exactly as the configuration describes.
-    ensures opened { (config dp text : List ℕ) → meaning words.now ≡ Some (Plan config dp) → Tells (F.contents files) config (Some text)
-        → result.0 ≡ 0 → OpensBy text dp (O.wrote out.old) (O.wrote out.new) }
+    ensures opened { (config dp : List ℕ) (held : Contents) → meaning words.now ≡ Some (Plan config dp) → F.contents files ≡ Some held
+        → result.0 ≡ 0 → IsOpened config dp (held 0) (O.wrote out.old) (O.wrote out.new) }
 
     // Files and hub are handed back, and nothing was said to the hub.
     ensures contents { F.contents result.1 ≡ F.contents files }
@@ -97,10 +160,10 @@ pub fn faucet<F: Files, H: Hub, O: Sink, E: Sink>(
     ensures out_faults { O.faults out.old ≤ O.faults out.new }
     ensures err_faults { E.faults err.old ≤ E.faults err.new }
 {
-    laws::a_planned_batch_opens_the_datapath();
-    let mut files = files;
-    let status = answer_words(alloc, words, &mut files, out, err);
-    (status.number(), files, hub)
+    a_loaded_configuration_is_valid();
+    an_opening_batch_opens_the_datapath();
+    let (status, files) = answer_words(alloc, words, files, out, err);
+    (status, files, hub)
 }
 
 /// Says on `err` that memory ran out, where that came before the words could be read, and gives the exit

@@ -1,6 +1,6 @@
 //! Files in memory with what is gathered of them.
 
-use conf_gather::{GatherRefused, gather};
+use conf_gather::{LoadRefused, gather};
 use fg_outside::{CallNos, Folder, Folders, HeldFile, HeldFiles, MemFiles};
 use net_base::{Bytes, NoMemory, Text};
 use std::alloc::Global;
@@ -53,18 +53,18 @@ fn show_pairs(out: &mut String, pairs: &[Pair]) -> Result<(), NoMemory> {
     out.push_str("}")
 }
 
-fn show_refusal(out: &mut String, why: &GatherRefused) -> Result<(), NoMemory> {
+fn show_refusal(out: &mut String, why: &LoadRefused) -> Result<(), NoMemory> {
     match why {
-        GatherRefused::Read(name) => write!(out, "{}: Read", name.as_str()),
-        GatherRefused::Yaml(name, fault) => {
+        LoadRefused::Read(name) => write!(out, "{}: Read", name.as_str()),
+        LoadRefused::Yaml(name, fault) => {
             let (cause, form) = fault.cause.names();
             write!(out, "{}: line {}: {cause}{form}", name.as_str(), fault.line)
         }
-        GatherRefused::Conf(fault) => write!(out, "{}: {:?}", fault.path.as_str(), fault.cause),
-        GatherRefused::IncludeTwice(name) => write!(out, "{}: IncludeTwice", name.as_str()),
-        GatherRefused::IncludeDepth(name) => write!(out, "{}: IncludeDepth", name.as_str()),
-        GatherRefused::Absent(name) => write!(out, "{}: Absent", name.as_str()),
-        GatherRefused::Memory => out.push_str("no memory"),
+        LoadRefused::Conf(fault) => write!(out, "{}: {:?}", fault.path.as_str(), fault.cause),
+        LoadRefused::IncludeTwice(name) => write!(out, "{}: IncludeTwice", name.as_str()),
+        LoadRefused::IncludeDepth(name) => write!(out, "{}: IncludeDepth", name.as_str()),
+        LoadRefused::Absent(name) => write!(out, "{}: Absent", name.as_str()),
+        LoadRefused::Memory => out.push_str("no memory"),
     }
 }
 

@@ -1,5 +1,5 @@
 use Rattle.std.proofs.Common.{◌∙◌, List, ℕ, Err, ap, sym}
-use Rattle.conf_gather.specs.declared.refused.GatherRefused.TheVariants.{Yaml}
+use Rattle.conf_gather.specs.declared.refused.LoadRefused.TheVariants.{Yaml}
 use Rattle.conf_gather.specs.Gathered.{text_tree}
 use Rattle.conf_gather.proofs.ReadLemmas.{tree_read, fault_read}
 use Rattle.conf_gather.proofs.take.parse_text.Goals as goal

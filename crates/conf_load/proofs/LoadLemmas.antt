@@ -1,0 +1,43 @@
+-- What loading gives, by what gathering gives.
+use Rattle.std.proofs.Common.{◌≡◌, ℕ, List, Result, Ok, Err, refl, sym, ap, subst, ◌∙◌}
+use Rattle.yaml_subset.specs.declared.tree.Tree.{Tree}
+use Rattle.conf_types.specs.Configuration.{Configuration}
+use Rattle.conf_types.specs.Valid.{IsValid}
+use Rattle.conf_shape.specs.declared.refused.ConfFault.{ConfFault}
+use Rattle.conf_check.specs.Accepted.{conf_of}
+use Rattle.conf_gather.specs.declared.refused.LoadRefused.{LoadRefused}
+use Rattle.conf_gather.specs.declared.refused.LoadRefused.TheVariants.{Read, Yaml, Conf, IncludeTwice, IncludeDepth, Absent, Memory}
+use Rattle.conf_gather.specs.Gives.{◌>>=◌, Fails, Gives}
+use Rattle.conf_gather.specs.Gathered.{Held, gathered}
+use Rattle.conf_load.specs.Loaded.{unless_fault, checked, loaded}
+
+abbrev Loads : Type 0
+Loads = Result Configuration LoadRefused
+
+-- where gathering is refused, so is loading
+pub refused_first : (e : LoadRefused) (given : Result Tree LoadRefused) → Fails e given → Fails e (given >>= checked)
+refused_first (Read name) given fails = tt
+refused_first (Yaml name fault) given fails = ap (λ r. r >>= checked) fails
+refused_first (Conf fault) given fails = ap (λ r. r >>= checked) fails
+refused_first (IncludeTwice name) given fails = ap (λ r. r >>= checked) fails
+refused_first (IncludeDepth name) given fails = ap (λ r. r >>= checked) fails
+refused_first (Absent name) given fails = ap (λ r. r >>= checked) fails
+refused_first Memory given fails = tt
+
+-- a gathered tree is checked
+pub gathered_first : (made : Loads) (t : Tree) (given : Result Tree LoadRefused) → given ≡ Ok t → Gives made (checked t) → Gives made (given >>= checked)
+gathered_first made t given is gives = subst (λ (r : Result Tree LoadRefused). Gives made (r >>= checked)) (sym is) gives
+
+-- ---- what is loaded is valid
+
+module _ (valid : (t : Tree) (conf : Configuration) → conf_of t ≡ Ok conf → IsValid conf) where
+  accepted : (t : Tree) (conf : Configuration) (c : Result Configuration ConfFault) → conf_of t ≡ c → unless_fault c ≡ Ok conf → IsValid conf
+  accepted t conf (Ok other) is made = let same : other ≡ conf = cc in subst IsValid same (valid t other is)
+  accepted t conf (Err fault) is made = absurd cc
+
+  by_tree : (conf : Configuration) (given : Result Tree LoadRefused) → given >>= checked ≡ Ok conf → IsValid conf
+  by_tree conf (Ok t) made = accepted t conf (conf_of t) refl made
+  by_tree conf (Err e) made = absurd cc
+
+  pub loaded_valid : (held : Held) (name : List ℕ) (conf : Configuration) → loaded held name ≡ Ok conf → IsValid conf
+  loaded_valid held name conf made = by_tree conf (gathered held name) made

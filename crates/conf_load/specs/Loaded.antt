@@ -1,0 +1,22 @@
+-- The configuration of a file with all that it includes.
+use Rattle.std.specs.Prelude.{ℕ, List, Result, Ok, Err}
+use Rattle.yaml_subset.specs.declared.tree.Tree.{Tree}
+use Rattle.conf_types.specs.Configuration.{Configuration}
+use Rattle.conf_shape.specs.declared.refused.ConfFault.{ConfFault}
+use Rattle.conf_check.specs.Accepted.{conf_of}
+use Rattle.conf_gather.specs.declared.refused.LoadRefused.{LoadRefused}
+use Rattle.conf_gather.specs.declared.refused.LoadRefused.TheVariants.{Conf}
+use Rattle.conf_gather.specs.Gives.{◌>>=◌}
+use Rattle.conf_gather.specs.Gathered.{Held, gathered}
+
+abbrev pub unless_fault : Result Configuration ConfFault → Result Configuration LoadRefused
+unless_fault (Ok conf) = Ok conf
+unless_fault (Err fault) = Err (Conf fault)
+
+-- the configuration of a gathered document
+abbrev pub checked : Tree → Result Configuration LoadRefused
+checked t = unless_fault (conf_of t)
+
+-- the configuration of the file of this name, or why there is none, where these files are held
+abbrev pub loaded : Held → (name : List ℕ) → Result Configuration LoadRefused
+loaded held name = gathered held name >>= checked

@@ -1,0 +1,7 @@
+//! The configuration of a file with all that it includes.
+#![tactic(auto)]
+
+pub mod laws;
+mod loading;
+
+pub use loading::load;

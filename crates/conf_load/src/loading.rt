@@ -1,0 +1,55 @@
+ghost use Rattle.std.specs.Prelude.{◌≡◌, ◌≤◌, ℕ, List, Some, IfErr, IsErrOf};
+ghost use Rattle.fg_outside.specs.Contents.{Contents};
+ghost use Rattle.fg_outside.specs.Counts.{Rose};
+ghost use Rattle.yaml_subset.specs.declared.tree.Tree.{Tree};
+ghost use Rattle.conf_check.specs.Accepted.{IsRefused};
+ghost use Rattle.conf_gather.specs.Gives.{Fails, Gives, IsWithin};
+ghost use Rattle.conf_load.specs.Loaded.{checked, loaded};
+
+use conf_check::conf_of_tree;
+use conf_gather::{LoadRefused, gather};
+use conf_shape::ConfRefused;
+use conf_types::Conf;
+use fg_outside::Files;
+use std::alloc::Global;
+use yaml_subset::Tree;
+
+fn refusal(refused: ConfRefused) -> LoadRefused
+    ensures told { (t : Tree) → IsRefused t refused → Fails result (checked t) }
+    ensures within { IsWithin result }
+{
+    match refused {
+        ConfRefused::At(fault) => LoadRefused::Conf(fault),
+        ConfRefused::Memory => LoadRefused::Memory,
+    }
+}
+
+fn check_tree(alloc: Global, tree: &Tree) -> Result<Conf, LoadRefused>
+    ensures told { Gives result (checked tree.now) }
+    ensures within { IfErr result IsWithin }
+{
+    match conf_of_tree(alloc, tree) {
+        Ok(conf) => Ok(conf),
+        Err(refused) => Err(refusal(refused)),
+    }
+}
+
+/// The configuration of a file with all that it includes (`conf_gather::gather`).
+///
+/// Refused as gathering is, and with `Conf` for the first fault of the gathered document: of its
+/// shape, or else the first rule that is broken.
+pub fn load<F: Files>(alloc: Global, files: &mut F, name: &str) -> Result<Conf, LoadRefused>
+    ensures told { (held : Contents) → F.contents files.old ≡ Some held → Gives result (loaded (held 0) name.now) }
+    ensures read { (file : List ℕ) → IsErrOf result (LoadRefused.Read file)
+        → Rose (F.faults files.old) (F.faults files.new) }
+    ensures no_fault { ((file : List ℕ) → IsErrOf result (LoadRefused.Read file) → ⊥)
+        → F.faults files.new ≡ F.faults files.old }
+    ensures absent { (file : List ℕ) → IsErrOf result (LoadRefused.Absent file)
+        → Rose (F.absences files.old) (F.absences files.new) }
+    ensures absences { F.absences files.old ≤ F.absences files.new }
+    ensures counted_faults { F.faults files.old ≤ F.faults files.new }
+    ensures contents { F.contents files.new ≡ F.contents files.old }
+{
+    let tree = gather(alloc, files, name)?;
+    check_tree(alloc, &tree)
+}

@@ -1,0 +1,101 @@
+-- What a run of `check` delivers, file by file.
+use Rattle.std.proofs.Common.{◌≡◌, ℕ, ◌≤◌, ◌⊎◌, inl, inr, List, [], ◌∷◌, map, Option, Some, None, Result, Ok, Err, refl, sym, ap, ◌∙◌}
+use Rattle.std.specs.List.{AllByRecursion}
+use Rattle.fg_outside.specs.Contents.{Contents}
+use Rattle.fg_outside.specs.Counts.{Rose}
+use Rattle.fg_outside.specs.Wrote.{appended, AppendsFront}
+use Rattle.fg_outside.proofs.CountLemmas.{Rose-later, Rose-since}
+use Rattle.fg_outside.proofs.SinkLemmas.{appended-append, appended-nil, AppendsFront-none, AppendsFront-first, AppendsFront-second}
+use Rattle.conf_types.specs.Configuration.{Configuration}
+use Rattle.conf_gather.specs.declared.refused.LoadRefused.{LoadRefused}
+use Rattle.conf_gather.specs.declared.refused.LoadRefused.TheVariants.{Read, Yaml, Conf, IncludeTwice, IncludeDepth, Absent, Memory}
+use Rattle.faucet_top.specs.declared.deliver.Status.{Status}
+use Rattle.faucet_top.specs.declared.deliver.Status.TheVariants as statuses
+use Rattle.faucet_top.specs.Answer.{Answer, Load, refusal, json_line, check_step, check_answer}
+use Rattle.faucet_top.specs.Ends.{Ends, refused_status}
+use Rattle.faucet_top.specs.Given.{Loads, EachLoads, Delivers, Checks, GoesOn}
+use Rattle.faucet_top.specs.Status.{number_of_status}
+
+abbrev pub File : Type 0
+File = List ℕ × Load
+
+-- ---- what loading tells
+
+pub memory_loads : (contents : Option Contents) (absence fault : Type 0) (name : List ℕ) → Loads contents absence fault name (Err Memory)
+memory_loads contents absence fault name = record { told = λ held told. tt; absent = λ file is. absurd cc; unread = λ file is. absurd cc }
+
+-- what was counted by a part of a call was counted by the whole
+abbrev later : {contents : Option Contents} {absence fault absence2 fault2 : Type 0} → (absence → absence2) → (fault → fault2) → (name : List ℕ) (made : Load) → Loads contents absence fault name made → Loads contents absence2 fault2 name made
+later f g name made loads = record { told = loads.told; absent = λ file is. f (loads.absent file is); unread = λ file is. g (loads.unread file is) }
+
+each_later : {contents : Option Contents} {absence fault absence2 fault2 : Type 0} → (absence → absence2) → (fault → fault2) → (files : List File)
+    → AllByRecursion (λ file. Loads contents absence fault file.0 file.1) files → AllByRecursion (λ file. Loads contents absence2 fault2 file.0 file.1) files
+each_later f g [] all = tt
+each_later f g (file ∷ files) all = (later f g file.0 file.1 all.0, each_later f g files all.1)
+
+-- ---- one file
+
+module _ (name : List ℕ) (o0 o1 e0 e1 : Option (List ℕ)) (m0 m1 n0 n1 : ℕ) where
+  abbrev Line : LoadRefused → Status → Type 0
+  Line why ended = Ends (refused_status why) (refusal name why).err e0 e1 n0 n1 ended
+
+  line_delivered : (a : Answer) (status ended : Status) → a.out ≡ [] → a.status ≡ number_of_status status → Ends status a.err e0 e1 n0 n1 ended → Delivers a (number_of_status ended) o0 o0 e0 e1 m0 m0 n0 n1
+  line_delivered a status ended none is (inl whole) = inl (ap number_of_status whole.0 ∙ sym is, sym (appended-nil o0) ∙ ap (λ l. appended o0 l) (sym none), whole.1, refl, whole.2)
+  line_delivered a status ended none is (inr front) = inr (ap number_of_status front.0, AppendsFront-none o0 a.out, front.1, inr front.2)
+
+  pub refused : (why : LoadRefused) (ended : Status) → Line why ended → Delivers (refusal name why) (number_of_status ended) o0 o0 e0 e1 m0 m0 n0 n1
+  refused (Read file) ended ends = line_delivered (refusal name (Read file)) statuses.Unread ended refl refl ends
+  refused (Absent file) ended ends = line_delivered (refusal name (Absent file)) statuses.Unread ended refl refl ends
+  refused (Yaml file fault) ended ends = line_delivered (refusal name (Yaml file fault)) statuses.Refused ended refl refl ends
+  refused (Conf fault) ended ends = line_delivered (refusal name (Conf fault)) statuses.Refused ended refl refl ends
+  refused (IncludeTwice file) ended ends = line_delivered (refusal name (IncludeTwice file)) statuses.Refused ended refl refl ends
+  refused (IncludeDepth file) ended ends = line_delivered (refusal name (IncludeDepth file)) statuses.Refused ended refl refl ends
+  refused Memory ended ends = line_delivered (refusal name Memory) statuses.Memory ended refl refl ends
+
+  pub cut : (conf : Configuration) → AppendsFront o0 o1 (json_line conf) → Rose m0 m1 → (more : Answer) → Delivers (check_step name (Ok conf) more) 4 o0 o1 e0 e0 m0 m1 n0 n0
+  cut conf front rose more = inr (refl, AppendsFront-first o0 o1 (json_line conf) more.out front, AppendsFront-none e0 more.err, inl rose)
+
+-- ---- files in order
+
+module _ (o0 o1 o2 e0 e1 e2 : Option (List ℕ)) (m0 m1 m2 n0 n1 n2 : ℕ) (status : ℕ) where
+  -- a line was written, and then what follows
+  behind_delivered : (name : List ℕ) (conf : Configuration) (more : Answer) → o1 ≡ appended o0 (json_line conf) → e1 ≡ e0 → m1 ≡ m0 → n1 ≡ n0
+      → Delivers more status o1 o2 e1 e2 m1 m2 n1 n2 → Delivers (check_step name (Ok conf) more) status o0 o2 e0 e2 m0 m2 n0 n2
+  behind_delivered name conf more line quiet outs errs (inl whole) =
+      inl (whole.0, whole.1 ∙ ap (λ o. appended o more.out) line ∙ appended-append o0 (json_line conf) more.out, whole.2 ∙ ap (λ e. appended e more.err) quiet, whole.3 ∙ outs, whole.4 ∙ errs)
+  behind_delivered name conf more line quiet outs errs (inr front) =
+      inr (front.0, AppendsFront-second o0 o1 o2 (json_line conf) more.out line front.1, rw quiet at front.2, elim front.3 [ inl rose ↦ inl (rw outs at rose) | inr rose ↦ inr (rw errs at rose) ])
+
+module _ (contents : Option Contents) (a0 a1 a2 f0 f1 f2 : ℕ) (o0 o1 o2 e0 e1 e2 : Option (List ℕ)) (m0 m1 m2 n0 n1 n2 : ℕ) (name : List ℕ) (names : List (List ℕ)) where
+  pub none_checked : Checks contents (Rose a0 a0) (Rose f0 f0) [] 0 o0 o0 e0 e0 m0 m0 n0 n0
+  none_checked = ([], (refl, tt), inl (refl, sym (appended-nil o0), sym (appended-nil e0), refl, refl))
+
+  -- a file whose line was written, and the others
+  pub next_checked : (status : ℕ) (made : Load) → Loads contents (Rose a0 a1) (Rose f0 f1) name made → GoesOn name made None o0 o1 e0 e1 m0 m1 n0 n1
+      → a0 ≤ a1 → a1 ≤ a2 → f0 ≤ f1 → f1 ≤ f2
+      → Checks contents (Rose a1 a2) (Rose f1 f2) names status o1 o2 e1 e2 m1 m2 n1 n2 → Checks contents (Rose a0 a2) (Rose f0 f2) (name ∷ names) status o0 o2 e0 e2 m0 m2 n0 n2
+  next_checked status made loads (conf, is, line, quiet, outs, errs) le_a le_b le_f le_g (files, (are, all), delivers) = (
+    (name, made) ∷ files,
+    (ap (λ ns. name ∷ ns) are, (later (λ r. Rose-later a0 a1 a2 r le_b) (λ r. Rose-later f0 f1 f2 r le_g) name made loads, each_later (λ r. Rose-since a0 a1 a2 le_a r) (λ r. Rose-since f0 f1 f2 le_f r) files all)),
+    rw is (behind_delivered o0 o1 o2 e0 e1 e2 m0 m1 m2 n0 n1 n2 status name conf (check_answer files) line quiet outs errs delivers),
+  )
+
+  abbrev unloaded : List (List ℕ) → List File
+  unloaded ns = map (λ n. (n, Err Memory)) ns
+
+  unloaded_named : (ns : List (List ℕ)) → map (λ (file : File). file.0) (unloaded ns) ≡ ns
+  unloaded_named [] = refl
+  unloaded_named (n ∷ ns) = ap (λ more. n ∷ more) (unloaded_named ns)
+
+  unloaded_loads : (ns : List (List ℕ)) → AllByRecursion (λ (file : File). Loads contents (Rose a0 a1) (Rose f0 f1) file.0 file.1) (unloaded ns)
+  unloaded_loads [] = tt
+  unloaded_loads (n ∷ ns) = (memory_loads contents (Rose a0 a1) (Rose f0 f1) n, unloaded_loads ns)
+
+  -- a file that ended the run: the others weren't looked at
+  pub last_checked : (status : Status) (made : Load) → Loads contents (Rose a0 a1) (Rose f0 f1) name made → GoesOn name made (Some status) o0 o1 e0 e1 m0 m1 n0 n1
+      → Checks contents (Rose a0 a1) (Rose f0 f1) (name ∷ names) (number_of_status status) o0 o1 e0 e1 m0 m1 n0 n1
+  last_checked status made loads goes = (
+    (name, made) ∷ unloaded names,
+    (ap (λ ns. name ∷ ns) (unloaded_named names), (loads, unloaded_loads names)),
+    goes (check_answer (unloaded names)),
+  )

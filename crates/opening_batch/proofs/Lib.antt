@@ -1,0 +1,5 @@
+pub mod Adds
+pub mod Framed
+pub mod Headline
+pub mod Joined
+pub mod Nothing

@@ -1,0 +1,3 @@
+pub mod Messages
+pub mod Opened
+pub mod Opening
