@@ -1,0 +1,3 @@
+pub mod Parts
+pub mod Parting
+pub mod Meaning
