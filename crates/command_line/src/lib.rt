@@ -2,9 +2,10 @@
 //! what the whole asks the program to do.
 #![tactic(auto)]
 
+pub mod laws;
 mod meaning;
 mod parts;
 pub mod worked;
 
-pub use meaning::{Command, Job, read_words};
+pub use meaning::{Job, read_words};
 pub use parts::{CommandOption, CommandOptions, Parts, part_words};

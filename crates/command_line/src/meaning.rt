@@ -7,9 +7,8 @@ use crate::parts::{CommandOption, Parts, part_words};
 use net_base::{Names, NoMemory, Text, TryCopy};
 use std::alloc::Global;
 
-/// The commands.
-#[derive(Clone, Copy, Debug)]
-pub enum Command {
+#[derive(Clone, Copy)]
+enum Command {
     Check,
     Plan,
 }
@@ -82,7 +81,8 @@ fn job_of(alloc: Global, command: Command, parts: Parts) -> Result<Option<Job>, 
 }
 
 /// Reads the words of a command line. `None` exactly where they have no meaning: there is no word, or the
-/// first is no command; the words behind it have no parts; or the command's row doesn't show them.
+/// first is no command; the words behind it have no parts; an option is none that the command takes; or
+/// its plain words are too few or too many.
 #[tactic(auto, unfolding(crate::specs::Meaning::meaning))]
 pub fn read_words(alloc: Global, words: &Names) -> Result<Option<Job>, NoMemory>
     ensures { IfOk result (λ job. job ≡ meaning words.now) }

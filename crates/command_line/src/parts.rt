@@ -103,12 +103,14 @@ fn is_named(name: &str, options: &[CommandOption]) -> bool
 fn have_distinct_names(options: &[CommandOption]) -> bool
     ensures { result ≡ have_distinct_names options.now }
 {
-    match options {
-        [] => true,
-        [first, others @ ..] => {
-            !is_named(first.name.as_str(), others) && have_distinct_names(others)
+    let mut left = options;
+    while let [first, others @ ..] = left {
+        if is_named(first.name.as_str(), others) {
+            return false;
         }
+        left = others;
     }
+    true
 }
 
 /// Parts the words behind a command. `None` exactly where a word is empty or begins with a dash and is

@@ -1,5 +1,0 @@
-use Rattle.std.proofs.Common.{length}
-use Rattle.command_line.proofs.parts.+have_distinct_names.Given as goal
-
-abbrev pub decreases-have_distinct_names : goal.decreases-have_distinct_names
-decreases-have_distinct_names l = length l.options.now
