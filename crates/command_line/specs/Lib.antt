@@ -1,0 +1,4 @@
+pub mod Parts
+pub mod Parting
+pub mod Written
+pub mod Meaning

@@ -1,0 +1,41 @@
+-- What the words of a command line ask for.
+use Rattle.std.specs.Prelude.{ℕ, Bool, if◌then◌else◌, List, [], ◌∷◌, Option, Some, None, codes}
+use Rattle.std.specs.List.{list_any, list_all}
+use Rattle.std.specs.Str.{bytes_eq}
+use Rattle.net_base.specs.AddressReading.{◌>>=◌}
+use Rattle.command_line.specs.declared.meaning.Command.{Command}
+use Rattle.command_line.specs.declared.meaning.Command.TheVariants as commands
+use Rattle.command_line.specs.declared.meaning.Job.{Job}
+use Rattle.command_line.specs.declared.meaning.Job.TheVariants as jobs
+use Rattle.command_line.specs.declared.parts.CommandOption.{CommandOption}
+use Rattle.command_line.specs.declared.parts.Parts.{Parts}
+use Rattle.command_line.specs.Parts.{parts_of}
+
+-- the command that a word names
+abbrev pub command_of : List ℕ → Option Command
+command_of word =
+    if bytes_eq word (codes "check") then Some commands.Check
+    else if bytes_eq word (codes "plan") then Some commands.Plan
+    else None
+
+-- the options that a command takes
+abbrev pub options_of : Command → List (List ℕ)
+options_of commands.Check = []
+options_of commands.Plan = []
+
+-- each of these options is one that the command takes
+abbrev pub are_taken : Command → List CommandOption → Bool
+are_taken command options = list_all (λ o. list_any (λ name. bytes_eq name o.name) (options_of command)) options
+
+-- what a command asks for: `check FILE..`, one file or more; `plan CONFIG DP`
+abbrev pub job_of : Command → Parts → Option Job
+job_of commands.Check parts = elim parts.plain [ [] ↦ None | file ∷ files ↦ Some (jobs.Check (file ∷ files)) ]
+job_of commands.Plan parts = elim parts.plain [ config ∷ dp ∷ [] ↦ Some (jobs.Plan config dp) | _ ↦ None ]
+
+-- the first word is the command
+unfoldable pub meaning : List (List ℕ) → Option Job
+meaning [] = None
+meaning (word ∷ words) = do
+  command ← command_of word
+  parts ← parts_of words
+  if are_taken command parts.options then job_of command parts else None

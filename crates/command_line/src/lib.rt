@@ -1,0 +1,11 @@
+//! The words of a command line: the words behind a command, parted into plain words and options, and
+//! what the whole asks the program to do.
+#![tactic(auto)]
+
+pub mod laws;
+mod meaning;
+mod parts;
+pub mod worked;
+
+pub use meaning::{Job, read_words};
+pub use parts::{CommandOption, CommandOptions, Parts, part_words};

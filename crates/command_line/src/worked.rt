@@ -1,0 +1,52 @@
+//! Command lines worked out by hand. The functions do nothing: their contracts say what words ask for,
+//! and into what parts they fall.
+
+ghost use Rattle.std.specs.Prelude.{◌≡◌, Some, None, [], ◌∷◌, codes};
+ghost use Rattle.command_line.specs.declared.meaning.Job.TheVariants as jobs;
+ghost use Rattle.command_line.specs.Parts.{parts_of};
+ghost use Rattle.command_line.specs.Meaning.{meaning};
+
+/// The first word is a command.
+#[tactic(auto, unfolding(crate::specs::Meaning::meaning))]
+pub fn words_that_name_no_command()
+    ensures no_word { meaning [] ≡ None }
+    ensures unknown { meaning (codes "serve" ∷ codes "a" ∷ []) ≡ None }
+    ensures option_first { meaning (codes "--x=1" ∷ codes "check" ∷ codes "a" ∷ []) ≡ None }
+{}
+
+/// `check FILE..`: one file or more, and no option.
+#[tactic(auto, unfolding(crate::specs::Meaning::meaning, crate::specs::Parts::parts_of, crate::specs::Parts::parted))]
+pub fn words_behind_check()
+    ensures no_file { meaning (codes "check" ∷ []) ≡ None }
+    ensures one_file { meaning (codes "check" ∷ codes "a" ∷ []) ≡ Some (jobs.Check (codes "a" ∷ [])) }
+    ensures two_files { meaning (codes "check" ∷ codes "a" ∷ codes "b" ∷ []) ≡ Some (jobs.Check (codes "a" ∷ codes "b" ∷ [])) }
+    ensures dash { meaning (codes "check" ∷ codes "-x" ∷ []) ≡ None }
+    ensures empty { meaning (codes "check" ∷ [] ∷ []) ≡ None }
+    ensures joined_option { meaning (codes "check" ∷ codes "--x=1" ∷ codes "a" ∷ []) ≡ None }
+    ensures option { meaning (codes "check" ∷ codes "a" ∷ codes "--x" ∷ codes "1" ∷ []) ≡ None }
+{}
+
+/// `plan CONFIG DP`: two words, and no option.
+#[tactic(auto, unfolding(crate::specs::Meaning::meaning, crate::specs::Parts::parts_of, crate::specs::Parts::parted))]
+pub fn words_behind_plan()
+    ensures both { meaning (codes "plan" ∷ codes "a" ∷ codes "b" ∷ []) ≡ Some (jobs.Plan (codes "a") (codes "b")) }
+    ensures missing { meaning (codes "plan" ∷ codes "a" ∷ []) ≡ None }
+    ensures further { meaning (codes "plan" ∷ codes "a" ∷ codes "b" ∷ codes "c" ∷ []) ≡ None }
+    ensures option { meaning (codes "plan" ∷ codes "a" ∷ codes "b" ∷ codes "--x=1" ∷ []) ≡ None }
+{}
+
+/// Options stand anywhere, in either spelling.
+#[tactic(auto, unfolding(crate::specs::Parts::parts_of, crate::specs::Parts::parted))]
+pub fn options_among_words()
+    ensures both_spellings { parts_of (codes "a" ∷ codes "--x" ∷ codes "1" ∷ codes "b" ∷ codes "--y=2" ∷ [])
+        ≡ Some (record { plain = codes "a" ∷ codes "b" ∷ []; options = record { name = codes "x"; value = codes "1" } ∷ record { name = codes "y"; value = codes "2" } ∷ [] }) }
+    ensures first_sign_cuts { parts_of (codes "--x=1=2" ∷ []) ≡ Some (record { plain = []; options = record { name = codes "x"; value = codes "1=2" } ∷ [] }) }
+    ensures empty_value { parts_of (codes "--x=" ∷ []) ≡ Some (record { plain = []; options = record { name = codes "x"; value = [] } ∷ [] }) }
+    ensures any_value { parts_of (codes "--x" ∷ codes "--y=1" ∷ []) ≡ Some (record { plain = []; options = record { name = codes "x"; value = codes "--y=1" } ∷ [] }) }
+    ensures no_value { parts_of (codes "a" ∷ codes "--x" ∷ []) ≡ None }
+    ensures twice { parts_of (codes "--x=1" ∷ codes "--x" ∷ codes "2" ∷ []) ≡ None }
+    ensures two_dashes { parts_of (codes "--" ∷ codes "a" ∷ []) ≡ None }
+    ensures no_name { parts_of (codes "--=1" ∷ []) ≡ None }
+    ensures one_dash { parts_of (codes "-" ∷ []) ≡ None }
+    ensures empty_word { parts_of (codes "a" ∷ [] ∷ []) ≡ None }
+{}
