@@ -1,0 +1,4 @@
+//! The JSON text of an accepted configuration.
+#![tactic(auto)]
+
+mod value;
