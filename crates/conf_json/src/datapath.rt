@@ -1,0 +1,48 @@
+ghost use Rattle.std.specs.Prelude.{◌≡◌, map, IfOk};
+ghost use Rattle.conf_json.specs.Json.{object};
+ghost use Rattle.conf_json.specs.Text.{dp_text, dp_member};
+
+use crate::lists::number_or_null;
+use crate::port::make_ports;
+use crate::value::{Json, Object};
+use conf_types::{Conf, Dp};
+use net_base::NoMemory;
+use std::alloc::Global;
+
+fn make_dp(alloc: Global, conf: &Conf, dp: &Dp) -> Result<Json, NoMemory>
+    ensures { IfOk result (λ made. made ≡ dp_text conf.now dp.now) }
+{
+    let mut made = Object::new(alloc);
+    let arp_timeout = Json::number(u64::from(dp.arp_timeout));
+    made.put(alloc, "arp_neighbor_timeout", arp_timeout)?;
+    let description = Json::text(alloc, dp.description.as_str())?;
+    made.put(alloc, "description", description)?;
+    made.put(alloc, "dp_id", Json::number(dp.id.0))?;
+    made.put(alloc, "drop_bpdu", Json::flag(dp.drop_bpdu))?;
+    let drop_broadcast = Json::flag(dp.drop_broadcast);
+    made.put(alloc, "drop_broadcast_source_address", drop_broadcast)?;
+    made.put(alloc, "drop_lldp", Json::flag(dp.drop_lldp))?;
+    let drop_spoofed = Json::flag(dp.drop_spoofed);
+    made.put(alloc, "drop_spoofed_faucet_mac", drop_spoofed)?;
+    let hardware = Json::text(alloc, dp.hardware.as_str())?;
+    made.put(alloc, "hardware", hardware)?;
+    let ports = make_ports(alloc, conf, dp.ports.as_slice())?;
+    made.put(alloc, "interfaces", ports)?;
+    let priority = number_or_null(dp.stack_priority);
+    made.put(alloc, "stack_priority", priority)?;
+    let timeout = Json::number(u64::from(dp.timeout));
+    made.put(alloc, "timeout", timeout)?;
+    Ok(made.into_json())
+}
+
+/// The datapaths, under their names.
+pub(crate) fn make_dps(alloc: Global, conf: &Conf, dps: &[Dp]) -> Result<Json, NoMemory>
+    ensures { IfOk result (λ made. made ≡ object (map (dp_member conf.now) dps.now)) }
+{
+    let mut made = Object::new(alloc);
+    for dp in dps {
+        let json = make_dp(alloc, conf, dp)?;
+        made.put(alloc, dp.name.as_str(), json)?;
+    }
+    Ok(made.into_json())
+}
