@@ -1,3 +1,3 @@
 pub mod Ascending
-pub mod Folded
+pub mod Members
 pub mod Printed

@@ -34,6 +34,7 @@ fn make_routers(alloc: Global, routers: &[Router]) -> Result<Json, NoMemory>
     Ok(made.into_json())
 }
 
+#[tactic(auto, unfolding(crate::specs::Text::json_text))]
 fn make_conf(alloc: Global, conf: &Conf) -> Result<Json, NoMemory>
     ensures { IfOk result (λ made. made ≡ json_text conf.now) }
 {

@@ -13,25 +13,19 @@ fn make_dp(alloc: Global, conf: &Conf, dp: &Dp) -> Result<Json, NoMemory>
     ensures { IfOk result (λ made. made ≡ dp_text conf.now dp.now) }
 {
     let mut made = Object::new(alloc);
-    let arp_timeout = Json::number(u64::from(dp.arp_timeout));
-    made.put(alloc, "arp_neighbor_timeout", arp_timeout)?;
-    let description = Json::text(alloc, dp.description.as_str())?;
-    made.put(alloc, "description", description)?;
+    made.put_number(alloc, "arp_neighbor_timeout", dp.arp_timeout)?;
+    made.put_text(alloc, "description", &dp.description)?;
     made.put(alloc, "dp_id", Json::number(dp.id.0))?;
-    made.put(alloc, "drop_bpdu", Json::flag(dp.drop_bpdu))?;
-    let drop_broadcast = Json::flag(dp.drop_broadcast);
-    made.put(alloc, "drop_broadcast_source_address", drop_broadcast)?;
-    made.put(alloc, "drop_lldp", Json::flag(dp.drop_lldp))?;
-    let drop_spoofed = Json::flag(dp.drop_spoofed);
-    made.put(alloc, "drop_spoofed_faucet_mac", drop_spoofed)?;
-    let hardware = Json::text(alloc, dp.hardware.as_str())?;
-    made.put(alloc, "hardware", hardware)?;
+    made.put_flag(alloc, "drop_bpdu", dp.drop_bpdu)?;
+    made.put_flag(alloc, "drop_broadcast_source_address", dp.drop_broadcast)?;
+    made.put_flag(alloc, "drop_lldp", dp.drop_lldp)?;
+    made.put_flag(alloc, "drop_spoofed_faucet_mac", dp.drop_spoofed)?;
+    made.put_text(alloc, "hardware", &dp.hardware)?;
     let ports = make_ports(alloc, conf, dp.ports.as_slice())?;
     made.put(alloc, "interfaces", ports)?;
     let priority = number_or_null(dp.stack_priority);
     made.put(alloc, "stack_priority", priority)?;
-    let timeout = Json::number(u64::from(dp.timeout));
-    made.put(alloc, "timeout", timeout)?;
+    made.put_number(alloc, "timeout", dp.timeout)?;
     Ok(made.into_json())
 }
 

@@ -43,28 +43,22 @@ fn make_port(alloc: Global, conf: &Conf, port: &Port) -> Result<Json, NoMemory>
     let mut made = Object::new(alloc);
     let acls = make_names(alloc, port.acls.as_slice())?;
     made.put(alloc, "acls_in", acls)?;
-    let description = Json::text(alloc, port.description.as_str())?;
-    made.put(alloc, "description", description)?;
-    made.put(alloc, "enabled", Json::flag(port.enabled))?;
-    made.put(alloc, "hairpin", Json::flag(port.hairpin))?;
-    let max_hosts = Json::number(u64::from(port.max_hosts));
-    made.put(alloc, "max_hosts", max_hosts)?;
+    made.put_text(alloc, "description", &port.description)?;
+    made.put_flag(alloc, "enabled", port.enabled)?;
+    made.put_flag(alloc, "hairpin", port.hairpin)?;
+    made.put_number(alloc, "max_hosts", port.max_hosts)?;
     let mirror = make_port_nos(alloc, port.mirror.as_slice())?;
     made.put(alloc, "mirror", mirror)?;
-    let name = Json::text(alloc, port.name.as_str())?;
-    made.put(alloc, "name", name)?;
+    made.put_text(alloc, "name", &port.name)?;
     made.put(alloc, "native_vlan", vid_or_null(port.native))?;
-    let opstatus_reconf = Json::flag(port.opstatus_reconf);
-    made.put(alloc, "opstatus_reconf", opstatus_reconf)?;
-    made.put(alloc, "output_only", Json::flag(port.output_only))?;
-    let permanent_learn = Json::flag(port.permanent_learn);
-    made.put(alloc, "permanent_learn", permanent_learn)?;
+    made.put_flag(alloc, "opstatus_reconf", port.opstatus_reconf)?;
+    made.put_flag(alloc, "output_only", port.output_only)?;
+    made.put_flag(alloc, "permanent_learn", port.permanent_learn)?;
     let stack = make_stack(alloc, conf, port.stack)?;
     made.put(alloc, "stack", stack)?;
     let tagged = make_vids(alloc, port.tagged.as_slice())?;
     made.put(alloc, "tagged_vlans", tagged)?;
-    let unicast_flood = Json::flag(port.unicast_flood);
-    made.put(alloc, "unicast_flood", unicast_flood)?;
+    made.put_flag(alloc, "unicast_flood", port.unicast_flood)?;
     Ok(made.into_json())
 }
 

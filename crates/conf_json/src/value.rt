@@ -149,6 +149,39 @@ impl Object {
         serde_json::put(&mut self.members, alloc, name, json.value)
     }
 
+    pub(crate) fn put_flag(
+        &mut self,
+        alloc: Global,
+        name: &str,
+        is_set: bool,
+    ) -> Result<(), NoMemory>
+        ensures { OnOk result (self.new ≡ with_member self.old (name.now, flag is_set)) }
+    {
+        self.put(alloc, name, Json::flag(is_set))
+    }
+
+    pub(crate) fn put_number(
+        &mut self,
+        alloc: Global,
+        name: &str,
+        number: u32,
+    ) -> Result<(), NoMemory>
+        ensures { OnOk result (self.new ≡ with_member self.old (name.now, decimal number)) }
+    {
+        self.put(alloc, name, Json::number(u64::from(number)))
+    }
+
+    pub(crate) fn put_text(
+        &mut self,
+        alloc: Global,
+        name: &str,
+        text: &Text,
+    ) -> Result<(), NoMemory>
+        ensures { OnOk result (self.new ≡ with_member self.old (name.now, quoted text.now)) }
+    {
+        self.put(alloc, name, Json::text(alloc, text.as_str())?)
+    }
+
     pub(crate) fn into_json(self) -> Json
         ensures { result ≡ braces self }
     {

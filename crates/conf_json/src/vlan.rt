@@ -68,19 +68,15 @@ fn make_vlan(alloc: Global, vlan: &Vlan) -> Result<Json, NoMemory>
     let mut made = Object::new(alloc);
     let acls = make_names(alloc, vlan.acls.as_slice())?;
     made.put(alloc, "acls_in", acls)?;
-    let description = Json::text(alloc, vlan.description.as_str())?;
-    made.put(alloc, "description", description)?;
+    made.put_text(alloc, "description", &vlan.description)?;
     made.put(alloc, "faucet_mac", make_mac(alloc, &vlan.mac)?)?;
     let vips = make_vips(alloc, vlan.vips.as_slice())?;
     made.put(alloc, "faucet_vips", vips)?;
-    let max_hosts = Json::number(u64::from(vlan.max_hosts));
-    made.put(alloc, "max_hosts", max_hosts)?;
-    let name = Json::text(alloc, vlan.name.as_str())?;
-    made.put(alloc, "name", name)?;
+    made.put_number(alloc, "max_hosts", vlan.max_hosts)?;
+    made.put_text(alloc, "name", &vlan.name)?;
     let routes = make_routes(alloc, vlan.routes.as_slice())?;
     made.put(alloc, "routes", routes)?;
-    let unicast_flood = Json::flag(vlan.unicast_flood);
-    made.put(alloc, "unicast_flood", unicast_flood)?;
+    made.put_flag(alloc, "unicast_flood", vlan.unicast_flood)?;
     Ok(made.into_json())
 }
 
