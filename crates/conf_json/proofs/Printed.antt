@@ -1,16 +1,14 @@
 -- What serde_json prints of a value's parts.
-use Rattle.std.proofs.Common.{◌≡◌, ℕ, ◌+◌, ◌<◌, List, [], ◌∷◌, ◌++◌, Bool, true, false, cond, ◌||◌, ◌==◌, nat_lt, flat_map, map, if◌then◌else◌, String, Global, Ordering, Less, Equal, Greater, refl, sym, ap, ◌∙◌, append_assoc, arith}
-use Rattle.std.specs.Char.{digit_char}
-use Rattle.std.specs.List.{join_by}
+use Rattle.std.proofs.Common.{◌≡◌, ℕ, List, [], ◌∷◌, ◌++◌, Bool, true, false, cond, ◌||◌, ◌==◌, nat_lt, flat_map, if◌then◌else◌, Ordering, Less, Equal, Greater, refl, sym, ap, ◌∙◌, append_assoc, arith}
 use Rattle.std.specs.Ordering.{nat_cmp, match_ordering}
 use Rattle.std.specs.Cmp.Lexicographic.{slice_cmp}
 use Rattle.std.proofs.lemmas.Bool.{or_from, or_parts}
 use Rattle.json.specs.Print as printing
 use Rattle.serde_json.specs.Data.{Data, array, object as object_of, Items, no_items, item, Members, no_members, member, put}
-use Rattle.serde_json.specs.View.{view, items_view, members_view}
+use Rattle.serde_json.specs.View.{view, items_view}
 use Rattle.serde_json.specs.Written.{compact_text, items_text, members_text, has_float, items_have_float, members_have_float}
 use Rattle.serde_json.specs.declared.value.Value.{Value}
-use Rattle.conf_json.specs.Json.{Member, escape, escaped, quoted, list, with_member, braces}
+use Rattle.conf_json.specs.Json.{escape, escaped, quoted, list, with_member, braces}
 use Rattle.conf_json.specs.Values.{item_texts, member_texts}
 
 -- ---- strings

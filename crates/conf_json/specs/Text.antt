@@ -1,5 +1,5 @@
 -- The JSON text of a configuration.
-use Rattle.std.specs.Prelude.{ℕ, List, [], ◌∷◌, Bool, nat_lt, if◌then◌else◌, Option, codes, decimal, fold, map, length}
+use Rattle.std.specs.Prelude.{ℕ, List, [], ◌∷◌, nat_lt, if◌then◌else◌, Option, codes, decimal, fold, map, length}
 use Rattle.std.specs.Option.{option_map_or}
 use Rattle.net_base.specs.Address.{ip4_text, mac_text, net4_text}
 use Rattle.net_base.specs.declared.net4.Net4.{Net4}

@@ -7,5 +7,6 @@ mod lists;
 mod port;
 mod value;
 mod vlan;
+pub mod worked;
 
 pub use conf::json;
