@@ -1,0 +1,4 @@
+pub mod Json
+pub mod Text
+pub mod Values
+pub mod Worked
