@@ -10,11 +10,11 @@ use std::alloc::Global;
 use std::process::Abort;
 use std::test::Fail;
 
-fn vid(rt: &impl Abort, n: u16) -> Vid {
+pub fn vid(rt: &impl Abort, n: u16) -> Vid {
     Vid::new(n).expect(rt, "a VLAN")
 }
 
-fn port_no(rt: &impl Abort, n: u32) -> PortNo {
+pub fn port_no(rt: &impl Abort, n: u32) -> PortNo {
     PortNo::new(n).expect(rt, "a port")
 }
 

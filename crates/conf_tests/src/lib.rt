@@ -1,8 +1,10 @@
-//! Tests of the public calls of the crates of the configuration, a module for each crate: tables of
-//! values worked out by hand.
+//! Tests of what the crates of the configuration say in values: of a raw configuration, of parts of an
+//! accepted one, and of whole ones by their texts. Where a text is wrong stands in `text_cases`.
 #![tactic(auto)]
 
 #[cfg(test)]
 mod conf_shape_tests;
 #[cfg(test)]
 mod conf_types_tests;
+#[cfg(test)]
+mod readers_tests;

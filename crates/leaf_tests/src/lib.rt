@@ -8,5 +8,3 @@ mod fg_outside_tests;
 mod net_base_tests;
 #[cfg(test)]
 mod stack_paths_tests;
-#[cfg(test)]
-mod yaml_tests;

@@ -1,9 +1,10 @@
 //! Three configurations, and what their readers answer, worked out by hand: a ring of three switches, two
 //! VLANs that are routed, an exchange with mirrors.
 
+use crate::conf_types_tests::{port_no, vid};
 use conf_check::conf_of_bytes;
 use conf_types::{Conf, Member, UpRec, UpRecs};
-use net_base::{DpId, NoMemory, PortNo, Vid};
+use net_base::{DpId, NoMemory};
 use std::alloc::Global;
 use std::process::Abort;
 use std::test::Fail;
@@ -80,14 +81,6 @@ dps:
       tap: {number: 48, mirror: [gamma, alpha, 3]}
       probe: {number: 47, mirror: alpha}
 ";
-
-fn vid(rt: &impl Abort, n: u16) -> Vid {
-    Vid::new(n).expect(rt, "a VLAN")
-}
-
-fn port_no(rt: &impl Abort, n: u32) -> PortNo {
-    PortNo::new(n).expect(rt, "a port")
-}
 
 fn conf(rt: &impl Abort, alloc: Global, text: &str) -> Conf {
     match conf_of_bytes(alloc, text.as_bytes()) {
