@@ -33,7 +33,7 @@ number_or_null number = option_map_or decimal number null
 
 -- ---- interfaces
 
--- the name of the datapath with the identifier of a far end; every one in a configuration has one
+-- the name of the datapath that a far end lies on; a valid configuration has that datapath
 abbrev pub far_name : Configuration → StackEnd → List ℕ
 far_name conf far = option_map_or (λ d. d.name) (dp_with conf.dps far.dp) []
 
