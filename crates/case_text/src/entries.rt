@@ -51,11 +51,14 @@ fn put_key(alloc: Global, out: &mut String, key: &Key) -> Result<(), NoMemory> {
     Ok(())
 }
 
-/// A flow entry: its key, and behind a colon its instructions, each behind a semicolon but the first.
+/// A flow entry: its key, and behind a colon its instructions, joined by semicolons; `drop` for none.
 pub fn put_entry(alloc: Global, out: &mut String, entry: &Entry) -> Result<(), NoMemory> {
     put_key(alloc, out, &entry.key)?;
+    out.push_str(if entry.instrs.is_empty() { ": drop" } else { ": " })?;
     for (at, instr) in entry.instrs.as_slice().iter().enumerate() {
-        out.push_str(if at > 0 { "; " } else { ": " })?;
+        if at > 0 {
+            out.push_str("; ")?;
+        }
         match instr {
             Instr::Goto(table) => write!(out, "goto {table}")?,
             Instr::Apply(actions) => put_actions(alloc, out, actions.as_slice())?,
