@@ -54,7 +54,11 @@ fn put_key(alloc: Global, out: &mut String, key: &Key) -> Result<(), NoMemory> {
 /// A flow entry: its key, and behind a colon its instructions, joined by semicolons; `drop` for none.
 pub fn put_entry(alloc: Global, out: &mut String, entry: &Entry) -> Result<(), NoMemory> {
     put_key(alloc, out, &entry.key)?;
-    out.push_str(if entry.instrs.is_empty() { ": drop" } else { ": " })?;
+    out.push_str(if entry.instrs.is_empty() {
+        ": drop"
+    } else {
+        ": "
+    })?;
     for (at, instr) in entry.instrs.as_slice().iter().enumerate() {
         if at > 0 {
             out.push_str("; ")?;
