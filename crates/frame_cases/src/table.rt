@@ -39,6 +39,7 @@ fn fill(table: &mut Neighbours, words: &mut SplitWhitespace<'_>) -> Option<Want>
     last
 }
 
+/// What is kept of a table where these datapaths run.
 fn kept(
     alloc: Global,
     conf: &Conf,
@@ -46,8 +47,10 @@ fn kept(
     words: &mut SplitWhitespace<'_>,
 ) -> Result<Neighbours, NoMemory> {
     let mut running = Items::new(alloc);
-    while let Some(dp) = dp_id(words) {
-        running.push(dp)?;
+    for word in words {
+        if let Ok(id) = word.parse::<u64>() {
+            running.push(DpId(id))?;
+        }
     }
     table.kept(conf, running.as_slice(), Moment(0))
 }
@@ -56,16 +59,16 @@ fn kept(
 fn put_key(
     alloc: Global,
     out: &mut String,
-    group: DpId,
-    vid: Vid,
-    ip: Ip4,
+    group: &DpId,
+    vid: &Vid,
+    ip: &Ip4,
 ) -> Result<(), NoMemory> {
     write!(out, "{} {} ", group.0, vid.get())?;
-    put_ip4(alloc, out, ip)
+    put_ip4(alloc, out, *ip)
 }
 
 fn put_neighbour(alloc: Global, out: &mut String, neighbour: &NeighRec) -> Result<(), NoMemory> {
-    put_key(alloc, out, neighbour.group, neighbour.vid, neighbour.ip)?;
+    put_key(alloc, out, &neighbour.group, &neighbour.vid, &neighbour.ip)?;
     if let Some(mac) = neighbour.mac {
         out.push_str(" at ")?;
         put_mac(alloc, out, mac)?;
@@ -88,18 +91,31 @@ fn list(alloc: Global, table: &Neighbours) -> Result<String, NoMemory> {
     Ok(out)
 }
 
+fn put_due(alloc: Global, out: &mut String, due: &Due) -> Result<(), NoMemory> {
+    match due {
+        Due::Ask { group, vid, ip } => {
+            out.push_str("ask ")?;
+            put_key(alloc, out, group, vid, ip)
+        }
+        Due::Gone { group, vid, ip } => {
+            out.push_str("gone ")?;
+            put_key(alloc, out, group, vid, ip)
+        }
+    }
+}
+
 fn due(
     alloc: Global,
     conf: &Conf,
     table: &mut Neighbours,
     moment: Moment,
 ) -> Result<String, NoMemory> {
-    let (mut out, group, vid, ip) = match table.due(conf, moment) {
-        Some(Due::Ask { group, vid, ip }) => (format!(in alloc; "ask ")?, group, vid, ip),
-        Some(Due::Gone { group, vid, ip }) => (format!(in alloc; "gone ")?, group, vid, ip),
-        None => return format!(in alloc; "nothing"),
-    };
-    put_key(alloc, &mut out, group, vid, ip)?;
+    let mut out = String::new(alloc);
+    let due = table.due(conf, moment);
+    match &due {
+        Some(due) => put_due(alloc, &mut out, due)?,
+        None => out.push_str("nothing")?,
+    }
     Ok(out)
 }
 
