@@ -1,5 +1,6 @@
 -- What a run of `check` delivers, file by file.
-use Rattle.std.proofs.Common.{◌≡◌, ℕ, ◌≤◌, ◌⊎◌, inl, inr, List, [], ◌∷◌, map, Option, Some, None, Result, Ok, Err, refl, sym, ap, ◌∙◌}
+use Rattle.std.proofs.Common.{◌≡◌, ℕ, ◌-◌, ◌≤◌, ◌⊎◌, inl, inr, List, [], ◌∷◌, map, length, take, drop, get_or, Option, Some, None, Result, Ok, Err, refl, sym, ap, ◌∙◌, arith}
+use Rattle.std.proofs.lemmas.Grind.{common_steps}
 use Rattle.std.specs.List.{AllByRecursion}
 use Rattle.fg_outside.specs.Contents.{Contents}
 use Rattle.fg_outside.specs.Counts.{Rose}
@@ -25,13 +26,13 @@ pub memory_loads : (contents : Option Contents) (absence fault : Type 0) (name :
 memory_loads contents absence fault name = record { told = λ held told. tt; absent = λ file is. absurd cc; unread = λ file is. absurd cc }
 
 -- what was counted by a part of a call was counted by the whole
-abbrev later : {contents : Option Contents} {absence fault absence2 fault2 : Type 0} → (absence → absence2) → (fault → fault2) → (name : List ℕ) (made : Load) → Loads contents absence fault name made → Loads contents absence2 fault2 name made
-later f g name made loads = record { told = loads.told; absent = λ file is. f (loads.absent file is); unread = λ file is. g (loads.unread file is) }
+module _ (contents : Option Contents) (absence fault absence2 fault2 : Type 0) (f : absence → absence2) (g : fault → fault2) where
+  pub later : (name : List ℕ) (made : Load) → Loads contents absence fault name made → Loads contents absence2 fault2 name made
+  later name made loads = record { told = loads.told; absent = λ file is. f (loads.absent file is); unread = λ file is. g (loads.unread file is) }
 
-each_later : {contents : Option Contents} {absence fault absence2 fault2 : Type 0} → (absence → absence2) → (fault → fault2) → (files : List File)
-    → AllByRecursion (λ file. Loads contents absence fault file.0 file.1) files → AllByRecursion (λ file. Loads contents absence2 fault2 file.0 file.1) files
-each_later f g [] all = tt
-each_later f g (file ∷ files) all = (later f g file.0 file.1 all.0, each_later f g files all.1)
+  pub each_later : (files : List File) → AllByRecursion (λ file. Loads contents absence fault file.0 file.1) files → AllByRecursion (λ file. Loads contents absence2 fault2 file.0 file.1) files
+  each_later [] all = tt
+  each_later (file ∷ files) all = (later file.0 file.1 all.0, each_later files all.1)
 
 -- ---- one file
 
@@ -76,7 +77,8 @@ module _ (contents : Option Contents) (a0 a1 a2 f0 f1 f2 : ℕ) (o0 o1 o2 e0 e1 
       → Checks contents (Rose a1 a2) (Rose f1 f2) names status o1 o2 e1 e2 m1 m2 n1 n2 → Checks contents (Rose a0 a2) (Rose f0 f2) (name ∷ names) status o0 o2 e0 e2 m0 m2 n0 n2
   next_checked status made loads (conf, is, line, quiet, outs, errs) le_a le_b le_f le_g (files, (are, all), delivers) = (
     (name, made) ∷ files,
-    (ap (λ ns. name ∷ ns) are, (later (λ r. Rose-later a0 a1 a2 r le_b) (λ r. Rose-later f0 f1 f2 r le_g) name made loads, each_later (λ r. Rose-since a0 a1 a2 le_a r) (λ r. Rose-since f0 f1 f2 le_f r) files all)),
+    (ap (λ ns. name ∷ ns) are, (later contents (Rose a0 a1) (Rose f0 f1) (Rose a0 a2) (Rose f0 f2) (λ r. Rose-later a0 a1 a2 r le_b) (λ r. Rose-later f0 f1 f2 r le_g) name made loads,
+        each_later contents (Rose a1 a2) (Rose f1 f2) (Rose a0 a2) (Rose f0 f2) (λ r. Rose-since a0 a1 a2 le_a r) (λ r. Rose-since f0 f1 f2 le_f r) files all)),
     rw is (behind_delivered o0 o1 o2 e0 e1 e2 m0 m1 m2 n0 n1 n2 status name conf (check_answer files) line quiet outs errs delivers),
   )
 
@@ -99,3 +101,10 @@ module _ (contents : Option Contents) (a0 a1 a2 f0 f1 f2 : ℕ) (o0 o1 o2 e0 e1 
     (ap (λ ns. name ∷ ns) (unloaded_named names), (loads, unloaded_loads names)),
     goes (check_answer (unloaded names)),
   )
+
+-- ---- names in a slice
+
+-- the first of several names
+pub front_name : (names : List (List ℕ)) (name : List ℕ) → 1 ≤ length names → name ≡ get_or names 0 name → names ≡ name ∷ take (length names - 1) (drop 1 names)
+front_name [] name some is = absurd (omega arith)
+front_name (other ∷ names) name some is = grind (arith, common_steps)

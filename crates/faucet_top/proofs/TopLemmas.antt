@@ -279,7 +279,7 @@ module _ (job : Option Job) (contents : Option Contents) (absence fault : Type 0
   -- at status 0 memory hasn't run out
   done_reply : (held : Contents) → contents ≡ Some held → (gives.0).status ≡ 0 → (j : Option Job) → job ≡ j → RepliesJob j (Some held) absence fault gives.0
   done_reply held is none j same =
-      elim told_reply held is [
+      elim (told_reply held is) [
         | inl reply ↦ subst (λ (k : Option Job). RepliesJob k (Some held) absence fault gives.0) same reply
         | inr out ↦ let eight = memory_status out in absurd (omega (arith, eight, none))
       ]
