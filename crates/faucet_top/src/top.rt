@@ -65,6 +65,7 @@ pub fn local<F: Files, O: Sink, E: Sink>(
     ensures unread { result.0 ≡ 3 → Rose (F.absences files) (F.absences result.1) ⊎ Rose (F.faults files) (F.faults result.1) }
     ensures write_fault { result.0 ≡ 4 → Rose (O.faults out.old) (O.faults out.new) ⊎ Rose (E.faults err.old) (E.faults err.new) }
     ensures no_write_fault { result.0 ≢ 4 → (O.faults out.new ≡ O.faults out.old) × (E.faults err.new ≡ E.faults err.old) }
+    ensures statuses { IsStatus result.0 }
 
     // The files are handed back.
     ensures contents { F.contents result.1 ≡ F.contents files }
@@ -90,6 +91,7 @@ fn answer_words<F: Files, O: Sink, E: Sink>(
         result.0 (O.wrote out.old) (O.wrote out.new) (E.wrote err.old) (E.wrote err.new)
         (O.faults out.old) (O.faults out.new) (E.faults err.old) (E.faults err.new) }
 
+    ensures statuses { IsStatus result.0 }
     ensures contents { F.contents result.1 ≡ F.contents files }
     ensures faults { F.faults files ≤ F.faults result.1 }
     ensures absences { F.absences files ≤ F.absences result.1 }
