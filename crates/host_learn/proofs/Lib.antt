@@ -1,6 +1,9 @@
+pub mod AtAddress
+pub mod Entries
 pub mod KeptParts
 pub mod KeptRoom
 pub mod KeptValid
 pub mod Lists
 pub mod Places
 pub mod Sizes
+pub mod Spots

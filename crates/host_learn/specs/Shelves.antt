@@ -1,0 +1,22 @@
+-- The datapaths on which hosts stand.
+use Rattle.std.specs.Prelude.{◌==◌, ◌&&◌, ◌++◌, Bool, ℕ, List, [], ◌∷◌, map, nat_lt, nat_le, if◌then◌else◌}
+use Rattle.std.specs.List.{list_any}
+use Rattle.net_base.specs.declared.numbers.DpId.{DpId}
+use Rattle.net_base.specs.declared.numbers.Moment.{Moment}
+use Rattle.conf_types.specs.declared.state.HostRec.{HostRec}
+use Rattle.host_learn.specs.declared.shelves.Shelf.{Shelf}
+
+-- the shelf's moment is no later than this one, if it is the datapath's
+abbrev pub lowered : DpId → Moment → Shelf → Shelf
+lowered dp heard shelf = if shelf.dp.0 == dp.0 && nat_lt heard.0 shelf.least.0 then record { dp = dp; least = heard } else shelf
+
+abbrev pub noted : DpId → Moment → List Shelf → List Shelf
+noted dp heard shelves =
+    if list_any (λ s. s.dp.0 == dp.0) shelves then map (lowered dp heard) shelves else shelves ++ record { dp = dp; least = heard } ∷ []
+
+-- a shelf is the host's
+abbrev pub is_on : HostRec → Shelf → Bool
+is_on host shelf = shelf.dp.0 == host.dp.0 && nat_le shelf.least.0 host.learned.0
+
+abbrev pub is_shelved : List Shelf → HostRec → Bool
+is_shelved shelves host = list_any (is_on host) shelves

@@ -1,0 +1,51 @@
+//! The datapaths on which hosts stand, and how early the hosts of each were heard.
+
+ghost use Rattle.std.specs.Prelude.{◌≡◌, ◌==◌, map, OnOk, OnErr};
+ghost use Rattle.std.specs.List.{list_any};
+ghost use Rattle.host_learn.specs.Shelves.{lowered, noted};
+
+use net_base::{DpId, Moment, NoMemory};
+
+/// A datapath, and a moment before which none of its hosts was last heard.
+#[derive(Clone, Copy, Debug, PartialEq, Eq)]
+pub(crate) struct Shelf {
+    pub dp: DpId,
+    pub least: Moment,
+}
+
+fn has_dp(shelves: &[Shelf], dp: DpId) -> bool
+    ensures { result ≡ list_any (λ s. s.dp.0 == dp.0) shelves.now }
+{
+    shelves.iter().any(|shelf| shelf.dp == dp)
+}
+
+fn lower(shelf: Shelf, dp: DpId, heard: Moment) -> Shelf
+    ensures { result ≡ lowered dp heard shelf }
+{
+    if shelf.dp == dp && heard.0 < shelf.least.0 {
+        Shelf { dp, least: heard }
+    } else {
+        shelf
+    }
+}
+
+fn lower_each(shelves: &mut [Shelf], dp: DpId, heard: Moment)
+    ensures { shelves.new ≡ map (lowered dp heard) shelves.old }
+{
+    for shelf in shelves.iter_mut() {
+        *shelf = lower(*shelf, dp, heard);
+    }
+}
+
+/// Notes that a host of a datapath was heard.
+pub(crate) fn note(shelves: &mut Vec<Shelf>, dp: DpId, heard: Moment) -> Result<(), NoMemory>
+    ensures ok { OnOk result (shelves.new.items ≡ noted dp heard shelves.old.items) }
+    ensures err { OnErr result (shelves.new.items ≡ shelves.old.items) }
+{
+    if has_dp(shelves.as_slice(), dp) {
+        lower_each(shelves.as_mut_slice(), dp, heard);
+    } else {
+        shelves.push(Shelf { dp, least: heard })?;
+    }
+    Ok(())
+}
