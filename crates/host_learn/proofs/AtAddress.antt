@@ -15,6 +15,16 @@ same_address a b e =
     let mac = same_text a.mac.0 b.mac.0 (sym both.1) in
     (λ i. record { vid = vid i; mac = (record { 0 = mac i }) })
 
+pub flips : (a b : Address) → is_address a b ≡ is_address b a
+flips a b =
+    elim (cases_Bool (is_address a b)) [
+      | inl e ↦ let is = same_address a b e in ap (λ c. is_address c b) is ∙ ap (is_address b) (sym is)
+      | inr e ↦ elim (cases_Bool (is_address b a)) [
+        | inl f ↦ let is = same_address b a f in ap (λ c. is_address a c) is ∙ ap (λ c. is_address c a) (sym is)
+        | inr f ↦ e ∙ sym f
+      ]
+    ]
+
 module _ {A S : Type 0} (old : IndexMap Address (Vec Entry A) S) (a : Address) where
   none_at : get is_address old a ≡ None → (q : Address) → is_address a q ≡ true → entries_at old q ≡ []
   none_at none q e = ap (entries_at old) (sym (same_address a q e)) ∙ ap (λ o. option_map_or (λ v. v.items) o []) none

@@ -1,9 +1,11 @@
 pub mod AtAddress
 pub mod Entries
+pub mod Indexed
 pub mod KeptParts
 pub mod KeptRoom
 pub mod KeptValid
 pub mod Lists
 pub mod Places
+pub mod Shelved
 pub mod Sizes
 pub mod Spots

@@ -15,10 +15,10 @@ same_number (Some x) (Some y) e = ap Some (eqb-true x y e)
 
 same_spot : (a b : Spot) → is_spot a b ≡ true → a ≡ b
 same_spot a b e =
-    let both = and_parts (a.dp.0 == b.dp.0 && option_eq nat_eq a.port b.port) (option_eq nat_eq a.vid b.vid) e in
-    let first = and_parts (a.dp.0 == b.dp.0) (option_eq nat_eq a.port b.port) both.0 in
+    let first = and_parts (a.dp.0 == b.dp.0) (option_eq nat_eq a.port b.port && option_eq nat_eq a.vid b.vid) e in
+    let both = and_parts (option_eq nat_eq a.port b.port) (option_eq nat_eq a.vid b.vid) first.1 in
     let dp = same_id a.dp b.dp (eqb-true a.dp.0 b.dp.0 first.0) in
-    let port = same_number a.port b.port first.1 in
+    let port = same_number a.port b.port both.0 in
     let vid = same_number a.vid b.vid both.1 in
     (λ i. record { dp = dp i; port = port i; vid = vid i })
 

@@ -5,7 +5,7 @@ use Rattle.indexmap.specs.IndexMap.{IndexMap, get}
 use Rattle.host_learn.specs.declared.counts.Spot.{Spot}
 
 abbrev pub is_spot : Spot → Spot → Bool
-is_spot a b = a.dp.0 == b.dp.0 && option_eq nat_eq a.port b.port && option_eq nat_eq a.vid b.vid
+is_spot a b = a.dp.0 == b.dp.0 && (option_eq nat_eq a.port b.port && option_eq nat_eq a.vid b.vid)
 
 abbrev pub one_at : Spot → Spot → ℕ
 one_at a b = if is_spot a b then 1 else 0

@@ -8,7 +8,7 @@ use Rattle.host_learn.specs.declared.shelves.Shelf.{Shelf}
 
 -- the shelf's moment is no later than this one, if it is the datapath's
 abbrev pub lowered : DpId → Moment → Shelf → Shelf
-lowered dp heard shelf = if shelf.dp.0 == dp.0 && nat_lt heard.0 shelf.least.0 then record { dp = dp; least = heard } else shelf
+lowered dp heard shelf = if shelf.dp.0 == dp.0 && nat_lt heard.0 shelf.least.0 then record shelf { least = heard } else shelf
 
 abbrev pub noted : DpId → Moment → List Shelf → List Shelf
 noted dp heard shelves =

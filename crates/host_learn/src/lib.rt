@@ -7,6 +7,7 @@ mod host;
 mod kept;
 pub mod laws;
 mod learn;
+mod order;
 mod shelves;
 mod table;
 

@@ -23,13 +23,17 @@ fn lower(shelf: Shelf, dp: DpId, heard: Moment) -> Shelf
     ensures { result ≡ lowered dp heard shelf }
 {
     if shelf.dp == dp && heard.0 < shelf.least.0 {
-        Shelf { dp, least: heard }
+        Shelf {
+            dp: shelf.dp,
+            least: heard,
+        }
     } else {
         shelf
     }
 }
 
-fn lower_each(shelves: &mut [Shelf], dp: DpId, heard: Moment)
+/// Notes that a host of a datapath with a shelf was heard.
+pub(crate) fn lower_each(shelves: &mut [Shelf], dp: DpId, heard: Moment)
     ensures { shelves.new ≡ map (lowered dp heard) shelves.old }
 {
     for shelf in shelves.iter_mut() {

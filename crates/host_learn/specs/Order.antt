@@ -1,0 +1,39 @@
+-- The hosts with their places in the order of learning, and what is kept to look them up.
+use Rattle.std.specs.Prelude.{◌≡◌, ◌==◌, ◌<◌, ◌+◌, true, false, ℕ, List, filter, sum_by, Some, None}
+use Rattle.std.specs.List.{AllByRecursion}
+use Rattle.std.specs.declared.vec.Vec.{Vec}
+use Rattle.conf_types.specs.declared.state.HostRec.{HostRec}
+use Rattle.conf_types.specs.Lists.{EachBefore}
+use Rattle.indexmap.specs.IndexMap.{IndexMap}
+use Rattle.host_learn.specs.declared.addresses.Address.{Address}
+use Rattle.host_learn.specs.declared.counts.Spot.{Spot}
+use Rattle.host_learn.specs.declared.shelves.Shelf.{Shelf}
+use Rattle.host_learn.specs.Addresses.{Entry, entries_at, has_address}
+use Rattle.host_learn.specs.Counts.{one_at, at_spot}
+use Rattle.host_learn.specs.Shelves.{is_shelved}
+
+-- the spots at which a host counts: its port, its VLAN on the datapath, both
+abbrev pub port_spot : HostRec → Spot
+port_spot host = record { dp = host.dp; port = Some host.port; vid = None }
+
+abbrev pub vlan_spot : HostRec → Spot
+vlan_spot host = record { dp = host.dp; port = None; vid = Some host.vid }
+
+abbrev pub both_spot : HostRec → Spot
+both_spot host = record { dp = host.dp; port = Some host.port; vid = Some host.vid }
+
+abbrev pub share : Spot → HostRec → ℕ
+share spot host = one_at (port_spot host) spot + one_at (vlan_spot host) spot + one_at (both_spot host) spot
+
+-- each shelf is of another datapath
+abbrev pub AreShelves : List Shelf → Type 0
+AreShelves = EachBefore (λ (s : Shelf) (t : Shelf). (s.dp.0 == t.dp.0) ≡ false)
+
+-- what is kept beside the entries is of these entries
+pub record IsIndexed {A S T : Type 0} (next : ℕ) (entries : List Entry) (addresses : IndexMap Address (Vec Entry A) S) (counts : IndexMap Spot ℕ T) (shelves : List Shelf) : Type 0 where
+  pub rising : EachBefore (λ (e : Entry) (f : Entry). e.0 < f.0) entries
+  pub below : AllByRecursion (λ (e : Entry). e.0 < next) entries
+  pub at : (a : Address) → entries_at addresses a ≡ filter (has_address a) entries
+  pub counted : (s : Spot) → at_spot counts s ≡ sum_by (λ (e : Entry). share s e.1) entries
+  pub shelved : AllByRecursion (λ (e : Entry). is_shelved shelves e.1 ≡ true) entries
+  pub shelves_apart : AreShelves shelves

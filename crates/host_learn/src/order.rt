@@ -1,0 +1,159 @@
+//! The hosts in the order of learning, with what is kept to look them up.
+
+ghost use Rattle.std.specs.Prelude.{◌≡◌, ◌<◌, ◌≤◌, ◌+◌, ◌^◌, ◌++◌, ◌∷◌, [], ◌==◌, true, length, filter, sum_by, IfOk, OnOk, OnErr};
+ghost use Rattle.std.specs.BTreeMap.{is_at};
+ghost use Rattle.std.specs.Map.{lookup};
+ghost use Rattle.std.specs.Ordering.{nat_cmp};
+ghost use Rattle.std.specs.List.{AllByRecursion};
+ghost use Rattle.indexmap.specs.IndexMap.{spare};
+ghost use Rattle.host_learn.specs.Addresses.{address_of, has_address, heard_at, off_place};
+ghost use Rattle.host_learn.specs.Counts.{at_spot};
+ghost use Rattle.host_learn.specs.Order.{AreShelves, both_spot, port_spot, share, vlan_spot};
+ghost use Rattle.host_learn.specs.Shelves.{is_shelved};
+
+use crate::addresses::{Address, Addresses, Entry, entries, put, refresh, take};
+use crate::counts::{Counts, Spot, count, lower, raise};
+use crate::shelves::{Shelf, note};
+use conf_types::HostRec;
+use indexmap::IndexMap;
+use net_base::{Moment, NoMemory};
+use std::alloc::Global;
+use std::collections::BTreeMap;
+use std::marker::Model;
+
+/// The hosts in the order of learning, each with a place that only grows. Contracts see the hosts with
+/// their places.
+#[derive(Drop)]
+pub(crate) struct Order {
+    alloc: Global,
+    next: u64,
+    hosts: BTreeMap<u64, HostRec>,
+    addresses: Addresses,
+    counts: Counts,
+    shelves: Vec<Shelf>,
+}
+
+impl Model for Order {
+    ghost use Rattle.std.specs.Prelude.{List};
+    ghost use Rattle.host_learn.specs.Addresses.{Entry};
+    ghost use Rattle.host_learn.specs.Order.{IsIndexed};
+
+    ghost Value = { List Entry };
+
+    ghost view = { λ o. o.hosts.entries };
+
+    ghost invariant = { λ o. IsIndexed o.next o.hosts.entries o.addresses o.counts o.shelves.items };
+}
+
+fn address_of(host: &HostRec) -> Address
+    ensures { result ≡ address_of host.now }
+{
+    Address {
+        vid: host.vid.get(),
+        mac: host.mac,
+    }
+}
+
+fn port_spot(host: &HostRec) -> Spot
+    ensures { result ≡ port_spot host.now }
+{
+    Spot {
+        dp: host.dp,
+        port: Some(host.port.get()),
+        vid: None,
+    }
+}
+
+fn vlan_spot(host: &HostRec) -> Spot
+    ensures { result ≡ vlan_spot host.now }
+{
+    Spot {
+        dp: host.dp,
+        port: None,
+        vid: Some(host.vid.get()),
+    }
+}
+
+fn both_spot(host: &HostRec) -> Spot
+    ensures { result ≡ both_spot host.now }
+{
+    Spot {
+        dp: host.dp,
+        port: Some(host.port.get()),
+        vid: Some(host.vid.get()),
+    }
+}
+
+fn count_in(counts: &mut Counts, host: &HostRec)
+    requires room { 3 ≤ spare counts.old }
+    requires small { (q : Spot) → at_spot counts.old q < 2 ^ 40 }
+    ensures { (q : Spot) → at_spot counts.new q ≡ at_spot counts.old q + share q host.now }
+{
+    raise(counts, port_spot(host));
+    raise(counts, vlan_spot(host));
+    raise(counts, both_spot(host));
+}
+
+fn count_out(counts: &mut Counts, host: &HostRec)
+    requires { (q : Spot) → share q host.now ≤ at_spot counts.old q }
+    ensures { (q : Spot) → at_spot counts.new q + share q host.now ≡ at_spot counts.old q }
+{
+    lower(counts, port_spot(host));
+    lower(counts, vlan_spot(host));
+    lower(counts, both_spot(host));
+}
+
+impl Order {
+    pub(crate) fn new(alloc: Global) -> Order
+        ensures { result ≡ [] }
+    {
+        Order {
+            alloc,
+            next: 0,
+            hosts: BTreeMap::new(alloc),
+            addresses: IndexMap::new(alloc),
+            counts: IndexMap::new(alloc),
+            shelves: Vec::new(alloc),
+        }
+    }
+
+    pub(crate) fn len(&self) -> usize
+        ensures { result ≡ length self.now }
+    {
+        self.hosts.len()
+    }
+
+    /// The hosts of an address, in order, with their places.
+    pub(crate) fn entries(&self, address: &Address) -> &[Entry]
+        ensures { result.now ≡ filter (has_address address.now) self.now }
+    {
+        entries(&self.addresses, address)
+    }
+
+    pub(crate) fn count(&self, spot: &Spot) -> usize
+        ensures { result ≡ sum_by (λ e. share spot.now e.1) self.now }
+    {
+        count(&self.counts, spot)
+    }
+
+    /// The datapaths of the hosts.
+    pub(crate) fn shelves(&self) -> &[Shelf]
+        ensures each { AllByRecursion (λ e. is_shelved result.now e.1 ≡ true) self.now }
+        ensures apart { AreShelves result.now }
+    {
+        self.shelves.as_slice()
+    }
+
+    /// Takes out the host at a place.
+    pub(crate) fn remove(&mut self, place: u64) -> Option<HostRec>
+        ensures found { result ≡ lookup (is_at (nat_cmp place)) self.old }
+        ensures left { self.new ≡ off_place place self.old }
+    {
+        let Some(host) = self.hosts.remove(&place) else {
+            return None;
+        };
+        take(&mut self.addresses, &address_of(&host), place);
+        count_out(&mut self.counts, &host);
+        Some(host)
+    }
+}
