@@ -1,5 +1,5 @@
 -- Entries whose places rise: one more at the end, one fewer, and another moment.
-use Rattle.std.proofs.Common.{◌≡◌, ℕ, ◌+◌, ◌<◌, ◌≤◌, ◌==◌, ◌++◌, Bool, true, false, cond, not, Option, Some, None, List, [], ◌∷◌, map, filter, length, inl, inr, refl, sym, ap, ◌∙◌, arith, subst, eq-eqb, if◌then◌else◌, sum_by, nat_lt}
+use Rattle.std.proofs.Common.{◌≡◌, ℕ, ◌+◌, ◌<◌, ◌≤◌, ◌==◌, ◌++◌, Bool, true, false, cond, not, Option, Some, None, List, [], ◌∷◌, map, filter, length, inl, inr, refl, sym, ap, ◌∙◌, arith, subst, eq-eqb, if◌then◌else◌, sum_by, nat_lt, append-nil}
 use Rattle.std.specs.List.{AllByRecursion}
 use Rattle.std.specs.BTreeMap.{insert_entry, is_at}
 use Rattle.std.specs.Map.{lookup, remove_entry, set_value, values_of}
@@ -7,7 +7,9 @@ use Rattle.std.specs.Ordering.{nat_cmp, is_eq, match_ordering}
 use Rattle.std.specs.declared.cmp.Ordering.TheVariants.{Less, Equal, Greater}
 use Rattle.std.specs.Cmp.{nat_cmp_is}
 use Rattle.std.proofs.lemmas.Bool.{cases_Bool, eqb-true, false≢true, ltb-false, ltb-true}
+use Rattle.std.proofs.lemmas.List.Elements.{filter-append}
 use Rattle.std.proofs.lemmas.List.Sums.{sum_by-cons}
+use Rattle.std.proofs.lemmas.Map.{none_passes_from_lookup}
 use Rattle.net_base.specs.declared.numbers.Moment.{Moment}
 use Rattle.conf_types.specs.declared.state.HostRec.{HostRec}
 use Rattle.conf_types.specs.Lists.{EachBefore}
@@ -165,3 +167,50 @@ module _ (n : ℕ) where
           ]), not_there test entries host is.1 fails)
         | inr skips ↦ subst (λ b. AllByRecursion (λ (e : Entry). (e.0 == n) ≡ false) (cond b (e ∷ filter test entries) (filter test entries))) (sym skips) (not_there test entries host is.1 fails)
       ]
+
+  -- ---- another moment leaves the rest
+
+  same_place : (m : Moment) (e : Entry) → (if e.0 == n then (e.0, record e.1 { learned = m }) else e).0 ≡ e.0
+  same_place m e = elim (e.0 == n) as (λ b. (if b then (e.0, record e.1 { learned = m }) else e).0 ≡ e.0) [ true ↦ refl | false ↦ refl ]
+
+  pub heard_all : (m : Moment) (P : ℕ → Type 0) (entries : List Entry) → AllByRecursion (λ (e : Entry). P e.0) entries → AllByRecursion (λ (e : Entry). P e.0) (heard_at n m entries)
+  heard_all m P [] all = tt
+  heard_all m P (e ∷ entries) all = (subst P (sym (same_place m e)) all.0, heard_all m P entries all.1)
+
+  pub heard_rising : (m : Moment) (entries : List Entry) → AreRising entries → AreRising (heard_at n m entries)
+  heard_rising m [] rising = tt
+  heard_rising m (e ∷ entries) rising = (subst (λ k. AllByRecursion (λ (f : Entry). k < f.0) (heard_at n m entries)) (sym (same_place m e)) (heard_all m (λ k. e.0 < k) entries rising.0), heard_rising m entries rising.1)
+
+  pub sum_heard : (m : Moment) (f : HostRec → ℕ) → ((h : HostRec) → f (record h { learned = m }) ≡ f h) → (entries : List Entry) → sum_by (λ (e : Entry). f e.1) (heard_at n m entries) ≡ sum_by (λ (e : Entry). f e.1) entries
+  sum_heard m f same [] = refl
+  sum_heard m f same (e ∷ entries) =
+      let g : Entry → ℕ = λ e. f e.1 in
+      let here : f (if e.0 == n then (e.0, record e.1 { learned = m }) else e).1 ≡ f e.1 = elim (e.0 == n) as (λ b. f (if b then (e.0, record e.1 { learned = m }) else e).1 ≡ f e.1) [ true ↦ same e.1 | false ↦ refl ] in
+      sum_by-cons (λ (e : Entry). f e.1) (if e.0 == n then (e.0, record e.1 { learned = m }) else e) (heard_at n m entries)
+      ∙ ap (λ k. k + sum_by (λ (e : Entry). f e.1) (heard_at n m entries)) here ∙ ap (λ k. f e.1 + k) (sum_heard m f same entries) ∙ sym (sum_by-cons (λ (e : Entry). f e.1) e entries)
+
+  pub filter_heard : (m : Moment) (test : Entry → Bool) → ((e : Entry) → test (e.0, record e.1 { learned = m }) ≡ test e) → (entries : List Entry) → filter test (heard_at n m entries) ≡ heard_at n m (filter test entries)
+  filter_heard m test same [] = refl
+  filter_heard m test same (e ∷ entries) =
+      let new : Entry = if e.0 == n then (e.0, record e.1 { learned = m }) else e in
+      let as_before : test (if e.0 == n then (e.0, record e.1 { learned = m }) else e) ≡ test e = elim (e.0 == n) as (λ b. test (if b then (e.0, record e.1 { learned = m }) else e) ≡ test e) [ true ↦ same e | false ↦ refl ] in
+      elim (cases_Bool (test e)) [
+        | inl passes ↦ ap (λ b. cond b (new ∷ filter test (heard_at n m entries)) (filter test (heard_at n m entries))) (as_before ∙ passes) ∙ ap (λ rest. new ∷ rest) (filter_heard m test same entries)
+          ∙ sym (ap (λ b. heard_at n m (cond b (e ∷ filter test entries) (filter test entries))) passes)
+        | inr fails ↦ ap (λ b. cond b (new ∷ filter test (heard_at n m entries)) (filter test (heard_at n m entries))) (as_before ∙ fails) ∙ filter_heard m test same entries
+          ∙ sym (ap (λ b. heard_at n m (cond b (e ∷ filter test entries) (filter test entries))) fails)
+      ]
+
+  -- ---- where nothing is there
+
+  pub none_there : (entries : List Entry) → lookup (is_at (nat_cmp n)) entries ≡ None → AllByRecursion (λ (e : Entry). (e.0 == n) ≡ false) entries
+  none_there entries none = all_map (λ (e : Entry). is_at (nat_cmp n) e.0 ≡ false) (λ (e : Entry). (e.0 == n) ≡ false) (λ e off. sym (same_test n e.0) ∙ off) entries (none_passes_from_lookup (is_at (nat_cmp n)) entries none)
+
+  below_other : (entries : List Entry) → AllByRecursion (λ (e : Entry). e.0 < n) entries → AllByRecursion (λ (e : Entry). (e.0 == n) ≡ false) entries
+  below_other = all_map (λ (e : Entry). e.0 < n) (λ (e : Entry). (e.0 == n) ≡ false) (λ e less. let is : e.0 < n = less in eqb-false e.0 n (λ same. omega arith))
+
+  -- one more and one fewer is what was
+  pub undone : (entries : List Entry) (host : HostRec) → AllByRecursion (λ (e : Entry). e.0 < n) entries → off_place n (entries ++ (n, host) ∷ []) ≡ entries
+  undone entries host below =
+      filter-append (λ (e : Entry). not (e.0 == n)) entries ((n, host) ∷ []) ∙ ap (λ es. es ++ off_place n ((n, host) ∷ [])) (off_other entries (below_other entries below))
+      ∙ ap (λ b. entries ++ cond (not b) ((n, host) ∷ []) []) (eq-eqb n n refl) ∙ append-nil entries

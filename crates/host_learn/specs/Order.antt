@@ -1,5 +1,5 @@
 -- The hosts with their places in the order of learning, and what is kept to look them up.
-use Rattle.std.specs.Prelude.{◌≡◌, ◌==◌, ◌<◌, ◌+◌, true, false, ℕ, List, filter, sum_by, Some, None}
+use Rattle.std.specs.Prelude.{◌≡◌, ◌==◌, ◌<◌, ◌+◌, Bool, true, false, ℕ, List, [], ◌∷◌, filter, sum_by, Option, Some, None, if◌then◌else◌}
 use Rattle.std.specs.List.{AllByRecursion}
 use Rattle.std.specs.declared.vec.Vec.{Vec}
 use Rattle.conf_types.specs.declared.state.HostRec.{HostRec}
@@ -11,6 +11,11 @@ use Rattle.host_learn.specs.declared.shelves.Shelf.{Shelf}
 use Rattle.host_learn.specs.Addresses.{Entry, entries_at, has_address}
 use Rattle.host_learn.specs.Counts.{one_at, at_spot}
 use Rattle.host_learn.specs.Shelves.{is_shelved}
+
+-- the place of the first host that passes
+abbrev pub first_place : (HostRec → Bool) → List Entry → Option ℕ
+first_place test [] = None
+first_place test (e ∷ entries) = if test e.1 then Some e.0 else first_place test entries
 
 -- the spots at which a host counts: its port, its VLAN on the datapath, both
 abbrev pub port_spot : HostRec → Spot

@@ -6,9 +6,13 @@ use Rattle.net_base.specs.declared.numbers.Moment.{Moment}
 use Rattle.conf_types.specs.declared.state.HostRec.{HostRec}
 use Rattle.host_learn.specs.declared.shelves.Shelf.{Shelf}
 
+-- the shelf is the datapath's, and its moment later than this one
+abbrev pub is_above : DpId → Moment → Shelf → Bool
+is_above dp heard shelf = shelf.dp.0 == dp.0 && nat_lt heard.0 shelf.least.0
+
 -- the shelf's moment is no later than this one, if it is the datapath's
 abbrev pub lowered : DpId → Moment → Shelf → Shelf
-lowered dp heard shelf = if shelf.dp.0 == dp.0 && nat_lt heard.0 shelf.least.0 then record shelf { least = heard } else shelf
+lowered dp heard shelf = if is_above dp heard shelf then record shelf { least = heard } else shelf
 
 abbrev pub noted : DpId → Moment → List Shelf → List Shelf
 noted dp heard shelves =

@@ -5,19 +5,20 @@ ghost use Rattle.std.specs.BTreeMap.{is_at};
 ghost use Rattle.std.specs.Map.{lookup};
 ghost use Rattle.std.specs.Ordering.{nat_cmp};
 ghost use Rattle.std.specs.List.{AllByRecursion};
+ghost use Rattle.conf_types.specs.State.{is_host_at, is_to_forget};
 ghost use Rattle.indexmap.specs.IndexMap.{spare};
 ghost use Rattle.host_learn.specs.Addresses.{address_of, has_address, heard_at, off_place};
 ghost use Rattle.host_learn.specs.Counts.{at_spot};
-ghost use Rattle.host_learn.specs.Order.{AreShelves, both_spot, port_spot, share, vlan_spot};
+ghost use Rattle.host_learn.specs.Order.{AreShelves, both_spot, first_place, port_spot, share, vlan_spot};
 ghost use Rattle.host_learn.specs.Shelves.{is_shelved};
 
 use crate::addresses::{Address, Addresses, Entry, entries, put, refresh, take};
 use crate::counts::{Counts, Spot, count, lower, raise};
-use crate::shelves::{Shelf, note};
-use conf_types::HostRec;
+use crate::shelves::{Shelf, lower_each, note};
+use conf_types::{Conf, HostRec};
 use indexmap::IndexMap;
-use net_base::{Moment, NoMemory};
-use std::alloc::Global;
+use net_base::{DpId, Moment, NoMemory, PortNo};
+use std::alloc::{AllocError, Global};
 use std::collections::BTreeMap;
 use std::marker::Model;
 
@@ -155,5 +156,77 @@ impl Order {
         take(&mut self.addresses, &address_of(&host), place);
         count_out(&mut self.counts, &host);
         Some(host)
+    }
+
+    /// Puts a host last, and answers its place.
+    pub(crate) fn push(&mut self, host: &HostRec) -> Result<u64, NoMemory>
+        requires { length self.old < 2 ^ 32 }
+        ensures ok { IfOk result (λ place. self.new ≡ self.old ++ (place, host.now) ∷ []) }
+        ensures err { OnErr result (self.new ≡ self.old) }
+    {
+        let place = self.next;
+        let Some(next) = place.checked_add(1) else {
+            return Err(AllocError);
+        };
+        self.counts.reserve(3)?;
+        note(&mut self.shelves, host.dp, host.learned)?;
+        self.hosts.insert(place, *host)?;
+        if let Err(refused) = put(self.alloc, &mut self.addresses, address_of(host), (place, *host)) {
+            self.hosts.remove(&place);
+            return Err(refused);
+        }
+        count_in(&mut self.counts, host);
+        self.next = next;
+        Ok(place)
+    }
+
+    /// Gives the host at a place another moment.
+    pub(crate) fn refresh(&mut self, place: u64, moment: Moment)
+        ensures { self.new ≡ heard_at place moment self.old }
+    {
+        let Some(host) = self.hosts.get_mut(&place) else {
+            return;
+        };
+        host.learned = moment;
+        let address = address_of(host);
+        let dp = host.dp;
+        refresh(&mut self.addresses, &address, place, moment);
+        lower_each(self.shelves.as_mut_slice(), dp, moment);
+    }
+
+    /// Where the first host stands that is to be forgotten.
+    pub(crate) fn first_due(&self, conf: &Conf, now: Moment) -> Option<u64>
+        ensures { result ≡ first_place (is_to_forget conf.now now.0) self.now }
+    {
+        for (place, host) in &self.hosts {
+            if conf.is_to_forget(now, host) {
+                return Some(*place);
+            }
+        }
+        None
+    }
+
+    /// Where the first host at a port stands.
+    pub(crate) fn first_at(&self, dp: DpId, port: PortNo) -> Option<u64>
+        ensures { result ≡ first_place (is_host_at dp port) self.now }
+    {
+        for (place, host) in &self.hosts {
+            if host.is_at(dp, port) {
+                return Some(*place);
+            }
+        }
+        None
+    }
+
+    /// Where the first host of a datapath stands.
+    pub(crate) fn first_on(&self, dp: DpId) -> Option<u64>
+        ensures { result ≡ first_place (λ host. host.dp.0 == dp.0) self.now }
+    {
+        for (place, host) in &self.hosts {
+            if host.dp == dp {
+                return Some(*place);
+            }
+        }
+        None
     }
 }

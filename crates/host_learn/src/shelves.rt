@@ -2,7 +2,7 @@
 
 ghost use Rattle.std.specs.Prelude.{◌≡◌, ◌==◌, map, OnOk, OnErr};
 ghost use Rattle.std.specs.List.{list_any};
-ghost use Rattle.host_learn.specs.Shelves.{lowered, noted};
+ghost use Rattle.host_learn.specs.Shelves.{is_above, lowered, noted};
 
 use net_base::{DpId, Moment, NoMemory};
 
@@ -19,17 +19,10 @@ fn has_dp(shelves: &[Shelf], dp: DpId) -> bool
     shelves.iter().any(|shelf| shelf.dp == dp)
 }
 
-fn lower(shelf: Shelf, dp: DpId, heard: Moment) -> Shelf
-    ensures { result ≡ lowered dp heard shelf }
+fn is_above(shelf: &Shelf, dp: DpId, heard: Moment) -> bool
+    ensures { result ≡ is_above dp heard shelf.now }
 {
-    if shelf.dp == dp && heard.0 < shelf.least.0 {
-        Shelf {
-            dp: shelf.dp,
-            least: heard,
-        }
-    } else {
-        shelf
-    }
+    shelf.dp == dp && heard.0 < shelf.least.0
 }
 
 /// Notes that a host of a datapath with a shelf was heard.
@@ -37,7 +30,12 @@ pub(crate) fn lower_each(shelves: &mut [Shelf], dp: DpId, heard: Moment)
     ensures { shelves.new ≡ map (lowered dp heard) shelves.old }
 {
     for shelf in shelves.iter_mut() {
-        *shelf = lower(*shelf, dp, heard);
+        if is_above(shelf, dp, heard) {
+            *shelf = Shelf {
+                least: heard,
+                ..*shelf
+            };
+        }
     }
 }
 
