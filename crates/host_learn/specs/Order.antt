@@ -1,8 +1,9 @@
 -- The hosts with their places in the order of learning, and what is kept to look them up.
-use Rattle.std.specs.Prelude.{◌≡◌, ◌==◌, ◌<◌, ◌+◌, Bool, true, false, ℕ, List, [], ◌∷◌, filter, sum_by, Option, Some, None, if◌then◌else◌}
+use Rattle.std.specs.Prelude.{◌≡◌, ◌==◌, ◌<◌, ◌+◌, ◌&&◌, not, map, Bool, true, false, ℕ, List, [], ◌∷◌, filter, sum_by, Option, Some, None, if◌then◌else◌}
 use Rattle.std.specs.List.{AllByRecursion}
 use Rattle.std.specs.declared.vec.Vec.{Vec}
 use Rattle.conf_types.specs.declared.state.HostRec.{HostRec}
+use Rattle.conf_types.specs.Configuration.{Configuration}
 use Rattle.conf_types.specs.Lists.{EachBefore}
 use Rattle.indexmap.specs.IndexMap.{IndexMap}
 use Rattle.host_learn.specs.declared.addresses.Address.{Address}
@@ -10,12 +11,30 @@ use Rattle.host_learn.specs.declared.counts.Spot.{Spot}
 use Rattle.host_learn.specs.declared.shelves.Shelf.{Shelf}
 use Rattle.host_learn.specs.Addresses.{Entry, entries_at, has_address}
 use Rattle.host_learn.specs.Counts.{one_at, at_spot}
+use Rattle.host_learn.specs.Learning.{is_heard, is_in_place}
 use Rattle.host_learn.specs.Shelves.{is_shelved}
 
 -- the place of the first host that passes
 abbrev pub first_place : (HostRec → Bool) → List Entry → Option ℕ
 first_place test [] = None
 first_place test (e ∷ entries) = if test e.1 then Some e.0 else first_place test entries
+
+-- the place of the first entry that passes
+abbrev pub first_entry : (Entry → Bool) → List Entry → Option ℕ
+first_entry test [] = None
+first_entry test (e ∷ entries) = if test e then Some e.0 else first_entry test entries
+
+-- the hosts alone
+abbrev pub hosts_of : List Entry → List HostRec
+hosts_of entries = map (λ e. e.1) entries
+
+-- the host that is heard stands there, with another moment
+abbrev pub is_old : HostRec → Entry → Bool
+is_old heard e = is_in_place heard e.1 && not (e.1.learned.0 == heard.learned.0)
+
+-- it is the host that is heard, at another place
+abbrev pub is_other : Configuration → HostRec → ℕ → Entry → Bool
+is_other conf heard place e = is_heard conf heard e.1 && not (e.0 == place)
 
 -- the spots at which a host counts: its port, its VLAN on the datapath, both
 abbrev pub port_spot : HostRec → Spot

@@ -14,7 +14,7 @@ ghost use Rattle.host_learn.specs.Shelves.{is_shelved};
 
 use crate::addresses::{Address, Addresses, Entry, entries, put, refresh, take};
 use crate::counts::{Counts, Spot, count, lower, raise};
-use crate::shelves::{Shelf, lower_each, note};
+use crate::shelves::{Shelf, hear, note};
 use conf_types::{Conf, HostRec};
 use indexmap::IndexMap;
 use net_base::{DpId, Moment, NoMemory, PortNo};
@@ -161,6 +161,7 @@ impl Order {
     /// Puts a host last, and answers its place.
     pub(crate) fn push(&mut self, host: &HostRec) -> Result<u64, NoMemory>
         requires { length self.old < 2 ^ 32 }
+        ensures last { IfOk result (λ place. AllByRecursion (λ e. e.0 < place) self.old) }
         ensures ok { IfOk result (λ place. self.new ≡ self.old ++ (place, host.now) ∷ []) }
         ensures err { OnErr result (self.new ≡ self.old) }
     {
@@ -191,7 +192,7 @@ impl Order {
         let address = address_of(host);
         let dp = host.dp;
         refresh(&mut self.addresses, &address, place, moment);
-        lower_each(self.shelves.as_mut_slice(), dp, moment);
+        hear(&mut self.shelves, dp, moment);
     }
 
     /// Where the first host stands that is to be forgotten.

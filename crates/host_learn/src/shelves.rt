@@ -25,8 +25,7 @@ fn is_above(shelf: &Shelf, dp: DpId, heard: Moment) -> bool
     shelf.dp == dp && heard.0 < shelf.least.0
 }
 
-/// Notes that a host of a datapath with a shelf was heard.
-pub(crate) fn lower_each(shelves: &mut [Shelf], dp: DpId, heard: Moment)
+fn lower_each(shelves: &mut [Shelf], dp: DpId, heard: Moment)
     ensures { shelves.new ≡ map (lowered dp heard) shelves.old }
 {
     for shelf in shelves.iter_mut() {
@@ -39,13 +38,20 @@ pub(crate) fn lower_each(shelves: &mut [Shelf], dp: DpId, heard: Moment)
     }
 }
 
+/// Notes that a host of a datapath with a shelf was heard.
+pub(crate) fn hear(shelves: &mut Vec<Shelf>, dp: DpId, heard: Moment)
+    ensures { shelves.new.items ≡ map (lowered dp heard) shelves.old.items }
+{
+    lower_each(shelves.as_mut_slice(), dp, heard);
+}
+
 /// Notes that a host of a datapath was heard.
 pub(crate) fn note(shelves: &mut Vec<Shelf>, dp: DpId, heard: Moment) -> Result<(), NoMemory>
     ensures ok { OnOk result (shelves.new.items ≡ noted dp heard shelves.old.items) }
     ensures err { OnErr result (shelves.new.items ≡ shelves.old.items) }
 {
     if has_dp(shelves.as_slice(), dp) {
-        lower_each(shelves.as_mut_slice(), dp, heard);
+        hear(shelves, dp, heard);
     } else {
         shelves.push(Shelf { dp, least: heard })?;
     }

@@ -1,5 +1,6 @@
 use Rattle.std.proofs.Common.{◌≡◌, ℕ, ◌<◌, ◌++◌, ◌∷◌, [], List, length, refl, sym, ap, ◌∙◌, subst, arith, ◌^◌, if◌then◌else◌}
 use Rattle.std.specs.BTreeMap.{is_at}
+use Rattle.std.specs.List.{AllByRecursion}
 use Rattle.std.specs.Map.{lookup, remove_entry}
 use Rattle.std.specs.Option.{unwrap_or}
 use Rattle.std.specs.Ordering.{nat_cmp}
@@ -73,3 +74,6 @@ pub returns-clause-ok : goal.returns-clause-ok
 returns-clause-ok c =
     let o = c.self.inside in
     c.in_ok-insert.ensures.entries ∙ pushed o.next o.hosts.entries c.args.host.now c.self.invariant.below ∙ ap (λ (es : List Entry). es ++ (o.next, c.args.host.now) ∷ []) c.self.view_is
+
+pub returns-clause-last : goal.returns-clause-last
+returns-clause-last c = subst (λ (es : List Entry). AllByRecursion (λ (e : Entry). e.0 < c.self.inside.next) es) c.self.view_is c.self.invariant.below
