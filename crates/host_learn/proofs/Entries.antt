@@ -12,13 +12,9 @@ use Rattle.std.proofs.lemmas.List.Sums.{sum_by-cons}
 use Rattle.std.proofs.lemmas.Map.{none_passes_from_lookup}
 use Rattle.net_base.specs.declared.numbers.Moment.{Moment}
 use Rattle.conf_types.specs.declared.state.HostRec.{HostRec}
-use Rattle.conf_types.specs.Lists.{EachBefore}
 use Rattle.host_learn.specs.Addresses.{Entry, off_place, heard_at}
+use Rattle.host_learn.specs.Order.{AreRising}
 use Rattle.host_learn.proofs.Lists.{all_map}
-
--- each place is below those behind it
-abbrev pub AreRising : List Entry → Type 0
-AreRising = EachBefore (λ (e : Entry) (f : Entry). e.0 < f.0)
 
 eq_false : (a b : ℕ) → (a == b) ≡ false → a ≡ b → ⊥
 eq_false a b other same = false≢true (sym other ∙ eq-eqb a b same)
@@ -27,7 +23,7 @@ pub eqb-false : (a b : ℕ) → (a ≡ b → ⊥) → (a == b) ≡ false
 eqb-false a b other = elim (cases_Bool (a == b)) [ inl e ↦ absurd (other (eqb-true a b e)) | inr e ↦ e ]
 
 -- a tree's test of keys is equality
-same_test : (n k : ℕ) → is_eq (nat_cmp n k) ≡ (k == n)
+pub same_test : (n k : ℕ) → is_eq (nat_cmp n k) ≡ (k == n)
 same_test n k =
     elim (cases_Bool (k == n)) [
       | inl e ↦ ap is_eq (sym (nat_cmp_is n k Equal (sym (eqb-true k n e)))) ∙ sym e
@@ -52,7 +48,7 @@ module _ (n : ℕ) where
 
   -- ---- an entry fewer
 
-  none_off : (entries : List Entry) → AllByRecursion (λ (e : Entry). n < e.0) entries → off_place n entries ≡ entries
+  pub none_off : (entries : List Entry) → AllByRecursion (λ (e : Entry). n < e.0) entries → off_place n entries ≡ entries
   none_off [] above = refl
   none_off (e ∷ entries) above =
       ap (λ b. cond (not b) (e ∷ off_place n entries) (off_place n entries)) (eqb-false e.0 n (λ same. let is : n < e.0 = above.0 in omega arith))
@@ -73,7 +69,7 @@ module _ (n : ℕ) where
 
   -- ---- another moment
 
-  none_heard : (m : Moment) (entries : List Entry) → AllByRecursion (λ (e : Entry). n < e.0) entries → heard_at n m entries ≡ entries
+  pub none_heard : (m : Moment) (entries : List Entry) → AllByRecursion (λ (e : Entry). n < e.0) entries → heard_at n m entries ≡ entries
   none_heard m [] above = refl
   none_heard m (e ∷ entries) above =
       ap (λ b. (if b then (e.0, record e.1 { learned = m }) else e) ∷ heard_at n m entries) (eqb-false e.0 n (λ same. let is : n < e.0 = above.0 in omega arith))
@@ -156,13 +152,13 @@ module _ (n : ℕ) where
   heard_other m [] all = refl
   heard_other m (e ∷ entries) all = ap (λ b. (if b then (e.0, record e.1 { learned = m }) else e) ∷ heard_at n m entries) all.0 ∙ ap (λ rest. e ∷ rest) (heard_other m entries all.1)
 
-  pub not_there : (test : Entry → Bool) (entries : List Entry) (host : HostRec) → IsOnly host entries → ((k : ℕ) → test (k, host) ≡ false) → AllByRecursion (λ (e : Entry). (e.0 == n) ≡ false) (filter test entries)
+  pub not_there : (test : Entry → Bool) (entries : List Entry) (host : HostRec) → IsOnly host entries → test (n, host) ≡ false → AllByRecursion (λ (e : Entry). (e.0 == n) ≡ false) (filter test entries)
   not_there test [] host is fails = tt
   not_there test (e ∷ entries) host is fails =
       elim (cases_Bool (test e)) [
         | inl passes ↦ subst (λ b. AllByRecursion (λ (e : Entry). (e.0 == n) ≡ false) (cond b (e ∷ filter test entries) (filter test entries))) (sym passes)
           ((elim (cases_Bool (e.0 == n)) [
-            | inl same ↦ absurd (false≢true (sym (ap (λ h. test (e.0, h)) (is.0 same) ∙ fails e.0) ∙ passes))
+            | inl same ↦ absurd (false≢true (sym (ap (λ h. test (e.0, h)) (is.0 same) ∙ ap (λ k. test (k, host)) (eqb-true e.0 n same) ∙ fails) ∙ passes))
             | inr other ↦ other
           ]), not_there test entries host is.1 fails)
         | inr skips ↦ subst (λ b. AllByRecursion (λ (e : Entry). (e.0 == n) ≡ false) (cond b (e ∷ filter test entries) (filter test entries))) (sym skips) (not_there test entries host is.1 fails)

@@ -46,7 +46,7 @@ module _ {A S T : Type 0} (next : ℕ) (entries : List Entry) (addresses : Index
       elim (cases_Bool (is_address (address_of host) q)) [
         | inl e ↦ ats q ∙ ap (λ b. cond b (off_place n (entries_at addresses q)) (entries_at addresses q)) e ∙ ap (off_place n) (is.at q) ∙ sym same
         | inr e ↦ ats q ∙ ap (λ b. cond b (off_place n (entries_at addresses q)) (entries_at addresses q)) e ∙ is.at q
-          ∙ sym (same ∙ off_other n (filter (has_address q) entries) (not_there n (has_address q) entries host (only n entries host is.rising found) (λ k. flips q (address_of host) ∙ e)))
+          ∙ sym (same ∙ off_other n (filter (has_address q) entries) (not_there n (has_address q) entries host (only n entries host is.rising found) (flips q (address_of host) ∙ e)))
       ];
     counted = λ q.
       let whole = sum_off n (share q) entries host is.rising found in
@@ -128,7 +128,7 @@ module _ {A S T : Type 0} (next : ℕ) (entries : List Entry) (addresses : Index
           elim (cases_Bool (is_address (address_of host) q)) [
             | inl e ↦ ats q ∙ ap (λ b. cond b (heard_at n m (entries_at addresses q)) (entries_at addresses q)) e ∙ ap (heard_at n m) (is.at q) ∙ sym same
             | inr e ↦ ats q ∙ ap (λ b. cond b (heard_at n m (entries_at addresses q)) (entries_at addresses q)) e ∙ is.at q
-              ∙ sym (same ∙ heard_other n m (filter (has_address q) entries) (not_there n (has_address q) entries host at_host (λ k. flips q (address_of host) ∙ e)))
+              ∙ sym (same ∙ heard_other n m (filter (has_address q) entries) (not_there n (has_address q) entries host at_host (flips q (address_of host) ∙ e)))
           ];
         counted = λ q. is.counted q ∙ sym (sum_heard n m (share q) (λ h. refl) entries);
         shelved = heard_shelved entries at_host is.shelved;

@@ -4,8 +4,10 @@ pub mod Indexed
 pub mod KeptParts
 pub mod KeptRoom
 pub mod KeptValid
+pub mod Leaving
 pub mod Lists
-pub mod Places
+pub mod Narrow
 pub mod Shelved
 pub mod Sizes
 pub mod Spots
+pub mod Tallies

@@ -1,9 +1,13 @@
 -- The hosts with their places in the order of learning, and what is kept to look them up.
-use Rattle.std.specs.Prelude.{◌≡◌, ◌==◌, ◌<◌, ◌+◌, ◌&&◌, not, map, Bool, true, false, ℕ, List, [], ◌∷◌, filter, sum_by, Option, Some, None, if◌then◌else◌}
+use Rattle.std.specs.Prelude.{◌≡◌, ◌==◌, ◌<◌, ◌+◌, ◌&&◌, not, map, nat_le, Bool, true, false, ℕ, List, [], ◌∷◌, filter, sum_by, Option, Some, None, if◌then◌else◌}
 use Rattle.std.specs.List.{AllByRecursion}
 use Rattle.std.specs.declared.vec.Vec.{Vec}
+use Rattle.net_base.specs.declared.numbers.DpId.{DpId}
 use Rattle.conf_types.specs.declared.state.HostRec.{HostRec}
 use Rattle.conf_types.specs.Configuration.{Configuration}
+use Rattle.conf_types.specs.Count.{sum_up_to_greatest}
+use Rattle.conf_types.specs.State.{fresh_for}
+use Rattle.conf_types.specs.Groups.{group_of}
 use Rattle.conf_types.specs.Lists.{EachBefore}
 use Rattle.indexmap.specs.IndexMap.{IndexMap}
 use Rattle.host_learn.specs.declared.addresses.Address.{Address}
@@ -49,13 +53,26 @@ both_spot host = record { dp = host.dp; port = Some host.port; vid = Some host.v
 abbrev pub share : Spot → HostRec → ℕ
 share spot host = one_at (port_spot host) spot + one_at (vlan_spot host) spot + one_at (both_spot host) spot
 
+-- the hosts of a VLAN on a shelf's datapath, where it is one of the group
+abbrev pub vlan_part : Configuration → List Entry → DpId → ℕ → Shelf → ℕ
+vlan_part conf entries group vid shelf =
+    if (group_of conf shelf.dp).0 == group.0 then sum_by (λ (e : Entry). share (record { dp = shelf.dp; port = None; vid = Some vid }) e.1) entries else 0
+
+-- a host that was last heard at the shelf's moment would be to be forgotten
+abbrev pub is_due_from : Configuration → ℕ → Shelf → Bool
+is_due_from conf moment shelf = nat_le (sum_up_to_greatest shelf.least.0 (fresh_for conf shelf.dp + 30000)) moment
+
+-- each place is below those behind it
+abbrev pub AreRising : List Entry → Type 0
+AreRising = EachBefore (λ (e : Entry) (f : Entry). e.0 < f.0)
+
 -- each shelf is of another datapath
 abbrev pub AreShelves : List Shelf → Type 0
 AreShelves = EachBefore (λ (s : Shelf) (t : Shelf). (s.dp.0 == t.dp.0) ≡ false)
 
 -- what is kept beside the entries is of these entries
 pub record IsIndexed {A S T : Type 0} (next : ℕ) (entries : List Entry) (addresses : IndexMap Address (Vec Entry A) S) (counts : IndexMap Spot ℕ T) (shelves : List Shelf) : Type 0 where
-  pub rising : EachBefore (λ (e : Entry) (f : Entry). e.0 < f.0) entries
+  pub rising : AreRising entries
   pub below : AllByRecursion (λ (e : Entry). e.0 < next) entries
   pub at : (a : Address) → entries_at addresses a ≡ filter (has_address a) entries
   pub counted : (s : Spot) → at_spot counts s ≡ sum_by (λ (e : Entry). share s e.1) entries

@@ -1,15 +1,16 @@
 //! The hosts in the order of learning, with what is kept to look them up.
 
-ghost use Rattle.std.specs.Prelude.{◌≡◌, ◌<◌, ◌≤◌, ◌+◌, ◌^◌, ◌++◌, ◌∷◌, [], ◌==◌, true, length, filter, sum_by, IfOk, OnOk, OnErr};
+ghost use Rattle.std.specs.Prelude.{◌≡◌, ◌<◌, ◌≤◌, ◌+◌, ◌^◌, ◌++◌, ◌∷◌, [], ◌==◌, true, count_by, length, slice_get, filter, sum_by, IfOk, OnOk, OnErr};
 ghost use Rattle.std.specs.BTreeMap.{is_at};
 ghost use Rattle.std.specs.Map.{lookup};
+ghost use Rattle.std.specs.Option.{option_copied};
 ghost use Rattle.std.specs.Ordering.{nat_cmp};
 ghost use Rattle.std.specs.List.{AllByRecursion};
-ghost use Rattle.conf_types.specs.State.{is_host_at, is_to_forget};
+ghost use Rattle.conf_types.specs.State.{is_host_at, is_host_in, is_to_forget};
 ghost use Rattle.indexmap.specs.IndexMap.{spare};
 ghost use Rattle.host_learn.specs.Addresses.{address_of, has_address, heard_at, off_place};
 ghost use Rattle.host_learn.specs.Counts.{at_spot};
-ghost use Rattle.host_learn.specs.Order.{AreShelves, both_spot, first_place, port_spot, share, vlan_spot};
+ghost use Rattle.host_learn.specs.Order.{AreRising, AreShelves, both_spot, first_place, hosts_of, port_spot, share, vlan_part, vlan_spot};
 ghost use Rattle.host_learn.specs.Shelves.{is_shelved};
 
 use crate::addresses::{Address, Addresses, Entry, entries, put, refresh, take};
@@ -17,7 +18,7 @@ use crate::counts::{Counts, Spot, count, lower, raise};
 use crate::shelves::{Shelf, hear, note};
 use conf_types::{Conf, HostRec};
 use indexmap::IndexMap;
-use net_base::{DpId, Moment, NoMemory, PortNo};
+use net_base::{DpId, Moment, NoMemory, PortNo, Vid};
 use std::alloc::{AllocError, Global};
 use std::collections::BTreeMap;
 use std::marker::Model;
@@ -46,7 +47,7 @@ impl Model for Order {
     ghost invariant = { λ o. IsIndexed o.next o.hosts.entries o.addresses o.counts o.shelves.items };
 }
 
-fn address_of(host: &HostRec) -> Address
+pub(crate) fn address_of(host: &HostRec) -> Address
     ensures { result ≡ address_of host.now }
 {
     Address {
@@ -75,7 +76,7 @@ fn vlan_spot(host: &HostRec) -> Spot
     }
 }
 
-fn both_spot(host: &HostRec) -> Spot
+pub(crate) fn both_spot(host: &HostRec) -> Spot
     ensures { result ≡ both_spot host.now }
 {
     Spot {
@@ -104,6 +105,44 @@ fn count_out(counts: &mut Counts, host: &HostRec)
     lower(counts, both_spot(host));
 }
 
+/// How many hosts stand at a port.
+pub(crate) fn port_count(order: &Order, dp: DpId, port: PortNo) -> usize
+    ensures { result ≡ count_by (is_host_at dp port) (hosts_of order.now) }
+{
+    order.count(&Spot {
+        dp,
+        port: Some(port.get()),
+        vid: None,
+    })
+}
+
+fn vlan_part(conf: &Conf, order: &Order, group: DpId, vid: Vid, shelf: &Shelf) -> usize
+    ensures { result ≡ vlan_part conf.now order.now group vid shelf.now }
+{
+    if conf.group_number(shelf.dp) == group {
+        order.count(&Spot {
+            dp: shelf.dp,
+            port: None,
+            vid: Some(vid.get()),
+        })
+    } else {
+        0
+    }
+}
+
+/// How many hosts of a VLAN stand in the group with this number.
+pub(crate) fn vlan_count(conf: &Conf, order: &Order, group: DpId, vid: Vid) -> usize
+    requires { length order.now < 2 ^ 32 }
+    ensures { result ≡ count_by (is_host_in conf.now group vid) (hosts_of order.now) }
+{
+    let mut count = 0;
+    let shelves = order.shelves();
+    for shelf in shelves {
+        count += vlan_part(conf, order, group, vid, shelf);
+    }
+    count
+}
+
 impl Order {
     pub(crate) fn new(alloc: Global) -> Order
         ensures { result ≡ [] }
@@ -124,9 +163,24 @@ impl Order {
         self.hosts.len()
     }
 
+    /// The host at a place in the order, counted from 0.
+    pub(crate) fn nth(&self, nth: usize) -> Option<&HostRec>
+        ensures { option_copied result ≡ slice_get (hosts_of self.now) nth }
+    {
+        self.hosts.values().nth(nth)
+    }
+
+    /// The hosts alone, in order.
+    pub(crate) fn hosts(&self, alloc: Global) -> Result<Vec<HostRec>, NoMemory>
+        ensures { IfOk result (λ hosts. hosts.items ≡ hosts_of self.now) }
+    {
+        self.hosts.values().copied().collect(alloc)
+    }
+
     /// The hosts of an address, in order, with their places.
     pub(crate) fn entries(&self, address: &Address) -> &[Entry]
-        ensures { result.now ≡ filter (has_address address.now) self.now }
+        ensures value { result.now ≡ filter (has_address address.now) self.now }
+        ensures rising { AreRising self.now }
     {
         entries(&self.addresses, address)
     }
@@ -197,7 +251,8 @@ impl Order {
 
     /// Where the first host stands that is to be forgotten.
     pub(crate) fn first_due(&self, conf: &Conf, now: Moment) -> Option<u64>
-        ensures { result ≡ first_place (is_to_forget conf.now now.0) self.now }
+        ensures value { result ≡ first_place (is_to_forget conf.now now.0) self.now }
+        ensures rising { AreRising self.now }
     {
         for (place, host) in &self.hosts {
             if conf.is_to_forget(now, host) {
@@ -209,7 +264,8 @@ impl Order {
 
     /// Where the first host at a port stands.
     pub(crate) fn first_at(&self, dp: DpId, port: PortNo) -> Option<u64>
-        ensures { result ≡ first_place (is_host_at dp port) self.now }
+        ensures value { result ≡ first_place (is_host_at dp port) self.now }
+        ensures rising { AreRising self.now }
     {
         for (place, host) in &self.hosts {
             if host.is_at(dp, port) {
@@ -221,7 +277,8 @@ impl Order {
 
     /// Where the first host of a datapath stands.
     pub(crate) fn first_on(&self, dp: DpId) -> Option<u64>
-        ensures { result ≡ first_place (λ host. host.dp.0 == dp.0) self.now }
+        ensures value { result ≡ first_place (λ host. host.dp.0 == dp.0) self.now }
+        ensures rising { AreRising self.now }
     {
         for (place, host) in &self.hosts {
             if host.dp == dp {
