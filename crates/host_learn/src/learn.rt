@@ -4,7 +4,7 @@ ghost use Rattle.conf_types.specs.Groups.{group_of};
 ghost use Rattle.conf_types.specs.Lists.{is_same};
 ghost use Rattle.conf_types.specs.State.{is_host_in, is_permanent};
 ghost use Rattle.host_learn.specs.Learning.{answer, hosts_after, is_full, is_full_at, is_full_in, is_heard, is_in_place, is_kept_off, is_known, is_occupied, moved, refreshed, stands_there};
-ghost use Rattle.host_learn.specs.Order.{first_entry, hosts_of, is_old, is_other};
+ghost use Rattle.host_learn.specs.Order.{AreRising, first_entry, hosts_of, is_old, is_other};
 
 use crate::addresses::Entry;
 use crate::host::{has_key, is_host, is_in_place};
@@ -161,7 +161,8 @@ fn first_old(entries: &[Entry], heard: &HostRec) -> Option<u64>
 
 /// Where the host that is heard stands with another moment.
 fn old_place(order: &Order, heard: &HostRec) -> Option<u64>
-    ensures { result ≡ first_entry (is_old heard.now) order.now }
+    ensures rising { AreRising order.now }
+    ensures value { result ≡ first_entry (is_old heard.now) order.now }
 {
     first_old(order.entries(&address_of(heard)), heard)
 }
@@ -187,7 +188,8 @@ fn first_other(conf: &Conf, entries: &[Entry], heard: &HostRec, place: u64) -> O
 
 /// Where the host that is heard stands beside a place.
 fn other_place(conf: &Conf, order: &Order, heard: &HostRec, place: u64) -> Option<u64>
-    ensures { result ≡ first_entry (is_other conf.now heard.now place) order.now }
+    ensures rising { AreRising order.now }
+    ensures value { result ≡ first_entry (is_other conf.now heard.now place) order.now }
 {
     first_other(conf, order.entries(&address_of(heard)), heard, place)
 }

@@ -1,6 +1,6 @@
 //! The hosts in the order of learning, with what is kept to look them up.
 
-ghost use Rattle.std.specs.Prelude.{◌≡◌, ◌<◌, ◌≤◌, ◌+◌, ◌^◌, ◌++◌, ◌∷◌, [], ◌==◌, true, count_by, length, slice_get, filter, sum_by, IfOk, OnOk, OnErr};
+ghost use Rattle.std.specs.Prelude.{◌≡◌, ◌<◌, ◌≤◌, ◌+◌, ◌^◌, ◌++◌, ◌∷◌, [], ◌==◌, true, None, Some, count_by, length, slice_get, filter, sum_by, IfOk, OnOk, OnErr};
 ghost use Rattle.std.specs.BTreeMap.{is_at};
 ghost use Rattle.std.specs.Map.{lookup};
 ghost use Rattle.std.specs.Option.{option_copied};
@@ -105,15 +105,21 @@ fn count_out(counts: &mut Counts, host: &HostRec)
     lower(counts, both_spot(host));
 }
 
+fn at_port(dp: DpId, port: PortNo) -> Spot
+    ensures { result ≡ record { dp = dp; port = Some port; vid = None } }
+{
+    Spot {
+        dp,
+        port: Some(port.get()),
+        vid: None,
+    }
+}
+
 /// How many hosts stand at a port.
 pub(crate) fn port_count(order: &Order, dp: DpId, port: PortNo) -> usize
     ensures { result ≡ count_by (is_host_at dp port) (hosts_of order.now) }
 {
-    order.count(&Spot {
-        dp,
-        port: Some(port.get()),
-        vid: None,
-    })
+    order.count(&at_port(dp, port))
 }
 
 fn vlan_part(conf: &Conf, order: &Order, group: DpId, vid: Vid, shelf: &Shelf) -> usize
