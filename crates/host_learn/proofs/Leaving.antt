@@ -24,7 +24,7 @@ none_some : {A : Type 0} (a : A) → ◌≡◌ {A = Option A} None (Some a) → 
 none_some a e = absurd (cc)
 
 -- the entry at a place that is found passes
-record Passes (test : Entry → Bool) (n : ℕ) (entries : List Entry) : Type 0 where
+pub record Passes (test : Entry → Bool) (n : ℕ) (entries : List Entry) : Type 0 where
   pub host : HostRec
   pub found : lookup (is_at (nat_cmp n)) entries ≡ Some host
   pub passes : test (n, host) ≡ true
@@ -198,18 +198,18 @@ module _ (heard : HostRec) where
       elim (cases_Bool (e.0 == n)) [
         | inl same ↦
           let is : e.1 ≡ host = some_is e.1 host (sym (ap (λ b. cond b (Some e.1) (lookup (is_at (nat_cmp n)) entries)) (same_test n e.0 ∙ same)) ∙ found) in
-          let was : cond (is_old heard e) 1 0 ≡ 1 = ap (λ b. cond b 1 0) (ap (λ (h : HostRec). is_old heard (n, h)) is ∙ passes) in
-          let now : cond (is_old heard (if e.0 == n then (e.0, record e.1 { learned = heard.learned }) else e)) 1 0 ≡ 0 =
+          let was : ◌≡◌ {A = ℕ} (cond (is_old heard e) 1 0) 1 = ap (λ b. cond b 1 0) (ap (λ (h : HostRec). is_old heard (n, h)) is ∙ passes) in
+          let now : ◌≡◌ {A = ℕ} (cond (is_old heard (if e.0 == n then (e.0, record e.1 { learned = heard.learned }) else e)) 1 0) 0 =
             ap (λ b. cond (is_old heard (if b then (e.0, record e.1 { learned = heard.learned }) else e)) 1 0) same ∙ ap (λ b. cond (is_in_place heard e.1 && not b) 1 0) (eq-eqb heard.learned.0 heard.learned.0 refl) ∙ never (is_in_place heard e.1) in
           let rest : count_by (is_old heard) (heard_at n heard.learned entries) ≡ count_by (is_old heard) entries = ap (count_by (is_old heard)) (none_heard n heard.learned entries (subst (λ k. AllByRecursion (λ (f : Entry). k < f.0) entries) (eqb-true e.0 n same) rising.0)) in
           omega (arith, sum_by-cons (λ (e : Entry). cond (is_old heard e) 1 0) e entries, sum_by-cons (λ (e : Entry). cond (is_old heard e) 1 0) (if e.0 == n then (e.0, record e.1 { learned = heard.learned }) else e) (heard_at n heard.learned entries), was, now, rest)
         | inr other ↦
           let later : lookup (is_at (nat_cmp n)) entries ≡ Some host = sym (ap (λ b. cond b (Some e.1) (lookup (is_at (nat_cmp n)) entries)) (same_test n e.0 ∙ other)) ∙ found in
-          let stays : cond (is_old heard (if e.0 == n then (e.0, record e.1 { learned = heard.learned }) else e)) 1 0 ≡ cond (is_old heard e) 1 0 = ap (λ b. cond (is_old heard (if b then (e.0, record e.1 { learned = heard.learned }) else e)) 1 0) other in
+          let stays : ◌≡◌ {A = ℕ} (cond (is_old heard (if e.0 == n then (e.0, record e.1 { learned = heard.learned }) else e)) 1 0) (cond (is_old heard e) 1 0) = ap (λ b. cond (is_old heard (if b then (e.0, record e.1 { learned = heard.learned }) else e)) 1 0) other in
           omega (arith, sum_by-cons (λ (e : Entry). cond (is_old heard e) 1 0) e entries, sum_by-cons (λ (e : Entry). cond (is_old heard e) 1 0) (if e.0 == n then (e.0, record e.1 { learned = heard.learned }) else e) (heard_at n heard.learned entries), stays, old_less n entries host rising.1 later passes)
       ]
     where
-      never : (b : Bool) → cond (b && false) 1 0 ≡ 0
+      never : (b : Bool) → ◌≡◌ {A = ℕ} (cond (b && false) 1 0) 0
       never true = refl
       never false = refl
 

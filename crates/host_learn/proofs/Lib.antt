@@ -1,4 +1,5 @@
 pub mod AtAddress
+pub mod Due
 pub mod Entries
 pub mod Indexed
 pub mod KeptParts

@@ -13,10 +13,10 @@ use Rattle.host_learn.specs.Order.{AreShelves}
 use Rattle.host_learn.specs.Shelves.{lowered, noted, is_on, is_shelved}
 use Rattle.host_learn.proofs.Lists.{before_push, none_passes}
 
-le_true : (a b : ℕ) → a ≤ b → nat_le a b ≡ true
+pub le_true : (a b : ℕ) → a ≤ b → nat_le a b ≡ true
 le_true a b less = grind (arith, nat_tests)
 
-le_is : (a b : ℕ) → nat_le a b ≡ true → a ≤ b
+pub le_is : (a b : ℕ) → nat_le a b ≡ true → a ≤ b
 le_is a b is = grind (arith, nat_tests)
 
 any_of : (a b : Bool) → b ≡ true → (a || b) ≡ true

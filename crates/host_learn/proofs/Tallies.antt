@@ -57,10 +57,10 @@ pub some_pass : (test : HostRec → Bool) (hosts : List HostRec) → nat_lt 0 (c
 some_pass test [] = refl
 some_pass test (h ∷ hosts) =
     elim (cases_Bool (test h)) [
-      | inl passes ↦ let first : cond (test h) 1 0 ≡ 1 = ap (λ b. cond b 1 0) passes in
+      | inl passes ↦ let first : ◌≡◌ {A = ℕ} (cond (test h) 1 0) 1 = ap (λ b. cond b 1 0) passes in
         let one : count_by test (h ∷ hosts) ≡ 1 + count_by test hosts = omega (arith, sum_by-cons (λ (h : HostRec). cond (test h) 1 0) h hosts, first) in
         ap (nat_lt 0) one ∙ positive (count_by test hosts) ∙ sym (ap (λ b. b || list_any test hosts) passes)
-      | inr fails ↦ let none : cond (test h) 1 0 ≡ 0 = ap (λ b. cond b 1 0) fails in
+      | inr fails ↦ let none : ◌≡◌ {A = ℕ} (cond (test h) 1 0) 0 = ap (λ b. cond b 1 0) fails in
         let rest : count_by test (h ∷ hosts) ≡ count_by test hosts = omega (arith, sum_by-cons (λ (h : HostRec). cond (test h) 1 0) h hosts, none) in
         ap (nat_lt 0) rest ∙ some_pass test hosts ∙ sym (ap (λ b. b || list_any test hosts) fails)
     ]
@@ -98,7 +98,7 @@ module _ (conf : Configuration) (group : DpId) (v : ℕ) where
 
   apart_adds : (h : HostRec) (s : Shelf) → (h.dp.0 == s.dp.0) ≡ false → adds h s ≡ 0
   apart_adds h s other =
-      let none : cond (h.dp.0 == s.dp.0 && h.vid == v) 1 0 ≡ 0 = ap (λ b. cond (b && h.vid == v) 1 0) other in
+      let none : ◌≡◌ {A = ℕ} (cond (h.dp.0 == s.dp.0 && h.vid == v) 1 0) 0 = ap (λ b. cond (b && h.vid == v) 1 0) other in
       ap (λ k. if (group_of conf s.dp).0 == group.0 then k else 0) none ∙ elim ((group_of conf s.dp).0 == group.0) as (λ b. ◌≡◌ {A = ℕ} (if b then 0 else 0) 0) [ true ↦ refl | false ↦ refl ]
 
   none_adds : (h : HostRec) (shelves : List Shelf) → AllByRecursion (λ (s : Shelf). (h.dp.0 == s.dp.0) ≡ false) shelves → sum_by (adds h) shelves ≡ 0
@@ -113,7 +113,7 @@ module _ (conf : Configuration) (group : DpId) (v : ℕ) where
         | inl here ↦
           let dp : s.dp ≡ h.dp = same_id s.dp h.dp (eqb-true s.dp.0 h.dp.0 here) in
           let rest : sum_by (adds h) shelves ≡ 0 = none_adds h shelves (subst (λ (d : DpId). AllByRecursion (λ (r : Shelf). (d.0 == r.dp.0) ≡ false) shelves) dp apart.0) in
-          let own : cond (h.dp.0 == h.dp.0 && h.vid == v) 1 0 ≡ cond (h.vid == v) 1 0 = ap (λ b. cond (b && h.vid == v) 1 0) (eq-eqb h.dp.0 h.dp.0 refl) in
+          let own : ◌≡◌ {A = ℕ} (cond (h.dp.0 == h.dp.0 && h.vid == v) 1 0) (cond (h.vid == v) 1 0) = ap (λ b. cond (b && h.vid == v) 1 0) (eq-eqb h.dp.0 h.dp.0 refl) in
           let first : adds h s ≡ cond (is_host_in conf group v h) 1 0 =
             ap (λ (d : DpId). adds h (record s { dp = d })) dp
             ∙ ap (λ (k : ℕ). if (group_of conf h.dp).0 == group.0 then k else 0) own

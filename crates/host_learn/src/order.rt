@@ -18,7 +18,7 @@ use crate::counts::{Counts, Spot, count, lower, raise};
 use crate::shelves::{Shelf, hear, note};
 use conf_types::{Conf, HostRec};
 use indexmap::IndexMap;
-use net_base::{DpId, Moment, NoMemory, PortNo, Vid};
+use net_base::{DpId, Mac, Moment, NoMemory, PortNo, Vid};
 use std::alloc::{AllocError, Global};
 use std::collections::BTreeMap;
 use std::marker::Model;
@@ -45,6 +45,15 @@ impl Model for Order {
     ghost view = { λ o. o.hosts.entries };
 
     ghost invariant = { λ o. IsIndexed o.next o.hosts.entries o.addresses o.counts o.shelves.items };
+}
+
+pub(crate) fn key_address(vid: Vid, mac: Mac) -> Address
+    ensures { result ≡ record { vid = vid; mac = mac } }
+{
+    Address {
+        vid: vid.get(),
+        mac,
+    }
 }
 
 pub(crate) fn address_of(host: &HostRec) -> Address

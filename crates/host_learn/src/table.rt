@@ -7,11 +7,11 @@ ghost use Rattle.host_learn.specs.Learning.{answer, learned};
 ghost use Rattle.host_learn.specs.Order.{hosts_of, is_due_from};
 ghost use Rattle.host_learn.specs.Table.{first_due, has_key, host_of, off_datapath, off_port, without_first};
 
-use crate::addresses::{Address, Entry};
+use crate::addresses::Entry;
 use crate::host::has_key;
 use crate::kept::kept_hosts;
 use crate::learn::{Learn, answer, take_in};
-use crate::order::Order;
+use crate::order::{Order, key_address};
 use crate::shelves::Shelf;
 use conf_types::{Conf, HostRec, UpRec};
 use net_base::{DpId, Mac, Moment, NoMemory, PortNo, Vid};
@@ -211,10 +211,7 @@ impl HostTable {
     pub fn get(&self, conf: &Conf, dp: DpId, vid: Vid, mac: Mac) -> Option<&HostRec>
         ensures { option_copied result ≡ host_of conf.now self.now.hosts dp vid mac.0 }
     {
-        let address = Address {
-            vid: vid.get(),
-            mac,
-        };
+        let address = key_address(vid, mac);
         let group = conf.group_number(dp);
         find_host(self.order.entries(&address), conf, group, vid, mac)
     }
