@@ -44,9 +44,9 @@ module _ {A S : Type 0} (old : IndexMap Address (Vec Entry A) S) (a : Address) w
       let read : Option (Vec Entry A) → List Entry = λ o. option_map_or (λ v. v.items) o [] in
       elim (cases_Bool (is_address a q)) [
         | inl e ↦ ap read (up.0 q ∙ ap (λ b. cond b (Some v) (get is_address old q)) e) ∙ items
-          ∙ sym (ap (λ b. entries_at old q ++ cond b (entry ∷ []) []) e ∙ ap (λ es. es ++ entry ∷ []) (none_at none q e))
+            ∙ sym (ap (λ b. entries_at old q ++ cond b (entry ∷ []) []) e ∙ ap (λ es. es ++ entry ∷ []) (none_at none q e))
         | inr e ↦ ap read (up.0 q ∙ ap (λ b. cond b (Some v) (get is_address old q)) e)
-          ∙ sym (ap (λ b. entries_at old q ++ cond b (entry ∷ []) []) e ∙ append-nil (entries_at old q))
+            ∙ sym (ap (λ b. entries_at old q ++ cond b (entry ∷ []) []) e ∙ append-nil (entries_at old q))
       ]
 
   -- what is written over the entries
@@ -56,7 +56,7 @@ module _ {A S : Type 0} (old : IndexMap Address (Vec Entry A) S) (a : Address) w
       let read : Option (Vec Entry A) → List Entry = λ o. option_map_or (λ v. v.items) o [] in
       elim (cases_Bool (is_address a q)) [
         | inl e ↦ ap read (up.0 q ∙ ap (λ b. cond b (Some w) (get is_address old q)) e) ∙ items ∙ ap f (sym (ap read (ap (get is_address old) (sym (same_address a q e)) ∙ here)))
-          ∙ sym (ap (λ b. cond b (f (entries_at old q)) (entries_at old q)) e)
+            ∙ sym (ap (λ b. cond b (f (entries_at old q)) (entries_at old q)) e)
         | inr e ↦ ap read (up.0 q ∙ ap (λ b. cond b (Some w) (get is_address old q)) e) ∙ sym (ap (λ b. cond b (f (entries_at old q)) (entries_at old q)) e)
       ]
 

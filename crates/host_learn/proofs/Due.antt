@@ -31,9 +31,9 @@ module _ (conf : Configuration) (moment : ℕ) where
       let stays : nat_le (sum_up_to_greatest shelf.least.0 (fresh_for conf host.dp + 30000)) moment ≡ false = ap (λ (d : DpId). nat_le (sum_up_to_greatest shelf.least.0 (fresh_for conf d + 30000)) moment) (sym dp) ∙ off in
       elim (cases_Bool (nat_le (sum_up_to_greatest host.learned.0 (fresh_for conf host.dp + 30000)) moment)) [
         | inl due ↦
-          let at_most : sum_up_to_greatest host.learned.0 (fresh_for conf host.dp + 30000) ≤ moment = le_is (sum_up_to_greatest host.learned.0 (fresh_for conf host.dp + 30000)) moment due in
-          let before = later shelf.least.0 host.learned.0 (fresh_for conf host.dp + 30000) least in
-          absurd (false≢true (sym stays ∙ le_true (sum_up_to_greatest shelf.least.0 (fresh_for conf host.dp + 30000)) moment (omega (arith, at_most, before))))
+            let at_most : sum_up_to_greatest host.learned.0 (fresh_for conf host.dp + 30000) ≤ moment = le_is (sum_up_to_greatest host.learned.0 (fresh_for conf host.dp + 30000)) moment due in
+            let before = later shelf.least.0 host.learned.0 (fresh_for conf host.dp + 30000) least in
+            absurd (false≢true (sym stays ∙ le_true (sum_up_to_greatest shelf.least.0 (fresh_for conf host.dp + 30000)) moment (omega (arith, at_most, before))))
         | inr is ↦ is
       ]
 

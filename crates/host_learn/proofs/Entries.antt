@@ -30,10 +30,10 @@ same_test n k =
       | inr e ↦ elim (cases_Bool (nat_lt n k)) [
         | inl less ↦ ap is_eq (sym (nat_cmp_is n k Less (ltb-true n k less))) ∙ sym e
         | inr more ↦ let at_most : k ≤ n = ltb-false n k more in
-          let below : k < n = elim (cases_Bool (nat_lt k n)) [
-            | inl is ↦ ltb-true k n is
-            | inr is ↦ let other : n ≤ k = ltb-false k n is in absurd (eq_false k n e (omega arith))
-          ] in ap is_eq (sym (nat_cmp_is n k Greater below)) ∙ sym e
+            let below : k < n = elim (cases_Bool (nat_lt k n)) [
+              | inl is ↦ ltb-true k n is
+              | inr is ↦ let other : n ≤ k = ltb-false k n is in absurd (eq_false k n e (omega arith))
+            ] in ap is_eq (sym (nat_cmp_is n k Greater below)) ∙ sym e
       ]
     ]
 
@@ -62,9 +62,9 @@ module _ (n : ℕ) where
   taken (e ∷ entries) rising =
       elim (cases_Bool (e.0 == n)) [
         | inl same ↦ ap (λ b. cond b entries (e ∷ remove_entry (is_at (nat_cmp n)) entries)) (same_test n e.0 ∙ same)
-          ∙ sym (ap (λ b. cond (not b) (e ∷ off_place n entries) (off_place n entries)) same ∙ none_off entries (behind e entries (eqb-true e.0 n same) rising.0))
+            ∙ sym (ap (λ b. cond (not b) (e ∷ off_place n entries) (off_place n entries)) same ∙ none_off entries (behind e entries (eqb-true e.0 n same) rising.0))
         | inr other ↦ ap (λ b. cond b entries (e ∷ remove_entry (is_at (nat_cmp n)) entries)) (same_test n e.0 ∙ other)
-          ∙ ap (λ rest. e ∷ rest) (taken entries rising.1) ∙ sym (ap (λ b. cond (not b) (e ∷ off_place n entries) (off_place n entries)) other)
+            ∙ ap (λ rest. e ∷ rest) (taken entries rising.1) ∙ sym (ap (λ b. cond (not b) (e ∷ off_place n entries) (off_place n entries)) other)
       ]
 
   -- ---- another moment
@@ -80,14 +80,14 @@ module _ (n : ℕ) where
   heard m (e ∷ entries) host rising found =
       elim (cases_Bool (e.0 == n)) [
         | inl same ↦ let here : ◌≡◌ {A = Option HostRec} (Some e.1) (Some host) = sym (ap (λ b. cond b (Some e.1) (lookup (is_at (nat_cmp n)) entries)) (same_test n e.0 ∙ same)) ∙ found in
-          let is : e.1 ≡ host = cc in
-          ap (λ b. cond b ((e.0, record host { learned = m }) ∷ entries) (e ∷ set_value (is_at (nat_cmp n)) entries (record host { learned = m }))) (same_test n e.0 ∙ same)
-          ∙ ap (λ (h : HostRec). (e.0, record h { learned = m }) ∷ entries) (sym is)
-          ∙ sym (ap (λ b. (if b then (e.0, record e.1 { learned = m }) else e) ∷ heard_at n m entries) same ∙ ap (λ rest. (e.0, record e.1 { learned = m }) ∷ rest) (none_heard m entries (behind e entries (eqb-true e.0 n same) rising.0)))
+            let is : e.1 ≡ host = cc in
+            ap (λ b. cond b ((e.0, record host { learned = m }) ∷ entries) (e ∷ set_value (is_at (nat_cmp n)) entries (record host { learned = m }))) (same_test n e.0 ∙ same)
+            ∙ ap (λ (h : HostRec). (e.0, record h { learned = m }) ∷ entries) (sym is)
+            ∙ sym (ap (λ b. (if b then (e.0, record e.1 { learned = m }) else e) ∷ heard_at n m entries) same ∙ ap (λ rest. (e.0, record e.1 { learned = m }) ∷ rest) (none_heard m entries (behind e entries (eqb-true e.0 n same) rising.0)))
         | inr other ↦ let later : lookup (is_at (nat_cmp n)) entries ≡ Some host = sym (ap (λ b. cond b (Some e.1) (lookup (is_at (nat_cmp n)) entries)) (same_test n e.0 ∙ other)) ∙ found in
-          ap (λ b. cond b ((e.0, record host { learned = m }) ∷ entries) (e ∷ set_value (is_at (nat_cmp n)) entries (record host { learned = m }))) (same_test n e.0 ∙ other)
-          ∙ ap (λ rest. e ∷ rest) (heard m entries host rising.1 later)
-          ∙ sym (ap (λ b. (if b then (e.0, record e.1 { learned = m }) else e) ∷ heard_at n m entries) other)
+            ap (λ b. cond b ((e.0, record host { learned = m }) ∷ entries) (e ∷ set_value (is_at (nat_cmp n)) entries (record host { learned = m }))) (same_test n e.0 ∙ other)
+            ∙ ap (λ rest. e ∷ rest) (heard m entries host rising.1 later)
+            ∙ sym (ap (λ b. (if b then (e.0, record e.1 { learned = m }) else e) ∷ heard_at n m entries) other)
       ]
 
   -- ---- the host at the place
@@ -101,10 +101,10 @@ module _ (n : ℕ) where
   only (e ∷ entries) host rising found =
       elim (cases_Bool (e.0 == n)) [
         | inl same ↦ let here : ◌≡◌ {A = Option HostRec} (Some e.1) (Some host) = sym (ap (λ b. cond b (Some e.1) (lookup (is_at (nat_cmp n)) entries)) (same_test n e.0 ∙ same)) ∙ found in
-          let is : e.1 ≡ host = cc in
-          ((λ _. is), all_map (λ (f : Entry). n < f.0) (λ (f : Entry). (f.0 == n) ≡ true → f.1 ≡ host) (λ f above at. absurd (let at_n : f.0 ≡ n = eqb-true f.0 n at in let less : n < f.0 = above in omega (arith, at_n, less))) entries (behind e entries (eqb-true e.0 n same) rising.0))
+            let is : e.1 ≡ host = cc in
+            ((λ _. is), all_map (λ (f : Entry). n < f.0) (λ (f : Entry). (f.0 == n) ≡ true → f.1 ≡ host) (λ f above at. absurd (let at_n : f.0 ≡ n = eqb-true f.0 n at in let less : n < f.0 = above in omega (arith, at_n, less))) entries (behind e entries (eqb-true e.0 n same) rising.0))
         | inr other ↦ let later : lookup (is_at (nat_cmp n)) entries ≡ Some host = sym (ap (λ b. cond b (Some e.1) (lookup (is_at (nat_cmp n)) entries)) (same_test n e.0 ∙ other)) ∙ found in
-          ((λ same. absurd (false≢true (sym other ∙ same))), only entries host rising.1 later)
+            ((λ same. absurd (false≢true (sym other ∙ same))), only entries host rising.1 later)
       ]
 
   -- a sum has the host's part less
@@ -114,13 +114,13 @@ module _ (n : ℕ) where
       let total : List Entry → ℕ = sum_by (λ (e : Entry). f e.1) in
       elim (cases_Bool (e.0 == n)) [
         | inl same ↦ let here : ◌≡◌ {A = Option HostRec} (Some e.1) (Some host) = sym (ap (λ b. cond b (Some e.1) (lookup (is_at (nat_cmp n)) entries)) (same_test n e.0 ∙ same)) ∙ found in
-          let is : e.1 ≡ host = cc in
-          let rest : total (off_place n (e ∷ entries)) ≡ total entries = ap (λ b. total (cond (not b) (e ∷ off_place n entries) (off_place n entries))) same ∙ ap total (none_off entries (behind e entries (eqb-true e.0 n same) rising.0)) in
-          let part : f e.1 ≡ f host = ap f is in
-          omega (arith, rest, part, sum_by-cons (λ (e : Entry). f e.1) e entries)
+            let is : e.1 ≡ host = cc in
+            let rest : total (off_place n (e ∷ entries)) ≡ total entries = ap (λ b. total (cond (not b) (e ∷ off_place n entries) (off_place n entries))) same ∙ ap total (none_off entries (behind e entries (eqb-true e.0 n same) rising.0)) in
+            let part : f e.1 ≡ f host = ap f is in
+            omega (arith, rest, part, sum_by-cons (λ (e : Entry). f e.1) e entries)
         | inr other ↦ let later : lookup (is_at (nat_cmp n)) entries ≡ Some host = sym (ap (λ b. cond b (Some e.1) (lookup (is_at (nat_cmp n)) entries)) (same_test n e.0 ∙ other)) ∙ found in
-          let rest : total (off_place n (e ∷ entries)) ≡ total (e ∷ off_place n entries) = ap (λ b. total (cond (not b) (e ∷ off_place n entries) (off_place n entries))) other in
-          omega (arith, rest, sum_off f entries host rising.1 later, sum_by-cons (λ (e : Entry). f e.1) e entries, sum_by-cons (λ (e : Entry). f e.1) e (off_place n entries))
+            let rest : total (off_place n (e ∷ entries)) ≡ total (e ∷ off_place n entries) = ap (λ b. total (cond (not b) (e ∷ off_place n entries) (off_place n entries))) other in
+            omega (arith, rest, sum_off f entries host rising.1 later, sum_by-cons (λ (e : Entry). f e.1) e entries, sum_by-cons (λ (e : Entry). f e.1) e (off_place n entries))
       ]
 
   -- ---- a part by a test
@@ -131,16 +131,16 @@ module _ (n : ℕ) where
       let F = filter test (off_place n entries) in
       elim (cases_Bool (e.0 == n)) [
         | inl same ↦ ap (λ b. filter test (cond (not b) (e ∷ off_place n entries) (off_place n entries))) same ∙ filter_off test entries
-          ∙ sym (elim (cases_Bool (test e)) [
-            | inl passes ↦ ap (λ b. off_place n (cond b (e ∷ filter test entries) (filter test entries))) passes ∙ ap (λ b. cond (not b) (e ∷ off_place n (filter test entries)) (off_place n (filter test entries))) same
-            | inr fails ↦ ap (λ b. off_place n (cond b (e ∷ filter test entries) (filter test entries))) fails
-          ])
+            ∙ sym (elim (cases_Bool (test e)) [
+              | inl passes ↦ ap (λ b. off_place n (cond b (e ∷ filter test entries) (filter test entries))) passes ∙ ap (λ b. cond (not b) (e ∷ off_place n (filter test entries)) (off_place n (filter test entries))) same
+              | inr fails ↦ ap (λ b. off_place n (cond b (e ∷ filter test entries) (filter test entries))) fails
+            ])
         | inr other ↦ ap (λ b. filter test (cond (not b) (e ∷ off_place n entries) (off_place n entries))) other
-          ∙ elim (cases_Bool (test e)) [
-            | inl passes ↦ ap (λ b. cond b (e ∷ F) F) passes ∙ ap (λ rest. e ∷ rest) (filter_off test entries)
-              ∙ sym (ap (λ b. off_place n (cond b (e ∷ filter test entries) (filter test entries))) passes ∙ ap (λ b. cond (not b) (e ∷ off_place n (filter test entries)) (off_place n (filter test entries))) other)
-            | inr fails ↦ ap (λ b. cond b (e ∷ F) F) fails ∙ filter_off test entries ∙ sym (ap (λ b. off_place n (cond b (e ∷ filter test entries) (filter test entries))) fails)
-          ]
+            ∙ elim (cases_Bool (test e)) [
+              | inl passes ↦ ap (λ b. cond b (e ∷ F) F) passes ∙ ap (λ rest. e ∷ rest) (filter_off test entries)
+                  ∙ sym (ap (λ b. off_place n (cond b (e ∷ filter test entries) (filter test entries))) passes ∙ ap (λ b. cond (not b) (e ∷ off_place n (filter test entries)) (off_place n (filter test entries))) other)
+              | inr fails ↦ ap (λ b. cond b (e ∷ F) F) fails ∙ filter_off test entries ∙ sym (ap (λ b. off_place n (cond b (e ∷ filter test entries) (filter test entries))) fails)
+            ]
       ]
 
   -- where the test doesn't take what is at the place
@@ -156,11 +156,13 @@ module _ (n : ℕ) where
   not_there test [] host is fails = tt
   not_there test (e ∷ entries) host is fails =
       elim (cases_Bool (test e)) [
-        | inl passes ↦ subst (λ b. AllByRecursion (λ (e : Entry). (e.0 == n) ≡ false) (cond b (e ∷ filter test entries) (filter test entries))) (sym passes)
-          ((elim (cases_Bool (e.0 == n)) [
+        | inl passes ↦ subst (λ b. AllByRecursion (λ (e : Entry). (e.0 == n) ≡ false) (cond b (e ∷ filter test entries) (filter test entries))) (sym passes) (
+          (elim (cases_Bool (e.0 == n)) [
             | inl same ↦ absurd (false≢true (sym (ap (λ h. test (e.0, h)) (is.0 same) ∙ ap (λ k. test (k, host)) (eqb-true e.0 n same) ∙ fails) ∙ passes))
             | inr other ↦ other
-          ]), not_there test entries host is.1 fails)
+          ]),
+          not_there test entries host is.1 fails,
+        )
         | inr skips ↦ subst (λ b. AllByRecursion (λ (e : Entry). (e.0 == n) ≡ false) (cond b (e ∷ filter test entries) (filter test entries))) (sym skips) (not_there test entries host is.1 fails)
       ]
 
@@ -192,9 +194,9 @@ module _ (n : ℕ) where
       let as_before : test (if e.0 == n then (e.0, record e.1 { learned = m }) else e) ≡ test e = elim (e.0 == n) as (λ b. test (if b then (e.0, record e.1 { learned = m }) else e) ≡ test e) [ true ↦ same e | false ↦ refl ] in
       elim (cases_Bool (test e)) [
         | inl passes ↦ ap (λ b. cond b (new ∷ filter test (heard_at n m entries)) (filter test (heard_at n m entries))) (as_before ∙ passes) ∙ ap (λ rest. new ∷ rest) (filter_heard m test same entries)
-          ∙ sym (ap (λ b. heard_at n m (cond b (e ∷ filter test entries) (filter test entries))) passes)
+            ∙ sym (ap (λ b. heard_at n m (cond b (e ∷ filter test entries) (filter test entries))) passes)
         | inr fails ↦ ap (λ b. cond b (new ∷ filter test (heard_at n m entries)) (filter test (heard_at n m entries))) (as_before ∙ fails) ∙ filter_heard m test same entries
-          ∙ sym (ap (λ b. heard_at n m (cond b (e ∷ filter test entries) (filter test entries))) fails)
+            ∙ sym (ap (λ b. heard_at n m (cond b (e ∷ filter test entries) (filter test entries))) fails)
       ]
 
   -- ---- where nothing is there

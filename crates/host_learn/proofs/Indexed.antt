@@ -19,9 +19,9 @@ use Rattle.host_learn.specs.declared.shelves.Shelf.{Shelf}
 use Rattle.host_learn.specs.Addresses.{Entry, address_of, entries_at, has_address, heard_at, is_address, off_place}
 use Rattle.host_learn.specs.Counts.{at_spot, is_spot, one_at}
 use Rattle.host_learn.specs.Order.{IsIndexed, both_spot, port_spot, share, vlan_spot}
-use Rattle.host_learn.specs.Shelves.{is_shelved, lowered, noted}
+use Rattle.host_learn.specs.Shelves.{is_shelved, lowered, noted, tightened}
 use Rattle.host_learn.proofs.Lists.{all_map, all_part, all_push, before_part, before_push, filter_part}
-use Rattle.host_learn.proofs.Shelved.{lowered_apart, lowered_here, lowered_keeps, noted_apart, noted_here, noted_keeps, on_dp}
+use Rattle.host_learn.proofs.Shelved.{lowered_apart, lowered_here, lowered_keeps, noted_apart, noted_here, noted_keeps, on_dp, tight_apart, tight_shelved}
 use Rattle.host_learn.proofs.AtAddress.{flips}
 use Rattle.host_learn.proofs.Entries.{IsOnly, filter_heard, filter_off, heard_all, heard_other, heard_rising, not_there, off_other, only, sum_heard, sum_off}
 
@@ -42,17 +42,17 @@ module _ {A S T : Type 0} (next : ℕ) (entries : List Entry) (addresses : Index
     rising = before_part (λ (e : Entry) (f : Entry). e.0 < f.0) (off_place n entries) entries is.rising (filter_part (λ (e : Entry). not (e.0 == n)) entries);
     below = all_part (λ (e : Entry). e.0 < next) (off_place n entries) entries is.below (filter_part (λ (e : Entry). not (e.0 == n)) entries);
     at = λ q.
-      let same : filter (has_address q) (off_place n entries) ≡ off_place n (filter (has_address q) entries) = filter_off n (has_address q) entries in
-      elim (cases_Bool (is_address (address_of host) q)) [
-        | inl e ↦ ats q ∙ ap (λ b. cond b (off_place n (entries_at addresses q)) (entries_at addresses q)) e ∙ ap (off_place n) (is.at q) ∙ sym same
-        | inr e ↦ ats q ∙ ap (λ b. cond b (off_place n (entries_at addresses q)) (entries_at addresses q)) e ∙ is.at q
-          ∙ sym (same ∙ off_other n (filter (has_address q) entries) (not_there n (has_address q) entries host (only n entries host is.rising found) (flips q (address_of host) ∙ e)))
-      ];
+        let same : filter (has_address q) (off_place n entries) ≡ off_place n (filter (has_address q) entries) = filter_off n (has_address q) entries in
+        elim (cases_Bool (is_address (address_of host) q)) [
+          | inl e ↦ ats q ∙ ap (λ b. cond b (off_place n (entries_at addresses q)) (entries_at addresses q)) e ∙ ap (off_place n) (is.at q) ∙ sym same
+          | inr e ↦ ats q ∙ ap (λ b. cond b (off_place n (entries_at addresses q)) (entries_at addresses q)) e ∙ is.at q
+              ∙ sym (same ∙ off_other n (filter (has_address q) entries) (not_there n (has_address q) entries host (only n entries host is.rising found) (flips q (address_of host) ∙ e)))
+        ];
     counted = λ q.
-      let whole = sum_off n (share q) entries host is.rising found in
-      let all = is.counted q in
-      let here = spots q in
-      omega (arith, whole, all, here);
+        let whole = sum_off n (share q) entries host is.rising found in
+        let all = is.counted q in
+        let here = spots q in
+        omega (arith, whole, all, here);
     shelved = all_part (λ (e : Entry). is_shelved shelves e.1 ≡ true) (off_place n entries) entries is.shelved (filter_part (λ (e : Entry). not (e.0 == n)) entries);
     shelves_apart = is.shelves_apart;
   }
@@ -66,13 +66,13 @@ module _ {A S T : Type 0} (next : ℕ) (entries : List Entry) (addresses : Index
     rising = before_push (λ (e : Entry) (f : Entry). e.0 < f.0) entries (next, host) is.rising is.below;
     below = all_push (λ (e : Entry). e.0 < after) entries (next, host) (all_map (λ (e : Entry). e.0 < next) (λ (e : Entry). e.0 < after) (λ e less. let l : e.0 < next = less in omega (arith, l)) entries is.below) more;
     at = λ q. ats q ∙ ap (λ es. es ++ (if is_address (address_of host) q then (next, host) ∷ [] else [])) (is.at q)
-      ∙ ap (λ b. filter (has_address q) entries ++ (if b then (next, host) ∷ [] else [])) (flips (address_of host) q)
-      ∙ sym (filter-append (has_address q) entries ((next, host) ∷ []));
+        ∙ ap (λ b. filter (has_address q) entries ++ (if b then (next, host) ∷ [] else [])) (flips (address_of host) q)
+        ∙ sym (filter-append (has_address q) entries ((next, host) ∷ []));
     counted = λ q.
-      let whole = sum_by_push (λ (e : Entry). share q e.1) entries (next, host) in
-      let all = is.counted q in
-      let here = spots q in
-      omega (arith, whole, all, here);
+        let whole = sum_by_push (λ (e : Entry). share q e.1) entries (next, host) in
+        let all = is.counted q in
+        let here = spots q in
+        omega (arith, whole, all, here);
     shelved = all_push (λ (e : Entry). is_shelved (noted host.dp host.learned shelves) e.1 ≡ true) entries (next, host)
         (all_map (λ (e : Entry). is_shelved shelves e.1 ≡ true) (λ (e : Entry). is_shelved (noted host.dp host.learned shelves) e.1 ≡ true) (λ e on. noted_keeps host.dp host.learned e.1 shelves on) entries is.shelved)
         (noted_here host shelves);
@@ -102,6 +102,16 @@ module _ {A S T : Type 0} (next : ℕ) (entries : List Entry) (addresses : Index
     shelves_apart = noted_apart dp t shelves is.shelves_apart;
   }
 
+  pub tight : IsIndexed next entries addresses counts (map (tightened entries) shelves)
+  tight = record {
+    rising = is.rising;
+    below = is.below;
+    at = is.at;
+    counted = is.counted;
+    shelved = tight_shelved entries shelves is.shelved;
+    shelves_apart = tight_apart entries shelves is.shelves_apart;
+  }
+
   one_few : (a b : Spot) → one_at a b ≤ 1
   one_few a b = elim (is_spot a b) as (λ b. (if b then 1 else 0) ≤ 1) [ true ↦ omega arith | false ↦ omega arith ]
 
@@ -124,12 +134,12 @@ module _ {A S T : Type 0} (next : ℕ) (entries : List Entry) (addresses : Index
         rising = heard_rising n m entries is.rising;
         below = heard_all n m (λ k. k < next) entries is.below;
         at = λ q.
-          let same : filter (has_address q) (heard_at n m entries) ≡ heard_at n m (filter (has_address q) entries) = filter_heard n m (has_address q) (λ e. refl) entries in
-          elim (cases_Bool (is_address (address_of host) q)) [
-            | inl e ↦ ats q ∙ ap (λ b. cond b (heard_at n m (entries_at addresses q)) (entries_at addresses q)) e ∙ ap (heard_at n m) (is.at q) ∙ sym same
-            | inr e ↦ ats q ∙ ap (λ b. cond b (heard_at n m (entries_at addresses q)) (entries_at addresses q)) e ∙ is.at q
-              ∙ sym (same ∙ heard_other n m (filter (has_address q) entries) (not_there n (has_address q) entries host at_host (flips q (address_of host) ∙ e)))
-          ];
+            let same : filter (has_address q) (heard_at n m entries) ≡ heard_at n m (filter (has_address q) entries) = filter_heard n m (has_address q) (λ e. refl) entries in
+            elim (cases_Bool (is_address (address_of host) q)) [
+              | inl e ↦ ats q ∙ ap (λ b. cond b (heard_at n m (entries_at addresses q)) (entries_at addresses q)) e ∙ ap (heard_at n m) (is.at q) ∙ sym same
+              | inr e ↦ ats q ∙ ap (λ b. cond b (heard_at n m (entries_at addresses q)) (entries_at addresses q)) e ∙ is.at q
+                  ∙ sym (same ∙ heard_other n m (filter (has_address q) entries) (not_there n (has_address q) entries host at_host (flips q (address_of host) ∙ e)))
+            ];
         counted = λ q. is.counted q ∙ sym (sum_heard n m (share q) (λ h. refl) entries);
         shelved = heard_shelved entries at_host is.shelved;
         shelves_apart = lowered_apart host.dp m shelves is.shelves_apart;
@@ -137,11 +147,13 @@ module _ {A S T : Type 0} (next : ℕ) (entries : List Entry) (addresses : Index
     where
       heard_shelved : (es : List Entry) → IsOnly n host es → AllByRecursion (λ (e : Entry). is_shelved shelves e.1 ≡ true) es → AllByRecursion (λ (e : Entry). is_shelved (map (lowered host.dp m) shelves) e.1 ≡ true) (heard_at n m es)
       heard_shelved [] at on = tt
-      heard_shelved (e ∷ es) at on =
-          ((elim (cases_Bool (e.0 == n)) [
-            | inl here ↦ let heard : HostRec = record e.1 { learned = m } in
+      heard_shelved (e ∷ es) at on = (
+        (elim (cases_Bool (e.0 == n)) [
+          | inl here ↦ let heard : HostRec = record e.1 { learned = m } in
               let dp : e.1.dp ≡ host.dp = ap (λ (h : HostRec). h.dp) (at.0 here) in
               ap (λ b. is_shelved (map (lowered host.dp m) shelves) (if b then (e.0, heard) else e).1) here
               ∙ ap (λ (d : DpId). is_shelved (map (lowered d m) shelves) heard) (sym dp) ∙ lowered_here heard shelves (on_dp e.1 shelves on.0)
-            | inr other ↦ ap (λ b. is_shelved (map (lowered host.dp m) shelves) (if b then (e.0, record e.1 { learned = m }) else e).1) other ∙ lowered_keeps host.dp m e.1 shelves on.0
-          ]), heard_shelved es at.1 on.1)
+          | inr other ↦ ap (λ b. is_shelved (map (lowered host.dp m) shelves) (if b then (e.0, record e.1 { learned = m }) else e).1) other ∙ lowered_keeps host.dp m e.1 shelves on.0
+        ]),
+        heard_shelved es at.1 on.1,
+      )

@@ -43,11 +43,11 @@ module _ (test : Entry → Bool) where
   passing n (e ∷ entries) rising first =
       elim (cases_Bool (test e)) [
         | inl here ↦ let is : e.0 ≡ n = some_is e.0 n (sym (ap (λ b. if b then Some e.0 else first_entry test entries) here) ∙ first) in
-          record { host = e.1; found = ap (λ b. cond b (Some e.1) (lookup (is_at (nat_cmp n)) entries)) (same_test n e.0 ∙ eq-eqb e.0 n is); passes = ap (λ k. test (k, e.1)) (sym is) ∙ here }
+            record { host = e.1; found = ap (λ b. cond b (Some e.1) (lookup (is_at (nat_cmp n)) entries)) (same_test n e.0 ∙ eq-eqb e.0 n is); passes = ap (λ k. test (k, e.1)) (sym is) ∙ here }
         | inr other ↦ let later = sym (ap (λ b. if b then Some e.0 else first_entry test entries) other) ∙ first in
-          let rest = passing n entries rising.1 later in
-          let less : e.0 < n = above e.0 n entries rising.0 later in
-          record { host = rest.host; found = ap (λ b. cond b (Some e.1) (lookup (is_at (nat_cmp n)) entries)) (same_test n e.0 ∙ eqb-false e.0 n (λ same. omega arith)) ∙ rest.found; passes = rest.passes }
+            let rest = passing n entries rising.1 later in
+            let less : e.0 < n = above e.0 n entries rising.0 later in
+            record { host = rest.host; found = ap (λ b. cond b (Some e.1) (lookup (is_at (nat_cmp n)) entries)) (same_test n e.0 ∙ eqb-false e.0 n (λ same. omega arith)) ∙ rest.found; passes = rest.passes }
       ]
 
   pub left : (n : ℕ) (entries : List Entry) → AreRising entries → first_entry test entries ≡ Some n → filter (λ (e : Entry). not (test e)) (off_place n entries) ≡ filter (λ (e : Entry). not (test e)) entries
@@ -61,7 +61,7 @@ module _ (test : Entry → Bool) where
       elim (cases_Bool (test e)) [
         | inl here ↦ absurd (none_some e.0 (sym none ∙ ap (λ b. if b then Some e.0 else first_entry test entries) here))
         | inr other ↦ ap (λ b. cond (not b) (e ∷ filter (λ (e : Entry). not (test e)) entries) (filter (λ (e : Entry). not (test e)) entries)) other
-          ∙ ap (λ rest. e ∷ rest) (none_left entries (sym (ap (λ b. if b then Some e.0 else first_entry test entries) other) ∙ none))
+            ∙ ap (λ rest. e ∷ rest) (none_left entries (sym (ap (λ b. if b then Some e.0 else first_entry test entries) other) ∙ none))
       ]
 
   ones : (entries : List Entry) → sum_by (λ (e : Entry). 1) entries ≡ length entries
@@ -85,10 +85,10 @@ module _ (test : HostRec → Bool) where
   first_found n (e ∷ entries) rising first =
       elim (cases_Bool (test e.1)) [
         | inl here ↦ let is : e.0 ≡ n = some_is e.0 n (sym (ap (λ b. if b then Some e.0 else first_place test entries) here) ∙ first) in
-          ap (λ b. cond b (Some e.1) (lookup (is_at (nat_cmp n)) entries)) (same_test n e.0 ∙ eq-eqb e.0 n is) ∙ sym (ap (λ b. cond b (Some e.1) (find test (hosts_of entries))) here)
+            ap (λ b. cond b (Some e.1) (lookup (is_at (nat_cmp n)) entries)) (same_test n e.0 ∙ eq-eqb e.0 n is) ∙ sym (ap (λ b. cond b (Some e.1) (find test (hosts_of entries))) here)
         | inr other ↦ let later = sym (ap (λ b. if b then Some e.0 else first_place test entries) other) ∙ first in
-          let less : e.0 < n = above (λ (e : Entry). test e.1) e.0 n entries rising.0 (sym (place_is_entry test entries) ∙ later) in
-          ap (λ b. cond b (Some e.1) (lookup (is_at (nat_cmp n)) entries)) (same_test n e.0 ∙ eqb-false e.0 n (λ same. omega arith)) ∙ first_found n entries rising.1 later ∙ sym (ap (λ b. cond b (Some e.1) (find test (hosts_of entries))) other)
+            let less : e.0 < n = above (λ (e : Entry). test e.1) e.0 n entries rising.0 (sym (place_is_entry test entries) ∙ later) in
+            ap (λ b. cond b (Some e.1) (lookup (is_at (nat_cmp n)) entries)) (same_test n e.0 ∙ eqb-false e.0 n (λ same. omega arith)) ∙ first_found n entries rising.1 later ∙ sym (ap (λ b. cond b (Some e.1) (find test (hosts_of entries))) other)
       ]
 
   pub first_left : (n : ℕ) (entries : List Entry) → AreRising entries → first_place test entries ≡ Some n → hosts_of (off_place n entries) ≡ without_first test (hosts_of entries)
@@ -96,12 +96,12 @@ module _ (test : HostRec → Bool) where
   first_left n (e ∷ entries) rising first =
       elim (cases_Bool (test e.1)) [
         | inl here ↦ let is : e.0 ≡ n = some_is e.0 n (sym (ap (λ b. if b then Some e.0 else first_place test entries) here) ∙ first) in
-          ap (λ b. hosts_of (cond (not b) (e ∷ off_place n entries) (off_place n entries))) (eq-eqb e.0 n is)
-          ∙ ap hosts_of (none_off n entries (subst (λ k. AllByRecursion (λ (f : Entry). k < f.0) entries) is rising.0)) ∙ sym (ap (λ b. cond b (hosts_of entries) (e.1 ∷ without_first test (hosts_of entries))) here)
+            ap (λ b. hosts_of (cond (not b) (e ∷ off_place n entries) (off_place n entries))) (eq-eqb e.0 n is)
+            ∙ ap hosts_of (none_off n entries (subst (λ k. AllByRecursion (λ (f : Entry). k < f.0) entries) is rising.0)) ∙ sym (ap (λ b. cond b (hosts_of entries) (e.1 ∷ without_first test (hosts_of entries))) here)
         | inr other ↦ let later = sym (ap (λ b. if b then Some e.0 else first_place test entries) other) ∙ first in
-          let less : e.0 < n = above (λ (e : Entry). test e.1) e.0 n entries rising.0 (sym (place_is_entry test entries) ∙ later) in
-          ap (λ b. hosts_of (cond (not b) (e ∷ off_place n entries) (off_place n entries))) (eqb-false e.0 n (λ same. omega arith))
-          ∙ ap (λ rest. e.1 ∷ rest) (first_left n entries rising.1 later) ∙ sym (ap (λ b. cond b (hosts_of entries) (e.1 ∷ without_first test (hosts_of entries))) other)
+            let less : e.0 < n = above (λ (e : Entry). test e.1) e.0 n entries rising.0 (sym (place_is_entry test entries) ∙ later) in
+            ap (λ b. hosts_of (cond (not b) (e ∷ off_place n entries) (off_place n entries))) (eqb-false e.0 n (λ same. omega arith))
+            ∙ ap (λ rest. e.1 ∷ rest) (first_left n entries rising.1 later) ∙ sym (ap (λ b. cond b (hosts_of entries) (e.1 ∷ without_first test (hosts_of entries))) other)
       ]
 
   pub no_first : (entries : List Entry) → first_place test entries ≡ None → (find test (hosts_of entries) ≡ None) × (without_first test (hosts_of entries) ≡ hosts_of entries)
@@ -110,7 +110,7 @@ module _ (test : HostRec → Bool) where
       elim (cases_Bool (test e.1)) [
         | inl here ↦ absurd (none_some e.0 (sym none ∙ ap (λ b. if b then Some e.0 else first_place test entries) here))
         | inr other ↦ let rest = no_first entries (sym (ap (λ b. if b then Some e.0 else first_place test entries) other) ∙ none) in
-          (ap (λ b. cond b (Some e.1) (find test (hosts_of entries))) other ∙ rest.0, ap (λ b. cond b (hosts_of entries) (e.1 ∷ without_first test (hosts_of entries))) other ∙ ap (λ hs. e.1 ∷ hs) rest.1)
+            (ap (λ b. cond b (Some e.1) (find test (hosts_of entries))) other ∙ rest.0, ap (λ b. cond b (hosts_of entries) (e.1 ∷ without_first test (hosts_of entries))) other ∙ ap (λ hs. e.1 ∷ hs) rest.1)
       ]
 
   pub hosts_filter : (entries : List Entry) → hosts_of (filter (λ (e : Entry). not (test e.1)) entries) ≡ filter (λ h. not (test h)) (hosts_of entries)
@@ -159,8 +159,8 @@ module _ (heard : HostRec) where
       let one : HostRec → HostRec = λ h. if is_in_place heard h then record h { learned = heard.learned } else h in
       let first : one (if e.0 == n then (e.0, record e.1 { learned = heard.learned }) else e).1 ≡ one e.1 = elim (cases_Bool (e.0 == n)) [
         | inl same ↦ let here : is_in_place heard e.1 ≡ true = ap (is_in_place heard) (at.0 same) ∙ there in
-          let new : HostRec = record e.1 { learned = heard.learned } in
-          ap (λ b. one (if b then (e.0, new) else e).1) same ∙ ap (λ b. if b then record new { learned = heard.learned } else new) here ∙ sym (ap (λ b. if b then record e.1 { learned = heard.learned } else e.1) here)
+            let new : HostRec = record e.1 { learned = heard.learned } in
+            ap (λ b. one (if b then (e.0, new) else e).1) same ∙ ap (λ b. if b then record new { learned = heard.learned } else new) here ∙ sym (ap (λ b. if b then record e.1 { learned = heard.learned } else e.1) here)
         | inr other ↦ ap (λ b. one (if b then (e.0, record e.1 { learned = heard.learned }) else e).1) other
       ] in
       ap (λ h. h ∷ refreshed heard (hosts_of (heard_at n heard.learned entries))) first ∙ ap (λ hs. one e.1 ∷ hs) (still n entries host at.1 there)
@@ -176,13 +176,13 @@ module _ (heard : HostRec) where
       elim (cases_Bool (is_old heard e)) [
         | inl here ↦ absurd (none_some e.0 (sym none ∙ ap (λ b. if b then Some e.0 else first_entry (is_old heard) entries) here))
         | inr other ↦
-          let rest = all_heard entries (sym (ap (λ b. if b then Some e.0 else first_entry (is_old heard) entries) other) ∙ none) in
-          let first : e.1 ≡ (if is_in_place heard e.1 then record e.1 { learned = heard.learned } else e.1) = elim (cases_Bool (is_in_place heard e.1)) [
-            | inl here ↦ let learned : e.1.learned ≡ heard.learned = same_moment e.1.learned heard.learned (eqb-true e.1.learned.0 heard.learned.0 (not_not (e.1.learned.0 == heard.learned.0) (sym (ap (λ b. b && not (e.1.learned.0 == heard.learned.0)) here) ∙ other))) in
-              ap (λ (t : Moment). record e.1 { learned = t }) learned ∙ sym (ap (λ b. if b then record e.1 { learned = heard.learned } else e.1) here)
-            | inr off ↦ sym (ap (λ b. if b then record e.1 { learned = heard.learned } else e.1) off)
-          ] in
-          ap (λ h. h ∷ hosts_of entries) first ∙ ap (λ hs. (if is_in_place heard e.1 then record e.1 { learned = heard.learned } else e.1) ∷ hs) rest
+            let rest = all_heard entries (sym (ap (λ b. if b then Some e.0 else first_entry (is_old heard) entries) other) ∙ none) in
+            let first : e.1 ≡ (if is_in_place heard e.1 then record e.1 { learned = heard.learned } else e.1) = elim (cases_Bool (is_in_place heard e.1)) [
+              | inl here ↦ let learned : e.1.learned ≡ heard.learned = same_moment e.1.learned heard.learned (eqb-true e.1.learned.0 heard.learned.0 (not_not (e.1.learned.0 == heard.learned.0) (sym (ap (λ b. b && not (e.1.learned.0 == heard.learned.0)) here) ∙ other))) in
+                  ap (λ (t : Moment). record e.1 { learned = t }) learned ∙ sym (ap (λ b. if b then record e.1 { learned = heard.learned } else e.1) here)
+              | inr off ↦ sym (ap (λ b. if b then record e.1 { learned = heard.learned } else e.1) off)
+            ] in
+            ap (λ h. h ∷ hosts_of entries) first ∙ ap (λ hs. (if is_in_place heard e.1 then record e.1 { learned = heard.learned } else e.1) ∷ hs) rest
       ]
     where
       not_not : (b : Bool) → not b ≡ false → b ≡ true
@@ -197,16 +197,16 @@ module _ (heard : HostRec) where
       let new : Entry = if e.0 == n then (e.0, record e.1 { learned = heard.learned }) else e in
       elim (cases_Bool (e.0 == n)) [
         | inl same ↦
-          let is : e.1 ≡ host = some_is e.1 host (sym (ap (λ b. cond b (Some e.1) (lookup (is_at (nat_cmp n)) entries)) (same_test n e.0 ∙ same)) ∙ found) in
-          let was : ◌≡◌ {A = ℕ} (cond (is_old heard e) 1 0) 1 = ap (λ b. cond b 1 0) (ap (λ (h : HostRec). is_old heard (n, h)) is ∙ passes) in
-          let now : ◌≡◌ {A = ℕ} (cond (is_old heard (if e.0 == n then (e.0, record e.1 { learned = heard.learned }) else e)) 1 0) 0 =
+            let is : e.1 ≡ host = some_is e.1 host (sym (ap (λ b. cond b (Some e.1) (lookup (is_at (nat_cmp n)) entries)) (same_test n e.0 ∙ same)) ∙ found) in
+            let was : ◌≡◌ {A = ℕ} (cond (is_old heard e) 1 0) 1 = ap (λ b. cond b 1 0) (ap (λ (h : HostRec). is_old heard (n, h)) is ∙ passes) in
+            let now : ◌≡◌ {A = ℕ} (cond (is_old heard (if e.0 == n then (e.0, record e.1 { learned = heard.learned }) else e)) 1 0) 0 =
             ap (λ b. cond (is_old heard (if b then (e.0, record e.1 { learned = heard.learned }) else e)) 1 0) same ∙ ap (λ b. cond (is_in_place heard e.1 && not b) 1 0) (eq-eqb heard.learned.0 heard.learned.0 refl) ∙ never (is_in_place heard e.1) in
-          let rest : count_by (is_old heard) (heard_at n heard.learned entries) ≡ count_by (is_old heard) entries = ap (count_by (is_old heard)) (none_heard n heard.learned entries (subst (λ k. AllByRecursion (λ (f : Entry). k < f.0) entries) (eqb-true e.0 n same) rising.0)) in
-          omega (arith, sum_by-cons (λ (e : Entry). cond (is_old heard e) 1 0) e entries, sum_by-cons (λ (e : Entry). cond (is_old heard e) 1 0) (if e.0 == n then (e.0, record e.1 { learned = heard.learned }) else e) (heard_at n heard.learned entries), was, now, rest)
+            let rest : count_by (is_old heard) (heard_at n heard.learned entries) ≡ count_by (is_old heard) entries = ap (count_by (is_old heard)) (none_heard n heard.learned entries (subst (λ k. AllByRecursion (λ (f : Entry). k < f.0) entries) (eqb-true e.0 n same) rising.0)) in
+            omega (arith, sum_by-cons (λ (e : Entry). cond (is_old heard e) 1 0) e entries, sum_by-cons (λ (e : Entry). cond (is_old heard e) 1 0) (if e.0 == n then (e.0, record e.1 { learned = heard.learned }) else e) (heard_at n heard.learned entries), was, now, rest)
         | inr other ↦
-          let later : lookup (is_at (nat_cmp n)) entries ≡ Some host = sym (ap (λ b. cond b (Some e.1) (lookup (is_at (nat_cmp n)) entries)) (same_test n e.0 ∙ other)) ∙ found in
-          let stays : ◌≡◌ {A = ℕ} (cond (is_old heard (if e.0 == n then (e.0, record e.1 { learned = heard.learned }) else e)) 1 0) (cond (is_old heard e) 1 0) = ap (λ b. cond (is_old heard (if b then (e.0, record e.1 { learned = heard.learned }) else e)) 1 0) other in
-          omega (arith, sum_by-cons (λ (e : Entry). cond (is_old heard e) 1 0) e entries, sum_by-cons (λ (e : Entry). cond (is_old heard e) 1 0) (if e.0 == n then (e.0, record e.1 { learned = heard.learned }) else e) (heard_at n heard.learned entries), stays, old_less n entries host rising.1 later passes)
+            let later : lookup (is_at (nat_cmp n)) entries ≡ Some host = sym (ap (λ b. cond b (Some e.1) (lookup (is_at (nat_cmp n)) entries)) (same_test n e.0 ∙ other)) ∙ found in
+            let stays : ◌≡◌ {A = ℕ} (cond (is_old heard (if e.0 == n then (e.0, record e.1 { learned = heard.learned }) else e)) 1 0) (cond (is_old heard e) 1 0) = ap (λ b. cond (is_old heard (if b then (e.0, record e.1 { learned = heard.learned }) else e)) 1 0) other in
+            omega (arith, sum_by-cons (λ (e : Entry). cond (is_old heard e) 1 0) e entries, sum_by-cons (λ (e : Entry). cond (is_old heard e) 1 0) (if e.0 == n then (e.0, record e.1 { learned = heard.learned }) else e) (heard_at n heard.learned entries), stays, old_less n entries host rising.1 later passes)
       ]
     where
       never : (b : Bool) → ◌≡◌ {A = ℕ} (cond (b && false) 1 0) 0

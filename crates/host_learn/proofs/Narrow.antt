@@ -48,7 +48,7 @@ module _ (a : Address) where
       elim (cases_Bool (has_address a e)) [
         | inl here ↦ ap (λ b. first_entry test (cond b (e ∷ rest) rest)) here ∙ ap (λ o. if test e then Some e.0 else o) (first_told test tells entries)
         | inr other ↦ let off : test e ≡ false = elim (cases_Bool (test e)) [ inl passes ↦ absurd (false≢true (sym other ∙ tells e passes)) | inr is ↦ is ] in
-          ap (λ b. first_entry test (cond b (e ∷ rest) rest)) other ∙ first_told test tells entries ∙ sym (ap (λ b. if b then Some e.0 else first_entry test entries) off)
+            ap (λ b. first_entry test (cond b (e ∷ rest) rest)) other ∙ first_told test tells entries ∙ sym (ap (λ b. if b then Some e.0 else first_entry test entries) off)
       ]
 
 -- the bytes of two addresses and the numbers of two VLANs

@@ -35,22 +35,22 @@ module _ {S : Type 0} (old new : IndexMap Spot ℕ S) (spot : Spot) where
   raised n up is q =
       elim (cases_Bool (is_spot spot q)) [
         | inl e ↦ let here : at_spot new q ≡ n + 1 = put (n + 1) q up ∙ ap (λ b. cond b (n + 1) (at_spot old q)) e in
-          let same : at_spot old spot ≡ at_spot old q = ap (at_spot old) (same_spot spot q e) in
-          let one : one_at spot q ≡ 1 = ap (λ b. cond b 1 0) e in
-          omega (arith, here, same, one, is)
+            let same : at_spot old spot ≡ at_spot old q = ap (at_spot old) (same_spot spot q e) in
+            let one : one_at spot q ≡ 1 = ap (λ b. cond b 1 0) e in
+            omega (arith, here, same, one, is)
         | inr e ↦ let here : at_spot new q ≡ at_spot old q = put (n + 1) q up ∙ ap (λ b. cond b (n + 1) (at_spot old q)) e in
-          let none : one_at spot q ≡ 0 = ap (λ b. cond b 1 0) e in
-          omega (arith, here, none)
+            let none : one_at spot q ≡ 0 = ap (λ b. cond b 1 0) e in
+            omega (arith, here, none)
       ]
 
   pub lowered : (n : ℕ) → Updates is_spot old new spot (Some (n - 1)) → n ≡ at_spot old spot → 0 < at_spot old spot → (q : Spot) → at_spot new q + one_at spot q ≡ at_spot old q
   lowered n up is some q =
       elim (cases_Bool (is_spot spot q)) [
         | inl e ↦ let here : at_spot new q ≡ n - 1 = put (n - 1) q up ∙ ap (λ b. cond b (n - 1) (at_spot old q)) e in
-          let same : at_spot old spot ≡ at_spot old q = ap (at_spot old) (same_spot spot q e) in
-          let one : one_at spot q ≡ 1 = ap (λ b. cond b 1 0) e in
-          omega (arith, here, same, one, is, some)
+            let same : at_spot old spot ≡ at_spot old q = ap (at_spot old) (same_spot spot q e) in
+            let one : one_at spot q ≡ 1 = ap (λ b. cond b 1 0) e in
+            omega (arith, here, same, one, is, some)
         | inr e ↦ let here : at_spot new q ≡ at_spot old q = put (n - 1) q up ∙ ap (λ b. cond b (n - 1) (at_spot old q)) e in
-          let none : one_at spot q ≡ 0 = ap (λ b. cond b 1 0) e in
-          omega (arith, here, none)
+            let none : one_at spot q ≡ 0 = ap (λ b. cond b 1 0) e in
+            omega (arith, here, none)
       ]

@@ -58,11 +58,11 @@ some_pass test [] = refl
 some_pass test (h ∷ hosts) =
     elim (cases_Bool (test h)) [
       | inl passes ↦ let first : ◌≡◌ {A = ℕ} (cond (test h) 1 0) 1 = ap (λ b. cond b 1 0) passes in
-        let one : count_by test (h ∷ hosts) ≡ 1 + count_by test hosts = omega (arith, sum_by-cons (λ (h : HostRec). cond (test h) 1 0) h hosts, first) in
-        ap (nat_lt 0) one ∙ positive (count_by test hosts) ∙ sym (ap (λ b. b || list_any test hosts) passes)
+          let one : count_by test (h ∷ hosts) ≡ 1 + count_by test hosts = omega (arith, sum_by-cons (λ (h : HostRec). cond (test h) 1 0) h hosts, first) in
+          ap (nat_lt 0) one ∙ positive (count_by test hosts) ∙ sym (ap (λ b. b || list_any test hosts) passes)
       | inr fails ↦ let none : ◌≡◌ {A = ℕ} (cond (test h) 1 0) 0 = ap (λ b. cond b 1 0) fails in
-        let rest : count_by test (h ∷ hosts) ≡ count_by test hosts = omega (arith, sum_by-cons (λ (h : HostRec). cond (test h) 1 0) h hosts, none) in
-        ap (nat_lt 0) rest ∙ some_pass test hosts ∙ sym (ap (λ b. b || list_any test hosts) fails)
+          let rest : count_by test (h ∷ hosts) ≡ count_by test hosts = omega (arith, sum_by-cons (λ (h : HostRec). cond (test h) 1 0) h hosts, none) in
+          ap (nat_lt 0) rest ∙ some_pass test hosts ∙ sym (ap (λ b. b || list_any test hosts) fails)
     ]
   where
     positive : (n : ℕ) → nat_lt 0 (1 + n) ≡ true
@@ -80,9 +80,9 @@ module _ (conf : Configuration) (group : DpId) (v : ℕ) where
       let spot : Spot = record { dp = s.dp; port = None; vid = Some v } in
       elim (cases_Bool ((group_of conf s.dp).0 == group.0)) [
         | inl here ↦ ap (λ b. if b then sum_by (λ (e : Entry). share spot e.1) (e ∷ entries) else 0) here ∙ sum_by-cons (λ (e : Entry). share spot e.1) e entries ∙ ap (λ k. k + sum_by (λ (e : Entry). share spot e.1) entries) (vlan_share s.dp v e.1)
-          ∙ sym (ap (λ b. (if b then cond (e.1.dp.0 == s.dp.0 && e.1.vid == v) 1 0 else 0) + (if b then sum_by (λ (e : Entry). share spot e.1) entries else 0)) here)
+            ∙ sym (ap (λ b. (if b then cond (e.1.dp.0 == s.dp.0 && e.1.vid == v) 1 0 else 0) + (if b then sum_by (λ (e : Entry). share spot e.1) entries else 0)) here)
         | inr other ↦ ap (λ b. if b then sum_by (λ (e : Entry). share spot e.1) (e ∷ entries) else 0) other
-          ∙ sym (ap (λ b. (if b then cond (e.1.dp.0 == s.dp.0 && e.1.vid == v) 1 0 else 0) + (if b then sum_by (λ (e : Entry). share spot e.1) entries else 0)) other)
+            ∙ sym (ap (λ b. (if b then cond (e.1.dp.0 == s.dp.0 && e.1.vid == v) 1 0 else 0) + (if b then sum_by (λ (e : Entry). share spot e.1) entries else 0)) other)
       ]
 
   total_more : (e : Entry) (entries : List Entry) (shelves : List Shelf) → sum_by (vlan_part conf (e ∷ entries) group v) shelves ≡ sum_by (adds e.1) shelves + sum_by (vlan_part conf entries group v) shelves
@@ -111,17 +111,17 @@ module _ (conf : Configuration) (group : DpId) (v : ℕ) where
   one_adds h (s ∷ shelves) apart some =
       elim (cases_Bool (s.dp.0 == h.dp.0)) [
         | inl here ↦
-          let dp : s.dp ≡ h.dp = same_id s.dp h.dp (eqb-true s.dp.0 h.dp.0 here) in
-          let rest : sum_by (adds h) shelves ≡ 0 = none_adds h shelves (subst (λ (d : DpId). AllByRecursion (λ (r : Shelf). (d.0 == r.dp.0) ≡ false) shelves) dp apart.0) in
-          let own : ◌≡◌ {A = ℕ} (cond (h.dp.0 == h.dp.0 && h.vid == v) 1 0) (cond (h.vid == v) 1 0) = ap (λ b. cond (b && h.vid == v) 1 0) (eq-eqb h.dp.0 h.dp.0 refl) in
-          let first : adds h s ≡ cond (is_host_in conf group v h) 1 0 =
+            let dp : s.dp ≡ h.dp = same_id s.dp h.dp (eqb-true s.dp.0 h.dp.0 here) in
+            let rest : sum_by (adds h) shelves ≡ 0 = none_adds h shelves (subst (λ (d : DpId). AllByRecursion (λ (r : Shelf). (d.0 == r.dp.0) ≡ false) shelves) dp apart.0) in
+            let own : ◌≡◌ {A = ℕ} (cond (h.dp.0 == h.dp.0 && h.vid == v) 1 0) (cond (h.vid == v) 1 0) = ap (λ b. cond (b && h.vid == v) 1 0) (eq-eqb h.dp.0 h.dp.0 refl) in
+            let first : adds h s ≡ cond (is_host_in conf group v h) 1 0 =
             ap (λ (d : DpId). adds h (record s { dp = d })) dp
             ∙ ap (λ (k : ℕ). if (group_of conf h.dp).0 == group.0 then k else 0) own
             ∙ elim ((group_of conf h.dp).0 == group.0) as (λ b. ◌≡◌ {A = ℕ} (if b then cond (h.vid == v) 1 0 else 0) (cond (b && h.vid == v) 1 0)) [ true ↦ refl | false ↦ refl ] in
-          omega (arith, sum_by-cons (adds h) s shelves, first, rest)
+            omega (arith, sum_by-cons (adds h) s shelves, first, rest)
         | inr other ↦
-          let none : adds h s ≡ 0 = apart_adds h s (flip s.dp.0 h.dp.0 other) in
-          omega (arith, sum_by-cons (adds h) s shelves, none, one_adds h shelves apart.1 (sym (ap (λ b. b || list_any (λ (r : Shelf). r.dp.0 == h.dp.0) shelves) other) ∙ some))
+            let none : adds h s ≡ 0 = apart_adds h s (flip s.dp.0 h.dp.0 other) in
+            omega (arith, sum_by-cons (adds h) s shelves, none, one_adds h shelves apart.1 (sym (ap (λ b. b || list_any (λ (r : Shelf). r.dp.0 == h.dp.0) shelves) other) ∙ some))
       ]
     where
       flip : (a b : ℕ) → (a == b) ≡ false → (b == a) ≡ false

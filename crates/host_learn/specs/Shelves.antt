@@ -1,5 +1,5 @@
 -- The datapaths on which hosts stand.
-use Rattle.std.specs.Prelude.{◌==◌, ◌&&◌, ◌++◌, Bool, ℕ, List, [], ◌∷◌, map, nat_lt, nat_le, if◌then◌else◌}
+use Rattle.std.specs.Prelude.{◌==◌, ◌&&◌, ◌-◌, ◌^◌, ◌++◌, Bool, ℕ, List, [], ◌∷◌, map, nat_lt, nat_le, if◌then◌else◌}
 use Rattle.std.specs.List.{list_any}
 use Rattle.net_base.specs.declared.numbers.DpId.{DpId}
 use Rattle.net_base.specs.declared.numbers.Moment.{Moment}
@@ -24,3 +24,18 @@ is_on host shelf = shelf.dp.0 == host.dp.0 && nat_le shelf.least.0 host.learned.
 
 abbrev pub is_shelved : List Shelf → HostRec → Bool
 is_shelved shelves host = list_any (is_on host) shelves
+
+-- the host is one of the datapath, heard before a moment
+abbrev pub is_less : DpId → Moment → HostRec → Bool
+is_less dp least host = host.dp.0 == dp.0 && nat_lt host.learned.0 least.0
+
+abbrev pub last_moment : Moment
+last_moment = record { 0 = 2 ^ 64 - 1 }
+
+-- the least of a moment and those of the datapath's hosts
+abbrev pub least_on : DpId → Moment → List (ℕ × HostRec) → Moment
+least_on dp least [] = least
+least_on dp least (e ∷ entries) = least_on dp (if is_less dp least e.1 then e.1.learned else least) entries
+
+abbrev pub tightened : List (ℕ × HostRec) → Shelf → Shelf
+tightened entries shelf = record shelf { least = least_on shelf.dp last_moment entries }

@@ -30,7 +30,13 @@ pub enum Learn {
 fn has_heard(conf: &Conf, heard: &HostRec, host: &HostRec) -> bool
     ensures { result ≡ is_heard conf.now heard.now host.now }
 {
-    has_key(conf, host, conf.group_number(heard.dp), heard.vid, heard.mac)
+    has_key(
+        conf,
+        host,
+        conf.group_number(heard.dp),
+        heard.vid,
+        heard.mac,
+    )
 }
 
 fn any_in_place(entries: &[Entry], heard: &HostRec) -> bool
@@ -60,9 +66,7 @@ fn is_known(conf: &Conf, order: &Order, heard: &HostRec) -> bool
 fn any_staying(conf: &Conf, entries: &[Entry], heard: &HostRec) -> bool
     ensures { result ≡ list_any (λ e. is_heard conf.now heard.now e.1 && is_permanent conf.now e.1) entries.now }
 {
-    entries
-        .iter()
-        .any(|entry| has_heard(conf, heard, &entry.1) && conf.is_permanent(&entry.1))
+    entries.iter().any(|entry| has_heard(conf, heard, &entry.1) && conf.is_permanent(&entry.1))
 }
 
 /// Whether the host that is heard stays for good somewhere in the group.
@@ -114,8 +118,7 @@ fn is_vlan_full(conf: &Conf, order: &Order, host: &HostRec) -> bool
 {
     match conf.vlan(host.vid) {
         Some(vlan) => {
-            vlan.max_hosts as usize
-                <= vlan_count(conf, order, conf.group_number(host.dp), vlan.vid)
+            vlan.max_hosts as usize <= vlan_count(conf, order, conf.group_number(host.dp), vlan.vid)
         }
         None => false,
     }

@@ -15,7 +15,7 @@ ghost use Rattle.host_learn.specs.Shelves.{is_shelved};
 
 use crate::addresses::{Address, Addresses, Entry, entries, put, refresh, take};
 use crate::counts::{Counts, Spot, count, lower, raise};
-use crate::shelves::{Shelf, hear, note};
+use crate::shelves::{Shelf, hear, note, tighten};
 use conf_types::{Conf, HostRec};
 use indexmap::IndexMap;
 use net_base::{DpId, Mac, Moment, NoMemory, PortNo, Vid};
@@ -241,7 +241,12 @@ impl Order {
         self.counts.reserve(3)?;
         note(&mut self.shelves, host.dp, host.learned)?;
         self.hosts.insert(place, *host)?;
-        if let Err(refused) = put(self.alloc, &mut self.addresses, address_of(host), (place, *host)) {
+        if let Err(refused) = put(
+            self.alloc,
+            &mut self.addresses,
+            address_of(host),
+            (place, *host),
+        ) {
             self.hosts.remove(&place);
             return Err(refused);
         }
@@ -262,6 +267,13 @@ impl Order {
         let dp = host.dp;
         refresh(&mut self.addresses, &address, place, moment);
         hear(&mut self.shelves, dp, moment);
+    }
+
+    /// Gives each datapath the least moment of its hosts.
+    pub(crate) fn tighten(&mut self)
+        ensures { self.new ≡ self.old }
+    {
+        tighten(&mut self.shelves, &self.hosts);
     }
 
     /// Where the first host stands that is to be forgotten.

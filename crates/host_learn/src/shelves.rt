@@ -2,9 +2,11 @@
 
 ghost use Rattle.std.specs.Prelude.{◌≡◌, ◌==◌, map, OnOk, OnErr};
 ghost use Rattle.std.specs.List.{list_any};
-ghost use Rattle.host_learn.specs.Shelves.{is_above, lowered, noted};
+ghost use Rattle.host_learn.specs.Shelves.{is_above, is_less, last_moment, least_on, lowered, noted, tightened};
 
+use conf_types::HostRec;
 use net_base::{DpId, Moment, NoMemory};
+use std::collections::BTreeMap;
 
 /// A datapath, and a moment before which none of its hosts was last heard.
 #[derive(Clone, Copy, Debug, PartialEq, Eq)]
@@ -56,4 +58,39 @@ pub(crate) fn note(shelves: &mut Vec<Shelf>, dp: DpId, heard: Moment) -> Result<
         shelves.push(Shelf { dp, least: heard })?;
     }
     Ok(())
+}
+
+fn is_less(host: &HostRec, dp: DpId, least: Moment) -> bool
+    ensures { result ≡ is_less dp least host.now }
+{
+    host.dp == dp && host.learned.0 < least.0
+}
+
+/// The least moment of a datapath's hosts.
+fn least_on(hosts: &BTreeMap<u64, HostRec>, dp: DpId) -> Moment
+    ensures { result ≡ least_on dp last_moment hosts.now.entries }
+{
+    let mut least = Moment(u64::MAX);
+    for (_, host) in hosts {
+        if is_less(host, dp, least) {
+            least = host.learned;
+        }
+    }
+    least
+}
+
+fn tighten_each(shelves: &mut [Shelf], hosts: &BTreeMap<u64, HostRec>)
+    ensures { shelves.new ≡ map (tightened hosts.now.entries) shelves.old }
+{
+    for shelf in shelves.iter_mut() {
+        let least = least_on(hosts, shelf.dp);
+        shelf.least = least;
+    }
+}
+
+/// Gives each shelf the least moment of its hosts.
+pub(crate) fn tighten(shelves: &mut Vec<Shelf>, hosts: &BTreeMap<u64, HostRec>)
+    ensures { shelves.new.items ≡ map (tightened hosts.now.entries) shelves.old.items }
+{
+    tighten_each(shelves.as_mut_slice(), hosts);
 }

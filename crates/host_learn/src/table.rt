@@ -88,7 +88,10 @@ fn take_due(order: &mut Order, conf: &Conf, now: Moment) -> Option<HostRec>
     }
     match order.first_due(conf, now) {
         Some(place) => order.remove(place),
-        None => None,
+        None => {
+            order.tighten();
+            None
+        }
     }
 }
 

@@ -32,10 +32,12 @@ use Learn::{Full, Learned, Moved, NotLearnable, Refreshed};
 use Step::{Age, ForgetDp, ForgetPort, Get, Hear, Hosts, Keep};
 
 /// Two datapaths in one group and one alone.
-pub const GROUPS: &str = "{dps: {a: {dp_id: 1, stack: {priority: 1}, interfaces: {1: {native_vlan: 100}, 2: {native_vlan: 100, max_hosts: 2}, 3: {tagged_vlans: [100, 200]}, 12: {stack: {dp: b, port: 21}}}}, b: {dp_id: 2, interfaces: {1: {native_vlan: 100, permanent_learn: true}, 2: {tagged_vlans: [100, 200]}, 21: {stack: {dp: a, port: 12}}}}, c: {dp_id: 3, timeout: 10, interfaces: {1: {native_vlan: 100}, 2: {native_vlan: 200}}}}, vlans: {200: {max_hosts: 3}}}";
+pub const GROUPS: &str =
+    "{dps: {a: {dp_id: 1, stack: {priority: 1}, interfaces: {1: {native_vlan: 100}, 2: {native_vlan: 100, max_hosts: 2}, 3: {tagged_vlans: [100, 200]}, 12: {stack: {dp: b, port: 21}}}}, b: {dp_id: 2, interfaces: {1: {native_vlan: 100, permanent_learn: true}, 2: {tagged_vlans: [100, 200]}, 21: {stack: {dp: a, port: 12}}}}, c: {dp_id: 3, timeout: 10, interfaces: {1: {native_vlan: 100}, 2: {native_vlan: 200}}}}, vlans: {200: {max_hosts: 3}}}";
 
 /// The same datapaths in one group, with other limits and without a port.
-pub const JOINED: &str = "{dps: {a: {dp_id: 1, stack: {priority: 1}, interfaces: {1: {native_vlan: 100, max_hosts: 1}, 2: {native_vlan: 200}, 3: {tagged_vlans: [100, 200]}, 12: {stack: {dp: b, port: 21}}}}, b: {dp_id: 2, interfaces: {1: {native_vlan: 100, permanent_learn: true}, 21: {stack: {dp: a, port: 12}}, 23: {stack: {dp: c, port: 32}}}}, c: {dp_id: 3, timeout: 10, interfaces: {1: {native_vlan: 100}, 2: {native_vlan: 200}, 32: {stack: {dp: b, port: 23}}}}}, vlans: {100: {max_hosts: 4}}}";
+pub const JOINED: &str =
+    "{dps: {a: {dp_id: 1, stack: {priority: 1}, interfaces: {1: {native_vlan: 100, max_hosts: 1}, 2: {native_vlan: 200}, 3: {tagged_vlans: [100, 200]}, 12: {stack: {dp: b, port: 21}}}}, b: {dp_id: 2, interfaces: {1: {native_vlan: 100, permanent_learn: true}, 21: {stack: {dp: a, port: 12}}, 23: {stack: {dp: c, port: 32}}}}, c: {dp_id: 3, timeout: 10, interfaces: {1: {native_vlan: 100}, 2: {native_vlan: 200}, 32: {stack: {dp: b, port: 23}}}}}, vlans: {100: {max_hosts: 4}}}";
 
 pub const CASES: [Case; 8] = [
     // forgotten 30 seconds after its timeout, and no millisecond before; it keeps its place when it is refreshed

@@ -214,7 +214,14 @@ fn random_calls_answer_as_a_plain_list(rt: HostRuntime) -> Result<(), Fail> {
             table = table.kept(&confs[which], ups.as_slice(), Moment(moment))?;
             plain = plain.kept(alloc, &confs[which], ups.as_slice(), Moment(moment))?;
         }
-        let same = call_both(&rt, &confs[which], &mut table, &mut plain, &mut seed, moment)?;
+        let same = call_both(
+            &rt,
+            &confs[which],
+            &mut table,
+            &mut plain,
+            &mut seed,
+            moment,
+        )?;
         assert!(rt; same && is_plain(&table, &plain), "turn {turn}");
     }
     Ok(())

@@ -62,7 +62,9 @@ impl Plain {
         let Some(port) = conf.port(heard.dp, heard.port) else {
             return Learn::NotLearnable;
         };
-        if !takes(conf, port, heard) || conf.is_barred(hosts, heard.dp, port, heard.vid, heard.mac) {
+        if !takes(conf, port, heard)
+            || conf.is_barred(hosts, heard.dp, port, heard.vid, heard.mac)
+        {
             return Learn::NotLearnable;
         }
         let there = hosts

@@ -36,4 +36,4 @@ pub returns-in-None-clause-found : goal.returns-in-None-clause-found
 returns-in-None-clause-found c = sym (no_first (is_to_forget c.args.conf.now c.args.now.0) c.args.order.now (sym c.first_due.ensures.value ∙ c.in-None.is)).0
 
 pub returns-in-None-clause-left : goal.returns-in-None-clause-left
-returns-in-None-clause-left c = sym (no_first (is_to_forget c.args.conf.now c.args.now.0) c.args.order.now (sym c.first_due.ensures.value ∙ c.in-None.is)).1
+returns-in-None-clause-left c = ap hosts_of c.tighten.ensures ∙ sym (no_first (is_to_forget c.args.conf.now c.args.now.0) c.args.order.now (sym c.first_due.ensures.value ∙ c.in-None.is)).1
