@@ -1,5 +1,5 @@
 -- What is kept beside the entries stays so: with one more, with one fewer, and with another moment.
-use Rattle.std.proofs.Common.{◌≡◌, ℕ, ◌+◌, ◌*◌, ◌^◌, ◌<◌, ◌≤◌, ◌==◌, ◌++◌, Bool, true, false, cond, not, Option, Some, None, List, [], ◌∷◌, map, filter, length, inl, inr, refl, sym, ap, ◌∙◌, arith, subst, eq-eqb, if◌then◌else◌, sum_by, append-nil}
+use Rattle.std.proofs.Common.{◌≡◌, ℕ, ◌+◌, ◌*◌, ◌^◌, ◌<◌, ◌≤◌, ◌==◌, ◌++◌, true, false, cond, not, Some, List, [], ◌∷◌, map, filter, length, inl, inr, refl, sym, ap, ◌∙◌, arith, if◌then◌else◌, sum_by}
 use Rattle.std.specs.List.{AllByRecursion}
 use Rattle.std.specs.BTreeMap.{is_at}
 use Rattle.std.specs.Map.{lookup}
@@ -7,11 +7,10 @@ use Rattle.std.specs.Ordering.{nat_cmp}
 use Rattle.std.specs.declared.vec.Vec.{Vec}
 use Rattle.std.proofs.lemmas.List.Elements.{filter-append}
 use Rattle.std.proofs.lemmas.List.Sums.{sum_by-cons, sum_by_push}
-use Rattle.std.proofs.lemmas.Bool.{cases_Bool, false≢true}
+use Rattle.std.proofs.lemmas.Bool.{cases_Bool}
 use Rattle.net_base.specs.declared.numbers.DpId.{DpId}
 use Rattle.net_base.specs.declared.numbers.Moment.{Moment}
 use Rattle.conf_types.specs.declared.state.HostRec.{HostRec}
-use Rattle.conf_types.specs.Lists.{EachBefore}
 use Rattle.indexmap.specs.IndexMap.{IndexMap}
 use Rattle.host_learn.specs.declared.addresses.Address.{Address}
 use Rattle.host_learn.specs.declared.counts.Spot.{Spot}

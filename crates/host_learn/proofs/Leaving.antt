@@ -1,11 +1,10 @@
 -- Taking out the first that passes, until none does; and giving each that is heard its moment.
-use Rattle.std.proofs.Common.{◌≡◌, ℕ, ◌+◌, ◌<◌, ◌≤◌, ◌==◌, ◌&&◌, ◌++◌, Bool, true, false, cond, not, Option, Some, None, List, [], ◌∷◌, map, filter, find, length, inl, inr, refl, sym, ap, ◌∙◌, arith, subst, eq-eqb, sum_by, count_by, if◌then◌else◌, append-nil}
+use Rattle.std.proofs.Common.{◌≡◌, ℕ, ◌+◌, ◌<◌, ◌==◌, ◌&&◌, ◌++◌, Bool, true, false, cond, not, Option, Some, None, List, [], ◌∷◌, filter, find, length, inl, inr, refl, sym, ap, ◌∙◌, arith, subst, eq-eqb, sum_by, count_by, if◌then◌else◌}
 use Rattle.std.specs.List.{AllByRecursion}
 use Rattle.std.specs.BTreeMap.{is_at}
 use Rattle.std.specs.Map.{lookup}
 use Rattle.std.specs.Ordering.{nat_cmp}
-use Rattle.std.proofs.lemmas.Bool.{cases_Bool, and_parts, eqb-true, false≢true}
-use Rattle.std.proofs.lemmas.List.Elements.{filter-append}
+use Rattle.std.proofs.lemmas.Bool.{cases_Bool, and_parts, eqb-true}
 use Rattle.std.proofs.lemmas.List.Sums.{sum_by-cons}
 use Rattle.net_base.specs.declared.numbers.Moment.{Moment}
 use Rattle.conf_types.specs.declared.state.HostRec.{HostRec}
@@ -15,7 +14,6 @@ use Rattle.host_learn.specs.Learning.{is_heard, is_in_place, moved, refreshed}
 use Rattle.host_learn.specs.Order.{AreRising, first_entry, first_place, hosts_of, is_old, is_other}
 use Rattle.host_learn.specs.Table.{without_first}
 use Rattle.host_learn.proofs.Entries.{IsOnly, filter_off, none_heard, none_off, not_there, off_other, only, same_test, sum_off, eqb-false}
-use Rattle.host_learn.proofs.Lists.{all_map}
 
 some_is : {A : Type 0} (a b : A) → ◌≡◌ {A = Option A} (Some a) (Some b) → a ≡ b
 some_is a b e = cc

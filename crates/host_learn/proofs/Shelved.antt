@@ -7,7 +7,6 @@ use Rattle.std.proofs.lemmas.List.Folds.{list_any-append}
 use Rattle.net_base.specs.declared.numbers.DpId.{DpId}
 use Rattle.net_base.specs.declared.numbers.Moment.{Moment}
 use Rattle.conf_types.specs.declared.state.HostRec.{HostRec}
-use Rattle.conf_types.specs.Lists.{EachBefore}
 use Rattle.host_learn.specs.declared.shelves.Shelf.{Shelf}
 use Rattle.host_learn.specs.Addresses.{Entry}
 use Rattle.host_learn.specs.Order.{AreShelves}

@@ -1,5 +1,5 @@
 -- What one more and one fewer at a spot do to the counts.
-use Rattle.std.proofs.Common.{◌≡◌, ℕ, ◌+◌, ◌-◌, ◌<◌, ◌==◌, ◌&&◌, Bool, true, false, cond, Option, Some, None, inl, inr, refl, sym, ap, ◌∙◌, arith, nat_eq}
+use Rattle.std.proofs.Common.{◌≡◌, ℕ, ◌+◌, ◌-◌, ◌<◌, ◌==◌, ◌&&◌, true, cond, Option, Some, None, inl, inr, refl, sym, ap, ◌∙◌, arith, nat_eq}
 use Rattle.std.specs.Option.{option_eq, unwrap_or}
 use Rattle.std.proofs.lemmas.Bool.{cases_Bool, and_parts, eqb-true, false≢true}
 use Rattle.conf_types.proofs.Reached.{same_id}

@@ -1,6 +1,5 @@
-use Rattle.std.proofs.Common.{◌≡◌, rules}
+use Rattle.std.proofs.Common.{rules}
 use Rattle.host_learn.proofs.AtAddress.{inserted}
-use Rattle.host_learn.proofs.Entries.{pushed}
 use Rattle.host_learn.proofs.addresses.begin.Goals as goal
 
 pub returns-clause-ok : goal.returns-clause-ok

@@ -1,6 +1,6 @@
-use Rattle.std.proofs.Common.{◌≡◌, rules, arith, sym, ap, ◌∙◌, refl}
+use Rattle.std.proofs.Common.{◌≡◌, rules, sym, ap, ◌∙◌, refl}
 use Rattle.std.specs.Option.{option_copied_mut}
-use Rattle.host_learn.specs.Addresses.{Entry, entries_at, is_address, off_place}
+use Rattle.host_learn.specs.Addresses.{entries_at, off_place}
 use Rattle.host_learn.proofs.AtAddress.{absent}
 use Rattle.host_learn.proofs.addresses.take.Goals as goal
 

@@ -1,4 +1,4 @@
-use Rattle.std.proofs.Common.{◌≡◌, Option, ap, sym, ◌∙◌, false}
+use Rattle.std.proofs.Common.{Option, ap, ◌∙◌, false}
 use Rattle.std.specs.Option.{option_map_or}
 use Rattle.net_base.specs.declared.numbers.DpId.{DpId}
 use Rattle.conf_types.specs.declared.vlan.Vlan.{Vlan}

@@ -1,5 +1,5 @@
 use Rattle.std.proofs.Common.{◌≡◌, drop}
-use Rattle.host_learn.specs.Order.{first_entry, is_old, is_other}
+use Rattle.host_learn.specs.Order.{first_entry, is_other}
 use Rattle.host_learn.proofs.learn.first_other.Given as goal
 
 abbrev pub invariant-loop-entry : goal.invariant-loop-entry

@@ -1,4 +1,4 @@
-use Rattle.std.proofs.Common.{◌≡◌, ◌==◌, ◌&&◌, nat_lt, sum_by, ap, ◌∙◌}
+use Rattle.std.proofs.Common.{◌==◌, ◌&&◌, nat_lt, sum_by, ap, ◌∙◌}
 use Rattle.conf_types.specs.declared.state.HostRec.{HostRec}
 use Rattle.conf_types.specs.State.{is_host_at}
 use Rattle.host_learn.specs.declared.counts.Spot.{Spot}

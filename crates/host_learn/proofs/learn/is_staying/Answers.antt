@@ -1,11 +1,11 @@
-use Rattle.std.proofs.Common.{◌≡◌, ◌&&◌, List, filter, ap, ◌∙◌}
+use Rattle.std.proofs.Common.{◌&&◌, List, filter, ap, ◌∙◌}
 use Rattle.std.specs.List.{list_any}
 use Rattle.conf_types.specs.declared.state.HostRec.{HostRec}
 use Rattle.conf_types.specs.State.{is_permanent}
 use Rattle.host_learn.specs.declared.addresses.Address.{Address}
 use Rattle.host_learn.specs.Addresses.{Entry, address_of, has_address}
-use Rattle.host_learn.specs.Learning.{is_heard, is_in_place}
-use Rattle.host_learn.proofs.Narrow.{any_told, heard_tells, place_tells, staying_tells}
+use Rattle.host_learn.specs.Learning.{is_heard}
+use Rattle.host_learn.proofs.Narrow.{any_told, staying_tells}
 use Rattle.host_learn.proofs.learn.is_staying.Goals as goal
 
 pub returns : goal.returns

@@ -1,4 +1,4 @@
-use Rattle.std.proofs.Common.{◌≡◌, ◌<◌, List, not, filter, length, sym, ap, ◌∙◌, subst}
+use Rattle.std.proofs.Common.{◌<◌, List, not, filter, length, sym, ap, ◌∙◌, subst}
 use Rattle.host_learn.specs.Addresses.{Entry}
 use Rattle.host_learn.specs.Order.{is_other}
 use Rattle.host_learn.proofs.Leaving.{fewer, left, none_left}

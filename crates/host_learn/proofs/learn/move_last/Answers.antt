@@ -1,4 +1,4 @@
-use Rattle.std.proofs.Common.{◌≡◌, not, filter, ap, ◌∙◌}
+use Rattle.std.proofs.Common.{not, filter, ap, ◌∙◌}
 use Rattle.host_learn.specs.Addresses.{Entry}
 use Rattle.host_learn.specs.Order.{hosts_of, is_other}
 use Rattle.host_learn.proofs.Leaving.{moved_is}

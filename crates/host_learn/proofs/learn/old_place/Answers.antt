@@ -1,8 +1,8 @@
-use Rattle.std.proofs.Common.{◌≡◌, List, filter, ap, ◌∙◌}
+use Rattle.std.proofs.Common.{filter, ap, ◌∙◌}
 use Rattle.host_learn.specs.declared.addresses.Address.{Address}
-use Rattle.host_learn.specs.Addresses.{Entry, address_of, has_address}
-use Rattle.host_learn.specs.Order.{first_entry, is_old, is_other}
-use Rattle.host_learn.proofs.Narrow.{first_told, old_tells, other_tells}
+use Rattle.host_learn.specs.Addresses.{address_of, has_address}
+use Rattle.host_learn.specs.Order.{first_entry, is_old}
+use Rattle.host_learn.proofs.Narrow.{first_told, old_tells}
 use Rattle.host_learn.proofs.learn.old_place.Goals as goal
 
 pub returns-clause-value : goal.returns-clause-value

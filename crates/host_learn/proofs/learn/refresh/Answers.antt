@@ -1,4 +1,4 @@
-use Rattle.std.proofs.Common.{◌≡◌, ◌<◌, List, count_by, sym, ap, ◌∙◌, subst}
+use Rattle.std.proofs.Common.{◌<◌, List, count_by, sym, ap, ◌∙◌, subst}
 use Rattle.host_learn.specs.Addresses.{Entry}
 use Rattle.host_learn.specs.Learning.{refreshed}
 use Rattle.host_learn.specs.Order.{hosts_of, is_old}

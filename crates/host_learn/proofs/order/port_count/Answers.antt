@@ -1,4 +1,4 @@
-use Rattle.std.proofs.Common.{◌≡◌, sum_by, ap, ◌∙◌, Some, None}
+use Rattle.std.proofs.Common.{sum_by, ap, ◌∙◌, Some, None}
 use Rattle.conf_types.specs.State.{is_host_at}
 use Rattle.host_learn.specs.declared.counts.Spot.{Spot}
 use Rattle.host_learn.specs.Addresses.{Entry}

@@ -1,4 +1,4 @@
-use Rattle.std.proofs.Common.{◌≡◌, ap, ◌∙◌, get_or, set, arith}
+use Rattle.std.proofs.Common.{ap, ◌∙◌, get_or, set, arith}
 use Rattle.std.proofs.lemmas.List.Edits.{map_over_more}
 use Rattle.net_base.specs.declared.numbers.Moment.{Moment}
 use Rattle.host_learn.specs.declared.shelves.Shelf.{Shelf}

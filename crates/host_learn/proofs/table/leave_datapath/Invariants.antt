@@ -1,5 +1,4 @@
 use Rattle.std.proofs.Common.{◌≡◌, ◌==◌, not, filter, length}
-use Rattle.conf_types.specs.State.{is_host_at}
 use Rattle.host_learn.specs.Addresses.{Entry}
 use Rattle.host_learn.proofs.table.leave_datapath.Given as goal
 

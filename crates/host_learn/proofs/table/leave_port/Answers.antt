@@ -1,5 +1,4 @@
-use Rattle.std.proofs.Common.{◌≡◌, ◌==◌, ◌<◌, List, not, filter, length, sym, ap, ◌∙◌, subst}
-use Rattle.conf_types.specs.declared.state.HostRec.{HostRec}
+use Rattle.std.proofs.Common.{◌<◌, List, not, filter, length, sym, ap, ◌∙◌, subst}
 use Rattle.conf_types.specs.State.{is_host_at}
 use Rattle.host_learn.specs.Addresses.{Entry}
 use Rattle.host_learn.proofs.Leaving.{fewer, left, none_left, place_is_entry}

@@ -1,4 +1,4 @@
-use Rattle.std.proofs.Common.{◌≡◌, ◌<◌, ◌≤◌, List, length, sym, ap, ◌∙◌, subst, arith}
+use Rattle.std.proofs.Common.{◌≤◌, List, length, sym, ap, ◌∙◌, subst, arith}
 use Rattle.conf_types.specs.State.{is_to_forget}
 use Rattle.host_learn.specs.Addresses.{Entry, off_place}
 use Rattle.host_learn.specs.Order.{hosts_of}

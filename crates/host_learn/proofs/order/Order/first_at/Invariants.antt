@@ -1,5 +1,5 @@
-use Rattle.std.proofs.Common.{◌≡◌, ◌==◌}
-use Rattle.conf_types.specs.State.{is_host_at, is_to_forget}
+use Rattle.std.proofs.Common.{◌≡◌}
+use Rattle.conf_types.specs.State.{is_host_at}
 use Rattle.host_learn.specs.Order.{first_place}
 use Rattle.host_learn.proofs.order.Order.first_at.Given as goal
 

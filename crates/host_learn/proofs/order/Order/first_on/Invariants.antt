@@ -1,5 +1,4 @@
 use Rattle.std.proofs.Common.{◌≡◌, ◌==◌}
-use Rattle.conf_types.specs.State.{is_host_at, is_to_forget}
 use Rattle.host_learn.specs.Order.{first_place}
 use Rattle.host_learn.proofs.order.Order.first_on.Given as goal
 

@@ -1,10 +1,9 @@
-use Rattle.std.proofs.Common.{◌≡◌, rules, List, sym, ap, ◌∙◌, subst, map, if◌then◌else◌}
+use Rattle.std.proofs.Common.{◌≡◌, rules, sym, ap, ◌∙◌, subst, if◌then◌else◌}
 use Rattle.std.specs.Option.{option_copied_mut}
 use Rattle.conf_types.specs.declared.state.HostRec.{HostRec}
 use Rattle.host_learn.specs.declared.addresses.Address.{Address}
-use Rattle.host_learn.specs.Addresses.{Entry, entries_at, heard_at, is_address}
+use Rattle.host_learn.specs.Addresses.{entries_at, heard_at, is_address}
 use Rattle.host_learn.specs.Order.{IsIndexed}
-use Rattle.host_learn.specs.Shelves.{lowered}
 use Rattle.host_learn.proofs.Entries.{heard, heard_other, none_there}
 use Rattle.host_learn.proofs.Indexed.{again}
 use Rattle.host_learn.proofs.order.Order.refresh.Goals as goal

@@ -1,6 +1,6 @@
 use Rattle.std.proofs.Common.{◌≡◌, sym, ap, ◌∙◌, subst, if◌then◌else◌}
 use Rattle.host_learn.specs.declared.addresses.Address.{Address}
-use Rattle.host_learn.specs.Addresses.{Entry, entries_at, is_address, off_place}
+use Rattle.host_learn.specs.Addresses.{entries_at, is_address, off_place}
 use Rattle.host_learn.specs.Order.{IsIndexed}
 use Rattle.host_learn.proofs.Entries.{taken}
 use Rattle.host_learn.proofs.Indexed.{part, without}

@@ -1,4 +1,4 @@
-use Rattle.std.proofs.Common.{◌≡◌, sym, subst}
+use Rattle.std.proofs.Common.{sym, subst}
 use Rattle.host_learn.specs.Order.{IsIndexed}
 use Rattle.host_learn.proofs.Indexed.{tight}
 use Rattle.host_learn.proofs.order.Order.tighten.Goals as goal

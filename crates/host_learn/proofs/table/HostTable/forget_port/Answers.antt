@@ -1,10 +1,10 @@
-use Rattle.std.proofs.Common.{◌≡◌, ◌==◌, ◌≤◌, List, not, filter, length, sym, ap, ◌∙◌, subst, arith}
+use Rattle.std.proofs.Common.{◌≤◌, List, not, filter, length, sym, ap, ◌∙◌, subst, arith}
 use Rattle.std.proofs.lemmas.List.Sums.{count_by-le-length, length-filter}
 use Rattle.conf_types.specs.declared.state.HostRec.{HostRec}
 use Rattle.conf_types.specs.State.{is_host_at}
 use Rattle.host_learn.specs.Addresses.{Entry}
 use Rattle.host_learn.specs.Order.{hosts_of}
-use Rattle.host_learn.specs.Table.{Table, off_datapath, off_port}
+use Rattle.host_learn.specs.Table.{Table, off_port}
 use Rattle.host_learn.proofs.Leaving.{hosts_filter}
 use Rattle.host_learn.proofs.table.HostTable.forget_port.Goals as goal
 

@@ -1,4 +1,4 @@
-use Rattle.std.proofs.Common.{◌≡◌, List, filter, find, ap, ◌∙◌}
+use Rattle.std.proofs.Common.{List, filter, find, ap, ◌∙◌}
 use Rattle.conf_types.specs.Groups.{group_of}
 use Rattle.net_base.specs.declared.numbers.DpId.{DpId}
 use Rattle.host_learn.specs.declared.addresses.Address.{Address}

@@ -1,4 +1,4 @@
-use Rattle.std.proofs.Common.{◌≡◌, ◌<◌, ◌≤◌, ◌^◌, List, [], length, filter, sym, ap, ◌∙◌, subst, arith}
+use Rattle.std.proofs.Common.{◌≤◌, List, [], length, filter, sym, ◌∙◌, subst, arith}
 use Rattle.conf_types.specs.declared.state.HostRec.{HostRec}
 use Rattle.host_learn.specs.Kept.{last_of_each, may_stay}
 use Rattle.host_learn.specs.Order.{hosts_of}

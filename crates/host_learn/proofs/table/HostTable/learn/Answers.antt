@@ -1,6 +1,6 @@
-use Rattle.std.proofs.Common.{◌≡◌, ◌≤◌, List, length, sym, ap, ◌∙◌, subst, arith}
+use Rattle.std.proofs.Common.{◌≤◌, List, length, sym, ap, ◌∙◌, subst, arith}
 use Rattle.conf_types.specs.declared.state.HostRec.{HostRec}
-use Rattle.host_learn.specs.Learning.{answer, hosts_after}
+use Rattle.host_learn.specs.Learning.{hosts_after}
 use Rattle.host_learn.specs.Order.{hosts_of}
 use Rattle.host_learn.proofs.Sizes.{learned_within}
 use Rattle.host_learn.proofs.Tallies.{hosts_many}
