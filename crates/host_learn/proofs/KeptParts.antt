@@ -1,5 +1,5 @@
 -- What is kept is a part of what was, may be learned where it stands, and has keys of its own.
-use Rattle.std.proofs.Common.{◌≡◌, ℕ, ◌==◌, ◌&&◌, ◌++◌, Bool, true, false, cond, List, [], ◌∷◌, filter, inl, inr, refl, sym, ap, ◌∙◌, subst, eq-eqb, append_assoc, append-nil, if◌then◌else◌}
+use Rattle.std.proofs.Common.{◌≡◌, ℕ, ◌==◌, ◌&&◌, ◌++◌, Bool, true, false, List, [], ◌∷◌, filter, inl, inr, refl, sym, ap, ◌∙◌, subst, eq-eqb, append_assoc, append-nil, if◌then◌else◌}
 use Rattle.std.specs.List.{AllByRecursion, list_any}
 use Rattle.std.proofs.lemmas.Bool.{cases_Bool, and_from, both_ways}
 use Rattle.std.specs.Str.{bytes_eq}
@@ -14,7 +14,7 @@ use Rattle.host_learn.specs.Kept.{has_room, kept_hosts, last_of_each, may_stay, 
 use Rattle.host_learn.specs.Learning.{is_heard}
 use Rattle.host_learn.specs.Parts.{IsPartOf}
 use Rattle.host_learn.specs.Table.{Table}
-use Rattle.host_learn.proofs.Lists.{all_map, all_part, before_part, filter_all, filter_part, none_passes, part_of_part, part_same, part_skip}
+use Rattle.host_learn.proofs.Lists.{all_map, all_part, before_part, filter_all, filter_part, none_passes, part_of_part, part_skip}
 
 -- ---- parts
 

@@ -1,22 +1,21 @@
 -- What finds room passes no limit.
-use Rattle.std.proofs.Common.{◌≡◌, ℕ, ◌+◌, ◌<◌, ◌≤◌, ◌==◌, ◌&&◌, ◌++◌, Bool, true, false, cond, Option, Some, None, List, [], ◌∷◌, length, not, nat_le, count_by, inl, inr, refl, sym, ap, ◌∙◌, arith, subst, if◌then◌else◌}
+use Rattle.std.proofs.Common.{◌≡◌, ℕ, ◌<◌, ◌≤◌, ◌==◌, ◌&&◌, ◌++◌, Bool, true, false, cond, Option, Some, List, [], ◌∷◌, length, not, nat_le, count_by, inl, inr, refl, sym, ap, ◌∙◌, arith, subst, if◌then◌else◌}
 use Rattle.std.specs.List.{AllByRecursion, list_any}
-use Rattle.std.specs.Option.{option_and_then, option_map_or}
+use Rattle.std.specs.Option.{option_map_or}
 use Rattle.std.proofs.lemmas.Bool.{cases_Bool, and_parts, and_from, both_ways, eqb-true, eq-eqb, false≢true}
 use Rattle.net_base.specs.declared.numbers.DpId.{DpId}
 use Rattle.conf_types.specs.declared.datapath.Dp.{Dp}
 use Rattle.conf_types.specs.declared.datapath.Port.{Port}
 use Rattle.conf_types.specs.declared.state.HostRec.{HostRec}
 use Rattle.conf_types.specs.declared.vlan.Vlan.{Vlan}
-use Rattle.conf_types.specs.Configuration.{Configuration, dp_with, port_with, port_at, vlan_with}
+use Rattle.conf_types.specs.Configuration.{Configuration, port_at, vlan_with}
 use Rattle.conf_types.specs.Groups.{group_of}
 use Rattle.conf_types.specs.Lists.{EachBefore}
 use Rattle.conf_types.specs.State.{is_host_at, is_host_in, is_permanent, is_port_full, is_vlan_full}
-use Rattle.conf_types.specs.Valid.{IsValid}
 use Rattle.conf_types.proofs.Reached.{same_id}
 use Rattle.host_learn.specs.Kept.{has_room, with_room}
 use Rattle.host_learn.specs.Learning.{is_full_at, is_full_in, is_occupied}
-use Rattle.host_learn.proofs.Lists.{all_map, all_both, before_push, count_push, each_found, none_passes}
+use Rattle.host_learn.proofs.Lists.{all_map, before_push, count_push, none_passes}
 use Rattle.host_learn.proofs.Sizes.{less}
 
 not_true : (b : Bool) → not b ≡ true → b ≡ false

@@ -1,6 +1,14 @@
+pub mod AtAddress
+pub mod Due
+pub mod Entries
+pub mod Indexed
 pub mod KeptParts
 pub mod KeptRoom
 pub mod KeptValid
+pub mod Leaving
 pub mod Lists
-pub mod Places
+pub mod Narrow
+pub mod Shelved
 pub mod Sizes
+pub mod Spots
+pub mod Tallies

@@ -1,5 +1,5 @@
 -- What holds of each item, of a part, and of one item more.
-use Rattle.std.proofs.Common.{◌≡◌, ℕ, ◌+◌, ◌==◌, ◌||◌, ◌++◌, Bool, true, false, cond, Some, List, [], ◌∷◌, find, filter, count_by, inl, inr, refl, sym, ap, ◌∙◌, arith, subst, eq-eqb}
+use Rattle.std.proofs.Common.{◌≡◌, ℕ, ◌+◌, ◌==◌, ◌||◌, ◌++◌, Bool, true, false, cond, Some, List, [], ◌∷◌, zero, suc, length, get_or, ◌<◌, find, filter, count_by, inl, inr, refl, sym, ap, ◌∙◌, arith, subst, eq-eqb}
 use Rattle.std.specs.List.{AllByRecursion, list_any}
 use Rattle.std.proofs.lemmas.Bool.{cases_Bool, eqb-true, false≢true}
 use Rattle.std.proofs.lemmas.List.Sums.{sum_by-append}
@@ -11,6 +11,12 @@ neither true b is = absurd (false≢true (sym is))
 neither false b is = (refl, is)
 
 module _ {A : Type 0} where
+  -- an item that is there, whatever would stand for one that isn't
+  pub same_item : (xs : List A) (i : ℕ) (d e : A) → i < length xs → get_or xs i d ≡ get_or xs i e
+  same_item [] i d e within = absurd (omega (arith, within))
+  same_item (x ∷ xs) zero d e within = refl
+  same_item (x ∷ xs) (suc i) d e within = same_item xs i d e (omega (arith, within))
+
   -- ---- each
 
   pub all_map : (P Q : A → Type 0) → ((x : A) → P x → Q x) → (xs : List A) → AllByRecursion P xs → AllByRecursion Q xs

@@ -1,13 +1,49 @@
 //! What is kept of a table under a new configuration.
 
 ghost use Rattle.std.specs.Prelude.{◌≡◌, [], filter, IfOk};
+ghost use Rattle.host_learn.specs.Learning.{is_full_at, is_full_in, is_known, is_occupied};
 ghost use Rattle.host_learn.specs.Kept.{has_room, kept_hosts, last_of_each, may_stay, with_room};
 
-use crate::host::is_host;
-use crate::learn::{is_known, is_occupied, is_port_full, is_vlan_full};
+use crate::host::{has_key, is_host};
 use conf_types::{Conf, HostRec, UpRec, is_up};
 use net_base::{Moment, NoMemory};
 use std::alloc::Global;
+
+fn is_known(conf: &Conf, hosts: &[HostRec], heard: &HostRec) -> bool
+    ensures { result ≡ is_known conf.now hosts.now heard.now }
+{
+    let group = conf.group_number(heard.dp);
+    hosts
+        .iter()
+        .any(|host| has_key(conf, host, group, heard.vid, heard.mac))
+}
+
+/// Whether a host of the VLAN stands at the port where this one is heard.
+fn is_occupied(hosts: &[HostRec], heard: &HostRec) -> bool
+    ensures { result ≡ is_occupied hosts.now heard.now }
+{
+    hosts.iter().any(|host| host.is_at(heard.dp, heard.port) && host.vid.get() == heard.vid.get())
+}
+
+/// Whether the port where a host stands has as many hosts as it may.
+fn is_port_full(conf: &Conf, hosts: &[HostRec], host: &HostRec) -> bool
+    ensures { result ≡ is_full_at conf.now hosts.now host.now }
+{
+    match conf.port(host.dp, host.port) {
+        Some(port) => port.is_full(hosts, host.dp),
+        None => false,
+    }
+}
+
+/// Whether a host's VLAN has as many hosts in its group as it may.
+fn is_vlan_full(conf: &Conf, hosts: &[HostRec], host: &HostRec) -> bool
+    ensures { result ≡ is_full_in conf.now hosts.now host.now }
+{
+    match conf.vlan(host.vid) {
+        Some(vlan) => conf.is_vlan_full(hosts, conf.group_number(host.dp), vlan),
+        None => false,
+    }
+}
 
 /// Whether a host may be learned where it stands, and isn't to be forgotten.
 fn may_stay(conf: &Conf, ups: &[UpRec], now: Moment, host: &HostRec) -> bool

@@ -1,11 +1,13 @@
-use Rattle.std.proofs.Common.{◌++◌, List, ◌∷◌, [], filter, not, rules, ap, ◌∙◌}
-use Rattle.std.proofs.lemmas.Fn.{filter_same}
-use Rattle.conf_types.specs.declared.state.HostRec.{HostRec}
-use Rattle.host_learn.specs.Learning.{is_heard}
+use Rattle.std.proofs.Common.{not, filter, ap, ◌∙◌}
+use Rattle.host_learn.specs.Addresses.{Entry}
+use Rattle.host_learn.specs.Order.{hosts_of, is_other}
+use Rattle.host_learn.proofs.Leaving.{moved_is}
 use Rattle.host_learn.proofs.learn.move_last.Goals as goal
 
 pub returns-clause-ok : goal.returns-clause-ok
 returns-clause-ok c =
-    let others = λ (host : HostRec). not (is_heard c.args.conf.now c.args.heard host) in
-    let kept = filter_same _ others _ (λ x b f' k. (search rules, search rules)) _ _ c.retain.ensures.filtered in
-    c.in_ok-push.ensures.items ∙ ap (λ (hosts : List HostRec). hosts ++ c.args.heard ∷ []) (kept ∙ ap (filter others) c.reserve.ensures.items)
+    let conf = c.args.conf.now in
+    let heard = c.args.heard.now in
+    let place = c.in_ok-place.place in
+    ap hosts_of (c.leave_others.ensures ∙ ap (filter (λ (e : Entry). not (is_other conf heard place e))) c.in_ok-place.ensures.ok)
+    ∙ moved_is conf heard place c.args.order.now c.in_ok-place.ensures.last

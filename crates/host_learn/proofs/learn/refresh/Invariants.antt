@@ -1,6 +1,10 @@
-use Rattle.std.proofs.Common.{◌≡◌, ◌++◌, take, drop}
+use Rattle.std.proofs.Common.{◌≡◌, count_by}
 use Rattle.host_learn.specs.Learning.{refreshed}
+use Rattle.host_learn.specs.Order.{hosts_of, is_old}
 use Rattle.host_learn.proofs.learn.refresh.Given as goal
 
-abbrev pub invariant-loop-host : goal.invariant-loop-host
-invariant-loop-host l = l.hosts ≡ refreshed l.heard (take l.host-index l.initial.hosts) ++ drop l.host-index l.initial.hosts
+abbrev pub invariant-loop-place : goal.invariant-loop-place
+invariant-loop-place l = refreshed l.heard (hosts_of l.order) ≡ refreshed l.heard (hosts_of l.initial.order)
+
+abbrev pub decreases-loop-place : goal.decreases-loop-place
+decreases-loop-place l = count_by (is_old l.heard) l.order

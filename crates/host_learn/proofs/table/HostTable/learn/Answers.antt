@@ -1,15 +1,20 @@
-use Rattle.std.proofs.Common.{◌≡◌, ◌≤◌, List, length, sym, ap, ◌∙◌, subst}
+use Rattle.std.proofs.Common.{◌≤◌, List, length, sym, ap, ◌∙◌, subst, arith}
 use Rattle.conf_types.specs.declared.state.HostRec.{HostRec}
-use Rattle.host_learn.specs.Learning.{answer, hosts_after}
+use Rattle.host_learn.specs.Learning.{hosts_after}
+use Rattle.host_learn.specs.Order.{hosts_of}
 use Rattle.host_learn.proofs.Sizes.{learned_within}
+use Rattle.host_learn.proofs.Tallies.{hosts_many}
 use Rattle.host_learn.proofs.table.HostTable.learn.Goals as goal
 
 pub invariant_of-self-2 : goal.invariant_of-self-2
 invariant_of-self-2 c =
     let conf = c.args.conf.now in
     let limit = c.self.inside.limit in
-    let hosts = c.self.inside.hosts.items in
+    let order = c.self.inside.order in
+    let new = c.take_in.new.order in
     let heard : HostRec = record { dp = c.args.dp; port = c.args.port; vid = c.args.vid; mac = c.args.mac; learned = c.args.now } in
-    let said = c.answer-said.ensures ∙ ap (λ (list : List HostRec). answer conf (record { limit = limit; hosts = list }) heard) c.as_slice.ensures.value in
-    let after : c.take_in.new.hosts.items ≡ hosts_after conf heard hosts (answer conf (record { limit = limit; hosts = hosts }) heard) = c.in_ok-take_in.ensures.ok ∙ ap (hosts_after conf heard hosts) said in
-    subst (λ (list : List HostRec). length list ≤ limit) (sym after) (learned_within conf limit heard hosts c.self.invariant)
+    let after = c.in_ok-take_in.ensures.ok ∙ ap (hosts_after conf heard (hosts_of order)) c.answer-said.ensures in
+    let before : length (hosts_of order) ≤ limit = omega (arith, hosts_many order, c.self.invariant) in
+    let within : length (hosts_of new) ≤ limit = subst (λ (hs : List HostRec). length hs ≤ limit) (sym after) (learned_within conf limit heard (hosts_of order) before) in
+    let few : length new ≤ limit = omega (arith, hosts_many new, within) in
+    few

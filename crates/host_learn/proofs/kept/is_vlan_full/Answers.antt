@@ -1,10 +1,10 @@
-use Rattle.std.proofs.Common.{◌≡◌, Option, ap, sym, ◌∙◌, false}
+use Rattle.std.proofs.Common.{Option, ap, ◌∙◌, false}
 use Rattle.std.specs.Option.{option_map_or}
 use Rattle.net_base.specs.declared.numbers.DpId.{DpId}
 use Rattle.conf_types.specs.declared.vlan.Vlan.{Vlan}
 use Rattle.conf_types.specs.Groups.{group_of}
 use Rattle.conf_types.specs.State.{is_vlan_full}
-use Rattle.host_learn.proofs.learn.is_vlan_full.Goals as goal
+use Rattle.host_learn.proofs.kept.is_vlan_full.Goals as goal
 
 pub returns-in-Some : goal.returns-in-Some
 returns-in-Some c =
