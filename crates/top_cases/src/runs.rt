@@ -30,7 +30,10 @@ fn told_len(bytes: &[u8]) -> usize {
 /// OpenFlow messages in hexadecimal digits, one a line.
 fn put_messages(alloc: Global, out: &mut String, bytes: &[u8]) -> Result<(), NoMemory> {
     let mut left = bytes;
-    while !left.is_empty() {
+    for _ in 0..bytes.len() {
+        if left.is_empty() {
+            break;
+        }
         let len = told_len(left).clamp(1, left.len());
         let (message, behind) = left.split_at(len);
         out.push_str("\n  ")?;
