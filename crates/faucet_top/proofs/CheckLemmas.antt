@@ -77,8 +77,13 @@ module _ (contents : Option Contents) (a0 a1 a2 f0 f1 f2 : ℕ) (o0 o1 o2 e0 e1 
       → Checks contents (Rose a1 a2) (Rose f1 f2) names status o1 o2 e1 e2 m1 m2 n1 n2 → Checks contents (Rose a0 a2) (Rose f0 f2) (name ∷ names) status o0 o2 e0 e2 m0 m2 n0 n2
   next_checked status made loads (conf, is, line, quiet, outs, errs) le_a le_b le_f le_g (files, (are, all), delivers) = (
     (name, made) ∷ files,
-    (ap (λ ns. name ∷ ns) are, (later contents (Rose a0 a1) (Rose f0 f1) (Rose a0 a2) (Rose f0 f2) (λ r. Rose-later a0 a1 a2 r le_b) (λ r. Rose-later f0 f1 f2 r le_g) name made loads,
-        each_later contents (Rose a1 a2) (Rose f1 f2) (Rose a0 a2) (Rose f0 f2) (λ r. Rose-since a0 a1 a2 le_a r) (λ r. Rose-since f0 f1 f2 le_f r) files all)),
+    (
+      ap (λ ns. name ∷ ns) are,
+      (
+        later contents (Rose a0 a1) (Rose f0 f1) (Rose a0 a2) (Rose f0 f2) (λ r. Rose-later a0 a1 a2 r le_b) (λ r. Rose-later f0 f1 f2 r le_g) name made loads,
+        each_later contents (Rose a1 a2) (Rose f1 f2) (Rose a0 a2) (Rose f0 f2) (λ r. Rose-since a0 a1 a2 le_a r) (λ r. Rose-since f0 f1 f2 le_f r) files all,
+      ),
+    ),
     rw is (behind_delivered o0 o1 o2 e0 e1 e2 m0 m1 m2 n0 n1 n2 status name conf (check_answer files) line quiet outs errs delivers),
   )
 

@@ -33,7 +33,7 @@ fn check_file<F: Files, O: Sink, E: Sink>(
     ensures checked { (made : Load)
         × Loads (F.contents files.old) (Rose (F.absences files.old) (F.absences files.new)) (Rose (F.faults files.old) (F.faults files.new)) name.now made
         × GoesOn name.now made result (O.wrote out.old) (O.wrote out.new) (E.wrote err.old) (E.wrote err.new)
-            (O.faults out.old) (O.faults out.new) (E.faults err.old) (E.faults err.new) }
+        (O.faults out.old) (O.faults out.new) (E.faults err.old) (E.faults err.new) }
 
     ensures contents { F.contents files.new ≡ F.contents files.old }
     ensures faults { F.faults files.old ≤ F.faults files.new }

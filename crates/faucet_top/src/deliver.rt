@@ -82,13 +82,7 @@ pub fn deliver_out_of_memory<E: Sink>(err: &mut E) -> Status
 }
 
 /// Says in which line a file's text was refused, and the cause in two pieces.
-fn deliver_cause<E: Sink>(
-    err: &mut E,
-    file: &str,
-    number: &str,
-    cause: &str,
-    form: &str,
-) -> Status
+fn deliver_cause<E: Sink>(err: &mut E, file: &str, number: &str, cause: &str, form: &str) -> Status
     ensures ends { Ends Status.Refused (line (file.now ∷ codes ": line " ∷ number.now ∷ codes ": " ∷ cause.now ∷ form.now ∷ []))
         (E.wrote err.old) (E.wrote err.new) (E.faults err.old) (E.faults err.new) result }
     ensures faults { E.faults err.old ≤ E.faults err.new }

@@ -11,4 +11,3 @@ mod units;
 
 pub use top::{faucet, local, refuse_for_memory};
 pub use units::Units;
-

@@ -62,12 +62,7 @@ fn nothing_learned(alloc: Global, conf: &Conf) -> Result<Now, NoMemory>
 }
 
 /// The opening batch of a datapath of a configuration.
-fn open_dp<T: Tally>(
-    alloc: Global,
-    conf: &Conf,
-    dp: &Dp,
-    units: &mut T,
-) -> Result<Bytes, NoMemory>
+fn open_dp<T: Tally>(alloc: Global, conf: &Conf, dp: &Dp, units: &mut T) -> Result<Bytes, NoMemory>
     requires { dp_with conf.now.dps dp.now.id ≡ Some dp.now }
     ensures { IfOk result (λ batch. batch ≡ batch_of conf.now dp.now) }
 {

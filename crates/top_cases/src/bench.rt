@@ -55,10 +55,7 @@ impl Bench {
         folders.push(Folder {
             held: self.held.copy(alloc)?,
         })?;
-        Ok(MemFiles::new(
-            folders,
-            CallNos::from_slice(alloc, &[self.outside.read])?,
-        ))
+        Ok(MemFiles::new(folders, CallNos::from_slice(alloc, &[self.outside.read])?))
     }
 
     /// Takes what fails in the next run: `read N`, `out N`, `err N` or `room N`.

@@ -44,12 +44,7 @@ fn put_messages(alloc: Global, out: &mut String, bytes: &[u8]) -> Result<(), NoM
 }
 
 /// What a stream took: messages, as they begin with a version, or else a text in one line.
-fn put_written(
-    alloc: Global,
-    out: &mut String,
-    name: &str,
-    bytes: &[u8],
-) -> Result<(), NoMemory> {
+fn put_written(alloc: Global, out: &mut String, name: &str, bytes: &[u8]) -> Result<(), NoMemory> {
     match bytes {
         [] => Ok(()),
         [4, ..] => {

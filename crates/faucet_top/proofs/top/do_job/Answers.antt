@@ -14,4 +14,4 @@ pub returns-in-Plan-clause-gives : goal.returns-in-Plan-clause-gives
 returns-in-Plan-clause-gives g c =
     let is : c.args.job.now ≡ Plan c.in-Plan.config c.in-Plan.dp = grind (arith, common_steps) in
     rw is (plan_given (g.F.Files.contents c.args.files.now) _ _ _ _ _ _ _ _ _ _ (number_of_status c.deliver_plan.result) c.in-Plan.config c.in-Plan.dp c.make_plan-made.result
-      (rw (c.as_str.ensures, c.as_str-in-Plan.ensures) at c.make_plan-made.ensures.made) (rw (c.as_str-in-Plan-2.ensures, c.as_str-in-Plan-3.ensures) at c.deliver_plan.ensures.answer))
+    (rw (c.as_str.ensures, c.as_str-in-Plan.ensures) at c.make_plan-made.ensures.made) (rw (c.as_str-in-Plan-2.ensures, c.as_str-in-Plan-3.ensures) at c.deliver_plan.ensures.answer))
