@@ -1,5 +1,5 @@
 -- What is kept is valid.
-use Rattle.std.proofs.Common.{◌≡◌, ℕ, ◌<◌, ◌≤◌, ◌&&◌, Bool, true, false, Option, Some, None, List, [], ◌∷◌, length, not, count_by, refl, ap, ◌∙◌, arith, IsTrue, IsSomeAnd}
+use Rattle.std.proofs.Common.{◌≡◌, ℕ, ◌<◌, ◌≤◌, ◌&&◌, Bool, true, false, Option, Some, None, List, [], ◌∷◌, length, not, count_by, ap, ◌∙◌, arith, IsTrue, IsSomeAnd}
 use Rattle.std.specs.List.{AllByRecursion}
 use Rattle.std.specs.Option.{option_and_then, option_map_or}
 use Rattle.std.proofs.lemmas.Bool.{and_parts}
@@ -19,7 +19,7 @@ use Rattle.host_learn.specs.Kept.{kept_hosts, last_of_each, may_stay}
 use Rattle.host_learn.specs.Learning.{is_host, takes_in}
 use Rattle.host_learn.specs.Table.{Table}
 use Rattle.host_learn.proofs.KeptParts.{kept_apart, kept_stays, staying}
-use Rattle.host_learn.proofs.KeptRoom.{first_kept, port_within, vlan_within}
+use Rattle.host_learn.proofs.KeptRoom.{first_kept, not_true, port_within, vlan_within}
 use Rattle.host_learn.proofs.Lists.{all_both, all_map, each_found}
 use Rattle.host_learn.proofs.Sizes.{room_within}
 
@@ -33,7 +33,7 @@ module _ (conf : Configuration) (valid : IsValid conf) where
   below_apart a b less same = omega arith
 
   -- each interface and each VLAN is the one with its number
-  ports_found : AllByRecursion (λ (d : Dp). AllByRecursion (λ (p : Port). port_at conf d.id p.no ≡ Some p) d.ports) conf.dps
+  pub ports_found : AllByRecursion (λ (d : Dp). AllByRecursion (λ (p : Port). port_at conf d.id p.no ≡ Some p) d.ports) conf.dps
   ports_found =
       all_map (λ (d : Dp). IsDatapath conf d × (dp_with conf.dps d.id ≡ Some d)) (λ (d : Dp). AllByRecursion (λ (p : Port). port_at conf d.id p.no ≡ Some p) d.ports)
       (λ d both. all_map (λ (p : Port). port_with d.ports p.no ≡ Some p) (λ (p : Port). port_at conf d.id p.no ≡ Some p)
@@ -41,13 +41,9 @@ module _ (conf : Configuration) (valid : IsValid conf) where
       (each_found (λ (p : Port). p.no) d.ports (before_map (λ (p : Port) (q : Port). p.no < q.no) (λ (p : Port) (q : Port). p.no ≡ q.no → ⊥) (λ p q. below_apart p.no q.no) d.ports both.0.in_order)))
       conf.dps (all_both (IsDatapath conf) (λ (d : Dp). dp_with conf.dps d.id ≡ Some d) conf.dps valid.datapaths.each (each_found (λ (d : Dp). d.id.0) conf.dps valid.datapaths.ids))
 
-  vlans_found : AllByRecursion (λ (v : Vlan). vlan_with conf.vlans v.vid ≡ Some v) conf.vlans
+  pub vlans_found : AllByRecursion (λ (v : Vlan). vlan_with conf.vlans v.vid ≡ Some v) conf.vlans
   vlans_found =
       each_found (λ (v : Vlan). v.vid) conf.vlans (before_map (λ (v : Vlan) (w : Vlan). v.vid < w.vid) (λ (v : Vlan) (w : Vlan). v.vid ≡ w.vid → ⊥) (λ v w. below_apart v.vid w.vid) conf.vlans valid.vlans.in_order)
-
-not_true : (b : Bool) → not b ≡ true → b ≡ false
-not_true true is = absurd (cc)
-not_true false is = refl
 
 all_of : {A : Type 0} (P : A → Type 0) → ((x : A) → P x) → (xs : List A) → AllByRecursion P xs
 all_of P f [] = tt
@@ -57,20 +53,25 @@ taken_in : (o : Option Port) (test : Port → Bool) → option_map_or test o fal
 taken_in None test is = absurd (cc)
 taken_in (Some p) test is = is
 
+-- a host that may be learned where it stands, where that is up on a datapath that runs
+pub stands : (conf : Configuration) (state : State) (host : HostRec) → is_running state.running host.dp ≡ true → is_up state.ups host.dp host.port ≡ true → is_host conf host ≡ true → IsHost conf state host
+stands conf state host runs up is =
+    let place = and_parts (takes_in conf host && not (is_group host.mac)) (not (is_gateway_address conf host.mac.0)) is in
+    let station = and_parts (takes_in conf host) (not (is_group host.mac)) place.0 in
+    record {
+      runs = runs;
+      up = up;
+      place = taken_in (port_at conf host.dp host.port) (λ p. is_accepting p && is_edge_member p host.vid) station.0;
+      individual = not_true (is_group host.mac) station.1;
+      no_gateway = not_true (is_gateway_address conf host.mac.0) place.1;
+    }
+
 host_is : (conf : Configuration) (state : State) (moment : ℕ) (host : HostRec) → is_running state.running host.dp ≡ true → may_stay conf state.ups moment host ≡ true → IsHost conf state host
 host_is conf state moment host runs stays =
     let up = is_up state.ups host.dp host.port in
     let two = and_parts (is_host conf host && up) (not (is_to_forget conf moment host)) stays in
     let one = and_parts (is_host conf host) up two.0 in
-    let place = and_parts (takes_in conf host && not (is_group host.mac)) (not (is_gateway_address conf host.mac.0)) one.0 in
-    let station = and_parts (takes_in conf host) (not (is_group host.mac)) place.0 in
-    record {
-      runs = runs;
-      up = one.1;
-      place = taken_in (port_at conf host.dp host.port) (λ p. is_accepting p && is_edge_member p host.vid) station.0;
-      individual = not_true (is_group host.mac) station.1;
-      no_gateway = not_true (is_gateway_address conf host.mac.0) place.1;
-    }
+    stands conf state host runs one.1 one.0
 
 pub kept_valid : (conf : Configuration) (state : State) (moment : ℕ) (table : Table) → IsValid conf → table.limit ≤ most_hosts → IsValidState conf (record state { hosts = [] })
     → AllByRecursion (λ host. is_running state.running host.dp ≡ true) (kept_hosts conf state.ups moment table) → IsValidState conf (record state { hosts = kept_hosts conf state.ups moment table })

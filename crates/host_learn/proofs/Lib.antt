@@ -5,9 +5,12 @@ pub mod Indexed
 pub mod KeptParts
 pub mod KeptRoom
 pub mod KeptValid
+pub mod LearnedValid
 pub mod Leaving
 pub mod Lists
+pub mod Moments
 pub mod Narrow
+pub mod PartValid
 pub mod Shelved
 pub mod Sizes
 pub mod Spots

@@ -1,8 +1,8 @@
 -- What holds of each item, of a part, and of one item more.
-use Rattle.std.proofs.Common.{◌≡◌, ℕ, ◌+◌, ◌==◌, ◌||◌, ◌++◌, Bool, true, false, cond, Some, List, [], ◌∷◌, zero, suc, length, get_or, ◌<◌, find, filter, count_by, inl, inr, refl, sym, ap, ◌∙◌, arith, subst, eq-eqb}
+use Rattle.std.proofs.Common.{◌≡◌, ℕ, ◌+◌, ◌==◌, ◌||◌, ◌++◌, Bool, true, false, cond, not, Some, List, [], ◌∷◌, zero, suc, length, get_or, ◌<◌, ◌≤◌, find, filter, count_by, inl, inr, refl, sym, ap, ◌∙◌, arith, subst, eq-eqb}
 use Rattle.std.specs.List.{AllByRecursion, list_any}
 use Rattle.std.proofs.lemmas.Bool.{cases_Bool, eqb-true, false≢true}
-use Rattle.std.proofs.lemmas.List.Sums.{sum_by-append}
+use Rattle.std.proofs.lemmas.List.Sums.{sum_by-append, sum_by-cons}
 use Rattle.conf_types.specs.Lists.{EachBefore}
 use Rattle.host_learn.specs.Parts.{IsPartOf}
 
@@ -100,6 +100,42 @@ module _ {A : Type 0} where
 
   pub count_push : (p : A → Bool) (xs : List A) (y : A) → count_by p (xs ++ y ∷ []) ≡ count_by p xs + cond (p y) 1 0
   count_push p xs y = omega (arith, sum_by-append (λ x. cond (p x) 1 0) xs (y ∷ []))
+
+  -- ---- in a part no more are counted
+
+  pub count_part : (p : A → Bool) (xs ys : List A) → IsPartOf xs ys → count_by p xs ≤ count_by p ys
+  count_part p [] ys part = omega arith
+  count_part p (x ∷ xs) [] part = absurd part
+  count_part p (x ∷ xs) (y ∷ ys) part =
+      elim part [
+        | inl same ↦ let here : ◌≡◌ {A = ℕ} (cond (p x) 1 0) (cond (p y) 1 0) = ap (λ z. cond (p z) 1 0) same.0 in
+            omega (arith, here, count_part p xs ys same.1, sum_by-cons (λ z. cond (p z) 1 0) x xs, sum_by-cons (λ z. cond (p z) 1 0) y ys)
+        | inr later ↦ omega (arith, count_part p (x ∷ xs) ys later, sum_by-cons (λ z. cond (p z) 1 0) y ys)
+      ]
+
+  -- without those that pass, where there is one, fewer count, if each of them counts
+  pub count_off : (off p : A → Bool) → ((x : A) → off x ≡ true → p x ≡ true) → (xs : List A) → list_any off xs ≡ true → count_by p (filter (λ x. not (off x)) xs) < count_by p xs
+  count_off off p counts [] some = absurd (false≢true some)
+  count_off off p counts (x ∷ xs) some =
+      let others : List A = filter (λ x. not (off x)) xs in
+      elim (cases_Bool (off x)) [
+        | inl passes ↦ let left : count_by p (filter (λ x. not (off x)) (x ∷ xs)) ≡ count_by p others = ap (λ b. count_by p (cond (not b) (x ∷ others) others)) passes in
+            let one : ◌≡◌ {A = ℕ} (cond (p x) 1 0) 1 = ap (λ b. cond b 1 0) (counts x passes) in
+            omega (arith, left, one, count_part p others xs (filter_part (λ x. not (off x)) xs), sum_by-cons (λ z. cond (p z) 1 0) x xs)
+        | inr fails ↦ let left : count_by p (filter (λ x. not (off x)) (x ∷ xs)) ≡ count_by p (x ∷ others) = ap (λ b. count_by p (cond (not b) (x ∷ others) others)) fails in
+            omega (arith, left, count_off off p counts xs (sym (ap (λ b. b || list_any off xs) fails) ∙ some), sum_by-cons (λ z. cond (p z) 1 0) x others, sum_by-cons (λ z. cond (p z) 1 0) x xs)
+      ]
+
+  -- ---- what is found passes
+
+  pub found_passes : (p : A → Bool) (xs : List A) (y : A) → find p xs ≡ Some y → p y ≡ true
+  found_passes p [] y is = absurd (cc)
+  found_passes p (x ∷ xs) y is =
+      elim (cases_Bool (p x)) [
+        | inl passes ↦ let here : Some x ≡ Some y = sym (ap (λ b. cond b (Some x) (find p xs)) passes) ∙ is in
+            let same : x ≡ y = cc in subst (λ z. p z ≡ true) same passes
+        | inr fails ↦ found_passes p xs y (sym (ap (λ b. cond b (Some x) (find p xs)) fails) ∙ is)
+      ]
 
   -- ---- what has a key of its own is found by it
 

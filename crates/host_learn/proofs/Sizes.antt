@@ -27,11 +27,11 @@ one_fewer test (host ∷ more) =
       | false ↦ omega (arith, one_fewer test more)
     ]
 
-neither : (a b : Bool) → (a || b) ≡ false → (a ≡ false) × (b ≡ false)
+pub neither : (a b : Bool) → (a || b) ≡ false → (a ≡ false) × (b ≡ false)
 neither true b is = absurd (false≢true (sym is))
 neither false b is = (refl, is)
 
-second : (a b : Bool) → (not a && b) ≡ false → a ≡ false → b ≡ false
+pub second : (a b : Bool) → (not a && b) ≡ false → a ≡ false → b ≡ false
 second true b is off = absurd (false≢true (sym off))
 second false b is off = is
 
@@ -60,7 +60,7 @@ module _ (conf : Configuration) (limit : ℕ) where
 
   module _ (heard : HostRec) where
     -- the one that moves makes room for itself
-    fewer_by_one : (hosts : List HostRec) → is_known conf hosts heard ≡ true → length (filter (λ host. not (is_heard conf heard host)) hosts) < length hosts
+    pub fewer_by_one : (hosts : List HostRec) → is_known conf hosts heard ≡ true → length (filter (λ host. not (is_heard conf heard host)) hosts) < length hosts
     fewer_by_one [] known = absurd (false≢true known)
     fewer_by_one (host ∷ more) known =
         let others : List HostRec = filter (λ host. not (is_heard conf heard host)) more in
