@@ -13,7 +13,7 @@ use Rattle.command_line.specs.declared.meaning.Job.{Job}
 use Rattle.command_line.specs.declared.meaning.Job.TheVariants.{Check, Plan}
 use Rattle.command_line.specs.Meaning.{meaning}
 use Rattle.opening_batch.specs.Opening.{opening_of}
-use Rattle.faucet_top.specs.Causes.{conf_cause_text}
+use Rattle.conf_causes.specs.Causes.{conf_cause_text}
 
 pub record Answer : Type 0 where
   pub out : List ℕ

@@ -1,5 +1,4 @@
 pub mod Answer
-pub mod Causes
 pub mod Ends
 pub mod Given
 pub mod Status

@@ -7,7 +7,7 @@ ghost use Rattle.faucet_top.specs.Given.{Delivers};
 ghost use Rattle.faucet_top.specs.Status.{number_of_status};
 ghost use Rattle.faucet_top.specs.Ends.{Ends, refused_status};
 
-use crate::causes::limit_name;
+use conf_causes::limit_name;
 use conf_gather::LoadRefused;
 use conf_shape::{ConfCause, ConfFault};
 use fg_outside::{Sink, write_all, write_line};

@@ -1,7 +1,6 @@
 //! The commands of `faucet`, from their words to what they write.
 #![tactic(auto)]
 
-mod causes;
 mod check;
 mod deliver;
 pub mod laws;

@@ -3,7 +3,8 @@ use Rattle.std.proofs.Common.{◌≡◌, ℕ, ◌+◌, ◌<◌, List, ◌++◌, 
 use Rattle.std.proofs.lemmas.List.{at_drop_more}
 use Rattle.of_match.specs.declared.entry.Entry.{Entry}
 use Rattle.of13_codec.specs.Messages.{written}
-use Rattle.opening_batch.specs.Messages.{add, adds, next_xid, xid_after}
+use Rattle.flow_messages.specs.Messages.{add}
+use Rattle.opening_batch.specs.Messages.{adds, next_xid, xid_after}
 
 pub adds-drop : (xid i : ℕ) (es : List Entry) (e : Entry) → i < length es → e ≡ get_or es i e → adds xid (drop i es) ≡ written (add e) xid ++ adds (next_xid xid) (drop (i + 1) es)
 adds-drop xid i es e h is = at_drop_more (adds xid) es i e h ∙ ap (λ d. written (add d) xid ++ adds (next_xid xid) (drop (i + 1) es)) (sym is)

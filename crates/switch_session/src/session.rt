@@ -93,6 +93,13 @@ impl Session {
         Ok(())
     }
 
+    /// How many bytes came that no frame has taken yet.
+    pub fn unread_len(&self) -> usize
+        ensures { result ≡ length self.now.unread }
+    {
+        self.stream.len()
+    }
+
     /// Lends the next frame, and takes it from the unread bytes. `NotYet` exactly where less than
     /// a frame came, and then fewer than 65,535 bytes are unread; `Bad` exactly at a header whose
     /// length is under 8 (OpenFlow 1.3, 7.1). Neither takes anything.

@@ -1,4 +1,4 @@
-ghost use Rattle.std.specs.Prelude.{◌≡◌, ◌≤◌, ◌<◌, ◌-◌, ◌++◌, [], length, drop, vec_len, OnOk, OnErr};
+ghost use Rattle.std.specs.Prelude.{◌≡◌, ◌==◌, ◌≤◌, ◌<◌, ◌-◌, ◌++◌, [], length, drop, vec_len, OnOk, OnErr};
 ghost use Rattle.std.specs.Borrow.{sem};
 ghost use Rattle.std.specs.Io.BufRead.{Rests};
 ghost use Rattle.switch_session.specs.Frames.{Cuts, IsCut, OnNotYet};
@@ -82,6 +82,20 @@ impl Stream {
             bytes: Vec::new(alloc),
             start: 0,
         }
+    }
+
+    /// How many bytes came that no frame has taken yet.
+    pub fn len(&self) -> usize
+        ensures { result ≡ length self.now }
+    {
+        self.bytes.len() - self.start
+    }
+
+    /// Whether there is no such byte.
+    pub fn is_empty(&self) -> bool
+        ensures { result ≡ (length self.now == 0) }
+    {
+        self.len() == 0
     }
 
     /// Lets go what was read, where that is half of the bytes or more: so a byte is moved for at

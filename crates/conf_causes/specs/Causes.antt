@@ -3,6 +3,7 @@ use Rattle.std.specs.Prelude.{ℕ, List, ◌++◌, codes}
 use Rattle.std.specs.Fmt.{decimal}
 use Rattle.conf_shape.specs.declared.refused.ConfCause.{ConfCause}
 use Rattle.conf_shape.specs.declared.refused.ConfCause.TheVariants.{UnknownKey, LeftOut, Missing, WrongType, OutOfRange, BadText, Unresolved, Duplicate, Conflict, TooMany}
+use Rattle.conf_shape.specs.declared.refused.ConfFault.{ConfFault}
 use Rattle.conf_shape.specs.declared.refused.LimitName.{LimitName}
 use Rattle.conf_shape.specs.declared.refused.LimitName.TheVariants.{Dps, Ports, Vlans, Mirrors, Special, Rules, AclEntries, AclOutputs, Members, Vips, RouterVlans, Routes, Gateways, RouteItems}
 
@@ -34,3 +35,13 @@ conf_cause_text Unresolved = codes "Unresolved"
 conf_cause_text Duplicate = codes "Duplicate"
 conf_cause_text (Conflict rule) = codes "Conflict " ++ decimal rule
 conf_cause_text (TooMany limit) = codes "TooMany " ++ limit_text limit
+
+-- the name alone
+abbrev pub cause_name : ConfCause → List ℕ
+cause_name (Conflict rule) = codes "Conflict "
+cause_name (TooMany limit) = codes "TooMany "
+cause_name other = conf_cause_text other
+
+-- where and why a configuration is refused
+abbrev pub fault_text : ConfFault → List ℕ
+fault_text fault = fault.path ++ codes ": " ++ conf_cause_text fault.cause

@@ -1,0 +1,140 @@
+ghost use Rattle.std.specs.Prelude.{◌≡◌, ◌==◌, ◌&&◌, is_some, None, if◌then◌else◌, IfOk, OnOk};
+ghost use Rattle.std.specs.Option.{option_and_then};
+ghost use Rattle.conf_types.specs.Configuration.{vlan_with};
+ghost use Rattle.conf_types.specs.Lists.{is_same};
+ghost use Rattle.conf_types.specs.Networks.{is_neighbour_address};
+ghost use Rattle.conf_types.specs.Routing.{vips_of};
+ghost use Rattle.pkt_view.specs.Frame.{shown, shown_upper, HasFixedPart};
+ghost use Rattle.ctl_packets.specs.Packets.{destination, glean, glean_to, is_for_gateway, is_resolved, network_vlan, want};
+
+use conf_types::{Conf, NeighRec, Vlan};
+use ctl_world::World;
+use net_base::{DpId, Ip4, Mac, NoMemory, Vid};
+use pkt_view::{FrameView, UpperView, ip4_at};
+use std::alloc::Global;
+
+/// An address is wanted in a group of datapaths and a VLAN.
+fn want(world: &mut World, group: DpId, vid: Vid, ip: Ip4)
+    ensures { world.new ≡ want group vid ip world.old }
+{
+    let _ = world.neighbours.want(group, vid, ip, world.moment);
+}
+
+/// Whether a neighbour has this key, and its Ethernet address is known.
+fn is_neighbour(neighbour: &NeighRec, group: DpId, vid: Vid, ip: Ip4) -> bool
+    ensures { result ≡ (neighbour.now.group.0 == group.0 && neighbour.now.vid == vid && neighbour.now.ip.0 == ip.0 && is_some neighbour.now.mac) }
+{
+    neighbour.group == group
+        && neighbour.vid.get() == vid.get()
+        && neighbour.ip.0 == ip.0
+        && neighbour.mac.is_some()
+}
+
+/// Whether the Ethernet address of a neighbour is known.
+fn is_resolved(neighbours: &[NeighRec], group: DpId, vid: Vid, ip: Ip4) -> bool
+    ensures { result ≡ is_resolved neighbours.now group vid ip.0 }
+{
+    neighbours
+        .iter()
+        .any(|neighbour| is_neighbour(neighbour, group, vid, ip))
+}
+
+/// Whether an address is a neighbour's of a VLAN.
+fn is_address_of(conf: &Conf, vid: Vid, ip: Ip4) -> bool
+    ensures { result ≡ is_neighbour_address (vips_of conf.now vid) ip.0 }
+{
+    match conf.vlan(vid) {
+        Some(vlan) => vlan.is_neighbour_address(ip),
+        None => false,
+    }
+}
+
+/// The VLAN in whose network an address lies, of those that packets of a VLAN are routed to.
+fn network_vlan(alloc: Global, conf: &Conf, vid: Vid, ip: Ip4) -> Result<Option<Vid>, NoMemory>
+    ensures { IfOk result (λ found. found ≡ network_vlan conf.now vid ip.0) }
+{
+    let vids = conf.routing_set(alloc, vid)?;
+    Ok(
+        vids.as_slice()
+            .iter()
+            .copied()
+            .find(|other| is_address_of(conf, *other, ip)),
+    )
+}
+
+/// An address is wanted in the VLAN of its network, unless it is known there.
+fn glean_to(
+    alloc: Global,
+    world: &mut World,
+    group: DpId,
+    vid: Vid,
+    ip: Ip4,
+) -> Result<(), NoMemory>
+    ensures { OnOk result (world.new ≡ glean_to group vid ip world.old) }
+{
+    let Some(vid) = network_vlan(alloc, &world.conf, vid, ip)? else {
+        return Ok(());
+    };
+    if !is_resolved(world.neighbours.list(), group, vid, ip) {
+        want(world, group, vid, ip);
+    }
+    Ok(())
+}
+
+/// Whether two addresses have the same bytes.
+fn is_same(a: Mac, b: Mac) -> bool
+    ensures { result ≡ is_same a.0 b.0 }
+{
+    a == b
+}
+
+/// Whether a frame is one for the gateway of a VLAN that has VIPs.
+fn is_for_gateway(vlan: &Vlan, frame: &FrameView<'_>) -> bool
+    ensures { result ≡ is_for_gateway vlan.now (shown frame.now) }
+{
+    !vlan.vips.is_empty() && is_same(frame.dst, vlan.mac)
+}
+
+/// The address that a frame's IPv4 packet is for (RFC 791, 3.1).
+fn destination(frame: &FrameView<'_>) -> Option<Ip4>
+    requires { HasFixedPart (shown_upper frame.now.upper) }
+    ensures { result ≡ destination (shown_upper frame.now.upper) }
+{
+    match frame.upper {
+        UpperView::V4 { header, .. } => Some(ip4_at(header, 16)),
+        _ => None,
+    }
+}
+
+/// The address that a frame of a VLAN looks for: that of its IPv4 packet, where it is for the gateway.
+fn gleaned(conf: &Conf, vid: Vid, frame: &FrameView<'_>) -> Option<Ip4>
+    requires { HasFixedPart (shown_upper frame.now.upper) }
+    ensures { result ≡ option_and_then (λ v. if is_for_gateway v (shown frame.now) then destination (shown_upper frame.now.upper) else None) (vlan_with conf.now.vlans vid) }
+{
+    let vlan = conf.vlan(vid)?;
+    if is_for_gateway(vlan, frame) {
+        destination(frame)
+    } else {
+        None
+    }
+}
+
+/// The address that an IPv4 packet for a VLAN's gateway looks for is wanted, unless it is known.
+pub(crate) fn glean(
+    alloc: Global,
+    world: &mut World,
+    dp: DpId,
+    vid: Vid,
+    frame: &FrameView<'_>,
+) -> Result<(), NoMemory>
+    requires { HasFixedPart (shown_upper frame.now.upper) }
+    ensures { OnOk result (world.new ≡ glean dp vid (shown frame.now) world.old) }
+{
+    match gleaned(&world.conf, vid, frame) {
+        Some(ip) => {
+            let group = world.conf.group_number(dp);
+            glean_to(alloc, world, group, vid, ip)
+        }
+        None => Ok(()),
+    }
+}

@@ -1,0 +1,12 @@
+//! What a packet does that a switch sent to the controller: its host is learned, the neighbour that it
+//! looks for is wanted, that which it tells of is known, or it is answered.
+#![tactic(auto)]
+
+mod gleaning;
+mod hearing;
+pub mod laws;
+mod learning;
+mod packet;
+mod reply;
+
+pub use packet::packet_in;

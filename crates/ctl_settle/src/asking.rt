@@ -1,0 +1,98 @@
+ghost use Rattle.std.specs.Prelude.{◌≡◌, OnOk};
+ghost use Rattle.neighbour_resolve.specs.Asks.{asks};
+ghost use Rattle.ctl_world.specs.World.{running};
+ghost use Rattle.ctl_settle.specs.Settling.{ask_all, ask_by, ask_by_each, ask_due, ask_each, ask_on, say_due};
+
+use crate::order::in_order;
+use ctl_world::{World, packet_out};
+use neighbour_resolve::{Due, Outgoing, ask};
+use net_base::{DpId, Ip4, NoMemory, Vid};
+use std::alloc::Global;
+
+/// A datapath is told to send a frame that asks.
+fn say_on(world: &mut World, dp: DpId, out: Outgoing) -> Result<(), NoMemory>
+    ensures { OnOk result (world.new ≡ ask_on (record { dp = dp; out = out }) world.old) }
+{
+    match world.conns.of(dp) {
+        Some(conn) => {
+            let number = conn.number;
+            world.say(number, packet_out(out))
+        }
+        None => Ok(()),
+    }
+}
+
+/// A datapath of the group is told to ask.
+fn ask_by(
+    alloc: Global,
+    world: &mut World,
+    group: DpId,
+    vid: Vid,
+    ip: Ip4,
+    dp: DpId,
+) -> Result<(), NoMemory>
+    ensures { OnOk result (world.new ≡ ask_by group vid ip dp world.old) }
+{
+    if world.conf.group_number(dp) != group {
+        return Ok(());
+    }
+    match ask(alloc, &world.conf, dp, vid, ip)? {
+        Some(out) => say_on(world, dp, out),
+        None => Ok(()),
+    }
+}
+
+fn ask_by_each(
+    alloc: Global,
+    world: &mut World,
+    group: DpId,
+    vid: Vid,
+    ip: Ip4,
+    dps: &[DpId],
+) -> Result<(), NoMemory>
+    ensures { OnOk result (world.new ≡ ask_by_each group vid ip dps.now world.old) }
+{
+    for dp in dps {
+        ask_by(alloc, world, group, vid, ip, *dp)?;
+    }
+    Ok(())
+}
+
+/// A neighbour is asked for by each running datapath of its group, in order.
+fn ask_for(alloc: Global, world: &mut World, group: DpId, vid: Vid, ip: Ip4) -> Result<(), NoMemory>
+    ensures { OnOk result (world.new ≡ ask_each (asks world.old.conf (running world.old) group vid ip) world.old) }
+{
+    let running = world.running(alloc)?;
+    let dps = in_order(alloc, running.as_slice())?;
+    ask_by_each(alloc, world, group, vid, ip, dps.as_slice())
+}
+
+/// Says what is to be said of a neighbour that is due.
+fn say_due(alloc: Global, world: &mut World, due: Due) -> Result<(), NoMemory>
+    ensures { OnOk result (world.new ≡ say_due due world.old) }
+{
+    match &due {
+        Due::Ask { group, vid, ip } => ask_for(alloc, world, *group, *vid, *ip),
+        Due::Gone { .. } => Ok(()),
+    }
+}
+
+/// Asks for the neighbours that are due, in their order, and gives up those that were asked too often.
+pub(crate) fn ask_all(alloc: Global, world: &mut World) -> Result<(), NoMemory>
+    ensures { OnOk result (world.new ≡ ask_all world.old) }
+{
+    let most = world.neighbours.list().len();
+    ask_due(alloc, world, most)
+}
+
+fn ask_due(alloc: Global, world: &mut World, most: usize) -> Result<(), NoMemory>
+    ensures { OnOk result (world.new ≡ ask_due most world.old) }
+{
+    for _ in 0..most {
+        match world.neighbours.due(&world.conf, world.moment) {
+            Some(due) => say_due(alloc, world, due)?,
+            None => return Ok(()),
+        }
+    }
+    Ok(())
+}

@@ -1,0 +1,87 @@
+//! What holds of the definitions. A function's contract is the law, and its body is at most calls of the
+//! laws that it rests on.
+
+ghost use Rattle.std.specs.Prelude.{◌≡◌, ◌⊎◌, ◌↔◌, ◌<◌, ◌≤◌, List, [], Some, true, is_some, length};
+ghost use Rattle.std.specs.List.{AllByRecursion};
+ghost use Rattle.net_base.specs.declared.numbers.DpId.{DpId};
+ghost use Rattle.of_match.specs.declared.entry.Command.{Command};
+ghost use Rattle.of_match.specs.declared.entry.Entry.{Entry};
+ghost use Rattle.of_match.specs.FlowTables.{IsInKeyOrder};
+ghost use Rattle.of_match.specs.Settled.{Settles, after_all};
+ghost use Rattle.conf_types.specs.Lists.{EachBefore};
+ghost use Rattle.conf_types.specs.State.{is_running};
+ghost use Rattle.plan_difference.specs.Difference.{difference};
+ghost use Rattle.plan_difference.specs.Needed.{AscendByKey, IsNeeded, NameKeys};
+ghost use Rattle.ctl_world.specs.declared.conns.Conn.{Conn};
+ghost use Rattle.ctl_world.specs.Connections.{conn_of};
+ghost use Rattle.ctl_world.specs.World.{IsSound, World, running};
+ghost use Rattle.ctl_settle.specs.Settling.{ask_all, batch, settle, wanted};
+
+use cold_start::laws::a_cold_start_is_the_plan_in_key_order;
+use ctl_world::laws::{such_changes_leave_it_sound, what_is_said_leaves_it_sound};
+use neighbour_resolve::laws::{datapaths_are_asked_in_order, what_is_left_is_valid};
+use plan_difference::laws::{
+    a_difference_is_the_least_list, a_difference_leads_from_one_plan_to_the_other,
+    each_command_of_a_difference_is_needed, equal_plans_have_no_difference,
+};
+
+/// Asks leave what was learned valid.
+pub fn asks_leave_the_state()
+    ensures { (w : World) → IsSound w → IsSound (ask_all w) }
+{
+    what_is_said_leaves_it_sound();
+    what_is_left_is_valid();
+}
+
+/// A batch leaves what was learned valid.
+pub fn a_batch_leaves_the_state()
+    ensures { (w : World) (dp : DpId) → IsSound w → IsSound (batch dp w) }
+{
+    what_is_said_leaves_it_sound();
+    such_changes_leave_it_sound();
+}
+
+/// Where a turn has settled, nothing waits: each running datapath has a barrier outstanding, or the entries
+/// that it is to have. The connections stand by number and what was noted of each is in key order, before
+/// and after.
+pub fn a_settling_leaves_nothing_waiting()
+    ensures done { (w : World) → EachBefore (λ a b. a.number < b.number) w.conns → AllByRecursion (λ c. IsInKeyOrder c.sent) w.conns
+        → (dp : DpId) → is_running (running (settle w)) dp ≡ true → (c : Conn) → conn_of (settle w).conns dp ≡ Some c
+        → (is_some c.session.state.awaited ≡ true) ⊎ (c.sent ≡ wanted (settle w) dp) }
+    ensures numbers { (w : World) → EachBefore (λ a b. a.number < b.number) w.conns → AllByRecursion (λ c. IsInKeyOrder c.sent) w.conns
+        → EachBefore (λ a b. a.number < b.number) (settle w).conns }
+    ensures keys { (w : World) → EachBefore (λ a b. a.number < b.number) w.conns → AllByRecursion (λ c. IsInKeyOrder c.sent) w.conns
+        → AllByRecursion (λ c. IsInKeyOrder c.sent) (settle w).conns }
+{
+    a_cold_start_is_the_plan_in_key_order();
+    equal_plans_have_no_difference();
+    datapaths_are_asked_in_order();
+}
+
+/// A switch that holds the entries noted and does the commands of a batch, in whichever order, then holds
+/// those that its datapath is to have (OpenFlow 1.3, 6.2).
+pub fn a_batch_leads_to_the_cold_start()
+    ensures { (w : World) (dp : DpId) (c : Conn) (settled : List Entry) → IsInKeyOrder c.sent
+        → Settles c.sent (difference c.sent (wanted w dp)) settled → settled ≡ wanted w dp }
+{
+    a_cold_start_is_the_plan_in_key_order();
+    a_difference_leads_from_one_plan_to_the_other();
+}
+
+/// The commands of a batch stand in key order, and each is needed. There are none exactly where the switch
+/// has the entries that it is to have, and no shorter list of adds and strict deletes leads there.
+pub fn a_batch_says_the_least()
+    ensures ascending { (w : World) (dp : DpId) (c : Conn) → IsInKeyOrder c.sent → AscendByKey (difference c.sent (wanted w dp)) }
+    ensures needed { (w : World) (dp : DpId) (c : Conn) → IsInKeyOrder c.sent
+        → AllByRecursion (IsNeeded c.sent (wanted w dp)) (difference c.sent (wanted w dp)) }
+    ensures none { (w : World) (dp : DpId) (c : Conn) → IsInKeyOrder c.sent
+        → (difference c.sent (wanted w dp) ≡ []) ↔ (c.sent ≡ wanted w dp) }
+    ensures least { (w : World) (dp : DpId) (c : Conn) → IsInKeyOrder c.sent → (commands : List Command)
+        → NameKeys commands → after_all c.sent commands ≡ wanted w dp
+        → length (difference c.sent (wanted w dp)) ≤ length commands }
+{
+    a_cold_start_is_the_plan_in_key_order();
+    each_command_of_a_difference_is_needed();
+    equal_plans_have_no_difference();
+    a_difference_is_the_least_list();
+}

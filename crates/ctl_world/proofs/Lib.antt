@@ -1,0 +1,9 @@
+pub mod Fronts
+pub mod Leaving
+pub mod Places
+pub mod Says
+pub mod SoundChanges
+pub mod SoundEnds
+pub mod SoundKept
+pub mod SoundPlaces
+pub mod Steps

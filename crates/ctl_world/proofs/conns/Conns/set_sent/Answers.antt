@@ -1,0 +1,9 @@
+use Rattle.ctl_world.specs.Connections.{with_sent}
+use Rattle.ctl_world.proofs.Places.{none_set, set_there}
+use Rattle.ctl_world.proofs.conns.Conns.set_sent.Goals as goal
+
+pub returns-in-Some : goal.returns-in-Some
+returns-in-Some c = set_there _ _ _ _ c.as_slice.ensures.value c.self.view_is _ _ c.in-Some.ensures.place c.in-Some.ensures.within c.index_mut.ensures.value (with_sent c.args.sent)
+
+pub returns-in_default : goal.returns-in_default
+returns-in_default c = none_set _ _ _ _ c.as_slice.ensures.value c.self.view_is c.in_default.ensures.place (with_sent c.args.sent)

@@ -1,0 +1,5 @@
+pub mod Connections
+pub mod Ends
+pub mod Frames
+pub mod Saying
+pub mod World

@@ -1,0 +1,18 @@
+//! All that a controller knows: its configuration, the open connections, what it has learned, and what
+//! it says.
+#![tactic(auto)]
+
+mod conns;
+mod ends;
+mod frames;
+pub mod laws;
+mod now;
+mod said;
+mod saying;
+mod world;
+
+pub use conns::{Conn, Conns};
+pub use frames::Front;
+pub use said::{Said, Saids};
+pub use saying::packet_out;
+pub use world::World;

@@ -1,0 +1,147 @@
+//! Which datapaths run and which interfaces are up, by what the connections told.
+
+ghost use Rattle.std.specs.Prelude.{◌≡◌, ◌==◌, ◌&&◌, ◌++◌, map, filter, IfOk, OnOk};
+ghost use Rattle.std.specs.List.{flat_map, list_any};
+ghost use Rattle.conf_types.specs.State.{IsValidState};
+ghost use Rattle.packet_way.specs.Present.{state_of};
+ghost use Rattle.ctl_world.specs.World.{has_ports, is_at_work, is_up_by, now, runs, running, running_of, ups, ups_by, ups_on};
+
+use crate::conns::{Conn, Conns};
+use crate::world::World;
+use conf_types::{Conf, Dp, DpIds, HostRecs, NeighRecs, Port, UpRec, UpRecs};
+use net_base::{DpId, NoMemory};
+use packet_way::Now;
+use std::alloc::Global;
+use switch_session::{PortTold, Stage};
+
+fn runs(stage: Stage) -> bool
+    ensures { result ≡ runs stage }
+{
+    matches!(stage, Stage::Running)
+}
+
+fn has_ports(stage: Stage) -> bool
+    ensures { result ≡ has_ports stage }
+{
+    matches!(stage, Stage::Wiping | Stage::Running)
+}
+
+fn is_at_work(conns: &Conns, dp: &Dp) -> bool
+    ensures { result ≡ is_at_work conns.now dp.now }
+{
+    match conns.of(dp.id) {
+        Some(conn) => runs(conn.session.stage()),
+        None => false,
+    }
+}
+
+fn running_of(alloc: Global, conf: &Conf, conns: &Conns) -> Result<Vec<DpId>, NoMemory>
+    ensures { IfOk result (λ ids. ids.items ≡ running_of conf.now conns.now) }
+{
+    conf.dps()
+        .as_slice()
+        .iter()
+        .filter(|dp| is_at_work(conns, dp))
+        .map(|dp| dp.id)
+        .collect(alloc)
+}
+
+fn is_told_up(told: &[PortTold], port: &Port) -> bool
+    ensures { result ≡ list_any (λ t. t.no == port.now.no && t.up) told.now }
+{
+    let no = port.no.get();
+    told.iter().any(|told| told.no.get() == no && told.up)
+}
+
+fn is_up_by(told: &[PortTold], port: &Port) -> bool
+    ensures { result ≡ is_up_by told.now port.now }
+{
+    is_told_up(told, port) || !port.opstatus_reconf
+}
+
+fn told_ups(alloc: Global, dp: &Dp, told: &[PortTold]) -> Result<Vec<UpRec>, NoMemory>
+    ensures { IfOk result (λ ups. ups.items ≡ map (λ p. record { dp = dp.now.id; port = p.no }) (filter (is_up_by told.now) dp.now.ports)) }
+{
+    let id = dp.id;
+    dp.ports
+        .as_slice()
+        .iter()
+        .filter(|port| is_up_by(told, port))
+        .map(|port| UpRec {
+            dp: id,
+            port: port.no,
+        })
+        .collect(alloc)
+}
+
+fn push_ups(ups: &mut UpRecs, alloc: Global, dp: &Dp, conn: &Conn) -> Result<(), NoMemory>
+    ensures { OnOk result (ups.new ≡ ups.old ++ ups_by dp.now conn.now) }
+{
+    if !has_ports(conn.session.stage()) {
+        return Ok(());
+    }
+    let made = told_ups(alloc, dp, conn.session.ports())?;
+    ups.append(made.as_slice())
+}
+
+fn push_ups_on(ups: &mut UpRecs, alloc: Global, conns: &Conns, dp: &Dp) -> Result<(), NoMemory>
+    ensures { OnOk result (ups.new ≡ ups.old ++ ups_on conns.now dp.now) }
+{
+    match conns.of(dp.id) {
+        Some(conn) => push_ups(ups, alloc, dp, conn),
+        None => Ok(()),
+    }
+}
+
+#[tactic(auto, using(crate::proofs::Steps::flat_more))]
+fn ups_of(alloc: Global, dps: &[Dp], conns: &Conns) -> Result<UpRecs, NoMemory>
+    ensures { IfOk result (λ ups. ups ≡ flat_map (ups_on conns.now) dps.now) }
+{
+    let mut ups = UpRecs::new(alloc);
+    for dp in dps {
+        push_ups_on(&mut ups, alloc, conns, dp)?;
+    }
+    Ok(ups)
+}
+
+fn hosts_of(alloc: Global, world: &World) -> Result<HostRecs, NoMemory>
+    ensures { IfOk result (λ hosts. hosts ≡ world.now.hosts.hosts) }
+{
+    let mut hosts = HostRecs::new(alloc);
+    for place in 0..world.hosts.len() {
+        if let Some(host) = world.hosts.at(place) {
+            hosts.push(*host)?;
+        }
+    }
+    Ok(hosts)
+}
+
+impl World {
+    /// The datapaths that run, in the order of the configuration.
+    pub fn running(&self, alloc: Global) -> Result<DpIds, NoMemory>
+        ensures { IfOk result (λ ids. ids ≡ running self.now) }
+    {
+        let ids = running_of(alloc, &self.conf, &self.conns)?;
+        DpIds::from_slice(alloc, ids.as_slice())
+    }
+
+    /// The interfaces that are up, in the order of the configuration.
+    pub fn ups(&self, alloc: Global) -> Result<UpRecs, NoMemory>
+        ensures { IfOk result (λ made. made ≡ ups self.now) }
+    {
+        ups_of(alloc, self.conf.dps().as_slice(), &self.conns)
+    }
+
+    /// The state by which flow entries are made.
+    pub fn now(&self, alloc: Global) -> Result<Now, NoMemory>
+        ensures { IfOk result (λ made. state_of made ≡ now self.now) }
+    {
+        Ok(Now {
+            moment: self.moment,
+            running: self.running(alloc)?,
+            ups: self.ups(alloc)?,
+            hosts: hosts_of(alloc, self)?,
+            neighbours: NeighRecs::from_slice(alloc, self.neighbours.list())?,
+        })
+    }
+}
