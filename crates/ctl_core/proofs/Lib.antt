@@ -1,0 +1,11 @@
+pub mod Heard
+pub mod HeardOn
+pub mod ReloadSteps
+pub mod SaidTables
+pub mod SoundFrames
+pub mod SoundGateways
+pub mod SoundReloads
+pub mod SoundSteps
+pub mod SoundTurns
+pub mod TurnAges
+pub mod TurnLooks

@@ -1,0 +1,4 @@
+pub mod Hearing
+pub mod Reloading
+pub mod Story
+pub mod Turns

@@ -1,0 +1,165 @@
+ghost use Rattle.std.specs.Prelude.{◌≡◌, ◌==◌, ◌&&◌, map, Some, None, IfOk, OnErr};
+ghost use Rattle.std.specs.List.{list_any};
+ghost use Rattle.std.specs.Option.{option_and_then, option_copied};
+ghost use Rattle.ctl_world.specs.World.{first, is_at_work, World as Seen};
+ghost use Rattle.ctl_core.specs.Turns.{turn};
+ghost use Rattle.ctl_core.specs.Story.{saying_of, tables_of};
+
+use crate::hearing::a_configuration_is_valid;
+use crate::turns::work;
+use conf_types::{Conf, Dp, Tally};
+use ctl_world::laws::what_is_known_first_is_sound;
+use ctl_world::{Conns, Said, Saids, World};
+use fg_outside::Happening;
+use net_base::{Bytes, DpId, Items, NoMemory, Text, TryCopy};
+use of_match::Tables;
+use of13_codec::encode;
+use std::alloc::{AllocError, Global};
+use std::marker::Model;
+use switch_session::{Closing, Stage};
+
+/// What a controller says in a turn.
+#[derive(Debug, Drop)]
+pub enum Saying {
+    /// One message on a connection, as OpenFlow 1.3 spells it.
+    Send { conn: u32, bytes: Bytes },
+    /// It closes a connection.
+    Close { conn: u32, cause: Closing },
+    /// A line on standard error, without its end.
+    Line(Text),
+}
+
+/// What a controller says in a turn, in order.
+pub type Sayings = Items<Saying>;
+
+/// A controller of switches. Contracts see what it knows, or nothing once it is spent.
+#[derive(Drop)]
+pub struct Controller {
+    alloc: Global,
+    world: World,
+    is_spent: bool,
+}
+
+impl Model for Controller {
+    ghost use Rattle.std.specs.Prelude.{Option, false, ◌≡◌};
+    ghost use Rattle.ctl_core.specs.Story.{unless_spent};
+    ghost use Rattle.ctl_world.specs.World.{IsSound, World};
+
+    ghost Value = { Option World };
+
+    ghost view = { λ c. unless_spent c.is_spent c.world };
+
+    ghost invariant = { λ c. c.is_spent ≡ false → IsSound c.world };
+}
+
+fn make_saying(alloc: Global, said: &Said) -> Result<Saying, NoMemory>
+    ensures { IfOk result (λ made. made ≡ saying_of said.now) }
+{
+    match said {
+        Said::Message { conn, message, xid } => {
+            let mut bytes = Bytes::new(alloc);
+            encode(alloc, message, *xid, &mut bytes)?;
+            Ok(Saying::Send { conn: *conn, bytes })
+        }
+        Said::Closing { conn, cause } => Ok(Saying::Close {
+            conn: *conn,
+            cause: *cause,
+        }),
+        Said::Line(text) => Ok(Saying::Line(text.copy(alloc)?)),
+    }
+}
+
+fn make_sayings(alloc: Global, said: &[Said]) -> Result<Sayings, NoMemory>
+    ensures { IfOk result (λ made. made ≡ map saying_of said.now) }
+{
+    let mut made = Sayings::new(alloc);
+    for one in said {
+        made.push(make_saying(alloc, one)?)?;
+    }
+    Ok(made)
+}
+
+fn is_at_work(conns: &Conns, dp: &Dp) -> bool
+    ensures { result ≡ is_at_work conns.now dp.now }
+{
+    match conns.of(dp.id) {
+        Some(conn) => matches!(conn.session.stage(), Stage::Running),
+        None => false,
+    }
+}
+
+fn is_running(world: &World, id: DpId) -> bool
+    ensures { result ≡ list_any (λ d. is_at_work world.now.conns d && d.id.0 == id.0) world.now.conf.dps }
+{
+    world
+        .conf
+        .dps()
+        .as_slice()
+        .iter()
+        .any(|dp| is_at_work(&world.conns, dp) && dp.id == id)
+}
+
+fn tables_of(world: &World, dp: DpId) -> Option<&Tables>
+    ensures { option_copied result ≡ tables_of world.now dp }
+{
+    if !is_running(world, dp) {
+        return None;
+    }
+    match world.conns.of(dp) {
+        Some(conn) => Some(&conn.sent),
+        None => None,
+    }
+}
+
+impl Controller {
+    /// A controller to which nothing happened yet.
+    pub fn new(alloc: Global, conf: Conf) -> Result<Controller, NoMemory>
+        ensures { IfOk result (λ made. made ≡ Some (first conf)) }
+    {
+        what_is_known_first_is_sound();
+        a_configuration_is_valid(&conf);
+        Ok(Controller {
+            alloc,
+            world: World::new(alloc, conf)?,
+            is_spent: false,
+        })
+    }
+
+    /// Takes in what happens, and gives what is said of it, in order. After `NoMemory` the controller is
+    /// spent, and answers so from then on.
+    pub fn turn<T: Tally>(&mut self, what: &Happening, units: &mut T) -> Result<Sayings, NoMemory>
+        ensures known { IfOk result (λ _. (w : Seen) → self.old ≡ Some w → self.new ≡ Some (turn what.now w)) }
+        ensures says { IfOk result (λ said. (w : Seen) → self.old ≡ Some w → said ≡ map saying_of (turn what.now w).said) }
+        ensures spent { OnErr result (self.new ≡ None) }
+        ensures stays_spent { self.old ≡ None → self.new ≡ None }
+        ensures spent_says_nothing { IfOk result (λ _. self.old ≡ None → ⊥) }
+    {
+        if self.is_spent {
+            return Err(AllocError);
+        }
+        self.is_spent = true;
+        self.world.said = Saids::new(self.alloc);
+        work(self.alloc, &mut self.world, what, units)?;
+        let sayings = make_sayings(self.alloc, self.world.said.as_slice())?;
+        self.is_spent = false;
+        Ok(sayings)
+    }
+
+    /// The configuration in force.
+    pub fn conf(&self) -> &Conf
+        ensures { (w : Seen) → self.now ≡ Some w → result.now ≡ w.conf }
+    {
+        &self.world.conf
+    }
+
+    /// The entries that a datapath's switch holds once it has done all that was said; `None` exactly where
+    /// the controller is spent or the datapath doesn't run.
+    pub fn tables_sent(&self, dp: DpId) -> Option<&Tables>
+        ensures { option_copied result ≡ option_and_then (λ w. tables_of w dp) self.now }
+    {
+        if self.is_spent {
+            return None;
+        }
+        tables_of(&self.world, dp)
+    }
+}

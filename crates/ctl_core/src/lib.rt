@@ -1,0 +1,12 @@
+//! The controller: what happens, turn by turn, and what is said of it.
+#![tactic(auto)]
+
+mod controller;
+mod gateways;
+mod hearing;
+pub mod laws;
+mod reloading;
+mod setup;
+mod turns;
+
+pub use controller::{Controller, Saying, Sayings};

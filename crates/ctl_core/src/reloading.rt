@@ -1,0 +1,193 @@
+//! What a new configuration does.
+
+ghost use Rattle.std.specs.Prelude.{◌≡◌, ◌++◌, ℕ, List, map, filter, Ok, Err, IfOk, OnOk};
+ghost use Rattle.std.specs.List.{filter_map};
+ghost use Rattle.conf_types.specs.Groups.{group_of};
+ghost use Rattle.ctl_world.specs.World.{running};
+ghost use Rattle.conf_check.specs.Accepted.{IsTextRefused};
+ghost use Rattle.ctl_core.specs.Reloading.{Gives, accepted, close_each, close_of, is_gone, of_text, of_tree, reload, renew, vanished, want_all, want_each, yaml_fault_text};
+
+use crate::gateways::want_in;
+use conf_causes::put_fault;
+use conf_check::{TextRefused, conf_of_bytes};
+use conf_gather::laws::a_file_is_read_by_the_grammar;
+use conf_shape::ConfFault;
+use conf_types::{Conf, DpIds};
+use ctl_settle::in_order;
+use ctl_world::{Conn, Said, World};
+use itoa::Buffer;
+use net_base::{DpId, NoMemory, Text};
+use std::alloc::{AllocError, Global};
+use switch_session::Closing;
+use yaml_subset::YamlFault;
+
+/// What a text gives: a configuration, or why it has none.
+#[derive(Drop)]
+pub(crate) enum Read {
+    Accepted(Conf),
+    /// As it stands in a line.
+    Refused(Text),
+}
+
+fn put_yaml_fault(text: &mut Text, fault: YamlFault) -> Result<(), NoMemory>
+    ensures { OnOk result (text.new ≡ text.old ++ yaml_fault_text fault) }
+{
+    let (cause, form) = fault.cause.names();
+    text.append("line ")?;
+    text.append(Buffer::new().format(fault.line))?;
+    text.append(": ")?;
+    text.append(cause)?;
+    text.append(form)
+}
+
+fn yaml_refusal(alloc: Global, fault: YamlFault) -> Result<Read, NoMemory>
+    ensures { IfOk result (λ read. Gives read (of_text (Err fault))) }
+{
+    let mut text = Text::new(alloc);
+    put_yaml_fault(&mut text, fault)?;
+    Ok(Read::Refused(text))
+}
+
+fn conf_refusal(alloc: Global, fault: &ConfFault) -> Result<Read, NoMemory>
+    ensures { IfOk result (λ read. Gives read (of_tree (Err fault.now))) }
+{
+    let mut text = Text::new(alloc);
+    put_fault(&mut text, fault)?;
+    Ok(Read::Refused(text))
+}
+
+/// Why a text has no configuration, as it stands in a line.
+fn refusal(alloc: Global, refused: TextRefused) -> Result<Read, NoMemory>
+    ensures { (text : List ℕ) → IsTextRefused text refused → IfOk result (λ read. Gives read (accepted text)) }
+{
+    a_file_is_read_by_the_grammar();
+    match refused {
+        TextRefused::Yaml(fault) => yaml_refusal(alloc, fault),
+        TextRefused::Conf(fault) => conf_refusal(alloc, &fault),
+        TextRefused::Memory => Err(AllocError),
+    }
+}
+
+fn read_text(alloc: Global, text: &[u8]) -> Result<Read, NoMemory>
+    ensures { IfOk result (λ read. Gives read (accepted text.now)) }
+{
+    a_file_is_read_by_the_grammar();
+    match conf_of_bytes(alloc, text) {
+        Ok(conf) => Ok(Read::Accepted(conf)),
+        Err(refused) => refusal(alloc, refused),
+    }
+}
+
+/// The datapaths that the switches of open connections are.
+fn dps_of(alloc: Global, conns: &[Conn]) -> Result<Vec<DpId>, NoMemory>
+    ensures { IfOk result (λ ids. ids.items ≡ filter_map (λ c. c.dp) conns.now) }
+{
+    conns.iter().filter_map(|conn| conn.dp).collect(alloc)
+}
+
+fn gone_from(alloc: Global, next: &Conf, dps: &[DpId]) -> Result<Vec<DpId>, NoMemory>
+    ensures { IfOk result (λ ids. ids.items ≡ filter (is_gone next.now) dps.now) }
+{
+    dps.iter()
+        .copied()
+        .filter(|dp| next.dp(*dp).is_none())
+        .collect(alloc)
+}
+
+/// The datapaths with a connection that the new configuration hasn't, by identifier.
+fn vanished(alloc: Global, next: &Conf, conns: &[Conn]) -> Result<DpIds, NoMemory>
+    ensures { IfOk result (λ ids. ids ≡ vanished next.now conns.now) }
+{
+    let dps = dps_of(alloc, conns)?;
+    let gone = gone_from(alloc, next, dps.as_slice())?;
+    in_order(alloc, gone.as_slice())
+}
+
+fn close_of(alloc: Global, world: &mut World, dp: DpId) -> Result<(), NoMemory>
+    ensures { OnOk result (world.new ≡ close_of dp world.old) }
+{
+    match world.conns.of(dp) {
+        Some(conn) => {
+            let number = conn.number;
+            world.close(alloc, Closing::UnknownDp, number)
+        }
+        None => Ok(()),
+    }
+}
+
+fn close_each(alloc: Global, world: &mut World, dps: &[DpId]) -> Result<(), NoMemory>
+    ensures { OnOk result (world.new ≡ close_each dps.now world.old) }
+{
+    for dp in dps {
+        close_of(alloc, world, *dp)?;
+    }
+    Ok(())
+}
+
+/// The new configuration takes the place of the old one, and what may stay is kept.
+fn renew(alloc: Global, world: &mut World, next: Conf) -> Result<(), NoMemory>
+    ensures { OnOk result (world.new ≡ renew next world.old) }
+{
+    world.conf = next;
+    let ups = world.ups(alloc)?;
+    let running = world.running(alloc)?;
+    world.hosts = world.hosts.kept(&world.conf, ups.as_slice(), world.moment)?;
+    world.neighbours = world
+        .neighbours
+        .kept(&world.conf, running.as_slice(), world.moment)?;
+    Ok(())
+}
+
+fn groups_of(alloc: Global, conf: &Conf, dps: &[DpId]) -> Result<Vec<DpId>, NoMemory>
+    ensures { IfOk result (λ groups. groups.items ≡ map (group_of conf.now) dps.now) }
+{
+    dps.iter().map(|dp| conf.group_number(*dp)).collect(alloc)
+}
+
+fn want_each(alloc: Global, world: &mut World, groups: &[DpId]) -> Result<(), NoMemory>
+    ensures { OnOk result (world.new ≡ want_each groups.now world.old) }
+{
+    for group in groups {
+        want_in(alloc, world, *group)?;
+    }
+    Ok(())
+}
+
+/// The gateways of the groups that run are wanted.
+fn want_all(alloc: Global, world: &mut World) -> Result<(), NoMemory>
+    ensures { OnOk result (world.new ≡ want_all world.old) }
+{
+    let running = world.running(alloc)?;
+    let groups = groups_of(alloc, &world.conf, running.as_slice())?;
+    let groups = in_order(alloc, groups.as_slice())?;
+    want_each(alloc, world, groups.as_slice())
+}
+
+fn accept(alloc: Global, world: &mut World, next: Conf) -> Result<(), NoMemory>
+    ensures { OnOk result (world.new ≡ reload (Ok next) world.old) }
+{
+    let gone = vanished(alloc, &next, world.conns.as_slice())?;
+    close_each(alloc, world, gone.as_slice())?;
+    renew(alloc, world, next)?;
+    want_all(alloc, world)
+}
+
+fn refuse(alloc: Global, world: &mut World, cause: &Text) -> Result<(), NoMemory>
+    ensures { OnOk result (world.new ≡ reload (Err cause.now) world.old) }
+{
+    let mut line = Text::from_str(alloc, "reload: ")?;
+    line.append(cause.as_str())?;
+    world.said.push(Said::Line(line))
+}
+
+/// A text is to take the place of the configuration. One that has a configuration does so: the
+/// connections of datapaths that it hasn't are closed, what may stay is kept, and the gateways of the
+/// groups that run are wanted. Any other changes nothing, and a line says why.
+pub(crate) fn reload(alloc: Global, world: &mut World, text: &[u8]) -> Result<(), NoMemory>
+    ensures { OnOk result (world.new ≡ reload (accepted text.now) world.old) }
+{
+    match read_text(alloc, text)? {
+        Read::Accepted(next) => accept(alloc, world, next),
+        Read::Refused(cause) => refuse(alloc, world, &cause),
+    }
+}
