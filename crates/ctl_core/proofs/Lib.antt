@@ -7,5 +7,11 @@ pub mod SoundGateways
 pub mod SoundReloads
 pub mod SoundSteps
 pub mod SoundTurns
+pub mod StoryOrder
+pub mod StoryOrdered
+pub mod StorySound
+pub mod StoryStands
+pub mod StoryTurns
+pub mod StoryWaits
 pub mod TurnAges
 pub mod TurnLooks
