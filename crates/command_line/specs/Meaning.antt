@@ -1,6 +1,7 @@
 -- What the words of a command line ask for.
 use Rattle.std.specs.Prelude.{ℕ, Bool, if◌then◌else◌, List, [], ◌∷◌, Option, Some, None, codes}
 use Rattle.std.specs.List.{list_any, list_all}
+use Rattle.std.specs.Option.{option_map}
 use Rattle.std.specs.Str.{bytes_eq}
 use Rattle.net_base.specs.AddressReading.{◌>>=◌}
 use Rattle.command_line.specs.declared.meaning.Command.{Command}
@@ -16,21 +17,28 @@ abbrev pub command_of : List ℕ → Option Command
 command_of word =
     if bytes_eq word (codes "check") then Some commands.Check
     else if bytes_eq word (codes "plan") then Some commands.Plan
+    else if bytes_eq word (codes "replay") then Some commands.Replay
     else None
 
 -- the options that a command takes
 abbrev pub options_of : Command → List (List ℕ)
 options_of commands.Check = []
 options_of commands.Plan = []
+options_of commands.Replay = []
 
 -- each of these options is one that the command takes
 abbrev pub are_taken : Command → List CommandOption → Bool
 are_taken command options = list_all (λ o. list_any (λ name. bytes_eq name o.name) (options_of command)) options
 
--- what a command asks for: `check FILE..`, one file or more; `plan CONFIG DP`
+-- two words, where there are just two
+abbrev pub two_of : List (List ℕ) → Option (List ℕ × List ℕ)
+two_of words = elim words [ first ∷ second ∷ [] ↦ Some (first, second) | _ ↦ None ]
+
+-- what a command asks for: `check FILE..`, one file or more; `plan CONFIG DP`; `replay CONFIG RECORDING`
 abbrev pub job_of : Command → Parts → Option Job
 job_of commands.Check parts = elim parts.plain [ [] ↦ None | file ∷ files ↦ Some (jobs.Check (file ∷ files)) ]
-job_of commands.Plan parts = elim parts.plain [ config ∷ dp ∷ [] ↦ Some (jobs.Plan config dp) | _ ↦ None ]
+job_of commands.Plan parts = option_map (λ two. jobs.Plan two.0 two.1) (two_of parts.plain)
+job_of commands.Replay parts = option_map (λ two. jobs.Replay two.0 two.1) (two_of parts.plain)
 
 -- the first word is the command
 unfoldable pub meaning : List (List ℕ) → Option Job

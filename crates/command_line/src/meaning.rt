@@ -1,7 +1,7 @@
 ghost use Rattle.std.specs.Prelude.{◌≡◌, List, ℕ, map, IfOk};
 ghost use Rattle.std.specs.List.{list_any};
 ghost use Rattle.std.specs.Str.{bytes_eq};
-ghost use Rattle.command_line.specs.Meaning.{command_of, options_of, are_taken, job_of, meaning};
+ghost use Rattle.command_line.specs.Meaning.{command_of, options_of, are_taken, two_of, job_of, meaning};
 
 use crate::parts::{CommandOption, Parts, part_words};
 use net_base::{Names, NoMemory, Text, TryCopy};
@@ -11,6 +11,7 @@ use std::alloc::Global;
 enum Command {
     Check,
     Plan,
+    Replay,
 }
 
 /// What the program is asked to do.
@@ -20,6 +21,8 @@ pub enum Job {
     Check(Names),
     /// To write the opening batch of a datapath, by a configuration file.
     Plan { config: Text, dp: Text },
+    /// To run the controller of a configuration file on a recording.
+    Replay { config: Text, recording: Text },
 }
 
 fn command_of(word: &str) -> Option<Command>
@@ -29,6 +32,8 @@ fn command_of(word: &str) -> Option<Command>
         Some(Command::Check)
     } else if word == "plan" {
         Some(Command::Plan)
+    } else if word == "replay" {
+        Some(Command::Replay)
     } else {
         None
     }
@@ -39,7 +44,7 @@ fn options_of(command: Command) -> &'static [&'static str]
     ensures { map (λ name. name.now) result.now ≡ options_of command }
 {
     match command {
-        Command::Check | Command::Plan => &[],
+        Command::Check | Command::Plan | Command::Replay => &[],
     }
 }
 
@@ -63,6 +68,16 @@ fn are_taken(command: Command, options: &[CommandOption]) -> bool
         .all(|option| is_listed(option.name.as_str(), names))
 }
 
+/// Two plain words; `None` where there are fewer or more.
+fn two_words(alloc: Global, plain: &[Text]) -> Result<Option<(Text, Text)>, NoMemory>
+    ensures { IfOk result (λ two. two ≡ two_of plain.now) }
+{
+    match plain {
+        [first, second] => Ok(Some((first.copy(alloc)?, second.copy(alloc)?))),
+        _ => Ok(None),
+    }
+}
+
 fn job_of(alloc: Global, command: Command, parts: Parts) -> Result<Option<Job>, NoMemory>
     ensures { IfOk result (λ job. job ≡ job_of command parts) }
 {
@@ -70,12 +85,16 @@ fn job_of(alloc: Global, command: Command, parts: Parts) -> Result<Option<Job>, 
         Command::Check if parts.plain.is_empty() => Ok(None),
         Command::Check => Ok(Some(Job::Check(parts.plain))),
         Command::Plan => {
-            let [config, dp] = parts.plain.as_slice() else {
+            let Some((config, dp)) = two_words(alloc, parts.plain.as_slice())? else {
                 return Ok(None);
             };
-            let config = config.copy(alloc)?;
-            let dp = dp.copy(alloc)?;
             Ok(Some(Job::Plan { config, dp }))
+        }
+        Command::Replay => {
+            let Some((config, recording)) = two_words(alloc, parts.plain.as_slice())? else {
+                return Ok(None);
+            };
+            Ok(Some(Job::Replay { config, recording }))
         }
     }
 }

@@ -35,6 +35,15 @@ pub fn words_behind_plan()
     ensures option { meaning (codes "plan" ∷ codes "a" ∷ codes "b" ∷ codes "--x=1" ∷ []) ≡ None }
 {}
 
+/// `replay CONFIG RECORDING`: two words, and no option.
+#[tactic(auto, unfolding(crate::specs::Meaning::meaning, crate::specs::Parts::parts_of, crate::specs::Parts::parted))]
+pub fn words_behind_replay()
+    ensures both { meaning (codes "replay" ∷ codes "a" ∷ codes "b" ∷ []) ≡ Some (jobs.Replay (codes "a") (codes "b")) }
+    ensures missing { meaning (codes "replay" ∷ codes "a" ∷ []) ≡ None }
+    ensures further { meaning (codes "replay" ∷ codes "a" ∷ codes "b" ∷ codes "c" ∷ []) ≡ None }
+    ensures option { meaning (codes "replay" ∷ codes "--x=1" ∷ codes "a" ∷ codes "b" ∷ []) ≡ None }
+{}
+
 /// Options stand anywhere, in either spelling.
 #[tactic(auto, unfolding(crate::specs::Parts::parts_of, crate::specs::Parts::parted))]
 pub fn options_among_words()

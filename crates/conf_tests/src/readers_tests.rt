@@ -67,21 +67,6 @@ dps:
       3: {tagged_vlans: [guests, students]}
 ";
 
-/// An exchange whose members' interfaces are mirrored, one of them twice.
-const EXCHANGE: &str = "
-dps:
-  peering:
-    dp_id: 0x99
-    timeout: 60
-    drop_lldp: false
-    interfaces:
-      alpha: {number: 1, native_vlan: 1000, max_hosts: 1, permanent_learn: true}
-      beta: {number: 2, native_vlan: 1000, hairpin: true}
-      gamma: {number: 3, tagged_vlans: [1000], unicast_flood: false}
-      tap: {number: 48, mirror: [gamma, alpha, 3]}
-      probe: {number: 47, mirror: alpha}
-";
-
 fn conf(rt: &impl Abort, alloc: Global, text: &str) -> Conf {
     match conf_of_bytes(alloc, text.as_bytes()) {
         Ok(conf) => conf,
@@ -215,32 +200,4 @@ fn parts_of_routed_vlans(rt: HostRuntime) {
                     .all(|(field, number)| field.id.number() == number)
         });
     assert!(rt; numbers == Some(true));
-}
-
-#[test]
-fn parts_of_an_exchange(rt: HostRuntime) {
-    let conf = conf(&rt, rt.alloc(), EXCHANGE);
-    let peering = conf.dp(DpId(0x99)).expect(&rt, "peering");
-    assert!(rt; peering.timeout == 60 && !peering.drop_lldp && peering.drop_bpdu);
-    // a port that is named twice counts once
-    for (port, wanted) in [(48, &[3, 1][..]), (47, &[1]), (1, &[])] {
-        let found = conf.port(DpId(0x99), port_no(&rt, port)).is_some_and(|p| {
-            p.mirror.len() == wanted.len()
-                && p.mirror
-                    .as_slice()
-                    .iter()
-                    .zip(wanted)
-                    .all(|(no, w)| no.get() == *w)
-        });
-        assert!(rt; found, "{port}");
-    }
-    check_members(
-        &rt,
-        &conf,
-        &[
-            (0x99, 1, 1000, Member::Native),
-            (0x99, 3, 1000, Member::Tagged),
-            (0x99, 48, 1000, Member::None),
-        ],
-    );
 }

@@ -7,11 +7,5 @@ pub mod SoundGateways
 pub mod SoundReloads
 pub mod SoundSteps
 pub mod SoundTurns
-pub mod StoryOrder
-pub mod StoryOrdered
-pub mod StorySound
-pub mod StoryStands
-pub mod StoryTurns
-pub mod StoryWaits
 pub mod TurnAges
 pub mod TurnLooks

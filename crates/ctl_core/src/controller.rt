@@ -152,6 +152,13 @@ impl Controller {
         &self.world.conf
     }
 
+    /// The last moment, in milliseconds: 0 at first.
+    pub fn moment(&self) -> u64
+        ensures { (w : Seen) → self.now ≡ Some w → result ≡ w.moment.0 }
+    {
+        self.world.moment.0
+    }
+
     /// The entries that a datapath's switch holds once it has done all that was said; `None` exactly where
     /// the controller is spent or the datapath doesn't run.
     pub fn tables_sent(&self, dp: DpId) -> Option<&Tables>

@@ -1,30 +1,15 @@
 //! What holds of the definitions. A function's contract is the law, and its body is at most calls of the
 //! laws that it rests on.
 
-ghost use Rattle.std.specs.Prelude.{◌≡◌, ◌⊎◌, ◌<◌, ℕ, List, Option, Some, true, is_some};
-ghost use Rattle.std.specs.List.{AllByRecursion};
-ghost use Rattle.net_base.specs.declared.numbers.DpId.{DpId};
-ghost use Rattle.fg_outside.specs.declared.hub.Happening.{Happening};
-ghost use Rattle.of_match.specs.FlowTables.{IsInKeyOrder};
-ghost use Rattle.conf_types.specs.Configuration.{Configuration};
-ghost use Rattle.conf_types.specs.Lists.{EachBefore};
-ghost use Rattle.conf_types.specs.State.{is_running};
+ghost use Rattle.std.specs.Prelude.{ℕ, List, Option};
 ghost use Rattle.conf_types.specs.Valid.{IsValid};
 ghost use Rattle.of13_codec.specs.declared.message.Message.{Message};
-ghost use Rattle.ctl_world.specs.declared.conns.Conn.{Conn};
-ghost use Rattle.ctl_world.specs.Connections.{conn_of};
-ghost use Rattle.ctl_world.specs.World.{IsSound, World, first, running};
-ghost use Rattle.ctl_settle.specs.Settling.{wanted};
+ghost use Rattle.ctl_world.specs.World.{IsSound, World};
 ghost use Rattle.ctl_core.specs.Hearing.{heard_in, read};
 ghost use Rattle.ctl_core.specs.Reloading.{accepted, reload};
-ghost use Rattle.ctl_core.specs.Story.{behind};
 ghost use Rattle.ctl_core.specs.Turns.{feed, open_conn, pass};
 
 use conf_check::laws::an_accepted_configuration_is_valid;
-use ctl_settle::laws::{
-    a_batch_leaves_the_state, a_settling_leaves_nothing_waiting, asks_leave_the_state,
-};
-use ctl_world::laws::what_is_known_first_is_sound;
 
 /// Whatever a frame says, what was learned stays valid.
 pub fn a_frame_leaves_it_sound()
@@ -48,36 +33,4 @@ pub fn a_reload_leaves_it_sound()
     ensures { (text : List ℕ) (w : World) → IsValid w.conf → IsSound w → IsSound (reload (accepted text) w) }
 {
     an_accepted_configuration_is_valid();
-}
-
-/// Whatever happens to a controller that begins with a valid configuration, what it knows is sound: its
-/// configuration is valid, all that it learned is valid by that, and no table holds more than it may.
-pub fn whatever_happens_what_is_known_is_sound()
-    ensures valid { (conf : Configuration) (story : List Happening) → IsValid conf → IsValid (behind (first conf) story).conf }
-    ensures sound { (conf : Configuration) (story : List Happening) → IsValid conf → IsSound (behind (first conf) story) }
-{
-    what_is_known_first_is_sound();
-    asks_leave_the_state();
-    a_batch_leaves_the_state();
-    a_settling_leaves_nothing_waiting();
-    an_accepted_configuration_is_valid();
-}
-
-/// Whatever happens, and whatever the configuration is, the connections stand by number, so that no two have
-/// the same, and the entries noted of each are in key order.
-pub fn connections_stand_by_number()
-    ensures numbers { (conf : Configuration) (story : List Happening) → EachBefore (λ a b. a.number < b.number) (behind (first conf) story).conns }
-    ensures keys { (conf : Configuration) (story : List Happening) → AllByRecursion (λ c. IsInKeyOrder c.sent) (behind (first conf) story).conns }
-{
-    a_settling_leaves_nothing_waiting();
-}
-
-/// Whatever happens, after each turn nothing waits: on the connection of each datapath that runs a barrier is
-/// outstanding, or the entries noted as sent are those that the datapath is to have.
-pub fn after_each_turn_nothing_waits()
-    ensures { (conf : Configuration) (story : List Happening) (dp : DpId) → is_running (running (behind (first conf) story)) dp ≡ true
-        → (c : Conn) → conn_of (behind (first conf) story).conns dp ≡ Some c
-        → (is_some c.session.state.awaited ≡ true) ⊎ (c.sent ≡ wanted (behind (first conf) story) dp) }
-{
-    a_settling_leaves_nothing_waiting();
 }

@@ -2,4 +2,5 @@ pub mod Connections
 pub mod Ends
 pub mod Frames
 pub mod Saying
+pub mod TablesSaid
 pub mod World

@@ -1,5 +1,5 @@
 -- What a run of `check` delivers, file by file.
-use Rattle.std.proofs.Common.{◌≡◌, ℕ, ◌-◌, ◌≤◌, ◌⊎◌, inl, inr, List, [], ◌∷◌, map, length, take, drop, get_or, Option, Some, None, Result, Ok, Err, refl, sym, ap, ◌∙◌, arith}
+use Rattle.std.proofs.Common.{◌≡◌, ℕ, ◌-◌, ◌≤◌, inl, inr, List, [], ◌∷◌, map, length, take, drop, get_or, Option, Some, None, Ok, Err, refl, sym, ap, ◌∙◌, arith}
 use Rattle.std.proofs.lemmas.Grind.{common_steps}
 use Rattle.std.specs.List.{AllByRecursion}
 use Rattle.fg_outside.specs.Contents.{Contents}
@@ -14,7 +14,7 @@ use Rattle.faucet_top.specs.declared.deliver.Status.{Status}
 use Rattle.faucet_top.specs.declared.deliver.Status.TheVariants as statuses
 use Rattle.faucet_top.specs.Answer.{Answer, Load, refusal, json_line, check_step, check_answer}
 use Rattle.faucet_top.specs.Ends.{Ends, refused_status}
-use Rattle.faucet_top.specs.Given.{Loads, EachLoads, Delivers, Checks, GoesOn}
+use Rattle.faucet_top.specs.Given.{Loads, Delivers, Checks, GoesOn}
 use Rattle.faucet_top.specs.Status.{number_of_status}
 
 abbrev pub File : Type 0

@@ -1,2 +1,5 @@
 pub mod CheckLemmas
+pub mod RefusalLemmas
+pub mod ReplayLemmas
+pub mod ReplyLemmas
 pub mod TopLemmas

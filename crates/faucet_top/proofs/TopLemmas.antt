@@ -1,11 +1,12 @@
 -- From the reply that was given to what each status says.
-use Rattle.std.proofs.Common.{◌≡◌, ◌≢◌, ℕ, ◌≤◌, ◌⊎◌, inl, inr, List, [], ◌∷◌, ◌++◌, map, Option, Some, None, Result, Ok, Err, refl, sym, ap, subst, ◌∙◌, arith}
+use Rattle.std.proofs.Common.{◌≡◌, ℕ, ◌⊎◌, inl, inr, List, [], ◌∷◌, ◌++◌, map, Option, Some, None, unwrap_or, Result, Ok, Err, refl, sym, ap, subst, ◌∙◌, arith}
 use Rattle.std.specs.List.{AllByRecursion, flat_map}
-use Rattle.std.proofs.lemmas.List.{append_assoc, append-nil}
+use Rattle.std.proofs.lemmas.List.{append_assoc}
 use Rattle.fg_outside.specs.Contents.{Contents}
 use Rattle.fg_outside.specs.Counts.{Rose}
-use Rattle.fg_outside.specs.Wrote.{appended, AppendsFront}
-use Rattle.fg_outside.proofs.SinkLemmas.{appended-append, appended-nil, AppendsFront-none, AppendsFront-first, AppendsFront-second}
+use Rattle.fg_outside.specs.Wrote.{appended}
+use Rattle.fg_outside.proofs.SinkLemmas.{appended-nil, AppendsFront-none}
+use Rattle.fg_outside.specs.declared.hub.Happening.{Happening}
 use Rattle.conf_types.specs.Configuration.{Configuration}
 use Rattle.conf_types.specs.Valid.{IsValid}
 use Rattle.conf_gather.specs.declared.refused.LoadRefused.{LoadRefused}
@@ -13,33 +14,23 @@ use Rattle.conf_gather.specs.declared.refused.LoadRefused.TheVariants.{Read, Yam
 use Rattle.conf_gather.specs.Gathered.{Held}
 use Rattle.conf_load.specs.Loaded.{loaded}
 use Rattle.command_line.specs.declared.meaning.Job.{Job}
-use Rattle.command_line.specs.declared.meaning.Job.TheVariants.{Check, Plan}
+use Rattle.command_line.specs.declared.meaning.Job.TheVariants.{Check, Plan, Replay}
 use Rattle.opening_batch.specs.Opened.{Opens}
 use Rattle.opening_batch.specs.Opening.{opening_of}
+use Rattle.story_laws.specs.Right.{IsRight}
 use Rattle.faucet_top.specs.declared.deliver.Status.{Status}
 use Rattle.faucet_top.specs.declared.deliver.Status.TheVariants as statuses
 use Rattle.faucet_top.specs.Answer.{Answer, Load, usage, out_of_memory, refusal, behind, json_line, check_step, check_answer, planned, plan_answer, job_answer}
 use Rattle.faucet_top.specs.Ends.{Ends}
-use Rattle.faucet_top.specs.Given.{Loads, EachLoads, RepliesJob, Replies, AnswersSoFar, Delivers, Gives, Checks, GoesOn, StatusFor, AreAccepted, IsOpened}
+use Rattle.faucet_top.specs.Given.{Loads, RepliesJob, Replies, AnswersSoFar, Delivers, Gives, Checks, StatusFor, IsStatusOf, AreAccepted, IsOpened, IsReplayed, IsReplayedTo}
 use Rattle.faucet_top.specs.Status.{number_of_status}
+use Rattle.faucet_top.proofs.RefusalLemmas.{IsInner, refusal_inner, refusal_undone, refusal_unread}
+use Rattle.faucet_top.proofs.ReplayLemmas.{replay_inner, replay_unread, replay_told, replay_done, replay_refused}
 
 abbrev pub File : Type 0
 File = List ℕ × Load
 
 -- ---- the statuses of the answers
-
--- neither that of words without a meaning nor that of a failed write
-abbrev IsInner : ℕ → Type 0
-IsInner n = (n ≡ 1 → ⊥) × (n ≡ 4 → ⊥)
-
-refusal_inner : (config : List ℕ) (why : LoadRefused) → IsInner (refusal config why).status
-refusal_inner config (Read file) = (λ e. omega arith, λ e. omega arith)
-refusal_inner config (Absent file) = (λ e. omega arith, λ e. omega arith)
-refusal_inner config (Yaml file fault) = (λ e. omega arith, λ e. omega arith)
-refusal_inner config (Conf fault) = (λ e. omega arith, λ e. omega arith)
-refusal_inner config (IncludeTwice file) = (λ e. omega arith, λ e. omega arith)
-refusal_inner config (IncludeDepth file) = (λ e. omega arith, λ e. omega arith)
-refusal_inner config Memory = (λ e. omega arith, λ e. omega arith)
 
 check_inner : (files : List File) → IsInner (check_answer files).status
 check_inner [] = (λ e. omega arith, λ e. omega arith)
@@ -55,23 +46,13 @@ module _ (contents : Option Contents) (absence fault : Type 0) where
   abbrev LoadsFile : File → Type 0
   LoadsFile file = Loads contents absence fault file.0 file.1
 
-  -- a file is missing, or a read failed, where the status says so
-  refusal_unread : (config : List ℕ) (name : List ℕ) (why : LoadRefused) → Loads contents absence fault name (Err why) → (refusal config why).status ≡ 3 → absence ⊎ fault
-  refusal_unread config name (Read file) loads s = inr (loads.unread file refl)
-  refusal_unread config name (Absent file) loads s = inl (loads.absent file refl)
-  refusal_unread config name (Yaml file at) loads s = absurd (omega (arith, s))
-  refusal_unread config name (Conf at) loads s = absurd (omega (arith, s))
-  refusal_unread config name (IncludeTwice file) loads s = absurd (omega (arith, s))
-  refusal_unread config name (IncludeDepth file) loads s = absurd (omega (arith, s))
-  refusal_unread config name Memory loads s = absurd (omega (arith, s))
-
   check_unread : (files : List File) → AllByRecursion LoadsFile files → (check_answer files).status ≡ 3 → absence ⊎ fault
   check_unread [] all s = absurd (omega (arith, s))
   check_unread ((name, Ok conf) ∷ files) all s = check_unread files all.1 s
-  check_unread ((name, Err why) ∷ files) all s = refusal_unread name name why all.0 s
+  check_unread ((name, Err why) ∷ files) all s = refusal_unread contents absence fault name name why all.0 s
 
   plan_unread : (config dp : List ℕ) (made : Load) → Loads contents absence fault config made → (plan_answer config dp (planned dp made)).status ≡ 3 → absence ⊎ fault
-  plan_unread config dp (Err why) loads s = refusal_unread config config why loads s
+  plan_unread config dp (Err why) loads s = refusal_unread contents absence fault config config why loads s
   plan_unread config dp (Ok conf) loads s = absurd (found (opening_of conf dp) s)
     where
       found : (batch : Option (List ℕ)) → (plan_answer config dp (Ok batch)).status ≡ 3 → ⊥
@@ -87,11 +68,15 @@ module _ (contents : Option Contents) (absence fault : Type 0) where
       let at = ap (λ (b : Answer). b.status) reply.2 in
       let inner = plan_inner config dp (planned dp reply.0) in
       (λ s. absurd (inner.0 (sym at ∙ s)), λ s. inner.1 (sym at ∙ s))
+  job_inner (Some (Replay config recording)) a reply =
+      let inner = replay_inner contents absence fault config recording reply.0 a reply.2 in
+      (λ s. absurd (inner.0 s), inner.1)
 
   job_unread : (job : Option Job) (a : Answer) → RepliesJob job contents absence fault a → a.status ≡ 3 → absence ⊎ fault
   job_unread None a is s = let at = ap (λ (b : Answer). b.status) is in absurd (omega (arith, at, s))
   job_unread (Some (Check names)) a reply s = check_unread reply.0 (reply.1).1 (sym (ap (λ (b : Answer). b.status) reply.2) ∙ s)
   job_unread (Some (Plan config dp)) a reply s = plan_unread config dp reply.0 reply.1 (sym (ap (λ (b : Answer). b.status) reply.2) ∙ s)
+  job_unread (Some (Replay config recording)) a reply s = replay_unread contents absence fault config recording reply.0 a reply.1 reply.2 s
 
 -- ---- what is replied, where the files are told
 
@@ -135,23 +120,45 @@ module _ (held : Contents) (absence fault : Type 0) where
   plan_told config dp (Ok conf) loads = inl (sym (ap (λ (l : Load). plan_answer config dp (planned dp l)) (loads.told held refl)))
   plan_told config dp (Err why) loads = refused_told config config why loads (λ l. plan_answer config dp (planned dp l)) (λ e. refl)
 
-  job_told : (job : Option Job) (a : Answer) → RepliesJob job (Some held) absence fault a → AnswersSoFar a (job_answer job given) fault
-  job_told None a is = inl is
-  job_told (Some (Check names)) a reply =
+  check_reply_told : (names : List (List ℕ)) (a : Answer) → RepliesJob (Some (Check names)) (Some held) absence fault a
+      → AnswersSoFar a (check_answer (map (λ name. (name, given name)) names)) fault
+  check_reply_told names a reply =
       subst (λ (ns : List (List ℕ)). AnswersSoFar a (check_answer (map (λ name. (name, given name)) ns)) fault) (reply.1).0
       (subst (λ (b : Answer). AnswersSoFar b (check_answer (named reply.0)) fault) (sym reply.2) (check_told reply.0 (reply.1).1))
-  job_told (Some (Plan config dp)) a reply =
+
+  plan_reply_told : (config dp : List ℕ) (a : Answer) → RepliesJob (Some (Plan config dp)) (Some held) absence fault a
+      → AnswersSoFar a (plan_answer config dp (planned dp (given config))) fault
+  plan_reply_told config dp a reply =
       subst (λ (b : Answer). AnswersSoFar b (plan_answer config dp (planned dp (given config))) fault) (sym reply.2) (plan_told config dp reply.0 reply.1)
 
-  pub told_replied : (job : Option Job) (a : Answer) → Replies job (Some held) absence fault a → AnswersSoFar a (job_answer job given) fault
-  told_replied job a (inl reply) = job_told job a reply
-  told_replied job a (inr memory) =
-      inr ((job_answer job given).out, ap (λ (b : Answer). b.out ++ (job_answer job given).out) (sym memory), inl (ap (λ (b : Answer). b.status) memory))
+  -- an answer that a job has is this one
+  is_whole : (a x whole : Answer) → Some x ≡ Some whole → AnswersSoFar a x fault → AnswersSoFar a whole fault
+  is_whole a x whole is told = subst (λ (b : Answer). AnswersSoFar a b fault) (ap (λ (o : Option Answer). unwrap_or o usage) is) told
 
-  status_told : (a b : Answer) → AnswersSoFar a b fault → StatusFor a.status b.status fault
+  job_told : (job : Option Job) (a whole : Answer) → job_answer job given ≡ Some whole → RepliesJob job (Some held) absence fault a → AnswersSoFar a whole fault
+  job_told None a whole is reply = is_whole a usage whole is (inl reply)
+  job_told (Some (Check names)) a whole is reply = is_whole a (check_answer (map (λ name. (name, given name)) names)) whole is (check_reply_told names a reply)
+  job_told (Some (Plan config dp)) a whole is reply = is_whole a (plan_answer config dp (planned dp (given config))) whole is (plan_reply_told config dp a reply)
+  job_told (Some (Replay config recording)) a whole is reply = absurd cc
+
+  pub told_replied : (job : Option Job) (a whole : Answer) → job_answer job given ≡ Some whole → Replies job (Some held) absence fault a → AnswersSoFar a whole fault
+  told_replied job a whole is (inl reply) = job_told job a whole is reply
+  told_replied job a whole is (inr memory) = inr (whole.out, ap (λ (b : Answer). b.out ++ whole.out) (sym memory), inl (ap (λ (b : Answer). b.status) memory))
+
+  status_told : (a b : Answer) → AnswersSoFar a b fault → StatusFor a.status (λ n. n ≡ b.status) fault
   status_told a b (inl is) = inl (ap (λ (c : Answer). c.status) is)
   status_told a b (inr (more, front, inl out)) = inr (inr (inl out))
   status_told a b (inr (more, front, inr failed)) = inr (inr (inr failed))
+
+  job_status : (job : Option Job) (a : Answer) → RepliesJob job (Some held) absence fault a → StatusFor a.status (IsStatusOf job (held 0)) fault
+  job_status None a is = inl (ap (λ (b : Answer). b.status) is)
+  job_status (Some (Check names)) a reply = status_told a (check_answer (map (λ name. (name, given name)) names)) (check_reply_told names a reply)
+  job_status (Some (Plan config dp)) a reply = status_told a (plan_answer config dp (planned dp (given config))) (plan_reply_told config dp a reply)
+  job_status (Some (Replay config recording)) a reply = replay_told held absence fault config recording reply.0 a reply.1 reply.2
+
+  reply_status : (job : Option Job) (a : Answer) → Replies job (Some held) absence fault a → StatusFor a.status (IsStatusOf job (held 0)) fault
+  reply_status job a (inl reply) = job_status job a reply
+  reply_status job a (inr memory) = inr (inr (inl (ap (λ (b : Answer). b.status) memory)))
 
   -- ---- the commands
 
@@ -161,16 +168,7 @@ module _ (held : Contents) (absence fault : Type 0) where
   accepted_all ((name, Ok conf) ∷ files) all s =
       let more = accepted_all files all.1 s in
       (conf ∷ more.0, rw ((all.0).told held refl, more.1) refl, ap (λ l. json_line conf ++ l) more.2)
-  accepted_all ((name, Err why) ∷ files) all s = absurd (never why s)
-    where
-      never : (why : LoadRefused) → (refusal name why).status ≡ 0 → ⊥
-      never (Read file) s = omega (arith, s)
-      never (Absent file) s = omega (arith, s)
-      never (Yaml file fault) s = omega (arith, s)
-      never (Conf fault) s = omega (arith, s)
-      never (IncludeTwice file) s = omega (arith, s)
-      never (IncludeDepth file) s = omega (arith, s)
-      never Memory s = omega (arith, s)
+  accepted_all ((name, Err why) ∷ files) all s = absurd (refusal_undone name why s)
 
   check_accepted : (names : List (List ℕ)) (a : Answer) (before after : Option (List ℕ)) → RepliesJob (Some (Check names)) (Some held) absence fault a → a.status ≡ 0 → after ≡ appended before a.out
       → AreAccepted names (held 0) before after
@@ -193,16 +191,7 @@ module _ (held : Contents) (absence fault : Type 0) where
             let accepted = loads.told held refl in
             record { conf = conf; batch = batch; accepted = accepted; written = wrote; opens = opens conf dp batch (valid (held 0) config conf accepted) is }
         found None is s wrote = absurd (omega (arith, s))
-    plan_opened config dp (Err why) before after loads s wrote = absurd (never why s)
-      where
-        never : (why : LoadRefused) → (refusal config why).status ≡ 0 → ⊥
-        never (Read file) s = omega (arith, s)
-        never (Absent file) s = omega (arith, s)
-        never (Yaml file fault) s = omega (arith, s)
-        never (Conf fault) s = omega (arith, s)
-        never (IncludeTwice file) s = omega (arith, s)
-        never (IncludeDepth file) s = omega (arith, s)
-        never Memory s = omega (arith, s)
+    plan_opened config dp (Err why) before after loads s wrote = absurd (refusal_undone config why s)
 
     job_opened : (config dp : List ℕ) (a : Answer) (before after : Option (List ℕ)) → RepliesJob (Some (Plan config dp)) (Some held) absence fault a → a.status ≡ 0 → after ≡ appended before a.out
         → IsOpened config dp (held 0) before after
@@ -220,8 +209,8 @@ module _ (job : Option Job) (contents : Option Contents) (absence fault : Type 0
   ended = elim gives.2 [ inl whole ↦ inl whole.0 | inr front ↦ inr front.0 ]
 
   -- at a status other than 4 the reply was written whole
-  at : (n : ℕ) → status ≡ n → (n ≡ 4 → ⊥) → ((gives.0).status ≡ n) × (o1 ≡ appended o0 (gives.0).out)
-  at n s other = elim gives.2 [ inl whole ↦ (sym whole.0 ∙ s, whole.1) | inr front ↦ absurd (other (sym s ∙ front.0)) ]
+  at : (n : ℕ) → status ≡ n → (n ≡ 4 → ⊥) → ((gives.0).status ≡ n) × (o1 ≡ appended o0 (gives.0).out) × (e1 ≡ appended e0 (gives.0).err)
+  at n s other = elim gives.2 [ inl whole ↦ (sym whole.0 ∙ s, whole.1, whole.2) | inr front ↦ absurd (other (sym s ∙ front.0)) ]
 
   memory_status : (gives.0) ≡ out_of_memory → (gives.0).status ≡ 8
   memory_status is = ap (λ (b : Answer). b.status) is
@@ -268,21 +257,23 @@ module _ (job : Option Job) (contents : Option Contents) (absence fault : Type 0
   told_reply : (held : Contents) → contents ≡ Some held → Replies job (Some held) absence fault gives.0
   told_reply held told = subst (λ (c : Option Contents). Replies job c absence fault gives.0) told gives.1
 
-  pub told : (held : Contents) → contents ≡ Some held → StatusFor status (job_answer job (loaded (held 0))).status fault
+  pub told : (held : Contents) → contents ≡ Some held → StatusFor status (IsStatusOf job (held 0)) fault
   told held is =
       elim ended [
         | inr four ↦ inr (inl four)
-        | inl same ↦ subst (λ n. StatusFor n (job_answer job (loaded (held 0))).status fault) (sym same)
-            (status_told held absence fault gives.0 (job_answer job (loaded (held 0))) (told_replied held absence fault job gives.0 (told_reply held is)))
+        | inl same ↦ subst (λ n. StatusFor n (IsStatusOf job (held 0)) fault) (sym same) (reply_status held absence fault job gives.0 (told_reply held is))
       ]
 
-  -- at status 0 memory hasn't run out
-  done_reply : (held : Contents) → contents ≡ Some held → (gives.0).status ≡ 0 → (j : Option Job) → job ≡ j → RepliesJob j (Some held) absence fault gives.0
-  done_reply held is none j same =
+  -- at a status other than 8 memory hasn't run out
+  job_reply : (held : Contents) → contents ≡ Some held → (n : ℕ) → (gives.0).status ≡ n → (n ≡ 8 → ⊥) → (j : Option Job) → job ≡ j → RepliesJob j (Some held) absence fault gives.0
+  job_reply held is n s other j same =
       elim (told_reply held is) [
         | inl reply ↦ subst (λ (k : Option Job). RepliesJob k (Some held) absence fault gives.0) same reply
-        | inr out ↦ let eight = memory_status out in absurd (omega (arith, eight, none))
+        | inr out ↦ absurd (other (sym s ∙ memory_status out))
       ]
+
+  done_reply : (held : Contents) → contents ≡ Some held → (gives.0).status ≡ 0 → (j : Option Job) → job ≡ j → RepliesJob j (Some held) absence fault gives.0
+  done_reply held is none j same = job_reply held is 0 none (λ e. omega arith) j same
 
   pub checked : (names : List (List ℕ)) (held : Contents) → job ≡ Some (Check names) → contents ≡ Some held → status ≡ 0 → AreAccepted names (held 0) o0 o1
   checked names held is told s =
@@ -295,6 +286,22 @@ module _ (job : Option Job) (contents : Option Contents) (absence fault : Type 0
   opened valid opens config dp held is told s =
       let done = at 0 s (λ e. omega (arith, e)) in
       job_opened held absence fault valid opens config dp gives.0 o0 o1 (done_reply held told done.0 (Some (Plan config dp)) is) done.0 done.1
+
+  module _ (valid : (held : Held) (name : List ℕ) (conf : Configuration) → loaded held name ≡ Ok conf → IsValid conf)
+      (right : (conf : Configuration) (story : List Happening) → IsValid conf → IsRight conf story) where
+    pub replayed : (config recording : List ℕ) (held : Contents) → job ≡ Some (Replay config recording) → contents ≡ Some held → status ≡ 0
+        → IsReplayed config recording (held 0) o0 o1 e0 e1
+    replayed config recording held is told s =
+        let done = at 0 s (λ e. omega (arith, e)) in
+        let reply = done_reply held told done.0 (Some (Replay config recording)) is in
+        replay_done held absence fault valid right config recording o0 o1 e0 e1 reply.0 gives.0 reply.1 reply.2 done.0 done.1 done.2
+
+    pub refused_record : (config recording : List ℕ) (held : Contents) → job ≡ Some (Replay config recording) → contents ≡ Some held → status ≡ 5
+        → IsReplayedTo config recording (held 0) o0 o1 e0 e1
+    refused_record config recording held is told s =
+        let five = at 5 s (λ e. omega (arith, e)) in
+        let reply = job_reply held told 5 five.0 (λ e. omega arith) (Some (Replay config recording)) is in
+        replay_refused held absence fault valid right config recording o0 o1 e0 e1 reply.0 gives.0 reply.1 reply.2 five.0 five.1 five.2
 
 -- ---- the reply that was given
 

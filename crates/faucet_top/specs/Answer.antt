@@ -6,13 +6,13 @@ use Rattle.yaml_subset.specs.Fault.{cause_text}
 use Rattle.conf_types.specs.Configuration.{Configuration}
 use Rattle.conf_gather.specs.declared.refused.LoadRefused.{LoadRefused}
 use Rattle.conf_gather.specs.declared.refused.LoadRefused.TheVariants.{Read, Yaml, Conf, IncludeTwice, IncludeDepth, Absent, Memory}
-use Rattle.conf_gather.specs.Gathered.{Held}
-use Rattle.conf_load.specs.Loaded.{loaded}
 use Rattle.conf_json.specs.Text.{json_text}
 use Rattle.command_line.specs.declared.meaning.Job.{Job}
-use Rattle.command_line.specs.declared.meaning.Job.TheVariants.{Check, Plan}
-use Rattle.command_line.specs.Meaning.{meaning}
+use Rattle.command_line.specs.declared.meaning.Job.TheVariants.{Check, Plan, Replay}
 use Rattle.opening_batch.specs.Opening.{opening_of}
+use Rattle.recording.specs.Kinds.{cause_name}
+use Rattle.ctl_drive.specs.declared.replay.Replayed.{Replayed}
+use Rattle.ctl_drive.specs.declared.replay.Replayed.TheVariants as replayed
 use Rattle.conf_causes.specs.Causes.{conf_cause_text}
 
 pub record Answer : Type 0 where
@@ -88,14 +88,22 @@ plan_answer config dp (Ok (Some batch)) = record { out = batch; err = []; status
 plan_answer config dp (Ok None) = refused_with (config ∷ codes ": dps." ∷ dp ∷ codes ": Unresolved" ∷ [])
 plan_answer config dp (Err why) = refusal config why
 
+-- ---- `replay`
+
+-- the line behind those that the controller wrote, by how the replay ended
+abbrev pub last_line : (recording : List ℕ) → Replayed → List ℕ
+last_line recording (replayed.Read None) = []
+last_line recording (replayed.Read (Some refused)) = line (codes "recording: record " ∷ decimal refused.number ∷ codes ": " ∷ cause_name refused.cause ∷ [])
+last_line recording replayed.Unread = (unread recording).err
+last_line recording replayed.Spent = line (codes "events spent" ∷ [])
+last_line recording replayed.WriteFault = []
+last_line recording replayed.Memory = out_of_memory.err
+
 -- ---- the words
 
--- the answer to a job, where files give these configurations
-abbrev pub job_answer : Option Job → (List ℕ → Load) → Answer
-job_answer None load = usage
-job_answer (Some (Check files)) load = check_answer (map (λ file. (file, load file)) files)
-job_answer (Some (Plan config dp)) load = plan_answer config dp (planned dp (load config))
-
--- the answer to these words, where these files are held: what is answered where nothing fails
-abbrev pub answer : (words : List (List ℕ)) → Held → Answer
-answer words held = job_answer (meaning words) (loaded held)
+-- the answer to a job, where files give these configurations; that to `replay` is said by a relation (Given)
+abbrev pub job_answer : Option Job → (List ℕ → Load) → Option Answer
+job_answer None load = Some usage
+job_answer (Some (Check files)) load = Some (check_answer (map (λ file. (file, load file)) files))
+job_answer (Some (Plan config dp)) load = Some (plan_answer config dp (planned dp (load config)))
+job_answer (Some (Replay config recording)) load = None

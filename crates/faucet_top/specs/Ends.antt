@@ -1,9 +1,11 @@
 -- How a call ends that writes once.
-use Rattle.std.specs.Prelude.{◌≡◌, ℕ, ◌⊎◌, List, [], Option, Err}
+use Rattle.std.specs.Prelude.{◌≡◌, ℕ, ◌⊎◌, List, Option, Some, None}
 use Rattle.fg_outside.specs.Counts.{Rose}
 use Rattle.fg_outside.specs.Wrote.{appended, AppendsFront}
 use Rattle.conf_gather.specs.declared.refused.LoadRefused.{LoadRefused}
 use Rattle.conf_gather.specs.declared.refused.LoadRefused.TheVariants.{Read, Yaml, Conf, IncludeTwice, IncludeDepth, Absent, Memory}
+use Rattle.ctl_drive.specs.declared.replay.Replayed.{Replayed}
+use Rattle.ctl_drive.specs.declared.replay.Replayed.TheVariants as replayed
 use Rattle.faucet_top.specs.declared.deliver.Status.{Status}
 use Rattle.faucet_top.specs.declared.deliver.Status.TheVariants as statuses
 
@@ -22,3 +24,12 @@ refused_status (Conf fault) = statuses.Refused
 refused_status (IncludeTwice file) = statuses.Refused
 refused_status (IncludeDepth file) = statuses.Refused
 refused_status Memory = statuses.Memory
+
+-- the status by how a replay ended
+abbrev pub status_after : Replayed → Status
+status_after (replayed.Read None) = statuses.Done
+status_after (replayed.Read (Some refused)) = statuses.RecordRefused
+status_after replayed.Unread = statuses.Unread
+status_after replayed.Spent = statuses.Spent
+status_after replayed.WriteFault = statuses.WriteFault
+status_after replayed.Memory = statuses.Memory

@@ -1,8 +1,9 @@
 -- What a call did, whatever the outside did: which answer it gave, and how much of it was written.
-use Rattle.std.specs.Prelude.{◌≡◌, ℕ, ◌⊎◌, List, ◌++◌, map, Option, Some, None, Ok, IsErrOf}
+use Rattle.std.specs.Prelude.{◌≡◌, ◌≢◌, ℕ, ◌-◌, ◌^◌, ◌⊎◌, List, [], ◌++◌, length, map, Option, Some, None, Ok, Err, IsErrOf}
 use Rattle.std.specs.List.{AllByRecursion, flat_map}
-use Rattle.fg_outside.specs.Contents.{Contents}
+use Rattle.fg_outside.specs.Contents.{Contents, Tells}
 use Rattle.fg_outside.specs.Counts.{Rose}
+use Rattle.fg_outside.specs.declared.hub.Happening.{Happening}
 use Rattle.fg_outside.specs.Wrote.{appended, AppendsFront}
 use Rattle.conf_types.specs.Configuration.{Configuration}
 use Rattle.conf_gather.specs.declared.refused.LoadRefused.TheVariants.{Read, Absent}
@@ -10,10 +11,23 @@ use Rattle.conf_gather.specs.Gathered.{Held}
 use Rattle.conf_gather.specs.Gives as load
 use Rattle.conf_load.specs.Loaded.{loaded}
 use Rattle.command_line.specs.declared.meaning.Job.{Job}
-use Rattle.command_line.specs.declared.meaning.Job.TheVariants.{Check, Plan}
+use Rattle.command_line.specs.declared.meaning.Job.TheVariants.{Check, Plan, Replay}
 use Rattle.opening_batch.specs.Opened.{Opens}
+use Rattle.recording.specs.declared.record.Record.{Record}
+use Rattle.recording.specs.declared.refused.RecordRefused.{RecordRefused}
+use Rattle.recording.specs.Recording.{Records}
+use Rattle.recording.specs.Refused.{IsRefused}
+use Rattle.recording.specs.Turns.{Closing, turns}
+use Rattle.recording.specs.Written.{written_records}
+use Rattle.ctl_world.specs.World.{first}
+use Rattle.story_laws.specs.Right.{IsRight}
+use Rattle.ctl_drive.specs.Driving.{IsFront, lines_of, records_of}
+use Rattle.ctl_drive.specs.declared.replay.Replayed.{Replayed}
+use Rattle.ctl_drive.specs.declared.replay.Replayed.TheVariants as replayed
+use Rattle.ctl_drive.specs.Replay.{IsStoryOf, IsStorySoFar, Replays, closed_in}
 use Rattle.faucet_top.specs.declared.deliver.Status.{Status}
-use Rattle.faucet_top.specs.Answer.{Answer, Load, usage, out_of_memory, json_line, check_step, check_answer, planned, plan_answer}
+use Rattle.faucet_top.specs.Answer.{Answer, Load, usage, out_of_memory, refusal, json_line, check_step, check_answer, last_line, planned, plan_answer}
+use Rattle.faucet_top.specs.Ends.{status_after}
 use Rattle.faucet_top.specs.Status.{number_of_status}
 
 -- ---- which answer
@@ -29,13 +43,29 @@ pub record Loads (contents : Option Contents) (absence fault : Type 0) (name : L
 abbrev pub EachLoads : Option Contents → (absence fault : Type 0) → List (List ℕ) → List (List ℕ × Load) → Type 0
 EachLoads contents absence fault names files = (map (λ file. file.0) files ≡ names) × AllByRecursion (λ file. Loads contents absence fault file.0 file.1) files
 
+-- How a replay ended goes by whether the recording is there, where the files tell that.
+pub record GoesByFile (contents : Option Contents) (name : List ℕ) (fault : Type 0) (end : Replayed) : Type 0 where
+  pub missing : Tells contents name None → end ≡ replayed.Unread
+  pub there : (bytes : List ℕ) → Tells contents name (Some bytes) → end ≡ replayed.Unread → fault
+
+-- The reply to `replay` by the configuration that a file gave: what a replay writes on two empty streams, with the line that
+-- says how it ended.
+abbrev pub RepliesReplay : Option Contents → (absence fault : Type 0) → (config recording : List ℕ) → Load → Answer → Type 0
+RepliesReplay contents absence fault config recording (Err why) a = a ≡ refusal config why
+RepliesReplay contents absence fault config recording (Ok conf) a =
+    (end : Replayed) × (out : List ℕ) × (lines : List ℕ) × (end ≢ replayed.WriteFault)
+    × Replays contents recording absence fault conf (Some []) (Some out) (Some []) (Some lines) end
+    × GoesByFile contents recording fault end
+    × (a ≡ record { out = out; err = lines ++ last_line recording end; status = number_of_status (status_after end) })
+
 -- the reply to a job, whatever fails: the answer for what the files gave
 abbrev pub RepliesJob : Option Job → Option Contents → (absence fault : Type 0) → Answer → Type 0
 RepliesJob None contents absence fault a = a ≡ usage
 RepliesJob (Some (Check names)) contents absence fault a = (files : List (List ℕ × Load)) × EachLoads contents absence fault names files × (a ≡ check_answer files)
 RepliesJob (Some (Plan config dp)) contents absence fault a = (made : Load) × Loads contents absence fault config made × (a ≡ plan_answer config dp (planned dp made))
+RepliesJob (Some (Replay config recording)) contents absence fault a = (made : Load) × Loads contents absence fault config made × RepliesReplay contents absence fault config recording made a
 
--- the same, or that memory ran out before the job was known
+-- the same, or that memory ran out before the job was known or begun
 abbrev pub Replies : Option Job → Option Contents → (absence fault : Type 0) → Answer → Type 0
 Replies job contents absence fault a = RepliesJob job contents absence fault a ⊎ (a ≡ out_of_memory)
 
@@ -76,10 +106,29 @@ GoesOn name made (Some status) out_old out_new err_old err_new out_faults_old ou
 
 -- ---- statuses
 
--- what a status is where the answer's is this: the same, or that a write failed, that memory ran out, or that
--- a read failed
-abbrev pub StatusFor : (status answered : ℕ) → (fault : Type 0) → Type 0
-StatusFor status answered fault = (status ≡ answered) ⊎ ((status ≡ 4) ⊎ ((status ≡ 8) ⊎ ((status ≡ 3) × fault)))
+-- the status of `replay` by what the recording's file holds: 3 where there is none, else by how its story ends
+abbrev pub IsReplayStatus : Configuration → (file : Option (List ℕ)) → ℕ → Type 0
+IsReplayStatus conf None n = n ≡ 3
+IsReplayStatus conf (Some bytes) n =
+    ((story : List Happening) × (refused : Option RecordRefused) × IsStoryOf bytes story (closed_in conf story) refused
+    × (n ≡ number_of_status (status_after (replayed.Read refused))))
+    ⊎ ((story : List Happening) × (closes : List Closing) × IsFront closes (closed_in conf story) × IsStorySoFar bytes story closes
+    × (length story ≡ 2 ^ 64 - 1) × (n ≡ 7))
+
+abbrev pub IsLoadedStatus : (config : List ℕ) → Load → (file : Option (List ℕ)) → ℕ → Type 0
+IsLoadedStatus config (Err why) file n = n ≡ (refusal config why).status
+IsLoadedStatus config (Ok conf) file n = IsReplayStatus conf file n
+
+-- the status of the answer to a job, where these files are held
+abbrev pub IsStatusOf : Option Job → Held → ℕ → Type 0
+IsStatusOf None held n = n ≡ 1
+IsStatusOf (Some (Check files)) held n = n ≡ (check_answer (map (λ file. (file, loaded held file)) files)).status
+IsStatusOf (Some (Plan config dp)) held n = n ≡ (plan_answer config dp (planned dp (loaded held config))).status
+IsStatusOf (Some (Replay config recording)) held n = IsLoadedStatus config (loaded held config) (held recording) n
+
+-- a status is that of the answer; or a write failed, memory ran out, or a read failed
+abbrev pub StatusFor : (status : ℕ) → (IsAnswered : ℕ → Type 0) → (fault : Type 0) → Type 0
+StatusFor status IsAnswered fault = IsAnswered status ⊎ ((status ≡ 4) ⊎ ((status ≡ 8) ⊎ ((status ≡ 3) × fault)))
 
 -- the statuses that there are
 abbrev pub IsStatus : ℕ → Type 0
@@ -100,3 +149,34 @@ pub record IsOpened (config dp : List ℕ) (held : Held) (before after : Option 
   pub accepted : loaded held config ≡ Ok conf
   pub written : after ≡ appended before batch
   pub opens : Opens conf dp batch
+
+-- The configuration is accepted and the recording whole, and what was written is what its controller says of the story that
+-- the recording tells, where the controller closes what it closes; and all that is right.
+pub record IsReplayed (config recording : List ℕ) (held : Held) (out_old out_new err_old err_new : Option (List ℕ)) : Type 0 where
+  pub conf : Configuration
+  pub bytes : List ℕ
+  pub records : List Record
+  pub story : List Happening
+  pub accepted : loaded held config ≡ Ok conf
+  pub file : held recording ≡ Some bytes
+  pub whole : Records bytes records
+  pub told : story ≡ turns records (closed_in conf story)
+  pub out : out_new ≡ appended out_old (written_records (records_of (first conf) story))
+  pub err : err_new ≡ appended err_old (lines_of (first conf) story)
+  pub right : (front : List Happening) → IsFront front story → IsRight conf front
+
+-- The configuration is accepted, and a record of the recording is refused: the same of the records before it, and the line that
+-- says so behind.
+pub record IsReplayedTo (config recording : List ℕ) (held : Held) (out_old out_new err_old err_new : Option (List ℕ)) : Type 0 where
+  pub conf : Configuration
+  pub bytes : List ℕ
+  pub records : List Record
+  pub refused : RecordRefused
+  pub story : List Happening
+  pub accepted : loaded held config ≡ Ok conf
+  pub file : held recording ≡ Some bytes
+  pub refuses : IsRefused bytes records refused.number refused.cause
+  pub told : story ≡ turns records (closed_in conf story)
+  pub out : out_new ≡ appended out_old (written_records (records_of (first conf) story))
+  pub err : err_new ≡ appended err_old (lines_of (first conf) story ++ last_line recording (replayed.Read (Some refused)))
+  pub right : (front : List Happening) → IsFront front story → IsRight conf front

@@ -1,18 +1,21 @@
-ghost use Rattle.std.specs.Prelude.{◌≡◌, ◌≤◌, [], ◌∷◌, Result, codes};
+ghost use Rattle.std.specs.Prelude.{◌≡◌, ◌≤◌, [], ◌∷◌, Result, Some, codes};
 ghost use Rattle.std.specs.Fmt.{decimal};
 ghost use Rattle.fg_outside.specs.Wrote.{line_of};
 ghost use Rattle.conf_gather.specs.declared.refused.LoadRefused.TheVariants.{Yaml, Conf};
-ghost use Rattle.faucet_top.specs.Answer.{refusal, usage, out_of_memory, line, plan_answer};
+ghost use Rattle.ctl_drive.specs.declared.replay.Replayed.TheVariants.{Read};
+ghost use Rattle.faucet_top.specs.Answer.{last_line, refusal, usage, out_of_memory, line, plan_answer};
 ghost use Rattle.faucet_top.specs.Given.{Delivers};
 ghost use Rattle.faucet_top.specs.Status.{number_of_status};
-ghost use Rattle.faucet_top.specs.Ends.{Ends, refused_status};
+ghost use Rattle.faucet_top.specs.Ends.{Ends, refused_status, status_after};
 
 use conf_causes::limit_name;
 use conf_gather::LoadRefused;
 use conf_shape::{ConfCause, ConfFault};
+use ctl_drive::Replayed;
 use fg_outside::{Sink, write_all, write_line};
 use itoa::Buffer;
 use net_base::Bytes;
+use recording::RecordRefused;
 use yaml_subset::YamlFault;
 
 const USAGE: &str = "usage: faucet check, plan, replay, serve, gauge, gauge-serve or bench";
@@ -30,6 +33,10 @@ pub enum Status {
     Unread = 3,
     /// A write failed.
     WriteFault = 4,
+    /// A record of a recording is refused.
+    RecordRefused = 5,
+    /// As many turns were taken as there may be.
+    Spent = 7,
     /// Memory ran out.
     Memory = 8,
 }
@@ -161,6 +168,41 @@ pub fn deliver_refusal<E: Sink>(err: &mut E, config: &str, why: &LoadRefused) ->
             deliver_at(err, config, file.as_str(), "IncludeDepth", "")
         }
         LoadRefused::Memory => deliver_out_of_memory(err),
+    }
+}
+
+/// Says that the record with this number is refused, and the cause.
+fn deliver_refused<E: Sink>(err: &mut E, number: &str, cause: &str) -> Status
+    ensures ends { Ends Status.RecordRefused (line (codes "recording: record " ∷ number.now ∷ codes ": " ∷ cause.now ∷ []))
+        (E.wrote err.old) (E.wrote err.new) (E.faults err.old) (E.faults err.new) result }
+    ensures faults { E.faults err.old ≤ E.faults err.new }
+{
+    let pieces = ["recording: record ", number, ": ", cause];
+    end_with_line(err, &pieces, Status::RecordRefused)
+}
+
+/// Says which record of a recording is refused, and why.
+fn deliver_record<E: Sink>(err: &mut E, refused: RecordRefused) -> Status
+    ensures ends { Ends Status.RecordRefused (last_line [] (Read (Some refused))) (E.wrote err.old) (E.wrote err.new) (E.faults err.old) (E.faults err.new) result }
+    ensures faults { E.faults err.old ≤ E.faults err.new }
+{
+    let mut buffer = Buffer::new();
+    let number = buffer.format(refused.number);
+    deliver_refused(err, number, refused.cause.name())
+}
+
+/// Says how the replay of a recording ended, where there is something to say.
+pub fn deliver_replayed<E: Sink>(err: &mut E, recording: &str, replayed: Replayed) -> Status
+    ensures ends { Ends (status_after replayed) (last_line recording.now replayed) (E.wrote err.old) (E.wrote err.new) (E.faults err.old) (E.faults err.new) result }
+    ensures faults { E.faults err.old ≤ E.faults err.new }
+{
+    match replayed {
+        Replayed::Read(None) => Status::Done,
+        Replayed::Read(Some(refused)) => deliver_record(err, refused),
+        Replayed::Unread => end_with_line(err, &[recording, ": read fault"], Status::Unread),
+        Replayed::Spent => end_with_line(err, &["events spent"], Status::Spent),
+        Replayed::WriteFault => Status::WriteFault,
+        Replayed::Memory => deliver_out_of_memory(err),
     }
 }
 

@@ -5,6 +5,7 @@ mod check;
 mod deliver;
 pub mod laws;
 mod plan;
+mod replay;
 mod top;
 mod units;
 

@@ -2,46 +2,55 @@ ghost use Rattle.std.specs.Prelude.{◌≡◌, ◌≢◌, ◌≤◌, ◌⊎◌, 
 ghost use Rattle.fg_outside.specs.Counts.{Rose};
 ghost use Rattle.fg_outside.specs.Contents.{Contents};
 ghost use Rattle.fg_outside.specs.Wrote.{appended, AppendsFront};
-ghost use Rattle.command_line.specs.declared.meaning.Job.TheVariants.{Check, Plan};
+ghost use Rattle.command_line.specs.declared.meaning.Job.TheVariants.{Check, Plan, Replay};
 ghost use Rattle.command_line.specs.Meaning.{meaning};
-ghost use Rattle.conf_load.specs.Loaded.{loaded};
-ghost use Rattle.faucet_top.specs.Answer.{answer, job_answer, out_of_memory};
-ghost use Rattle.faucet_top.specs.Given.{AreAccepted, Gives, IsOpened, IsStatus, StatusFor};
+ghost use Rattle.faucet_top.specs.Answer.{out_of_memory};
+ghost use Rattle.faucet_top.specs.Given.{AreAccepted, Gives, IsOpened, IsReplayed, IsReplayedTo, IsStatus, IsStatusOf, StatusFor};
 ghost use Rattle.faucet_top.specs.Status.{number_of_status};
 
 use crate::check::check_files;
 use crate::deliver::{Status, deliver_out_of_memory, deliver_plan, deliver_usage};
 use crate::plan::make_plan;
+use crate::replay::replay_recording;
 use command_line::{Job, read_words};
 use conf_load::laws::a_loaded_configuration_is_valid;
 use fg_outside::{Files, Hub, Sink};
 use net_base::Names;
 use opening_batch::laws::an_opening_batch_opens_the_datapath;
 use std::alloc::Global;
+use story_laws::whatever_happens_is_right;
 
 /// Does a job.
 fn do_job<F: Files, O: Sink, E: Sink>(
     alloc: Global,
     job: &Job,
-    files: &mut F,
+    files: F,
     out: &mut O,
     err: &mut E,
-) -> Status
-    ensures gives { Gives (Some job.now) (F.contents files.old) (Rose (F.absences files.old) (F.absences files.new)) (Rose (F.faults files.old) (F.faults files.new))
-        (number_of_status result) (O.wrote out.old) (O.wrote out.new) (E.wrote err.old) (E.wrote err.new)
+) -> (Status, F)
+    ensures gives { Gives (Some job.now) (F.contents files) (Rose (F.absences files) (F.absences result.1)) (Rose (F.faults files) (F.faults result.1))
+        (number_of_status result.0) (O.wrote out.old) (O.wrote out.new) (E.wrote err.old) (E.wrote err.new)
         (O.faults out.old) (O.faults out.new) (E.faults err.old) (E.faults err.new) }
 
-    ensures contents { F.contents files.new ≡ F.contents files.old }
-    ensures faults { F.faults files.old ≤ F.faults files.new }
-    ensures absences { F.absences files.old ≤ F.absences files.new }
+    ensures contents { F.contents result.1 ≡ F.contents files }
+    ensures faults { F.faults files ≤ F.faults result.1 }
+    ensures absences { F.absences files ≤ F.absences result.1 }
     ensures out_faults { O.faults out.old ≤ O.faults out.new }
     ensures err_faults { E.faults err.old ≤ E.faults err.new }
 {
+    let mut files = files;
     match job {
-        Job::Check(names) => check_files(alloc, files, names.as_slice(), out, err),
+        Job::Check(names) => {
+            let status = check_files(alloc, &mut files, names.as_slice(), out, err);
+            (status, files)
+        }
         Job::Plan { config, dp } => {
-            let made = make_plan(alloc, files, config.as_str(), dp.as_str());
-            deliver_plan(out, err, config.as_str(), dp.as_str(), made)
+            let made = make_plan(alloc, &mut files, config.as_str(), dp.as_str());
+            let status = deliver_plan(out, err, config.as_str(), dp.as_str(), made);
+            (status, files)
+        }
+        Job::Replay { config, recording } => {
+            replay_recording(alloc, files, config.as_str(), recording, out, err)
         }
     }
 }
@@ -61,7 +70,7 @@ pub fn local<F: Files, O: Sink, E: Sink>(
 
     // The status is that of the answer, where the files are told, but for what fails on the way.
     ensures told { (held : Contents) → F.contents files ≡ Some held
-        → StatusFor result.0 (job_answer (Some job.now) (loaded (held 0))).status (Rose (F.faults files) (F.faults result.1)) }
+        → StatusFor result.0 (IsStatusOf (Some job.now) (held 0)) (Rose (F.faults files) (F.faults result.1)) }
     ensures unread { result.0 ≡ 3 → Rose (F.absences files) (F.absences result.1) ⊎ Rose (F.faults files) (F.faults result.1) }
     ensures write_fault { result.0 ≡ 4 → Rose (O.faults out.old) (O.faults out.new) ⊎ Rose (E.faults err.old) (E.faults err.new) }
     ensures no_write_fault { result.0 ≢ 4 → (O.faults out.new ≡ O.faults out.old) × (E.faults err.new ≡ E.faults err.old) }
@@ -74,8 +83,7 @@ pub fn local<F: Files, O: Sink, E: Sink>(
     ensures out_faults { O.faults out.old ≤ O.faults out.new }
     ensures err_faults { E.faults err.old ≤ E.faults err.new }
 {
-    let mut files = files;
-    let status = do_job(alloc, job, &mut files, out, err);
+    let (status, files) = do_job(alloc, job, files, out, err);
     (status.number(), files)
 }
 
@@ -109,10 +117,12 @@ fn answer_words<F: Files, O: Sink, E: Sink>(
 ///
 /// `check FILE..` writes on `out` one line of JSON for each configuration file, in order; the first
 /// that gives no configuration ends the run. `plan CONFIG DP` writes on `out` the batch that opens the
-/// datapath DP of the configuration file CONFIG: OpenFlow 1.3 messages, big-endian. Any other words have
-/// no meaning. A refusal is one line on `err`. Statuses: 0 done; 1 the words have no meaning; 2 a
-/// configuration was read and is refused, or DP isn't one of its datapaths; 3 a file isn't there, or a
-/// read failed; 4 a write failed; 8 out of memory.
+/// datapath DP of the configuration file CONFIG: OpenFlow 1.3 messages, big-endian. `replay CONFIG RECORDING`
+/// runs the controller of CONFIG on what the recording tells, writes on `out` a record for each message that
+/// it says and each connection that it closes, and on `err` its lines. Any other words have no meaning. A
+/// refusal is one line on `err`. Statuses: 0 done; 1 the words have no meaning; 2 a configuration was read and
+/// is refused, or DP isn't one of its datapaths; 3 a file isn't there, or a read failed; 4 a write failed; 5 a
+/// record of the recording is refused; 7 2^64 - 1 turns were taken; 8 out of memory.
 pub fn faucet<F: Files, H: Hub, O: Sink, E: Sink>(
     alloc: Global,
     words: &Names,
@@ -128,9 +138,10 @@ pub fn faucet<F: Files, H: Hub, O: Sink, E: Sink>(
         (O.faults out.old) (O.faults out.new) (E.faults err.old) (E.faults err.new) }
 
     // Where the files are told, the status is that of the answer, so 2 exactly where a configuration was read and
-    // refused, or hasn't the datapath; but for a failed write, want of memory and a failed read.
+    // refused, or hasn't the datapath, 5 exactly where a record is refused, 7 exactly where 2^64 - 1 turns were
+    // taken; but for a failed write, want of memory and a failed read.
     ensures told { (held : Contents) → F.contents files ≡ Some held
-        → StatusFor result.0 (answer words.now (held 0)).status (Rose (F.faults files) (F.faults result.1)) }
+        → StatusFor result.0 (IsStatusOf (meaning words.now) (held 0)) (Rose (F.faults files) (F.faults result.1)) }
 
     // Status 1 only where the words have no meaning.
     ensures usage { result.0 ≡ 1 → meaning words.now ≡ None }
@@ -154,6 +165,14 @@ pub fn faucet<F: Files, H: Hub, O: Sink, E: Sink>(
     ensures opened { (config dp : List ℕ) (held : Contents) → meaning words.now ≡ Some (Plan config dp) → F.contents files ≡ Some held
         → result.0 ≡ 0 → IsOpened config dp (held 0) (O.wrote out.old) (O.wrote out.new) }
 
+    // `replay`, the headline: at status 0 the recording was taken in whole, and what stands on `out` and `err` is
+    // exactly what the controller says of its story; and all that is right, of each front of that story. At status
+    // 5 the same of the records before the refused one.
+    ensures replayed { (config recording : List ℕ) (held : Contents) → meaning words.now ≡ Some (Replay config recording) → F.contents files ≡ Some held
+        → result.0 ≡ 0 → IsReplayed config recording (held 0) (O.wrote out.old) (O.wrote out.new) (E.wrote err.old) (E.wrote err.new) }
+    ensures refused_record { (config recording : List ℕ) (held : Contents) → meaning words.now ≡ Some (Replay config recording) → F.contents files ≡ Some held
+        → result.0 ≡ 5 → IsReplayedTo config recording (held 0) (O.wrote out.old) (O.wrote out.new) (E.wrote err.old) (E.wrote err.new) }
+
     // Files and hub are handed back, and nothing was said to the hub.
     ensures contents { F.contents result.1 ≡ F.contents files }
     ensures faults { F.faults files ≤ F.faults result.1 }
@@ -164,6 +183,7 @@ pub fn faucet<F: Files, H: Hub, O: Sink, E: Sink>(
 {
     a_loaded_configuration_is_valid();
     an_opening_batch_opens_the_datapath();
+    whatever_happens_is_right();
     let (status, files) = answer_words(alloc, words, files, out, err);
     (status, files, hub)
 }

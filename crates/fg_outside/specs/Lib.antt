@@ -9,4 +9,5 @@ pub mod Left
 pub mod NoHub
 pub mod SinkInMemory
 pub mod SourceInMemory
+pub mod Steps
 pub mod Wrote

@@ -1,4 +1,4 @@
-ghost use Rattle.std.specs.Prelude.{◌≡◌, ◌⊎◌, ℕ, ◌-◌, ◌^◌, ◌<◌, ◌≤◌, List, length, take, min, None, Some, IfOk, OnOk, OnErr};
+ghost use Rattle.std.specs.Prelude.{◌≡◌, ◌≢◌, ◌⊎◌, ℕ, ◌-◌, ◌^◌, ◌<◌, ◌≤◌, List, length, take, min, None, Some, IfOk, OnOk, OnErr};
 ghost use Rattle.fg_outside.specs.Counts.{Rose};
 ghost use Rattle.fg_outside.specs.Contents.{Tells};
 ghost use Rattle.fg_outside.specs.Left.{prepended, IsAtEnd};
@@ -29,7 +29,7 @@ pub struct FileSource<F> {
 }
 
 impl<F: Files> FileSource<F> {
-    ghost use Rattle.fg_outside.specs.FileSource.{files_of, name_of, left_in, faults_of};
+    ghost use Rattle.fg_outside.specs.FileSource.{files_of, name_of, missing_of, left_in, faults_of};
 
     /// The named file of these files, from its start.
     pub fn new(files: F, name: Text) -> FileSource<F>
@@ -37,6 +37,7 @@ impl<F: Files> FileSource<F> {
         ensures files { files_of result ≡ files }
         ensures name { name_of result ≡ name }
         ensures faults { faults_of F.faults result ≡ min (F.faults files) (2 ^ 64 - 1) }
+        ensures missing { missing_of result ≡ 0 }
     {
         FileSource {
             files,
@@ -75,6 +76,10 @@ impl<F: Files> FileSource<F> {
         ensures files_absences { F.absences (files_of self.old) ≤ F.absences (files_of self.new) }
         ensures contents { F.contents (files_of self.new) ≡ F.contents (files_of self.old) }
         ensures name { name_of self.new ≡ name_of self.old }
+        ensures missing { missing_of self.new ≢ missing_of self.old
+            → Rose (F.absences (files_of self.old)) (F.absences (files_of self.new)) }
+        ensures here { (file : List ℕ) → Tells (F.contents (files_of self.old)) (name_of self.old) (Some file)
+            → missing_of self.new ≡ missing_of self.old }
     {
         let name = self.name.as_str();
         match self.files.read_at(name, self.place, &mut self.ahead)? {
@@ -96,7 +101,7 @@ impl<F: Files> FileSource<F> {
         ensures took { left_in F.contents self.old ≡ prepended (take result buf.new) (left_in F.contents self.new) }
         ensures count { result ≡ min (length buf.old) (self.old.end - self.old.start) }
         ensures files { files_of self.new ≡ files_of self.old }
-        ensures missing { self.new.missing ≡ self.old.missing }
+        ensures missing { missing_of self.new ≡ missing_of self.old }
         ensures name { name_of self.new ≡ name_of self.old }
     {
         let count = copy_front(&self.ahead[self.start..self.end], buf);
@@ -106,11 +111,13 @@ impl<F: Files> FileSource<F> {
 }
 
 impl<F: Files> Source for FileSource<F> {
-    ghost use Rattle.fg_outside.specs.FileSource.{files_of, name_of, left_in, faults_of};
+    ghost use Rattle.fg_outside.specs.FileSource.{files_of, name_of, left_in, faults_of, KeepsFiles};
 
     ghost left = { left_in F.contents };
 
     ghost faults = { faults_of F.faults };
+
+    ghost may = { KeepsFiles F.contents F.faults F.absences };
 
     /// Takes what was read ahead, as much as the buffer has room for, and reads ahead where nothing
     /// of that is left. Fails only where the files failed or told that the file isn't there.
@@ -122,6 +129,7 @@ impl<F: Files> Source for FileSource<F> {
         ensures failed { OnErr result (Rose (faults_of F.faults self.old) (faults_of F.faults self.new)) }
         ensures no_fault { OnOk result (faults_of F.faults self.new ≡ faults_of F.faults self.old) }
         ensures faults { faults_of F.faults self.old ≤ faults_of F.faults self.new }
+        ensures step { KeepsFiles F.contents F.faults F.absences self.old self.new }
 
         ensures cause { OnErr result (Rose (F.faults (files_of self.old)) (F.faults (files_of self.new))
             ⊎ Rose (F.absences (files_of self.old)) (F.absences (files_of self.new))) }

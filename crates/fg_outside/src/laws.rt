@@ -1,15 +1,18 @@
 //! What the definitions of this crate come to, in the words of files, counts and hubs.
-ghost use Rattle.std.specs.Prelude.{◌≡◌, ◌≢◌, ℕ, ◌-◌, ◌^◌, ◌<◌, List, [], ◌∷◌, ◌++◌, Some, None, All};
+ghost use Rattle.std.specs.Prelude.{◌≡◌, ◌≢◌, ◌⊎◌, ℕ, ◌-◌, ◌^◌, ◌<◌, List, [], ◌∷◌, ◌++◌, Some, None, All};
 ghost use Rattle.fg_outside.specs.declared.held.HeldFile.{HeldFile};
 ghost use Rattle.fg_outside.specs.declared.held.Folder.{Folder};
+ghost use Rattle.fg_outside.specs.declared.file_source.FileSource.{FileSource};
 ghost use Rattle.fg_outside.specs.declared.no_hub.NoHub.{NoHub};
 ghost use Rattle.fg_outside.specs.Counts.{Rose};
-ghost use Rattle.fg_outside.specs.Contents.{refreshed};
+ghost use Rattle.fg_outside.specs.Contents.{Tells, refreshed};
+ghost use Rattle.fg_outside.specs.FileSource.{files_of, name_of, missing_of, faults_of, KeepsFiles};
 ghost use Rattle.fg_outside.specs.Folders.{file_named, contents_of};
 ghost use Rattle.fg_outside.specs.HubStep.{HubStep, Leads, story};
 ghost use Rattle.fg_outside.specs.NoHub.{IsIdle};
+ghost use Rattle.fg_outside.specs.Steps.{Went};
 
-use crate::{Hub, NoHub};
+use crate::{FileSource, Files, Hub, NoHub, Source};
 
 /// A count that rose is greater than it was, unless it stood at its last value.
 pub fn a_count_that_rose_grew()
@@ -48,6 +51,44 @@ pub fn a_refresh_goes_on()
 pub fn the_last_folder_stays()
     ensures { (last : Folder)
         → refreshed (Some (contents_of (last ∷ []))) ≡ Some (contents_of (last ∷ [])) }
+{}
+
+/// Where calls took a source to a state and on from there, they took it all the way.
+pub fn calls_in_turn_are_calls<S: Source>()
+    ensures { (from mid to : S) → Went S.may from mid → Went S.may mid to → Went S.may from to }
+{}
+
+/// A source that no call was made of keeps its files.
+pub fn an_uncalled_source_keeps_its_files<F: Files>()
+    ensures { (source : FileSource F) → KeepsFiles F.contents F.faults F.absences source source }
+{}
+
+/// A source that keeps its files twice in turn keeps them all the way.
+pub fn files_kept_in_turn_are_kept<F: Files>()
+    ensures { (old mid new : FileSource F) → KeepsFiles F.contents F.faults F.absences old mid
+        → KeepsFiles F.contents F.faults F.absences mid new → KeepsFiles F.contents F.faults F.absences old new }
+{}
+
+/// Whatever calls were made of a source, it keeps its files from the first to the last.
+pub fn calls_keep_the_files<F: Files>()
+    ensures { (from to : FileSource F) → Went ⟦<FileSource<F> as Source>⟧.may from to
+        → KeepsFiles F.contents F.faults F.absences from to }
+{}
+
+/// Where the faults of a source rose that hadn't missed its file, the faults or the absences of its
+/// files rose.
+pub fn a_fault_is_one_of_the_files<F: Files>()
+    ensures { (old new : FileSource F) → missing_of old ≡ 0 → KeepsFiles F.contents F.faults F.absences old new
+        → Rose (faults_of F.faults old) (faults_of F.faults new)
+        → Rose (F.faults (files_of old)) (F.faults (files_of new)) ⊎ Rose (F.absences (files_of old)) (F.absences (files_of new)) }
+{}
+
+/// Where the faults of a source rose whose file is told, and that hadn't missed it, the faults of its files
+/// rose.
+pub fn a_fault_of_a_told_file_is_one_of_reading<F: Files>()
+    ensures { (old new : FileSource F) (file : List ℕ) → missing_of old ≡ 0 → Tells (F.contents (files_of old)) (name_of old) (Some file)
+        → KeepsFiles F.contents F.faults F.absences old new → Rose (faults_of F.faults old) (faults_of F.faults new)
+        → Rose (F.faults (files_of old)) (F.faults (files_of new)) }
 {}
 
 /// Where one way leads to a hub and another leads on from it, both lead there one behind the other.

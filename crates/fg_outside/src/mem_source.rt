@@ -62,6 +62,8 @@ impl<P: FaultPlan> Source for SourceInMemory<P> {
 
     ghost faults = { λ source. P.faults (plan_of source) };
 
+    ghost may = { λ _ _. Unit {0} };
+
     /// Takes as much as the buffer has room for. Fails exactly where the plan says so. The buffer
     /// stays as it was behind what was taken.
     fn read(&mut self, buf: &mut [u8]) -> Result<usize, Failed>
@@ -72,6 +74,7 @@ impl<P: FaultPlan> Source for SourceInMemory<P> {
         ensures failed { OnErr result (Rose (P.faults (plan_of self.old)) (P.faults (plan_of self.new))) }
         ensures no_fault { OnOk result (P.faults (plan_of self.new) ≡ P.faults (plan_of self.old)) }
         ensures faults { P.faults (plan_of self.old) ≤ P.faults (plan_of self.new) }
+        ensures step { Unit {0} }
 
         ensures one_fault { OnErr result (P.faults (plan_of self.new) ≡ counted (P.faults (plan_of self.old))) }
         ensures count { IfOk result (λ n. n ≡ min (length buf.old) (length (left_in self.old))) }

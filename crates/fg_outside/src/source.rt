@@ -12,6 +12,10 @@ pub trait Source {
     /// How often a call failed.
     ghost faults: { Self → ℕ };
 
+    /// What a call may make of it: the source before the call, and behind it. A source that tells
+    /// nothing more allows every step.
+    ghost may: { Self → Self → Type 0 };
+
     /// Takes the next bytes to the front of `buf`, and says how many: 0 of a buffer that isn't empty
     /// only at the end. After `Failed` nothing was taken.
     fn read(&mut self, buf: &mut [u8]) -> Result<usize, Failed>
@@ -21,5 +25,6 @@ pub trait Source {
         ensures kept { OnErr result (left self.new ≡ left self.old) }
         ensures failed { OnErr result (Rose (faults self.old) (faults self.new)) }
         ensures no_fault { OnOk result (faults self.new ≡ faults self.old) }
-        ensures faults { faults self.old ≤ faults self.new };
+        ensures faults { faults self.old ≤ faults self.new }
+        ensures step { may self.old self.new };
 }

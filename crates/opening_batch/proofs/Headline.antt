@@ -34,7 +34,8 @@ use Rattle.of13_codec.specs.declared.message.Message.TheVariants as messages
 use Rattle.opening_batch.specs.Opening.{dp_called, nothing_learned, batch_of, opening_of}
 use Rattle.flow_messages.specs.Messages.{add, delete_all}
 use Rattle.opening_batch.specs.Messages.{adds, next_xid, xid_after, opening}
-use Rattle.opening_batch.specs.Opened.{command_in, Says, nothing, barrier, command, written_from, SpellAll, Opens}
+use Rattle.flow_messages.specs.Commands.{command_in, Says, nothing, barrier, command}
+use Rattle.opening_batch.specs.Opened.{written_from, SpellAll, Opens}
 use Rattle.opening_batch.proofs.Framed.{NumberLen, FieldsLen, MatchLen, ActionsLen, IsWritten, IsAdded, wipe, add_of, wipe_written, all_added}
 use Rattle.opening_batch.proofs.Nothing.{called_is, nothing_valid}
 

@@ -9,15 +9,17 @@ use Rattle.fg_outside.specs.declared.hub.Said.{Said}
 use Rattle.fg_outside.specs.declared.hub.Said.TheVariants as answers
 use Rattle.fg_outside.specs.HubStep.{turned, said, closed}
 use Rattle.fg_outside.specs.HubStep.{told_by as added_by}
+use Rattle.fg_outside.specs.Steps.{Went, stay}
+use Rattle.fg_outside.proofs.StepLemmas.{Went-append}
 use Rattle.recording.specs.declared.reader.Reader.{Reader}
 use Rattle.recording.specs.declared.record.Record.{Record}
 use Rattle.recording.specs.declared.script_hub.ScriptHub.{ScriptHub}
-use Rattle.recording.specs.Reader.{part_of, refused_of}
+use Rattle.recording.specs.Reader.{source_of, part_of, refused_of}
 use Rattle.recording.specs.Script as script
 use Rattle.recording.specs.Conns.{is_among, without}
 use Rattle.recording.specs.Layout.{len_in}
 use Rattle.recording.proofs.Refusals.{number_at-front, header_limit-most}
-use Rattle.recording.specs.Script.{IsWithin, answer_of, is_live, is_spent, own_where, Keeps, ScriptStep, Answers, TellsOwn, ReadsOn, Waits}
+use Rattle.recording.specs.Script.{IsWithin, answer_of, source_in, is_live, is_spent, own_where, Keeps, ScriptStep, Answers, TellsOwn, ReadsOn, Waits}
 use Rattle.recording.proofs.Keeping.{events_of, Keeps-same, Keeps-then, Keeps-own, Keeps-read, Keeps-stays, Keeps-spent, Keeps-said, Keeps-closed}
 use Rattle.recording.proofs.Standing.{is_among-without}
 use Rattle.std.proofs.lemmas.Bool.{eq-eqb}
@@ -40,7 +42,11 @@ within_cut head (x ∷ body) few order less =
 reader_within : {S : Type 0} (reader : Reader S) → IsWithin (part_of reader)
 reader_within reader = within_cut reader.head reader.body (omega (arith, reader.head_fits, header_limit-most reader.count)) reader.in_order reader.body_fits
 
-module _ {S : Type 0} (left : S → Option (List ℕ)) where
+module _ {S : Type 0} (left : S → Option (List ℕ)) (may : S → S → Type 0) where
+  -- no call is made where the reader stays as it is
+  pub same_source : (old new : ScriptHub S) → new.reader ≡ old.reader → Went may (source_in old) (source_in new)
+  same_source old new reader = subst (λ (rd : Reader S). Went may (source_in old) (source_of rd)) (sym reader) stay
+
   -- what is known where a part of a turn gave no answer
   pub record Goes (old new : ScriptHub S) : Type 0 where
     pub keeps : Keeps left old [] new
@@ -66,49 +72,53 @@ module _ {S : Type 0} (left : S → Option (List ℕ)) where
   pub own_none : (hub new : ScriptHub S) → is_spent hub ≡ false → (hub.waiting ≡ None → (let a : Option Turn = None in a ≡ None) × (new ≡ hub)) → ((r : Record) → hub.waiting ≡ Some r → TellsOwn r hub None new) → Goes hub new
   own_none hub new running nothing told = own_none_at hub.waiting hub new refl running nothing told
 
-  happened : (own : Option Happening) (hub new : ScriptHub S) (r : Record) (t : Turn) → hub.waiting ≡ Some r → is_spent hub ≡ false → script.Told hub r new → Keeps left hub (events_of own) new → Some t ≡ option_map (λ it. Happened it) own → ScriptStep left hub (turned t) new
+  happened : (own : Option Happening) (hub new : ScriptHub S) (r : Record) (t : Turn) → hub.waiting ≡ Some r → is_spent hub ≡ false → script.Told hub r new → Keeps left hub (events_of own) new → Some t ≡ option_map (λ it. Happened it) own → ScriptStep left may hub (turned t) new
   happened None hub new r t is running told keeps h = cc
   happened (Some it) hub new r t is running told keeps h =
-      subst (λ (k : Turn). ScriptStep left hub (turned k) new) (sym (same_Some t (Happened it) h)) (record {
+      subst (λ (k : Turn). ScriptStep left may hub (turned k) new) (sym (same_Some t (Happened it) h)) (record {
         story = keeps;
         answer = record {
           runs = told.spent ∙ running;
           none = ap (λ (rd : Reader S). part_of rd) told.reader ∙ hub.between (some_is_not_none hub.waiting r is);
           unrefused = ap (λ (rd : Reader S). refused_of rd) told.reader ∙ hub.accepted (some_is_not_none hub.waiting r is);
         };
+        source = same_source hub new told.reader;
       })
 
-  own_some_at : (waiting : Option Record) (hub new : ScriptHub S) (t : Turn) → hub.waiting ≡ waiting → is_spent hub ≡ false → (hub.waiting ≡ None → (Some t ≡ None) × (new ≡ hub)) → ((r : Record) → hub.waiting ≡ Some r → TellsOwn r hub (Some t) new) → ScriptStep left hub (turned t) new
-  own_some_at None hub new t is running nothing told = let bad : ⊥ = cc ((nothing is).0) in absurd bad
-  own_some_at (Some r) hub new t is running nothing told =
+  own_some_at : (waiting : Option Record) (hub new : ScriptHub S) (t : Turn) → hub.waiting ≡ waiting → is_spent hub ≡ false → (hub.waiting ≡ None → (Some t ≡ None) × (new ≡ hub)) → ((r : Record) → hub.waiting ≡ Some r → TellsOwn r hub (Some t) new) → new.reader ≡ hub.reader → ScriptStep left may hub (turned t) new
+  own_some_at None hub new t is running nothing told reader = let bad : ⊥ = cc ((nothing is).0) in absurd bad
+  own_some_at (Some r) hub new t is running nothing told reader =
       elim (told r is) [
         | inl own ↦ happened (own_where (is_live hub r.conn) r) hub new r t is running own.1 (Keeps-own left hub new r is running own.1) own.0
-        | inr out ↦ subst (λ (k : Turn). ScriptStep left hub (turned k) new) (sym (same_Some t Memory out.0)) (record { story = Keeps-spent left hub new out.1; answer = out.1.spent })
+        | inr out ↦ subst (λ (k : Turn). ScriptStep left may hub (turned k) new) (sym (same_Some t Memory out.0)) (record { story = Keeps-spent left hub new out.1; answer = out.1.spent; source = same_source hub new reader })
       ]
 
   -- the record that waited has told its own, or memory ran out
-  pub own_some : (hub new : ScriptHub S) (t : Turn) → is_spent hub ≡ false → (hub.waiting ≡ None → (Some t ≡ None) × (new ≡ hub)) → ((r : Record) → hub.waiting ≡ Some r → TellsOwn r hub (Some t) new) → ScriptStep left hub (turned t) new
-  own_some hub new t running nothing told = own_some_at hub.waiting hub new t refl running nothing told
+  pub own_some : (hub new : ScriptHub S) (t : Turn) → is_spent hub ≡ false → (hub.waiting ≡ None → (Some t ≡ None) × (new ≡ hub)) → ((r : Record) → hub.waiting ≡ Some r → TellsOwn r hub (Some t) new) → new.reader ≡ hub.reader → ScriptStep left may hub (turned t) new
+  own_some hub new t running nothing told reader = own_some_at hub.waiting hub new t refl running nothing told reader
 
   -- the next record was read, and has told nothing yet
   pub read_none : (hub new : ScriptHub S) → hub.waiting ≡ None → is_spent hub ≡ false → ReadsOn left hub None new → Goes hub new
   read_none hub new waiting running reads = record { keeps = Keeps-read left hub new None waiting running reads; running = reads.spent ∙ running }
 
   -- reading on gave an answer
-  pub read_some : (hub new : ScriptHub S) (t : Turn) → hub.waiting ≡ None → is_spent hub ≡ false → ReadsOn left hub (Some t) new → ScriptStep left hub (turned t) new
-  read_some hub new (Happened it) waiting running reads = record {
+  pub read_some : (hub new : ScriptHub S) (t : Turn) → hub.waiting ≡ None → is_spent hub ≡ false → ReadsOn left hub (Some t) new → Went may (source_in hub) (source_in new) → ScriptStep left may hub (turned t) new
+  read_some hub new (Happened it) waiting running reads went = record {
     story = Keeps-read left hub new (Some it) waiting running reads;
     answer = record { runs = reads.spent ∙ running; none = reads.takes.none; unrefused = reads.takes.unrefused };
+    source = went;
   }
-  read_some hub new Done waiting running reads = record {
+  read_some hub new Done waiting running reads went = record {
     story = Keeps-stays left hub new waiting running reads.0;
     answer = record { runs = reads.0.spent ∙ running; none_waits = reads.0.waiting ∙ waiting; ended = reads.1 };
+    source = went;
   }
-  read_some hub new Failed waiting running reads = record {
+  read_some hub new Failed waiting running reads went = record {
     story = Keeps-stays left hub new waiting running reads.0;
     answer = record { runs = reads.0.spent ∙ running; unrefused = reads.1; within = reader_within new.reader };
+    source = went;
   }
-  read_some hub new Memory waiting running reads = record { story = Keeps-spent left hub new reads; answer = reads.spent }
+  read_some hub new Memory waiting running reads went = record { story = Keeps-spent left hub new reads; answer = reads.spent; source = went }
 
   same_answers : (a b c : ScriptHub S) (t : Turn) → Answers left b (turned t) c → Answers left a (turned t) c
   same_answers a b c (Happened it) h = h
@@ -117,22 +127,27 @@ module _ {S : Type 0} (left : S → Option (List ℕ)) where
   same_answers a b c Memory h = h
 
   -- a step behind parts that gave no answer
-  pub step_then : (a b c : ScriptHub S) (t : Turn) → Keeps left a [] b → ScriptStep left b (turned t) c → ScriptStep left a (turned t) c
-  step_then a b c t keeps step = record {
+  pub step_then : (a b c : ScriptHub S) (t : Turn) → Keeps left a [] b → Went may (source_in a) (source_in b) → ScriptStep left may b (turned t) c → ScriptStep left may a (turned t) c
+  step_then a b c t keeps went step = record {
     story = Keeps-then left a b c (added_by (turned t)) keeps step.story;
     answer = same_answers a b c t step.answer;
+    source = Went-append may (source_in a) (source_in b) went (source_in c) step.source;
   }
 
   -- a spent hub stays as it is
-  pub stays_spent : (hub : ScriptHub S) → is_spent hub ≡ true → ScriptStep left hub (turned Memory) hub
-  stays_spent hub spent = record { story = Keeps-same left hub; answer = spent }
+  pub stays_spent : (hub : ScriptHub S) → is_spent hub ≡ true → ScriptStep left may hub (turned Memory) hub
+  stays_spent hub spent = record { story = Keeps-same left hub; answer = spent; source = stay }
 
   -- a piece is said, and nothing kept
-  pub said_step : (hub : ScriptHub S) (conn : ℕ) (piece : List ℕ) (answer : Said) → answer ≡ answer_of hub conn → ScriptStep left hub (said conn piece answer) hub
-  said_step hub conn piece answer is = record { story = Keeps-said left hub conn piece answer; answer = (is, refl) }
+  pub said_step : (hub : ScriptHub S) (conn : ℕ) (piece : List ℕ) (answer : Said) → answer ≡ answer_of hub conn → ScriptStep left may hub (said conn piece answer) hub
+  said_step hub conn piece answer is = record { story = Keeps-said left hub conn piece answer; answer = (is, refl); source = stay }
 
-  pub closed_step : (hub new : ScriptHub S) (c : ℕ) → new.live ≡ without hub.live c → new.reader ≡ hub.reader → new.waiting ≡ hub.waiting → new.spent ≡ hub.spent → ScriptStep left hub (closed c) new
-  closed_step hub new c live reader waiting spent = record { story = Keeps-closed left hub new c live reader waiting spent; answer = (spent, reader) }
+  pub closed_step : (hub new : ScriptHub S) (c : ℕ) → new.live ≡ without hub.live c → new.reader ≡ hub.reader → new.waiting ≡ hub.waiting → new.spent ≡ hub.spent → ScriptStep left may hub (closed c) new
+  closed_step hub new c live reader waiting spent = record {
+    story = Keeps-closed left hub new c live reader waiting spent;
+    answer = (spent, reader);
+    source = same_source hub new reader;
+  }
 
 pub is_gone : (conns : List ℕ) (c : ℕ) → is_among (without conns c) c ≡ false
 is_gone conns c = is_among-without conns c c ∙ ap (λ b. not b && is_among conns c) (eq-eqb c c refl)

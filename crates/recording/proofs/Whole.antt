@@ -7,6 +7,8 @@ use Rattle.fg_outside.specs.declared.hub.Happening.{Happening}
 use Rattle.fg_outside.specs.declared.hub.Turn.TheVariants.{Happened, Done, Failed}
 use Rattle.fg_outside.specs.Left.{prepended, IsAtEnd}
 use Rattle.fg_outside.specs.HubStep.{HubStep, Event, turned, Leads, story}
+use Rattle.fg_outside.specs.Steps.{Went, stay}
+use Rattle.fg_outside.proofs.StepLemmas.{Went-append}
 use Rattle.fg_outside.proofs.StoryLemmas.{Story-keeps}
 use Rattle.recording.specs.declared.record.Record.{Record}
 use Rattle.recording.specs.declared.refused.RecordCause.{RecordCause}
@@ -16,7 +18,7 @@ use Rattle.recording.specs.Recording.{Place, first_place, after, after_all, AllS
 use Rattle.recording.specs.Refused.{refusal}
 use Rattle.recording.specs.Reader.{place_of, part_of, left_of, refused_of, Ends}
 use Rattle.recording.specs.Turns.{closings, turns}
-use Rattle.recording.specs.Script.{source_in, is_spent, refusal_in, listed, StandsFor, ScriptStep, ToldWhole, IsReadBehind, IsReadInside}
+use Rattle.recording.specs.Script.{source_in, is_spent, refusal_in, listed, StandsFor, ScriptStep, ToldWhole, ToldSoFar, IsReadBehind, IsReadInside}
 
 -- as many records as were counted
 counted_all : (place : Place) (records : List Record) → (after_all place records).count ≡ place.count + length records
@@ -58,13 +60,33 @@ begun_left : (part : List ℕ) (left : Option (List ℕ)) (more : List ℕ) → 
 begun_left part None more begun h = absurd (told_is_told more h)
 begun_left part (Some rest) more begun h = omega (arith, begun, ap (λ (l : List ℕ). length l) (same_Some more (part ++ rest) h), length-append part rest)
 
-module _ {S : Type 0} (left : S → Option (List ℕ)) where
+module _ {S : Type 0} (left : S → Option (List ℕ)) (may : S → S → Type 0) where
   abbrev Stands : Option (List ℕ) → ScriptHub S → List Event → Type 0
   Stands whole hub events = (records : List Record) × (waits : Option Record) × StandsFor left whole hub records waits events
 
-  pub way_tells : (whole : Option (List ℕ)) (from to : ScriptHub S) (steps : List HubStep) → StandsFor left whole from [] None [] → Leads (ScriptStep left) from steps to → (records : List Record) × (waits : Option Record) × StandsFor left whole to records waits (story steps)
+  pub way_tells : (whole : Option (List ℕ)) (from to : ScriptHub S) (steps : List HubStep) → StandsFor left whole from [] None [] → Leads (ScriptStep left may) from steps to → (records : List Record) × (waits : Option Record) × StandsFor left whole to records waits (story steps)
   way_tells whole from to steps first way =
-      Story-keeps (ScriptStep left) (Stands whole) (λ mid events step next stands may_step. may_step.story whole stands.0 stands.1 events stands.2) from ([], None, first) steps to way
+      Story-keeps (ScriptStep left may) (Stands whole) (λ mid events step next stands may_step. may_step.story whole stands.0 stands.1 events stands.2) from ([], None, first) steps to way
+
+  pub source_goes : (from to : ScriptHub S) (steps : List HubStep) → Leads (ScriptStep left may) from steps to → Went may (source_in from) (source_in to)
+  source_goes from to steps way =
+      Story-keeps (ScriptStep left may) (λ hub _. Went may (source_in from) (source_in hub)) (λ mid events step next went may_step. Went-append may (source_in from) (source_in mid) went (source_in next) may_step.source) from stay steps to way
+
+  pub stopped_told : (bytes : List ℕ) (from to : ScriptHub S) (steps : List HubStep) → StandsFor left (Some bytes) from [] None [] → Leads (ScriptStep left may) from steps to → ToldSoFar bytes (story steps)
+  stopped_told bytes from to steps first way =
+      let so_far = way_tells (Some bytes) from to steps first way in
+      let stands = so_far.2 in
+      let split = split_told bytes stands.front stands.rest stands.parts in
+      record {
+        records = so_far.0;
+        waits = so_far.1;
+        front = stands.front;
+        rest = split.0;
+        parts = split.2;
+        spell = stands.spell;
+        follow = stands.follow;
+        gave = stands.gave;
+      }
 
   told_whole : (bytes : List ℕ) (hub : ScriptHub S) (records : List Record) (events : List Event) → StandsFor left (Some bytes) hub records None events → is_spent hub ≡ false → (refused_of hub.reader ≡ None → Ends left hub.reader) → ToldWhole bytes events (refusal_in hub)
   told_whole bytes hub records events stands running ended =
@@ -99,7 +121,7 @@ module _ {S : Type 0} (left : S → Option (List ℕ)) where
             };
       }
 
-  pub done_told : (bytes : List ℕ) (from to next : ScriptHub S) (steps : List HubStep) → StandsFor left (Some bytes) from [] None [] → Leads (ScriptStep left) from steps to → ScriptStep left to (turned Done) next → ToldWhole bytes (story steps) (refusal_in next)
+  pub done_told : (bytes : List ℕ) (from to next : ScriptHub S) (steps : List HubStep) → StandsFor left (Some bytes) from [] None [] → Leads (ScriptStep left may) from steps to → ScriptStep left may to (turned Done) next → ToldWhole bytes (story steps) (refusal_in next)
   done_told bytes from to next steps first way done =
       let before = way_tells (Some bytes) from to steps first way in
       let behind = done.story (Some bytes) before.0 before.1 (story steps) before.2 in
@@ -108,7 +130,7 @@ module _ {S : Type 0} (left : S → Option (List ℕ)) where
       let none : behind.1 ≡ None = sym (stands.runs over.runs).waiting ∙ over.none_waits in
       told_whole bytes next behind.0 (story steps) (subst (λ (w : Option Record). StandsFor left (Some bytes) next behind.0 w (story steps)) none stands) over.runs over.ended
 
-  pub read_behind : (bytes : List ℕ) (from to next : ScriptHub S) (steps : List HubStep) (it : Happening) → StandsFor left (Some bytes) from [] None [] → Leads (ScriptStep left) from steps to → ScriptStep left to (turned (Happened it)) next → IsReadBehind bytes (left (source_in next))
+  pub read_behind : (bytes : List ℕ) (from to next : ScriptHub S) (steps : List HubStep) (it : Happening) → StandsFor left (Some bytes) from [] None [] → Leads (ScriptStep left may) from steps to → ScriptStep left may to (turned (Happened it)) next → IsReadBehind bytes (left (source_in next))
   read_behind bytes from to next steps it first way step =
       let before = way_tells (Some bytes) from to steps first way in
       let behind = step.story (Some bytes) before.0 before.1 (story steps) before.2 in
@@ -124,7 +146,7 @@ module _ {S : Type 0} (left : S → Option (List ℕ)) where
         behind = all_left (part_of next.reader) (left (source_in next)) split.0 step.answer.none (sym split.1 ∙ runs.behind);
       }
 
-  pub read_inside : (bytes : List ℕ) (from to next : ScriptHub S) (steps : List HubStep) → StandsFor left (Some bytes) from [] None [] → Leads (ScriptStep left) from steps to → ScriptStep left to (turned Failed) next → IsReadInside bytes (left (source_in next))
+  pub read_inside : (bytes : List ℕ) (from to next : ScriptHub S) (steps : List HubStep) → StandsFor left (Some bytes) from [] None [] → Leads (ScriptStep left may) from steps to → ScriptStep left may to (turned Failed) next → IsReadInside bytes (left (source_in next))
   read_inside bytes from to next steps first way step =
       let before = way_tells (Some bytes) from to steps first way in
       let behind = step.story (Some bytes) before.0 before.1 (story steps) before.2 in

@@ -10,12 +10,9 @@ use Rattle.recording.specs.declared.written.SwitchError.{SwitchError}
 use Rattle.recording.specs.Written.{number, Written, sent, closed, kind_number, error_bytes, body_of, laid, WrittenRecord, written, written_records, IsErrorOk, IsTold, IsWritable, AreWritable}
 use Rattle.recording.proofs.Grammar.{same_layouts}
 
-pub length-number : (len value : ℕ) → length (number len value) ≡ len
+length-number : (len value : ℕ) → length (number len value) ≡ len
 unfolding number
 length-number len value = length-bytes_high_first len value
-
--- as `using(crate::proofs::Writing::numbers)` takes it
-pub ruleset numbers = (length-number)
 
 kind_again : (before : List ℕ) (kind : ℕ) (rest : List ℕ) → length before ≡ 8 → kind_in (before ++ ((kind ∷ []) ++ rest)) ≡ kind
 unfolding number_at

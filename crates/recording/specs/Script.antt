@@ -12,6 +12,7 @@ use Rattle.fg_outside.specs.declared.hub.Said.TheVariants as answers
 use Rattle.fg_outside.specs.Left.{prepended}
 use Rattle.fg_outside.specs.HubStep.{HubStep, turned, said, closed, Event, happening, saying, closing, happenings}
 use Rattle.fg_outside.specs.HubStep.{told_by as added_by}
+use Rattle.fg_outside.specs.Steps.{Went}
 use Rattle.recording.specs.declared.kind.RecordKind.{RecordKind}
 use Rattle.recording.specs.declared.kind.RecordKind.TheVariants as kinds
 use Rattle.recording.specs.declared.record.Record.{Record}
@@ -134,9 +135,11 @@ Answers left old (said conn piece answer) new = (answer ≡ answer_of old conn) 
 Answers left old (closed conn) new = (is_spent new ≡ is_spent old) × (new.reader ≡ old.reader)
 
 -- a step that the hub may take
-pub record ScriptStep {S : Type 0} (left : S → Option (List ℕ)) (old : ScriptHub S) (step : HubStep) (new : ScriptHub S) : Type 0 where
+pub record ScriptStep {S : Type 0} (left : S → Option (List ℕ)) (may : S → S → Type 0) (old : ScriptHub S) (step : HubStep) (new : ScriptHub S) : Type 0 where
   pub story : Keeps left old (added_by step) new
   pub answer : Answers left old step new
+  -- its source went by steps that it may take
+  pub source : Went may (source_in old) (source_in new)
 
 -- ---- the two parts of a turn
 
@@ -202,6 +205,19 @@ pub record ToldWhole (bytes : List ℕ) (events : List Event) (refused : Option 
   pub told : happenings events ≡ turns records (closings 0 events)
   pub whole : refused ≡ None → Records bytes records
   pub refuses : (r : RecordRefused) → refused ≡ Some r → IsRefused bytes records r.number r.cause
+
+-- the story is that of records at the front of the recording, the last of which may wait to tell its own
+pub record ToldSoFar (bytes : List ℕ) (events : List Event) : Type 0 where
+  pub records : List Record
+  pub waits : Option Record
+  pub front : List ℕ
+  pub rest : List ℕ
+  pub parts : bytes ≡ front ++ rest
+  pub spell : AllSpell (records ++ listed waits) front
+  pub follow : AllFollow first_place (records ++ listed waits)
+  pub gave :
+      let told = told_by (closings 0 events) records in
+      happenings events ≡ told.given ++ clock_of told.moment waits
 
 -- of a recording exactly the bytes behind these records are left
 pub record IsReadBehind (bytes : List ℕ) (left : Option (List ℕ)) : Type 0 where

@@ -1,6 +1,7 @@
 ghost use Rattle.std.specs.Prelude.{◌≡◌, ℕ, ◌+◌, ◌-◌, ◌<◌, ◌≤◌, List, ◌++◌, length, true, false, OnOk, IfOk, IsErrOf};
 ghost use Rattle.fg_outside.specs.Counts.{Rose};
 ghost use Rattle.fg_outside.specs.Left.{prepended, IsAtEnd};
+ghost use Rattle.fg_outside.specs.Steps.{Went};
 
 use fg_outside::{Failed, Source};
 use net_base::{Bytes, NoMemory};
@@ -39,6 +40,7 @@ const PIECE_LEN: usize = 1024;
 
 /// Reads bytes behind those that are there, until there are `most` or the source ends. After
 /// `Failed` it can be called again, to go on.
+#[tactic(auto, using(fg_outside::proofs::StepLemmas::calls))]
 pub fn grow<S: Source>(source: &mut S, bytes: &mut Bytes, most: usize) -> Result<(), GrowRefused>
     requires { length bytes.old ≤ most }
     ensures took { (IsErrOf result GrowRefused.Memory → ⊥)
@@ -48,6 +50,7 @@ pub fn grow<S: Source>(source: &mut S, bytes: &mut Bytes, most: usize) -> Result
     ensures failed { IsErrOf result GrowRefused.Failed → Rose (S.faults source.old) (S.faults source.new) }
     ensures no_fault { (IsErrOf result GrowRefused.Failed → ⊥) → S.faults source.new ≡ S.faults source.old }
     ensures faults { S.faults source.old ≤ S.faults source.new }
+    ensures step { Went S.may source.old source.new }
 {
     while bytes.len() < most {
         if grow_once(source, bytes, most)? {
@@ -58,6 +61,7 @@ pub fn grow<S: Source>(source: &mut S, bytes: &mut Bytes, most: usize) -> Result
 }
 
 // Reads one piece more, and says whether the source has ended.
+#[tactic(auto, using(fg_outside::proofs::StepLemmas::calls))]
 fn grow_once<S: Source>(source: &mut S, bytes: &mut Bytes, most: usize) -> Result<bool, GrowRefused>
     requires { length bytes.old < most }
     ensures took { (IsErrOf result GrowRefused.Memory → ⊥)
@@ -68,6 +72,7 @@ fn grow_once<S: Source>(source: &mut S, bytes: &mut Bytes, most: usize) -> Resul
     ensures failed { IsErrOf result GrowRefused.Failed → Rose (S.faults source.old) (S.faults source.new) }
     ensures no_fault { (IsErrOf result GrowRefused.Failed → ⊥) → S.faults source.new ≡ S.faults source.old }
     ensures faults { S.faults source.old ≤ S.faults source.new }
+    ensures step { Went S.may source.old source.new }
 {
     let room = PIECE_LEN.min(most - bytes.len());
     let mut buf = [0; PIECE_LEN];

@@ -1,6 +1,7 @@
 //! What the definitions of this crate come to, in the words of recordings and stories.
 ghost use Rattle.std.specs.Prelude.{◌≡◌, ◌⊎◌, ◌++◌, ℕ, List, [], Option, Some, None};
 ghost use Rattle.fg_outside.specs.HubStep.{HubStep, turned, Leads, story};
+ghost use Rattle.fg_outside.specs.Steps.{Went};
 ghost use Rattle.fg_outside.specs.declared.hub.Happening.{Happening};
 ghost use Rattle.fg_outside.specs.declared.hub.Turn.TheVariants.{Happened, Done, Failed};
 ghost use Rattle.recording.specs.declared.record.Record.{Record};
@@ -10,7 +11,7 @@ ghost use Rattle.recording.specs.Layout.{HasLayout};
 ghost use Rattle.recording.specs.Recording.{Records};
 ghost use Rattle.recording.specs.Refused.{IsRefused};
 ghost use Rattle.recording.specs.Written.{kind_number, body_of, WrittenRecord, written, written_records, IsWritable, AreWritable};
-ghost use Rattle.recording.specs.Script.{source_in, refusal_in, StandsFor, ToldWhole, IsReadBehind, IsReadInside};
+ghost use Rattle.recording.specs.Script.{source_in, refusal_in, StandsFor, ToldWhole, ToldSoFar, IsReadBehind, IsReadInside};
 
 use crate::ScriptHub;
 use fg_outside::{Hub, Source};
@@ -22,6 +23,23 @@ pub fn a_way_tells_records<S: Source>()
         → StandsFor S.left whole from [] None []
         → Leads ⟦<ScriptHub<S> as Hub>⟧.may from steps to
         → (records : List Record) × (waits : Option Record) × StandsFor S.left whole to records waits (story steps) }
+{}
+
+/// Whichever way a hub goes, its source went by calls, in steps that it may take.
+pub fn along_a_way_the_source_goes_by_its_steps<S: Source>()
+    ensures { (from to : ScriptHub S) (steps : List HubStep)
+        → Leads ⟦<ScriptHub<S> as Hub>⟧.may from steps to
+        → Went S.may (source_in from) (source_in to) }
+{}
+
+/// Wherever a hub stops that began to read, the happenings of its story are the turns of records at
+/// the front of the recording and of the closings in that story, and then the moment of the record
+/// that waits.
+pub fn a_stopped_story_is_the_turns_of_a_front<S: Source>()
+    ensures { (bytes : List ℕ) (from to : ScriptHub S) (steps : List HubStep)
+        → StandsFor S.left (Some bytes) from [] None []
+        → Leads ⟦<ScriptHub<S> as Hub>⟧.may from steps to
+        → ToldSoFar bytes (story steps) }
 {}
 
 /// Once the turn is `Done`, the happenings of the story are the turns of the recording's accepted

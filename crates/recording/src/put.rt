@@ -40,16 +40,26 @@ fn put_u16(out: &mut Bytes, value: u16) -> Result<(), NoMemory>
     out.append(&bytes)
 }
 
+// Adds the lowest 4 bytes of a length, the highest of them first.
+#[tactic(auto, unfolding(crate::specs::Written::number))]
+fn put_len(out: &mut Bytes, len: usize) -> Result<(), NoMemory>
+    ensures ok { OnOk result (out.new ≡ out.old ++ number 4 len) }
+    ensures err { OnErr result (out.new ≡ out.old) }
+{
+    let mut bytes = [0u8; 8];
+    BigEndian::write_u64(&mut bytes, len as u64);
+    out.append(&bytes[4..])
+}
+
 // Adds a record part by part. After `NoMemory` some parts may stand there.
 fn put_parts(out: &mut Bytes, moment: u64, kind: u8, conn: u32, body: &[u8]) -> Result<(), NoMemory>
-    requires { length body.now < 2 ^ 32 }
     ensures ok { OnOk result (out.new ≡ out.old ++ laid moment kind conn body.now) }
     ensures err { take (length out.old) out.new ≡ out.old }
 {
     put_u64(out, moment)?;
     out.push(kind)?;
     put_u32(out, conn)?;
-    put_u32(out, body.len() as u32)?;
+    put_len(out, body.len())?;
     out.append(body)
 }
 
@@ -61,7 +71,6 @@ fn put_record(
     conn: u32,
     body: &[u8],
 ) -> Result<(), NoMemory>
-    requires { length body.now < 2 ^ 32 }
     ensures ok { OnOk result (out.new ≡ out.old ++ laid moment kind conn body.now) }
     ensures err { OnErr result (out.new ≡ out.old) }
 {
@@ -73,10 +82,10 @@ fn put_record(
     put
 }
 
-/// Adds the record of one message that was sent on a connection. After `NoMemory` the bytes are as
-/// they were.
+/// Adds the record of one message that was sent on a connection: one of 2^32 bytes or more has no record
+/// that could be read, since a record tells its length in 4 bytes. After `NoMemory` the bytes are as they
+/// were.
 pub fn put_sent(out: &mut Bytes, moment: u64, conn: u32, message: &[u8]) -> Result<(), NoMemory>
-    requires { length message.now < 2 ^ 32 }
     ensures ok { OnOk result (out.new ≡ out.old ++ written (record { moment = moment; conn = conn; told = sent message.now })) }
     ensures err { OnErr result (out.new ≡ out.old) }
 {
@@ -84,10 +93,8 @@ pub fn put_sent(out: &mut Bytes, moment: u64, conn: u32, message: &[u8]) -> Resu
 }
 
 // The bytes of a closing: the number of the cause, and an error's type and code.
-#[tactic(auto, using(crate::proofs::Writing::numbers))]
 fn closing_bytes(alloc: Global, cause: u8, error: Option<SwitchError>) -> Result<Bytes, NoMemory>
-    ensures bytes { IfOk result (λ bytes. bytes ≡ (cause ∷ []) ++ error_bytes error) }
-    ensures few { IfOk result (λ bytes. length bytes < 2 ^ 32) }
+    ensures { IfOk result (λ bytes. bytes ≡ (cause ∷ []) ++ error_bytes error) }
 {
     let mut bytes = Bytes::new(alloc);
     bytes.push(cause)?;

@@ -2,6 +2,7 @@ ghost use Rattle.std.specs.Prelude.{◌≡◌, ◌⊎◌, ℕ, ◌+◌, ◌-◌,
 ghost use Rattle.std.specs.Option.{option_map};
 ghost use Rattle.fg_outside.specs.Counts.{Rose};
 ghost use Rattle.fg_outside.specs.Left.{IsAtEnd};
+ghost use Rattle.fg_outside.specs.Steps.{Went};
 ghost use Rattle.recording.specs.declared.refused.RecordCause.{RecordCause};
 ghost use Rattle.recording.specs.HeaderLimit.{header_limit};
 ghost use Rattle.recording.specs.HeaderIs.{HeaderIs};
@@ -136,6 +137,7 @@ impl<S: Source> Reader<S> {
     }
 
     // Reads on in the header of the next record, as far as a fault can stand in it.
+    #[tactic(auto, using(fg_outside::proofs::StepLemmas::calls))]
     fn read_head(&mut self) -> Result<(), Stop>
         ensures only { OnErr result (IsErrOf result Stop.Failed ⊎ IsErrOf result Stop.Memory) }
         ensures kept { (IsErrOf result Stop.Memory → ⊥) → left_of S.left self.new ≡ left_of S.left self.old }
@@ -146,6 +148,7 @@ impl<S: Source> Reader<S> {
         ensures failed { IsErrOf result Stop.Failed → Rose (S.faults (source_of self.old)) (S.faults (source_of self.new)) }
         ensures no_fault { (IsErrOf result Stop.Failed → ⊥) → S.faults (source_of self.new) ≡ S.faults (source_of self.old) }
         ensures faults { S.faults (source_of self.old) ≤ S.faults (source_of self.new) }
+        ensures step { Went S.may (source_of self.old) (source_of self.new) }
     {
         let most = if self.count < u64::MAX - 1 {
             HEADER_LEN
@@ -159,6 +162,7 @@ impl<S: Source> Reader<S> {
     }
 
     // Reads the header of the next record.
+    #[tactic(auto, using(fg_outside::proofs::StepLemmas::calls))]
     fn read_header(&mut self) -> Result<Header, Stop>
         ensures ok { IfOk result (λ header. HeaderIs (place_of self.new) self.new.head header) }
         ensures unrefused { OnOk result (refused_of self.new ≡ None) }
@@ -174,6 +178,7 @@ impl<S: Source> Reader<S> {
         ensures failed { IsErrOf result Stop.Failed → Rose (S.faults (source_of self.old)) (S.faults (source_of self.new)) }
         ensures no_fault { (IsErrOf result Stop.Failed → ⊥) → S.faults (source_of self.new) ≡ S.faults (source_of self.old) }
         ensures faults { S.faults (source_of self.old) ≤ S.faults (source_of self.new) }
+        ensures step { Went S.may (source_of self.old) (source_of self.new) }
     {
         if let Some(cause) = self.refused {
             return Err(Stop::Refused(cause));
@@ -212,6 +217,7 @@ impl<S: Source> Reader<S> {
         ensures failed { IsErrOf result Stop.Failed → Rose (S.faults (source_of self.old)) (S.faults (source_of self.new)) }
         ensures no_fault { (IsErrOf result Stop.Failed → ⊥) → S.faults (source_of self.new) ≡ S.faults (source_of self.old) }
         ensures faults { S.faults (source_of self.old) ≤ S.faults (source_of self.new) }
+        ensures step { Went S.may (source_of self.old) (source_of self.new) }
     {
         let len = header.len as usize;
         grow(&mut self.source, &mut self.body, len)?;
@@ -248,6 +254,7 @@ impl<S: Source> Reader<S> {
     /// Reads the next record, and no byte behind it. A refused record is read as far as its fault,
     /// and refused at each later call too. After `Failed` the next call goes on where this one
     /// stopped.
+    #[tactic(auto, using(fg_outside::proofs::StepLemmas::calls))]
     pub fn next(&mut self) -> Result<Record, Stop>
         ensures ok { IfOk result (λ r. Takes S.left self.old r self.new) }
         ensures end { IsErrOf result Stop.End → Ends S.left self.new }
@@ -261,6 +268,7 @@ impl<S: Source> Reader<S> {
         ensures failed { IsErrOf result Stop.Failed → Rose (S.faults (source_of self.old)) (S.faults (source_of self.new)) }
         ensures no_fault { (IsErrOf result Stop.Failed → ⊥) → S.faults (source_of self.new) ≡ S.faults (source_of self.old) }
         ensures faults { S.faults (source_of self.old) ≤ S.faults (source_of self.new) }
+        ensures step { Went S.may (source_of self.old) (source_of self.new) }
     {
         let header = self.read_header()?;
         self.read_body(header)?;

@@ -1,6 +1,7 @@
 ghost use Rattle.std.specs.Prelude.{◌≡◌, ◌≢◌, ◌≤◌, ◌+◌, ℕ, true, false, [], Some, None};
 ghost use Rattle.fg_outside.specs.Counts.{Rose};
 ghost use Rattle.fg_outside.specs.HubStep.{HubStep, turned, said, closed};
+ghost use Rattle.fg_outside.specs.Steps.{Went};
 ghost use Rattle.recording.specs.declared.record.Record.{Record};
 ghost use Rattle.recording.specs.Reader.{part_of, refused_of};
 
@@ -85,6 +86,7 @@ impl<S: Source> ScriptHub<S> {
         ensures failed { result ≡ Some Turn.Failed → Rose (S.faults (source_in self.old)) (S.faults (source_in self.new)) }
         ensures no_fault { result ≢ Some Turn.Failed → S.faults (source_in self.new) ≡ S.faults (source_in self.old) }
         ensures faults { S.faults (source_in self.old) ≤ S.faults (source_in self.new) }
+        ensures source { Went S.may (source_in self.old) (source_in self.new) }
     {
         let last = self.reader.moment();
         match self.reader.next() {
@@ -108,7 +110,7 @@ impl<S: Source> ScriptHub<S> {
 impl<S: Source> Hub for ScriptHub<S> {
     ghost use Rattle.recording.specs.Script.{source_in, is_live, answer_of, ScriptStep};
 
-    ghost may = { λ old step new. ScriptStep S.left old step new };
+    ghost may = { λ old step new. ScriptStep S.left S.may old step new };
 
     ghost is_open = { λ hub conn. is_live hub conn };
 

@@ -5,7 +5,7 @@ use fg_outside::{
     Said, Source, SureFiles, SureSource, Turn,
 };
 use net_base::{Bytes, NoMemory, Text};
-use recording::{RecordCause, RecordRefused, ScriptHub, SwitchError, put_closed, put_sent};
+use recording::{RecordCause, RecordRefused, ScriptHub};
 use std::alloc::Global;
 use std::test::Fail;
 
@@ -98,17 +98,6 @@ fn a_recording_is_told_in_order(rt: HostRuntime) -> Result<(), Fail> {
 }
 
 #[test]
-fn an_empty_recording_and_one_that_opens_a_connection(rt: HostRuntime) -> Result<(), Fail> {
-    let alloc = rt.alloc();
-    let mut hub = ScriptHub::new(alloc, SureSource::new(Bytes::new(alloc)));
-    assert!(rt; turns_are(&mut hub, &[('d', 0), ('d', 0)]));
-    let open = [0, 0, 0, 0, 0, 0, 0, 0, 1, 0, 0, 0, 1, 0, 0, 0, 0];
-    let mut hub = ScriptHub::new(alloc, SureSource::new(Bytes::from_slice(alloc, &open)?));
-    assert!(rt; turns_are(&mut hub, &[('o', 1), ('d', 0)]));
-    Ok(())
-}
-
-#[test]
 fn a_failed_read_loses_nothing(rt: HostRuntime) -> Result<(), Fail> {
     let alloc = rt.alloc();
     for no in 1..12u64 {
@@ -185,38 +174,6 @@ fn a_recording_is_cut_where_it_ends_inside_a_record(rt: HostRuntime) -> Result<(
 }
 
 #[test]
-fn each_cause_at_its_least_place(rt: HostRuntime) -> Result<(), Fail> {
-    let alloc = rt.alloc();
-    // Kind, connection, moment and the highest three bytes of the length, of a record behind one that
-    // opens connection 1 at moment 5; and the cause.
-    let cases: [(u8, u8, u8, [u8; 4], RecordCause); 12] = [
-        (0, 1, 5, [0; 4], RecordCause::Kind),
-        (6, 0, 4, [0, 16, 0, 1], RecordCause::Kind),
-        (130, 1, 5, [0; 4], RecordCause::Kind),
-        (1, 2, 5, [0, 0, 0, 1], RecordCause::Length),
-        (3, 9, 4, [0, 0, 0, 1], RecordCause::Length),
-        (5, 0, 5, [0, 0, 0, 1], RecordCause::Length),
-        (2, 1, 5, [0, 16, 0, 1], RecordCause::Length),
-        (2, 9, 4, [0; 4], RecordCause::Falls),
-        (1, 1, 5, [0; 4], RecordCause::Conn),
-        (2, 2, 5, [0; 4], RecordCause::Conn),
-        (4, 1, 5, [0, 16, 0, 0], RecordCause::Conn),
-        (2, 1, 5, [0, 16, 0, 0], RecordCause::Cut),
-    ];
-    for (kind, conn, moment, len, cause) in cases {
-        let mut bytes = Bytes::new(alloc);
-        put(&mut bytes, 5, 1, 1, b"")?;
-        bytes.append(&[0, 0, 0, 0, 0, 0, 0, moment, kind, 0, 0, 0, conn])?;
-        bytes.append(&len)?;
-        let mut hub = ScriptHub::new(alloc, SureSource::new(bytes));
-        assert!(rt; turns_are(&mut hub, &[('m', 5), ('o', 1), ('d', 0), ('d', 0)]));
-        let want = RecordRefused { number: 2, cause };
-        assert_eq!(rt; hub.refused(), Some(want), "{kind} {conn}");
-    }
-    Ok(())
-}
-
-#[test]
 fn nothing_is_read_past_a_record(rt: HostRuntime) -> Result<(), Fail> {
     let alloc = rt.alloc();
     let mut hub = ScriptHub::new(alloc, SureSource::new(story(alloc)?));
@@ -230,29 +187,5 @@ fn nothing_is_read_past_a_record(rt: HostRuntime) -> Result<(), Fail> {
         Ok(n) => assert_eq!(rt; &buf[..n], &all.as_slice()[56..]),
         Err(_) => assert!(rt; false),
     }
-    Ok(())
-}
-
-#[test]
-fn written_records(rt: HostRuntime) -> Result<(), Fail> {
-    let alloc = rt.alloc();
-    let mut out = Bytes::new(alloc);
-    let hello = [4, 0, 0, 16, 0, 0, 0, 1, 0, 1, 0, 8, 0, 0, 0, 16];
-    put_sent(&mut out, 0, 1, &hello)?;
-    let error = SwitchError { kind: 5, code: 1 };
-    put_closed(alloc, &mut out, 258, 1, 7, Some(error))?;
-    put_closed(alloc, &mut out, 258, 2, 2, None)?;
-    let mut want = Bytes::from_slice(
-        alloc,
-        &[0, 0, 0, 0, 0, 0, 0, 0, 130, 0, 0, 0, 1, 0, 0, 0, 16],
-    )?;
-    want.append(&hello)?;
-    want.append(&[
-        0, 0, 0, 0, 0, 0, 1, 2, 131, 0, 0, 0, 1, 0, 0, 0, 5, 7, 0, 5, 0, 1,
-    ])?;
-    want.append(&[0, 0, 0, 0, 0, 0, 1, 2, 131, 0, 0, 0, 2, 0, 0, 0, 1, 2])?;
-    assert_eq!(rt; out.as_slice(), want.as_slice());
-    assert_eq!(rt; RecordCause::Falls.number(), 4);
-    assert_eq!(rt; RecordCause::Cut.name(), "Cut");
     Ok(())
 }

@@ -3,7 +3,7 @@
 use crate::runs::{refuse, run};
 use case_lines::{unescaped, write_repeated};
 use fg_outside::{CallNos, Folder, Folders, HeldFile, HeldFiles, MemFiles};
-use net_base::{NoMemory, Text, TryCopy};
+use net_base::{Bytes, NoMemory, Text, TryCopy};
 use std::alloc::Global;
 
 /// Which calls of a run fail, numbered from 1 on, and how many bytes standard output holds.
@@ -38,6 +38,22 @@ fn file(alloc: Global, line: &str) -> Result<HeldFile, NoMemory> {
     Ok(HeldFile {
         name: Text::from_str(alloc, name)?,
         bytes: unescaped(alloc, whole.as_str())?,
+    })
+}
+
+/// A file of a line with its name and its bytes, as words of hexadecimal digits; of a word that is none
+/// nothing.
+fn bytes_file(alloc: Global, line: &str) -> Result<HeldFile, NoMemory> {
+    let (name, digits) = line.split_once(' ').unwrap_or((line, ""));
+    let mut bytes = Bytes::new(alloc);
+    for word in digits.split_whitespace() {
+        if let Ok(piece) = hex::decode(alloc, word) {
+            bytes.append(piece.as_slice())?;
+        }
+    }
+    Ok(HeldFile {
+        name: Text::from_str(alloc, name)?,
+        bytes,
     })
 }
 
@@ -81,6 +97,7 @@ impl Bench {
     pub fn answer(&mut self, alloc: Global, line: &str) -> Result<String, NoMemory> {
         match line.split_once(' ').unwrap_or((line, "")) {
             ("file", file_line) => self.held.push(file(alloc, file_line)?)?,
+            ("hex", file_line) => self.held.push(bytes_file(alloc, file_line)?)?,
             ("no", "files") => self.held = HeldFiles::new(alloc),
             ("fail", fault) => self.take_fault(fault),
             ("run", words) => {

@@ -27,29 +27,60 @@ fn told_len(bytes: &[u8]) -> usize {
     }
 }
 
-/// OpenFlow messages in hexadecimal digits, one a line.
-fn put_messages(alloc: Global, out: &mut String, bytes: &[u8]) -> Result<(), NoMemory> {
+/// The length of the record at the front of a recording: its header has 17 bytes, of which the last 4 tell how
+/// many follow, big-endian.
+fn record_len(bytes: &[u8]) -> usize {
+    match bytes.get(13..17) {
+        Some([_, high, middle, low]) => {
+            17 + (usize::from(*high) << 16 | usize::from(*middle) << 8 | usize::from(*low))
+        }
+        _ => 0,
+    }
+}
+
+/// What bytes are a row of.
+#[derive(Clone, Copy)]
+enum Row {
+    Messages,
+    Records,
+}
+
+/// The length that the first of a row tells.
+fn first_len(row: Row, bytes: &[u8]) -> usize {
+    match row {
+        Row::Messages => told_len(bytes),
+        Row::Records => record_len(bytes),
+    }
+}
+
+/// A row in hexadecimal digits, one message or record a line.
+fn put_each(alloc: Global, out: &mut String, row: Row, bytes: &[u8]) -> Result<(), NoMemory> {
     let mut left = bytes;
     for _ in 0..bytes.len() {
         if left.is_empty() {
             break;
         }
-        let len = told_len(left).clamp(1, left.len());
-        let (message, behind) = left.split_at(len);
+        let len = first_len(row, left).clamp(1, left.len());
+        let (one, behind) = left.split_at(len);
         out.push_str("\n  ")?;
-        out.push_str(hex::encode(alloc, message)?.as_str())?;
+        out.push_str(hex::encode(alloc, one)?.as_str())?;
         left = behind;
     }
     Ok(())
 }
 
-/// What a stream took: messages, as they begin with a version, or else a text in one line.
+/// What a stream took: messages, as they begin with a version; records, as they begin with a moment that isn't
+/// so great; or else a text in one line.
 fn put_written(alloc: Global, out: &mut String, name: &str, bytes: &[u8]) -> Result<(), NoMemory> {
     match bytes {
         [] => Ok(()),
         [4, ..] => {
             write!(out, "\n {name}, {} bytes:", bytes.len())?;
-            put_messages(alloc, out, bytes)
+            put_each(alloc, out, Row::Messages, bytes)
+        }
+        [0, ..] => {
+            write!(out, "\n {name}, {} bytes:", bytes.len())?;
+            put_each(alloc, out, Row::Records, bytes)
         }
         _ => {
             write!(out, "\n {name}: ")?;

@@ -1,4 +1,4 @@
-use Rattle.std.proofs.Common.{◌≡◌, ◌∷◌, sym, subst}
+use Rattle.std.proofs.Common.{sym, subst}
 use Rattle.fg_outside.specs.Counts.{Rose}
 use Rattle.faucet_top.specs.Given.{Checks}
 use Rattle.faucet_top.specs.Status.{number_of_status}

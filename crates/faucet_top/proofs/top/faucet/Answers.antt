@@ -27,3 +27,13 @@ pub returns-clause-opened : goal.returns-clause-opened
 returns-clause-opened g c =
     by.opened (meaning c.args.words.now) _ _ _ _ _ _ _ _ _ _ _ _ c.answer_words-status.ensures.gives
     c.a_loaded_configuration_is_valid.ensures c.an_opening_batch_opens_the_datapath.ensures
+
+pub returns-clause-replayed : goal.returns-clause-replayed
+returns-clause-replayed g c =
+    by.replayed (meaning c.args.words.now) _ _ _ _ _ _ _ _ _ _ _ _ c.answer_words-status.ensures.gives
+    c.a_loaded_configuration_is_valid.ensures c.whatever_happens_is_right.ensures
+
+pub returns-clause-refused_record : goal.returns-clause-refused_record
+returns-clause-refused_record g c =
+    by.refused_record (meaning c.args.words.now) _ _ _ _ _ _ _ _ _ _ _ _ c.answer_words-status.ensures.gives
+    c.a_loaded_configuration_is_valid.ensures c.whatever_happens_is_right.ensures

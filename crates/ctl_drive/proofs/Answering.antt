@@ -1,0 +1,71 @@
+-- One turn: what was done about it up to a point.
+use Rattle.std.proofs.Common.{◌≡◌, ℕ, List, [], Option, Some, refl, sym, ap, subst, ◌∙◌}
+use Rattle.std.specs.List.{flat_map}
+use Rattle.fg_outside.specs.declared.hub.Happening.{Happening}
+use Rattle.fg_outside.specs.HubStep.{HubStep}
+use Rattle.fg_outside.specs.Wrote.{appended, AppendsFront}
+use Rattle.fg_outside.proofs.SinkLemmas.{AppendsFront-none}
+use Rattle.ctl_world.specs.World.{World}
+use Rattle.ctl_core.specs.declared.controller.Saying.{Saying}
+use Rattle.ctl_core.specs.Turns.{turn}
+use Rattle.ctl_drive.specs.declared.sayings.Outlet.{Outlet}
+use Rattle.ctl_drive.specs.Driving.{Deed, deeds_by, line_by, sayings_of, turn_lines, written_on}
+use Rattle.ctl_drive.specs.Driven.{Tells, TellsPart, Answers, AnswersPart}
+use Rattle.ctl_drive.proofs.Stories.{front-same, front-whole, turn_out}
+use Rattle.ctl_drive.proofs.Telling.{Tells-same, TellsPart-none, TellsPart-same, TellsPart-whole}
+
+module _ {H : Type 0} (may : H → HubStep → H → Type 0) (outlet : Outlet) (h : Happening) (w : World) where
+  -- nothing was done
+  pub nothing_done : (hub : H) (out err : Option (List ℕ)) → AnswersPart may outlet h w hub hub out out err err
+  nothing_done hub out err = record {
+    told = TellsPart-none may hub (flat_map (deeds_by outlet) (sayings_of h w));
+    out = AppendsFront-none out (turn_out outlet h w);
+    err = AppendsFront-none err (turn_lines h w);
+  }
+
+  module _ (sayings : List Saying) (is : sayings ≡ sayings_of h w) (old new : H) where
+    same_deeds : flat_map (deeds_by outlet) sayings ≡ flat_map (deeds_by outlet) (sayings_of h w)
+    same_deeds = ap (λ (l : List Saying). flat_map (deeds_by outlet) l) is
+
+    -- the hub was told a part
+    pub part_told : (out err : Option (List ℕ)) → TellsPart may old (flat_map (deeds_by outlet) sayings) new → AnswersPart may outlet h w old new out out err err
+    part_told out err told = record {
+      told = TellsPart-same may old new (flat_map (deeds_by outlet) sayings) (flat_map (deeds_by outlet) (sayings_of h w)) same_deeds told;
+      out = AppendsFront-none out (turn_out outlet h w);
+      err = AppendsFront-none err (turn_lines h w);
+    }
+
+    module _ (moment : ℕ) (at : moment ≡ (turn h w).moment.0) (records lines : List ℕ) (recorded : records ≡ written_on outlet moment sayings) (lined : lines ≡ flat_map line_by sayings) (told : Tells may old (flat_map (deeds_by outlet) sayings) new) where
+      same_records : records ≡ turn_out outlet h w
+      same_records = recorded ∙ ap (λ n. written_on outlet n sayings) at ∙ ap (λ (l : List Saying). written_on outlet (turn h w).moment.0 l) is
+
+      same_lines : lines ≡ turn_lines h w
+      same_lines = lined ∙ ap (λ (l : List Saying). flat_map line_by l) is
+
+      all_told : Tells may old (flat_map (deeds_by outlet) (sayings_of h w)) new
+      all_told = Tells-same may old new (flat_map (deeds_by outlet) sayings) (flat_map (deeds_by outlet) (sayings_of h w)) same_deeds told
+
+      -- it was told all, and a part of the records was written
+      pub part_written : (out_old out_new err : Option (List ℕ)) → AppendsFront out_old out_new records → AnswersPart may outlet h w old new out_old out_new err err
+      part_written out_old out_new err front = record {
+        told = TellsPart-whole may old new (flat_map (deeds_by outlet) (sayings_of h w)) all_told;
+        out = front-same out_old out_new records (turn_out outlet h w) same_records front;
+        err = AppendsFront-none err (turn_lines h w);
+      }
+
+      -- all records were written, and a part of the lines
+      pub part_lined : (out_old out_new err_old err_new : Option (List ℕ)) → out_new ≡ appended out_old records → AppendsFront err_old err_new lines → AnswersPart may outlet h w old new out_old out_new err_old err_new
+      part_lined out_old out_new err_old err_new wrote front = record {
+        told = TellsPart-whole may old new (flat_map (deeds_by outlet) (sayings_of h w)) all_told;
+        out = front-same out_old out_new records (turn_out outlet h w) same_records (front-whole out_old out_new records wrote);
+        err = front-same err_old err_new lines (turn_lines h w) same_lines front;
+      }
+
+      -- all was done
+      pub all_done : (core : Option World) (out_old out_new err_old err_new : Option (List ℕ)) → core ≡ Some (turn h w) → out_new ≡ appended out_old records → err_new ≡ appended err_old lines → Answers may outlet h w core old new out_old out_new err_old err_new
+      all_done core out_old out_new err_old err_new known wrote lines_wrote = record {
+        known = known;
+        told = all_told;
+        out = wrote ∙ ap (λ (l : List ℕ). appended out_old l) same_records;
+        err = lines_wrote ∙ ap (λ (l : List ℕ). appended err_old l) same_lines;
+      }

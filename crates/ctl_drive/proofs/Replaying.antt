@@ -1,0 +1,206 @@
+-- The replay of a recording, from what the hub that reads it gave and was told.
+use Rattle.std.proofs.Common.{◌≡◌, ◌≤◌, ◌⊎◌, inl, inr, ℕ, ◌-◌, ◌^◌, Bool, true, false, List, [], ◌∷◌, ◌++◌, length, Option, Some, None, Result, Ok, Err, IfOk, OnErr, refl, sym, ap, subst, ◌∙◌}
+use Rattle.std.specs.Result.{result_unwrap_or}
+use Rattle.fg_outside.specs.declared.file_source.FileSource.{FileSource}
+use Rattle.fg_outside.specs.declared.hub.Happening.{Happening}
+use Rattle.fg_outside.specs.declared.hub.Turn.TheVariants.{Done as is_done, Failed as has_failed}
+use Rattle.fg_outside.specs.Contents.{Contents}
+use Rattle.fg_outside.specs.Contents.{Tells as FilesTell}
+use Rattle.fg_outside.specs.Counts.{Rose}
+use Rattle.fg_outside.specs.FileSource.{faults_of, files_of, left_in, missing_of, name_of, KeepsFiles}
+use Rattle.fg_outside.specs.HubStep.{HubStep, Leads, next, happenings, story, turned}
+use Rattle.fg_outside.specs.Wrote.{appended, AppendsFront}
+use Rattle.fg_outside.proofs.SinkLemmas.{appended-nil, AppendsFront-none}
+use Rattle.fg_outside.proofs.CountLemmas.{Rose-since}
+use Rattle.fg_outside.proofs.StepLemmas.{Went-all, KeepsFiles-fault, KeepsFiles-read, KeepsFiles-same, KeepsFiles-then}
+use Rattle.conf_types.specs.Configuration.{Configuration}
+use Rattle.recording.specs.declared.refused.RecordRefused.{RecordRefused}
+use Rattle.recording.specs.declared.script_hub.ScriptHub.{ScriptHub}
+use Rattle.recording.specs.Script.{refusal_in, source_in, ScriptStep, StandsFor}
+use Rattle.recording.specs.Turns.{closings, turns}
+use Rattle.recording.proofs.Whole.{done_told, source_goes, stopped_told}
+use Rattle.ctl_world.specs.World.{World, first}
+use Rattle.ctl_drive.specs.declared.drive.Drove.{Drove}
+use Rattle.ctl_drive.specs.declared.drive.Drove.TheVariants as drove
+use Rattle.ctl_drive.specs.declared.replay.Replayed.{Replayed}
+use Rattle.ctl_drive.specs.declared.replay.Replayed.TheVariants as replayed
+use Rattle.ctl_drive.specs.declared.sayings.Outlet.TheVariants.{Records}
+use Rattle.ctl_drive.specs.Driving.{Deed, IsFront, closings_of, deeds, deeds_of, lines_of, records_of}
+use Rattle.ctl_drive.specs.Driven.{AnswersAll, AnswersFront, Drives}
+use Rattle.ctl_drive.specs.Replay.{IsStoryOf, IsStorySoFar, Replays, RunsSource, TellsSoFar, WritesAll, WritesFront, closed_in, replayed_by}
+use Rattle.ctl_drive.proofs.Deeds.{front_closed, whole_closed, whole_happened}
+use Rattle.ctl_drive.proofs.Telling.{IsFront-same}
+
+-- ---- nothing was read
+
+nothing_told : (contents : Option Contents) (name : List ℕ) (conf : Configuration) → TellsSoFar contents name conf []
+nothing_told contents name conf = λ bytes tells. (
+  [],
+  record { rest = []; parts = refl },
+  record { records = []; waits = None; front = []; rest = bytes; parts = refl; spell = refl; follow = tt; told = refl },
+)
+
+pub never_read : (contents : Option Contents) (name : List ℕ) (absence fault : Type 0) (conf : Configuration) (out err : Option (List ℕ)) → absence ⊎ fault → Replays contents name absence fault conf out out err err replayed.Unread
+never_read contents name absence fault conf out err why = (
+  [],
+  record { out = sym (appended-nil out); err = sym (appended-nil err) },
+  nothing_told contents name conf,
+  why,
+)
+
+pub never_begun : (contents : Option Contents) (name : List ℕ) (absence fault : Type 0) (conf : Configuration) (out err : Option (List ℕ)) → Replays contents name absence fault conf out out err err replayed.Memory
+never_begun contents name absence fault conf out err = (
+  [],
+  record { out = AppendsFront-none out []; err = AppendsFront-none err [] },
+  nothing_told contents name conf,
+)
+
+-- a file that isn't there, or isn't read
+pub why_unread : {E : Type 0} (there : Result Bool E) (absence fault : Type 0) → IfOk there (λ b. b ≡ false → absence) → OnErr there fault → result_unwrap_or there false ≡ false → absence ⊎ fault
+why_unread (Ok b) absence fault absent failed h = inl (absent h)
+why_unread (Err e) absence fault absent failed h = inr failed
+
+pub was_there : {E : Type 0} (there : Result Bool E) → IfOk there (λ b. b ≡ false) → result_unwrap_or there false ≡ true → ⊥
+was_there (Ok b) missing h = cc
+was_there (Err e) missing h = cc
+
+pub failed_write : (how : Drove) (refused : Option RecordRefused) → replayed_by how refused ≡ replayed.WriteFault → how ≡ drove.WriteFault
+failed_write drove.Done refused h = cc
+failed_write drove.HubFault refused h = cc
+failed_write drove.Spent refused h = cc
+failed_write drove.WriteFault refused h = refl
+failed_write drove.Memory refused h = cc
+
+pub no_failed_write : (how : Drove) (refused : Option RecordRefused) → (replayed_by how refused ≡ replayed.WriteFault → ⊥) → how ≡ drove.WriteFault → ⊥
+no_failed_write how refused other is = other (ap (λ (d : Drove). replayed_by d refused) is)
+
+-- ---- what was read
+
+module _ {F : Type 0} (held : F → Option Contents) (faults absences : F → ℕ) where
+  -- the steps of the hub that reads a file
+  abbrev pub MayRead : ScriptHub (FileSource F) → HubStep → ScriptHub (FileSource F) → Type 0
+  MayRead old step new = ScriptStep (left_in held) (KeepsFiles held faults absences) old step new
+
+  -- a hub that begins to read this file
+  abbrev pub BeginsToRead : Option Contents → List ℕ → ScriptHub (FileSource F) → Type 0
+  BeginsToRead contents name hub = (bytes : List ℕ) → FilesTell contents name (Some bytes) → StandsFor (left_in held) (Some bytes) hub [] None []
+
+  module _ (contents : Option Contents) (name : List ℕ) (conf : Configuration) (hub : ScriptHub (FileSource F)) (begins : BeginsToRead contents name hub) where
+    so_far : (hs : List Happening) (steps : List HubStep) (to : ScriptHub (FileSource F)) → Leads MayRead hub steps to → IsFront (deeds (story steps)) (deeds_of Records (first conf) hs) → happenings (story steps) ≡ hs → TellsSoFar contents name conf hs
+    so_far hs steps to way front happened = λ bytes tells.
+        let told = stopped_told (left_in held) (KeepsFiles held faults absences) bytes hub to steps (begins bytes tells) way in (
+          closings 0 (story steps),
+          front_closed (first conf) hs (story steps) 0 front,
+          record {
+            records = told.records;
+            waits = told.waits;
+            front = told.front;
+            rest = told.rest;
+            parts = told.parts;
+            spell = told.spell;
+            follow = told.follow;
+            told = sym happened ∙ told.gave;
+          },
+        )
+
+    whole_so_far : (hs : List Happening) (steps : List HubStep) (to : ScriptHub (FileSource F)) → Leads MayRead hub steps to → deeds (story steps) ≡ deeds_of Records (first conf) hs → TellsSoFar contents name conf hs
+    whole_so_far hs steps to way told =
+        so_far hs steps to way (subst (λ (l : List Deed). IsFront (deeds (story steps)) l) told (IsFront-same (deeds (story steps)))) (whole_happened Records (first conf) hs (story steps) told)
+
+    whole_story : (hs : List Happening) (steps : List HubStep) (to after : ScriptHub (FileSource F)) → Leads MayRead hub steps to → deeds (story steps) ≡ deeds_of Records (first conf) hs → MayRead to (turned is_done) after → (bytes : List ℕ) → FilesTell contents name (Some bytes) → IsStoryOf bytes hs (closed_in conf hs) (refusal_in after)
+    whole_story hs steps to after way told done bytes tells =
+        let all = done_told (left_in held) (KeepsFiles held faults absences) bytes hub to after steps (begins bytes tells) way done in
+        record {
+          records = all.records;
+          told =
+              sym (whole_happened Records (first conf) hs (story steps) told)
+              ∙ all.told
+              ∙ ap (turns all.records) (whole_closed (first conf) hs (story steps) 0 told);
+          whole = all.whole;
+          refuses = all.refuses;
+        }
+
+    -- by how driving ended
+    pub replays : (absence fault : Type 0) (core : Option World) (after : ScriptHub (FileSource F)) (out_old out_new err_old err_new : Option (List ℕ)) (refused : Option RecordRefused) → refused ≡ refusal_in after → (how : Drove) → Drives MayRead Records (2 ^ 64 - 1) (first conf) core hub after out_old out_new err_old err_new how → (how ≡ drove.HubFault → absence ⊎ fault) → Replays contents name absence fault conf out_old out_new err_old err_new (replayed_by how refused)
+    replays absence fault core after out_old out_new err_old err_new refused is drove.Done (hs, mid, few, all, done) why = (
+      hs,
+      record { out = all.out; err = all.err },
+      λ bytes tells. subst (λ (r : Option RecordRefused). IsStoryOf bytes hs (closed_in conf hs) r) (sym is) (whole_story hs all.told.steps mid after all.told.leads all.told.deeds done bytes tells),
+    )
+    replays absence fault core after out_old out_new err_old err_new refused is drove.HubFault (hs, mid, few, all, failed) why = (
+      hs,
+      record { out = all.out; err = all.err },
+      whole_so_far hs all.told.steps mid all.told.leads all.told.deeds,
+      why refl,
+    )
+    replays absence fault core after out_old out_new err_old err_new refused is drove.Spent (hs, most, all) why = (
+      hs,
+      record { out = all.out; err = all.err },
+      whole_so_far hs all.told.steps after all.told.leads all.told.deeds,
+      most,
+    )
+    replays absence fault core after out_old out_new err_old err_new refused is drove.WriteFault (hs, few, front) why = (
+      hs,
+      record { out = front.out; err = front.err },
+      so_far hs front.told.steps after front.told.leads front.told.front front.happened,
+    )
+    replays absence fault core after out_old out_new err_old err_new refused is drove.Memory (hs, few, front) why = (
+      hs,
+      record { out = front.out; err = front.err },
+      so_far hs front.told.steps after front.told.leads front.told.front front.happened,
+    )
+
+  -- the way that the hub went
+  way_of : (most : ℕ) (w : World) (core : Option World) (old new : ScriptHub (FileSource F)) (out_old out_new err_old err_new : Option (List ℕ)) (how : Drove) → Drives MayRead Records most w core old new out_old out_new err_old err_new how → (steps : List HubStep) × Leads MayRead old steps new
+  way_of most w core old new out_old out_new err_old err_new drove.Done (hs, mid, few, all, done) = (all.told.steps ++ turned is_done ∷ [], next all.told.steps mid (turned is_done) new all.told.leads done)
+  way_of most w core old new out_old out_new err_old err_new drove.HubFault (hs, mid, few, all, failed) = (all.told.steps ++ turned has_failed ∷ [], next all.told.steps mid (turned has_failed) new all.told.leads failed)
+  way_of most w core old new out_old out_new err_old err_new drove.Spent (hs, is, all) = (all.told.steps, all.told.leads)
+  way_of most w core old new out_old out_new err_old err_new drove.WriteFault (hs, few, front) = (front.told.steps, front.told.leads)
+  way_of most w core old new out_old out_new err_old err_new drove.Memory (hs, few, front) = (front.told.steps, front.told.leads)
+
+  -- along which its files are kept
+  pub files_kept : (most : ℕ) (w : World) (core : Option World) (old new : ScriptHub (FileSource F)) (out_old out_new err_old err_new : Option (List ℕ)) (how : Drove) → Drives MayRead Records most w core old new out_old out_new err_old err_new how → KeepsFiles held faults absences (source_in old) (source_in new)
+  files_kept most w core old new out_old out_new err_old err_new how drives =
+      let way = way_of most w core old new out_old out_new err_old err_new how drives in
+      Went-all (KeepsFiles held faults absences) (KeepsFiles held faults absences) (KeepsFiles-same held faults absences) (KeepsFiles-then held faults absences) (λ (a b : FileSource F) keeps. keeps) (source_in old) (source_in new)
+      (source_goes (left_in held) (KeepsFiles held faults absences) old new way.0 way.1)
+
+  -- a fault of the hub is one of its files
+  pub fault_of_files : (files : F) (old new : FileSource F) → missing_of old ≡ 0 → faults files ≤ faults (files_of old) → absences files ≤ absences (files_of old) → KeepsFiles held faults absences old new → Rose (faults_of faults old) (faults_of faults new) → Rose (absences files) (absences (files_of new)) ⊎ Rose (faults files) (faults (files_of new))
+  fault_of_files files old new none faults_so_far absences_so_far keeps rose =
+      elim (KeepsFiles-fault held faults absences old new none keeps rose) [
+        | inl risen ↦ inr (Rose-since (faults files) (faults (files_of old)) (faults (files_of new)) faults_so_far risen)
+        | inr risen ↦ inl (Rose-since (absences files) (absences (files_of old)) (absences (files_of new)) absences_so_far risen)
+      ]
+
+  -- ---- a run over the file
+
+  module _ (contents : Option Contents) (name : List ℕ) (conf : Configuration) (from to : FileSource F) (out_old out_new err_old err_new : Option (List ℕ)) (how : Drove) (refused : Option RecordRefused)
+      (runs : RunsSource (left_in held) (KeepsFiles held faults absences) (first conf) from out_old out_new err_old err_new how refused to) where
+    pub run_keeps : KeepsFiles held faults absences from to
+    run_keeps =
+        subst (λ (s : FileSource F). KeepsFiles held faults absences from s) runs.gives
+        (subst (λ (s : FileSource F). KeepsFiles held faults absences s (source_in runs.after)) runs.takes
+        (files_kept (2 ^ 64 - 1) (first conf) runs.core runs.hub runs.after out_old out_new err_old err_new how runs.drives))
+
+    pub run_replays : ((bytes : List ℕ) → FilesTell contents name (Some bytes) → left_in held from ≡ Some bytes) → (absence fault : Type 0) → (how ≡ drove.HubFault → absence ⊎ fault) → Replays contents name absence fault conf out_old out_new err_old err_new (replayed_by how refused)
+    run_replays left absence fault why =
+        replays contents name conf runs.hub
+        (λ bytes tells. subst (λ (l : Option (List ℕ)). StandsFor (left_in held) l runs.hub [] None []) (left bytes tells) runs.begins)
+        absence fault runs.core runs.after out_old out_new err_old err_new refused runs.tells how runs.drives why
+
+  -- where the file is told, a fault is one of reading it
+  pub fault_of_told : (files : F) (old new : FileSource F) (bytes : List ℕ) → missing_of old ≡ 0 → FilesTell (held (files_of old)) (name_of old) (Some bytes) → faults files ≤ faults (files_of old) → KeepsFiles held faults absences old new → Rose (faults_of faults old) (faults_of faults new) → Rose (faults files) (faults (files_of new))
+  fault_of_told files old new bytes none tells so_far keeps rose = Rose-since (faults files) (faults (files_of old)) (faults (files_of new)) so_far (KeepsFiles-read held faults absences old new bytes none tells keeps rose)
+
+pub unread_fault : (how : Drove) (refused : Option RecordRefused) → replayed_by how refused ≡ replayed.Unread → how ≡ drove.HubFault
+unread_fault drove.Done refused h = cc
+unread_fault drove.HubFault refused h = refl
+unread_fault drove.Spent refused h = cc
+unread_fault drove.WriteFault refused h = cc
+unread_fault drove.Memory refused h = cc
+
+-- a file that is there, and isn't read
+pub why_not_read : {E : Type 0} (there : Result Bool E) (fault : Type 0) → IfOk there (λ b. b ≡ true) → OnErr there fault → result_unwrap_or there false ≡ false → fault
+why_not_read (Ok b) fault is failed h = cc
+why_not_read (Err e) fault is failed h = failed

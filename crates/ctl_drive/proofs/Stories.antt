@@ -1,0 +1,165 @@
+-- A story with one turn more.
+use Rattle.std.proofs.Common.{◌≡◌, ℕ, ◌+◌, ◌<◌, ◌≤◌, List, [], ◌∷◌, ◌++◌, length, Option, Some, None, Result, Ok, Err, refl, sym, ap, subst, ◌∙◌, append_assoc, arith}
+use Rattle.std.proofs.lemmas.List.{append-nil, length_push}
+use Rattle.std.proofs.lemmas.List.Concat.{flat_map-append}
+use Rattle.std.specs.List.{flat_map}
+use Rattle.fg_outside.specs.declared.hub.Happening.{Happening}
+use Rattle.fg_outside.specs.declared.hub.Turn.TheVariants.{Happened, Done, Failed, Memory}
+use Rattle.fg_outside.specs.HubStep.{HubStep, happenings, start, story, turned}
+use Rattle.fg_outside.specs.Wrote.{appended, AppendsFront}
+use Rattle.fg_outside.proofs.SinkLemmas.{appended-append, appended-nil, AppendsFront-whole, AppendsFront-second}
+use Rattle.recording.specs.Written.{WrittenRecord, written, written_records}
+use Rattle.ctl_world.specs.World.{World}
+use Rattle.ctl_core.specs.declared.controller.Saying.{Saying}
+use Rattle.ctl_core.specs.Story.{behind}
+use Rattle.ctl_core.specs.Turns.{turn}
+use Rattle.ctl_drive.specs.declared.sayings.Outlet.{Outlet}
+use Rattle.ctl_drive.specs.declared.sayings.Outlet.TheVariants.{Records, Hub}
+use Rattle.ctl_drive.specs.Driving.{Deed, gave, IsFront, deeds, deeds_by, deeds_of, lines_of, out_of, record_by, records_of, sayings_of, turn_deeds, turn_lines, turn_records, written_by, written_on}
+use Rattle.ctl_drive.specs.declared.turn.Stopped.{Stopped}
+use Rattle.ctl_drive.specs.declared.turn.Stopped.TheVariants as stopped
+use Rattle.ctl_drive.specs.Driven.{Tells, TellsPart, Answers, AnswersPart, AnswersAll, AnswersFront, Drives, drove_by}
+use Rattle.ctl_drive.proofs.Deeds.{happened_in, happened-append, happened-deeds, happenings_are, none_happened_before, whole_happened}
+use Rattle.ctl_drive.proofs.Pieces.{flat_map-flat_map}
+use Rattle.ctl_drive.proofs.Telling.{Tells-one, Tells-same, Tells-then, TellsPart-same, TellsPart-second, TellsPart-whole, deeds-story}
+
+pub behind-push : (w : World) (hs : List Happening) (h : Happening) → behind w (hs ++ h ∷ []) ≡ turn h (behind w hs)
+behind-push w [] h = refl
+behind-push w (g ∷ hs) h = behind-push (turn g w) hs h
+
+pub deeds-push : (outlet : Outlet) (w : World) (hs : List Happening) (h : Happening) → deeds_of outlet w (hs ++ h ∷ []) ≡ deeds_of outlet w hs ++ turn_deeds outlet h (behind w hs)
+deeds-push outlet w [] h = append-nil (turn_deeds outlet h w)
+deeds-push outlet w (g ∷ hs) h =
+    ap (λ (l : List Deed). turn_deeds outlet g w ++ l) (deeds-push outlet (turn g w) hs h)
+    ∙ sym (append_assoc (turn_deeds outlet g w) (deeds_of outlet (turn g w) hs) (turn_deeds outlet h (behind (turn g w) hs)))
+
+pub lines-push : (w : World) (hs : List Happening) (h : Happening) → lines_of w (hs ++ h ∷ []) ≡ lines_of w hs ++ turn_lines h (behind w hs)
+lines-push w [] h = append-nil (turn_lines h w)
+lines-push w (g ∷ hs) h =
+    ap (λ (l : List ℕ). turn_lines g w ++ l) (lines-push (turn g w) hs h)
+    ∙ sym (append_assoc (turn_lines g w) (lines_of (turn g w) hs) (turn_lines h (behind (turn g w) hs)))
+
+records-push : (w : World) (hs : List Happening) (h : Happening) → records_of w (hs ++ h ∷ []) ≡ records_of w hs ++ turn_records h (behind w hs)
+records-push w [] h = append-nil (turn_records h w)
+records-push w (g ∷ hs) h =
+    ap (λ (l : List WrittenRecord). turn_records g w ++ l) (records-push (turn g w) hs h)
+    ∙ sym (append_assoc (turn_records g w) (records_of (turn g w) hs) (turn_records h (behind (turn g w) hs)))
+
+records_written : (moment : ℕ) (sayings : List Saying) → written_records (flat_map (record_by moment) sayings) ≡ flat_map (written_by moment) sayings
+records_written moment sayings = flat_map-flat_map written (record_by moment) sayings
+
+-- what goes to standard output in a turn
+abbrev pub turn_out : Outlet → Happening → World → List ℕ
+turn_out outlet h w = written_on outlet (turn h w).moment.0 (sayings_of h w)
+
+pub out-push : (outlet : Outlet) (w : World) (hs : List Happening) (h : Happening) → out_of outlet w (hs ++ h ∷ []) ≡ out_of outlet w hs ++ turn_out outlet h (behind w hs)
+out-push Records w hs h =
+    let v : World = behind w hs in
+    ap (λ (l : List WrittenRecord). written_records l) (records-push w hs h)
+    ∙ flat_map-append written (records_of w hs) (turn_records h v)
+    ∙ ap (λ (l : List ℕ). written_records (records_of w hs) ++ l) (records_written (turn h v).moment.0 (sayings_of h v))
+out-push Hub w hs h = refl
+
+pub out-none : (outlet : Outlet) (w : World) → out_of outlet w [] ≡ []
+out-none Records w = refl
+out-none Hub w = refl
+
+appended-same : (taken : Option (List ℕ)) (xs ys : List ℕ) → xs ≡ ys → appended taken xs ≡ appended taken ys
+appended-same taken xs ys same = ap (λ (l : List ℕ). appended taken l) same
+
+pub front-same : (old new : Option (List ℕ)) (xs ys : List ℕ) → xs ≡ ys → AppendsFront old new xs → AppendsFront old new ys
+front-same old new xs ys same front = subst (λ (l : List ℕ). AppendsFront old new l) same front
+
+pub front-whole : (old new : Option (List ℕ)) (piece : List ℕ) → new ≡ appended old piece → AppendsFront old new piece
+front-whole old new piece is =
+    subst (λ (o : Option (List ℕ)). AppendsFront old o piece) (sym is)
+    (front-same old (appended old piece) (piece ++ []) piece (append-nil piece) (AppendsFront-whole old piece []))
+
+module _ {H : Type 0} (may : H → HubStep → H → Type 0) (outlet : Outlet) where
+  -- nothing happened
+  pub AnswersAll-none : (w : World) (core : Option World) (hub : H) (out err : Option (List ℕ)) → core ≡ Some w → AnswersAll may outlet w [] core hub hub out out err err
+  AnswersAll-none w core hub out err is = record {
+    known = is;
+    told = record { steps = []; leads = start; deeds = refl };
+    out = sym (appended-same out (out_of outlet w []) [] (out-none outlet w) ∙ appended-nil out);
+    err = sym (appended-nil err);
+  }
+
+  -- one turn more
+  pub AnswersAll-push : (w : World) (hs : List Happening) (h : Happening) (core later : Option World) (one two three four : H) (out_one out_two out_three err_one err_two err_three : Option (List ℕ)) → AnswersAll may outlet w hs core one two out_one out_two err_one err_two → may two (turned (Happened h)) three → Answers may outlet h (behind w hs) later three four out_two out_three err_two err_three → AnswersAll may outlet w (hs ++ h ∷ []) later one four out_one out_three err_one err_three
+  AnswersAll-push w hs h core later one two three four out_one out_two out_three err_one err_two err_three all gives answers =
+      let v : World = behind w hs in
+      let said : List Deed = flat_map (deeds_by outlet) (sayings_of h v) in
+      let given = Tells-one may two (turned (Happened h)) three gives in
+      record {
+        known = answers.known ∙ ap (λ (x : World). Some x) (sym (behind-push w hs h));
+        told =
+            Tells-same may one four (deeds_of outlet w hs ++ turn_deeds outlet h v) (deeds_of outlet w (hs ++ h ∷ [])) (sym (deeds-push outlet w hs h))
+            (Tells-then may one two four (deeds_of outlet w hs) (turn_deeds outlet h v) all.told (Tells-then may two three four (gave h ∷ []) said given answers.told));
+        out =
+            answers.out
+            ∙ ap (λ (o : Option (List ℕ)). appended o (turn_out outlet h v)) all.out
+            ∙ appended-append out_one (out_of outlet w hs) (turn_out outlet h v)
+            ∙ appended-same out_one (out_of outlet w hs ++ turn_out outlet h v) (out_of outlet w (hs ++ h ∷ [])) (sym (out-push outlet w hs h));
+        err =
+            answers.err
+            ∙ ap (λ (o : Option (List ℕ)). appended o (turn_lines h v)) all.err
+            ∙ appended-append err_one (lines_of w hs) (turn_lines h v)
+            ∙ appended-same err_one (lines_of w hs ++ turn_lines h v) (lines_of w (hs ++ h ∷ [])) (sym (lines-push w hs h));
+      }
+
+  -- a part of one turn more
+  pub AnswersFront-push : (w : World) (hs : List Happening) (h : Happening) (core : Option World) (one two three four : H) (out_one out_two out_three err_one err_two err_three : Option (List ℕ)) → AnswersAll may outlet w hs core one two out_one out_two err_one err_two → may two (turned (Happened h)) three → AnswersPart may outlet h (behind w hs) three four out_two out_three err_two err_three → AnswersFront may outlet w (hs ++ h ∷ []) one four out_one out_three err_one err_three
+  AnswersFront-push w hs h core one two three four out_one out_two out_three err_one err_two err_three all gives part =
+      let v : World = behind w hs in
+      let said : List Deed = flat_map (deeds_by outlet) (sayings_of h v) in
+      let before : List Deed = deeds_of outlet w hs in
+      let given = Tells-one may two (turned (Happened h)) three gives in
+      let begun = Tells-then may one two three before (gave h ∷ []) all.told given in
+      let whole : (before ++ gave h ∷ []) ++ said ≡ deeds_of outlet w (hs ++ h ∷ []) = append_assoc before (gave h ∷ []) said ∙ sym (deeds-push outlet w hs h) in
+      let part_steps : List HubStep = part.told.steps in
+      record {
+        told =
+            TellsPart-same may one four ((before ++ gave h ∷ []) ++ said) (deeds_of outlet w (hs ++ h ∷ [])) whole
+            (TellsPart-second may one three four (before ++ gave h ∷ []) said begun part.told);
+        happened =
+            happenings_are (story (begun.steps ++ part_steps))
+            ∙ ap (λ (l : List Deed). happened_in l) (deeds-story begun.steps part_steps)
+            ∙ happened-append (deeds (story begun.steps)) (deeds (story part_steps))
+            ∙ ap (λ (l : List Happening). happened_in (deeds (story begun.steps)) ++ l) (none_happened_before outlet (sayings_of h v) (deeds (story part_steps)) part.told.front)
+            ∙ append-nil (happened_in (deeds (story begun.steps)))
+            ∙ ap (λ (l : List Deed). happened_in l) begun.deeds
+            ∙ happened-append before (gave h ∷ [])
+            ∙ ap (λ (l : List Happening). l ++ h ∷ []) (happened-deeds outlet w hs);
+        out =
+            front-same out_one out_three (out_of outlet w hs ++ turn_out outlet h v) (out_of outlet w (hs ++ h ∷ [])) (sym (out-push outlet w hs h))
+            (AppendsFront-second out_one out_two out_three (out_of outlet w hs) (turn_out outlet h v) all.out part.out);
+        err =
+            front-same err_one err_three (lines_of w hs ++ turn_lines h v) (lines_of w (hs ++ h ∷ [])) (sym (lines-push w hs h))
+            (AppendsFront-second err_one err_two err_three (lines_of w hs) (turn_lines h v) all.err part.err);
+      }
+
+  -- all, and a turn that gave nothing
+  pub AnswersFront-stopped : (w : World) (hs : List Happening) (core : Option World) (one two three : H) (out_one out_two err_one err_two : Option (List ℕ)) → AnswersAll may outlet w hs core one two out_one out_two err_one err_two → may two (turned Memory) three → AnswersFront may outlet w hs one three out_one out_two err_one err_two
+  AnswersFront-stopped w hs core one two three out_one out_two err_one err_two all gives =
+      let whole =
+      Tells-same may one three (deeds_of outlet w hs ++ []) (deeds_of outlet w hs) (append-nil (deeds_of outlet w hs))
+      (Tells-then may one two three (deeds_of outlet w hs) [] all.told (Tells-one may two (turned Memory) three gives))
+      in
+      record {
+        told = TellsPart-whole may one three (deeds_of outlet w hs) whole;
+        happened = whole_happened outlet w hs (story whole.steps) whole.deeds;
+        out = front-whole out_one out_two (out_of outlet w hs) all.out;
+        err = front-whole err_one err_two (lines_of w hs) all.err;
+      }
+
+  -- driving that stopped inside a turn
+  pub stopped_drives : (most : ℕ) (w : World) (core : Option World) (old new : H) (out_old out_new err_old err_new : Option (List ℕ)) (why : Stopped) (hs : List Happening) → length hs ≤ most → AnswersFront may outlet w hs old new out_old out_new err_old err_new → Drives may outlet most w core old new out_old out_new err_old err_new (drove_by why)
+  stopped_drives most w core old new out_old out_new err_old err_new stopped.WriteFault hs few front = (hs, few, front)
+  stopped_drives most w core old new out_old out_new err_old err_new stopped.Memory hs few front = (hs, few, front)
+
+pub happened_is_no_fault : (h : Happening) → Happened h ≡ Failed → ⊥
+happened_is_no_fault h is = cc
+
+pub ok_is_no_err : {T E : Type 0} {x : T} {e : E} → Ok x ≡ Err e → ⊥
+ok_is_no_err is = cc

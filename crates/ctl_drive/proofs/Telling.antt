@@ -1,0 +1,99 @@
+-- What a hub gave and was told over many calls, and over a front of them.
+use Rattle.std.proofs.Common.{◌≡◌, List, [], ◌∷◌, ◌++◌, refl, sym, ap, ◌∙◌, append_assoc}
+use Rattle.std.proofs.lemmas.List.{append-nil}
+use Rattle.fg_outside.specs.HubStep.{HubStep, Event, Leads, start, next, story, told_by}
+use Rattle.fg_outside.proofs.StoryLemmas.{Leads-append, story-append}
+use Rattle.ctl_drive.specs.Driving.{Deed, IsFront, deeds}
+use Rattle.ctl_drive.specs.Driven.{Tells, TellsPart}
+use Rattle.ctl_drive.proofs.Deeds.{deeds-append}
+
+pub deeds-story : (xs ys : List HubStep) → deeds (story (xs ++ ys)) ≡ deeds (story xs) ++ deeds (story ys)
+deeds-story xs ys = ap (λ (l : List Event). deeds l) (story-append xs ys) ∙ deeds-append (story xs) (story ys)
+
+module _ {X : Type 0} where
+  pub IsFront-whole : (front more : List X) → IsFront front (front ++ more)
+  IsFront-whole front more = record { rest = more; parts = refl }
+
+  pub IsFront-same : (front : List X) → IsFront front front
+  IsFront-same front = record { rest = []; parts = sym (append-nil front) }
+
+  pub IsFront-first : (front piece more : List X) → IsFront front piece → IsFront front (piece ++ more)
+  IsFront-first front piece more is = record {
+    rest = is.rest ++ more;
+    parts = ap (λ (l : List X). l ++ more) is.parts ∙ append_assoc front is.rest more;
+  }
+
+  pub IsFront-second : (piece front more : List X) → IsFront front more → IsFront (piece ++ front) (piece ++ more)
+  IsFront-second piece front more is = record {
+    rest = is.rest;
+    parts = ap (λ (l : List X). piece ++ l) is.parts ∙ sym (append_assoc piece front is.rest);
+  }
+
+module _ {H : Type 0} (may : H → HubStep → H → Type 0) where
+  abbrev pub Tells-none : (hub : H) → Tells may hub [] hub
+  Tells-none hub = record { steps = []; leads = start; deeds = refl }
+
+  -- one call
+  abbrev pub Tells-one : (old : H) (step : HubStep) (new : H) → may old step new → Tells may old (deeds (told_by step)) new
+  Tells-one old step new step_may = record {
+    steps = step ∷ [];
+    leads = next [] old step new start step_may;
+    deeds = ap (λ (l : List Event). deeds l) (append-nil (told_by step));
+  }
+
+  abbrev pub Tells-same : (old new : H) (xs ys : List Deed) → xs ≡ ys → Tells may old xs new → Tells may old ys new
+  Tells-same old new xs ys same tells = record { steps = tells.steps; leads = tells.leads; deeds = tells.deeds ∙ same }
+
+  abbrev pub Tells-then : (old mid new : H) (xs ys : List Deed) → Tells may old xs mid → Tells may mid ys new → Tells may old (xs ++ ys) new
+  Tells-then old mid new xs ys first second = record {
+    steps = first.steps ++ second.steps;
+    leads = Leads-append may old mid first.steps first.leads second.steps new second.leads;
+    deeds =
+        deeds-story first.steps second.steps
+        ∙ ap (λ (l : List Deed). l ++ deeds (story second.steps)) first.deeds
+        ∙ ap (λ (l : List Deed). xs ++ l) second.deeds;
+  }
+
+  -- ---- fronts
+
+  abbrev pub TellsPart-none : (hub : H) (whole : List Deed) → TellsPart may hub whole hub
+  TellsPart-none hub whole = record { steps = []; leads = start; front = record { rest = whole; parts = refl } }
+
+  abbrev pub TellsPart-same : (old new : H) (xs ys : List Deed) → xs ≡ ys → TellsPart may old xs new → TellsPart may old ys new
+  TellsPart-same old new xs ys same part = record {
+    steps = part.steps;
+    leads = part.leads;
+    front = record { rest = part.front.rest; parts = sym same ∙ part.front.parts };
+  }
+
+  -- the whole is a front
+  abbrev pub TellsPart-whole : (old new : H) (xs : List Deed) → Tells may old xs new → TellsPart may old xs new
+  TellsPart-whole old new xs tells = record {
+    steps = tells.steps;
+    leads = tells.leads;
+    front = record { rest = []; parts = sym (append-nil (deeds (story tells.steps)) ∙ tells.deeds) };
+  }
+
+  -- a front of the first of two is a front of both
+  abbrev pub TellsPart-first : (old new : H) (xs ys : List Deed) → TellsPart may old xs new → TellsPart may old (xs ++ ys) new
+  TellsPart-first old new xs ys part = record {
+    steps = part.steps;
+    leads = part.leads;
+    front = IsFront-first (deeds (story part.steps)) xs ys part.front;
+  }
+
+  -- the first and a front of the second are a front of both
+  abbrev pub TellsPart-second : (old mid new : H) (xs ys : List Deed) → Tells may old xs mid → TellsPart may mid ys new → TellsPart may old (xs ++ ys) new
+  TellsPart-second old mid new xs ys first second =
+      let both : IsFront (xs ++ deeds (story second.steps)) (xs ++ ys) = IsFront-second xs (deeds (story second.steps)) ys second.front in
+      record {
+        steps = first.steps ++ second.steps;
+        leads = Leads-append may old mid first.steps first.leads second.steps new second.leads;
+        front = record {
+          rest = both.rest;
+          parts =
+              both.parts
+              ∙ ap (λ (l : List Deed). l ++ both.rest)
+              (sym (deeds-story first.steps second.steps ∙ ap (λ (l : List Deed). l ++ deeds (story second.steps)) first.deeds));
+        };
+      }

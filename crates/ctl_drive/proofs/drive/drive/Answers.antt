@@ -1,0 +1,57 @@
+use Rattle.std.proofs.Common.{ℕ, ◌+◌, ◌≤◌, ◌≡◌, List, [], ◌∷◌, ◌++◌, length, refl, sym, subst, ◌∙◌, arith}
+use Rattle.std.proofs.lemmas.List.{length_push}
+use Rattle.ctl_core.specs.Story.{behind}
+use Rattle.ctl_drive.specs.declared.drive.Drove.{Drove}
+use Rattle.ctl_drive.specs.Driven.{Drives}
+use Rattle.ctl_drive.proofs.Stories.{AnswersAll-none, AnswersAll-push, AnswersFront-push, AnswersFront-stopped, happened_is_no_fault, ok_is_no_err, stopped_drives}
+use Rattle.ctl_drive.proofs.drive.drive.Goals as goal
+
+pub loop-init : goal.loop-init
+loop-init g c = record {
+  answers = λ w known. ([], refl, AnswersAll-none g.H.Hub.may c.args.outlet w c.args.core.now c.args.hub.now (g.O.Sink.wrote c.args.out.now) (g.E.Sink.wrote c.args.err.now) known);
+  hub_faults = refl;
+  out_faults = refl;
+  err_faults = refl;
+}
+
+pub returns-in-Err-clause-drove : goal.returns-in-Err-clause-drove
+returns-in-Err-clause-drove g c = λ w known.
+    let may = g.H.Hub.may in
+    let outlet = c.args.outlet in
+    let all = c.loop.invariant.answers w known in
+    let hs = all.0 in
+    let what = c.in-Happened.what in
+    let out_old = g.O.Sink.wrote c.args.out.now in
+    let out_new = g.O.Sink.wrote c.answer.new.out in
+    let err_old = g.E.Sink.wrote c.args.err.now in
+    let err_new = g.E.Sink.wrote c.answer.new.err in
+    let few : length (hs ++ what ∷ []) ≤ c.args.most = omega (arith, length_push hs what, all.1, c.loop-test.true) in
+    subst (λ (d : Drove). Drives may outlet c.args.most w c.answer.new.core c.args.hub.now c.answer.new.hub out_old out_new err_old err_new d) (sym c.drove.ensures)
+    (stopped_drives may outlet c.args.most w c.answer.new.core c.args.hub.now c.answer.new.hub out_old out_new err_old err_new c.in-Err.stopped (hs ++ what ∷ []) few
+    (AnswersFront-push may outlet w hs what c.loop.core c.args.hub.now c.loop.hub c.turn.new.self c.answer.new.hub out_old (g.O.Sink.wrote c.loop.out) out_new err_old (g.E.Sink.wrote c.loop.err) err_new
+    all.2 c.in-Happened.ensures.step (c.in-Err.ensures.part (behind w hs) all.2.known)))
+
+pub returns-in-Memory-clause-drove : goal.returns-in-Memory-clause-drove
+returns-in-Memory-clause-drove g c = λ w known.
+    let all = c.loop.invariant.answers w known in (
+      all.0,
+      omega (arith, all.1, c.loop-test.true),
+      AnswersFront-stopped g.H.Hub.may c.args.outlet w all.0 c.loop.core c.args.hub.now c.loop.hub c.turn.new.self (g.O.Sink.wrote c.args.out.now) (g.O.Sink.wrote c.loop.out) (g.E.Sink.wrote c.args.err.now) (g.E.Sink.wrote c.loop.err) all.2 c.in-Memory.ensures.step,
+    )
+
+pub loop-preserved : goal.loop-preserved
+loop-preserved g c = record {
+  answers = λ w known.
+      let all = c.loop.invariant.answers w known in
+      let hs = all.0 in
+      let what = c.in-Happened.what in (
+        hs ++ what ∷ [],
+        omega (arith, length_push hs what, all.1),
+        AnswersAll-push g.H.Hub.may c.args.outlet w hs what c.loop.core c.answer.new.core c.args.hub.now c.loop.hub c.turn.new.self c.answer.new.hub
+            (g.O.Sink.wrote c.args.out.now) (g.O.Sink.wrote c.loop.out) (g.O.Sink.wrote c.answer.new.out) (g.E.Sink.wrote c.args.err.now) (g.E.Sink.wrote c.loop.err) (g.E.Sink.wrote c.answer.new.err)
+            all.2 c.in-Happened.ensures.step (c.in_default.ensures.ok (behind w hs) all.2.known),
+      );
+  hub_faults = c.in_default.ensures.hub_faults ∙ c.in-Happened.ensures.no_fault (happened_is_no_fault c.in-Happened.what) ∙ c.loop.invariant.hub_faults;
+  out_faults = (c.in_default.ensures.no_write_fault (λ h. ok_is_no_err h)).0 ∙ c.loop.invariant.out_faults;
+  err_faults = (c.in_default.ensures.no_write_fault (λ h. ok_is_no_err h)).1 ∙ c.loop.invariant.err_faults;
+}

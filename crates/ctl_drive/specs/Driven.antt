@@ -1,0 +1,80 @@
+-- What a call that drives a controller has done.
+use Rattle.std.specs.Prelude.{◌≡◌, ℕ, ◌<◌, ◌≤◌, List, [], ◌∷◌, ◌++◌, length, Option, Some}
+use Rattle.fg_outside.specs.declared.hub.Happening.{Happening}
+use Rattle.fg_outside.specs.declared.hub.Turn.TheVariants.{Done as is_done, Failed as has_failed}
+use Rattle.fg_outside.specs.HubStep.{HubStep, Leads, happenings, story, turned}
+use Rattle.fg_outside.specs.Wrote.{appended, AppendsFront}
+use Rattle.ctl_world.specs.World.{World}
+use Rattle.ctl_core.specs.Story.{behind}
+use Rattle.ctl_core.specs.Turns.{turn}
+use Rattle.ctl_drive.specs.declared.sayings.Outlet.{Outlet}
+use Rattle.ctl_drive.specs.declared.drive.Drove.{Drove}
+use Rattle.ctl_drive.specs.declared.drive.Drove.TheVariants.{Done, HubFault, Spent, WriteFault, Memory}
+use Rattle.ctl_drive.specs.declared.turn.Stopped.{Stopped}
+use Rattle.ctl_drive.specs.declared.turn.Stopped.TheVariants as stopped
+use Rattle.ctl_drive.specs.Driving.{Deed, IsFront, deeds, deeds_by, deeds_of, lines_of, out_of, sayings_of, turn_lines, written_on}
+use Rattle.std.specs.List.{flat_map}
+
+abbrev pub drove_by : Stopped → Drove
+drove_by stopped.WriteFault = WriteFault
+drove_by stopped.Memory = Memory
+
+-- a hub gave and was told this, and came from one state to another
+pub record Tells {H : Type 0} (may : H → HubStep → H → Type 0) (old : H) (told : List Deed) (new : H) : Type 0 where
+  pub steps : List HubStep
+  pub leads : Leads may old steps new
+  pub deeds : deeds (story steps) ≡ told
+
+-- the same of a front of this
+pub record TellsPart {H : Type 0} (may : H → HubStep → H → Type 0) (old : H) (told : List Deed) (new : H) : Type 0 where
+  pub steps : List HubStep
+  pub leads : Leads may old steps new
+  pub front : IsFront (deeds (story steps)) told
+
+-- ---- one turn, behind what the hub gave
+
+pub record Answers {H : Type 0} (may : H → HubStep → H → Type 0) (outlet : Outlet) (h : Happening) (w : World) (core : Option World)
+    (hub_old hub_new : H) (out_old out_new err_old err_new : Option (List ℕ)) : Type 0 where
+  pub known : core ≡ Some (turn h w)
+  pub told : Tells may hub_old (flat_map (deeds_by outlet) (sayings_of h w)) hub_new
+  pub out : out_new ≡ appended out_old (written_on outlet (turn h w).moment.0 (sayings_of h w))
+  pub err : err_new ≡ appended err_old (turn_lines h w)
+
+pub record AnswersPart {H : Type 0} (may : H → HubStep → H → Type 0) (outlet : Outlet) (h : Happening) (w : World)
+    (hub_old hub_new : H) (out_old out_new err_old err_new : Option (List ℕ)) : Type 0 where
+  pub told : TellsPart may hub_old (flat_map (deeds_by outlet) (sayings_of h w)) hub_new
+  pub out : AppendsFront out_old out_new (written_on outlet (turn h w).moment.0 (sayings_of h w))
+  pub err : AppendsFront err_old err_new (turn_lines h w)
+
+-- ---- a story
+
+-- all that happened is answered whole
+pub record AnswersAll {H : Type 0} (may : H → HubStep → H → Type 0) (outlet : Outlet) (w : World) (hs : List Happening) (core : Option World)
+    (hub_old hub_new : H) (out_old out_new err_old err_new : Option (List ℕ)) : Type 0 where
+  pub known : core ≡ Some (behind w hs)
+  pub told : Tells may hub_old (deeds_of outlet w hs) hub_new
+  pub out : out_new ≡ appended out_old (out_of outlet w hs)
+  pub err : err_new ≡ appended err_old (lines_of w hs)
+
+-- of the answer to all that happened a front is given
+pub record AnswersFront {H : Type 0} (may : H → HubStep → H → Type 0) (outlet : Outlet) (w : World) (hs : List Happening)
+    (hub_old hub_new : H) (out_old out_new err_old err_new : Option (List ℕ)) : Type 0 where
+  pub told : TellsPart may hub_old (deeds_of outlet w hs) hub_new
+  pub happened : happenings (story told.steps) ≡ hs
+  pub out : AppendsFront out_old out_new (out_of outlet w hs)
+  pub err : AppendsFront err_old err_new (lines_of w hs)
+
+-- by how driving ended
+abbrev pub Drives : {H : Type 0} → (H → HubStep → H → Type 0) → Outlet → (most : ℕ) → World → (core : Option World) → (hub_old hub_new : H) → (out_old out_new err_old err_new : Option (List ℕ)) → Drove → Type 0
+Drives {H = H} may outlet most w core hub_old hub_new out_old out_new err_old err_new Done =
+    (hs : List Happening) × (mid : H) × (length hs < most)
+    × AnswersAll may outlet w hs core hub_old mid out_old out_new err_old err_new × may mid (turned is_done) hub_new
+Drives {H = H} may outlet most w core hub_old hub_new out_old out_new err_old err_new HubFault =
+    (hs : List Happening) × (mid : H) × (length hs < most)
+    × AnswersAll may outlet w hs core hub_old mid out_old out_new err_old err_new × may mid (turned has_failed) hub_new
+Drives may outlet most w core hub_old hub_new out_old out_new err_old err_new Spent =
+    (hs : List Happening) × (length hs ≡ most) × AnswersAll may outlet w hs core hub_old hub_new out_old out_new err_old err_new
+Drives may outlet most w core hub_old hub_new out_old out_new err_old err_new WriteFault =
+    (hs : List Happening) × (length hs ≤ most) × AnswersFront may outlet w hs hub_old hub_new out_old out_new err_old err_new
+Drives may outlet most w core hub_old hub_new out_old out_new err_old err_new Memory =
+    (hs : List Happening) × (length hs ≤ most) × AnswersFront may outlet w hs hub_old hub_new out_old out_new err_old err_new

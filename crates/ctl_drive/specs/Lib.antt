@@ -1,0 +1,3 @@
+pub mod Driven
+pub mod Driving
+pub mod Replay

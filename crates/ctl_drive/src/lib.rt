@@ -1,0 +1,13 @@
+//! A controller driven by a hub, turn by turn: what it says goes out, what it closes is closed, and its lines
+//! are written. The replay of a recording is such a run.
+#![tactic(auto)]
+
+pub mod drive;
+pub mod laws;
+pub mod replay;
+mod sayings;
+mod turn;
+
+pub use drive::Drove;
+pub use replay::Replayed;
+pub use sayings::Outlet;
