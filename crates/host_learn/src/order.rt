@@ -25,7 +25,7 @@ use std::marker::Model;
 
 /// The hosts in the order of learning, each with a place that only grows. Contracts see the hosts with
 /// their places.
-#[derive(Drop)]
+#[derive(Debug, Drop)]
 pub(crate) struct Order {
     alloc: Global,
     next: u64,

@@ -13,7 +13,7 @@ use crate::kept::kept_hosts;
 use crate::learn::{Learn, answer, take_in};
 use crate::order::{Order, key_address};
 use crate::shelves::Shelf;
-use conf_types::{Conf, HostRec, UpRec};
+use conf_types::{Conf, HostRec, HostRecs, UpRec};
 use net_base::{DpId, Mac, Moment, NoMemory, PortNo, Vid};
 use std::alloc::Global;
 use std::marker::Model;
@@ -23,7 +23,7 @@ const STALE_FOR: u64 = 30_000;
 
 /// The hosts that were learned, in the order of learning, and how many there are at most. Contracts
 /// see a `Table`.
-#[derive(Drop)]
+#[derive(Debug, Drop)]
 pub struct HostTable {
     alloc: Global,
     limit: u32,
@@ -157,6 +157,14 @@ impl HostTable {
         ensures within { OnSome result (place < length self.now.hosts) }
     {
         self.order.nth(place)
+    }
+
+    /// The hosts in the order of learning.
+    pub fn hosts(&self, alloc: Global) -> Result<HostRecs, NoMemory>
+        ensures { IfOk result (λ made. made ≡ self.now.hosts) }
+    {
+        let hosts = self.order.hosts(alloc)?;
+        HostRecs::from_slice(alloc, hosts.as_slice())
     }
 
     /// Takes in a packet with this source that came by this port in this VLAN, and answers what
