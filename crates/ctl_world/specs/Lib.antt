@@ -4,3 +4,4 @@ pub mod Frames
 pub mod Saying
 pub mod TablesSaid
 pub mod World
+pub mod Alike

@@ -1,0 +1,35 @@
+-- When a settling has nothing to say, and until when.
+use Rattle.std.specs.Prelude.{◌≡◌, ◌⊎◌, ◌≤◌, ◌<◌, ℕ, true, None, Some, is_some, not, filter}
+use Rattle.std.specs.List.{AllByRecursion}
+use Rattle.net_base.specs.declared.numbers.DpId.{DpId}
+use Rattle.of_match.specs.FlowTables.{IsInKeyOrder}
+use Rattle.conf_types.specs.Lists.{EachBefore}
+use Rattle.conf_types.specs.State.{is_running, is_to_forget}
+use Rattle.neighbour_resolve.specs.Due.{said}
+use Rattle.ctl_world.specs.declared.conns.Conn.{Conn}
+use Rattle.ctl_world.specs.Connections.{conn_of}
+use Rattle.ctl_world.specs.World.{World, running}
+use Rattle.ctl_settle.specs.Settling.{wanted}
+
+-- no neighbour is due, and each running datapath has a barrier outstanding or the entries that it is to have
+pub record IsAtRest (w : World) : Type 0 where
+  pub asks : said w.conf w.moment.0 w.neighbours.neighbours ≡ None
+  pub batches : (dp : DpId) → is_running (running w) dp ≡ true → (c : Conn) → conn_of w.conns dp ≡ Some c
+      → (is_some c.session.state.awaited ≡ true) ⊎ (c.sent ≡ wanted w dp)
+
+-- the clock shows another moment
+abbrev pub at_moment : ℕ → World → World
+at_moment moment w = record w { moment = record { 0 = moment } }
+
+-- at a moment no host's time is over
+abbrev pub NoneIsOver : World → Type 0
+NoneIsOver w = filter (λ h. not (is_to_forget w.conf w.moment.0 h)) w.hosts.hosts ≡ w.hosts.hosts
+
+-- it stays so at each moment from now on and before this one
+abbrev pub RestsUntil : (moment : ℕ) → World → Type 0
+RestsUntil moment w = (m : ℕ) → w.moment.0 ≤ m → m < moment → IsAtRest (at_moment m w) × NoneIsOver (at_moment m w)
+
+-- the connections stand by number, and what was noted of each is in key order
+pub record AreInOrder (w : World) : Type 0 where
+  pub numbers : EachBefore (λ a b. a.number < b.number) w.conns
+  pub keys : AllByRecursion (λ c. IsInKeyOrder c.sent) w.conns
