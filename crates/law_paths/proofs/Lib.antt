@@ -1,0 +1,12 @@
+pub mod Leads
+pub mod Told
+pub mod Parts
+pub mod Vlans
+pub mod Own
+pub mod Names
+pub mod Fields
+pub mod Ports
+pub mod Routing
+pub mod Limits
+pub mod Shape
+pub mod Law

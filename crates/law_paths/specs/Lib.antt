@@ -1,0 +1,4 @@
+pub mod Leads
+pub mod Forms
+pub mod Rules
+pub mod Shape
