@@ -1,0 +1,14 @@
+mod Back
+mod Clash
+mod Fits
+mod Interfaces
+mod Kept
+mod Law
+mod Layers
+mod Looked
+mod Networks
+mod Ordered
+mod Raw
+mod Reordered
+mod Rules
+mod Sorting
