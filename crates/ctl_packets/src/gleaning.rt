@@ -1,4 +1,4 @@
-ghost use Rattle.std.specs.Prelude.{◌≡◌, ◌==◌, ◌&&◌, is_some, None, if◌then◌else◌, IfOk, OnOk};
+ghost use Rattle.std.specs.Prelude.{◌≡◌, ◌==◌, ◌&&◌, false, is_some, None, if◌then◌else◌, IfOk, OnOk};
 ghost use Rattle.std.specs.Option.{option_and_then};
 ghost use Rattle.conf_types.specs.Configuration.{vlan_with};
 ghost use Rattle.conf_types.specs.Lists.{is_same};
@@ -9,15 +9,20 @@ ghost use Rattle.ctl_packets.specs.Packets.{destination, glean, glean_to, is_for
 
 use conf_types::{Conf, NeighRec, Vlan};
 use ctl_world::World;
+use neighbour_resolve::Want;
 use net_base::{DpId, Ip4, Mac, NoMemory, Vid};
 use pkt_view::{FrameView, UpperView, ip4_at};
 use std::alloc::Global;
 
-/// An address is wanted in a group of datapaths and a VLAN.
-fn want(world: &mut World, group: DpId, vid: Vid, ip: Ip4)
-    ensures { world.new ≡ want group vid ip world.old }
+/// An address is wanted in a group of datapaths and a VLAN. Answers whether there was room for it.
+fn want(world: &mut World, group: DpId, vid: Vid, ip: Ip4) -> bool
+    ensures done { world.new ≡ want group vid ip world.old }
+    ensures same { result ≡ false → world.new ≡ world.old }
 {
-    let _ = world.neighbours.want(group, vid, ip, world.moment);
+    match world.neighbours.want(group, vid, ip, world.moment) {
+        Want::Added | Want::Known => true,
+        Want::Full => false,
+    }
 }
 
 /// Whether a neighbour has this key, and its Ethernet address is known.
@@ -62,23 +67,24 @@ fn network_vlan(alloc: Global, conf: &Conf, vid: Vid, ip: Ip4) -> Result<Option<
     )
 }
 
-/// An address is wanted in the VLAN of its network, unless it is known there.
+/// An address is wanted in the VLAN of its network, unless it is known there. Answers whether it was.
 fn glean_to(
     alloc: Global,
     world: &mut World,
     group: DpId,
     vid: Vid,
     ip: Ip4,
-) -> Result<(), NoMemory>
-    ensures { OnOk result (world.new ≡ glean_to group vid ip world.old) }
+) -> Result<bool, NoMemory>
+    ensures done { OnOk result (world.new ≡ glean_to group vid ip world.old) }
+    ensures same { IfOk result (λ changed. changed ≡ false → world.new ≡ world.old) }
 {
     let Some(vid) = network_vlan(alloc, &world.conf, vid, ip)? else {
-        return Ok(());
+        return Ok(false);
     };
-    if !is_resolved(world.neighbours.list(), group, vid, ip) {
-        want(world, group, vid, ip);
+    if is_resolved(world.neighbours.list(), group, vid, ip) {
+        return Ok(false);
     }
-    Ok(())
+    Ok(want(world, group, vid, ip))
 }
 
 /// Whether two addresses have the same bytes.
@@ -119,22 +125,24 @@ fn gleaned(conf: &Conf, vid: Vid, frame: &FrameView<'_>) -> Option<Ip4>
     }
 }
 
-/// The address that an IPv4 packet for a VLAN's gateway looks for is wanted, unless it is known.
+/// The address that an IPv4 packet for a VLAN's gateway looks for is wanted, unless it is known. Answers
+/// whether it was.
 pub(crate) fn glean(
     alloc: Global,
     world: &mut World,
     dp: DpId,
     vid: Vid,
     frame: &FrameView<'_>,
-) -> Result<(), NoMemory>
+) -> Result<bool, NoMemory>
     requires { HasFixedPart (shown_upper frame.now.upper) }
-    ensures { OnOk result (world.new ≡ glean dp vid (shown frame.now) world.old) }
+    ensures done { OnOk result (world.new ≡ glean dp vid (shown frame.now) world.old) }
+    ensures same { IfOk result (λ changed. changed ≡ false → world.new ≡ world.old) }
 {
     match gleaned(&world.conf, vid, frame) {
         Some(ip) => {
             let group = world.conf.group_number(dp);
             glean_to(alloc, world, group, vid, ip)
         }
-        None => Ok(()),
+        None => Ok(false),
     }
 }

@@ -1,10 +1,10 @@
-ghost use Rattle.std.specs.Prelude.{◌≡◌, ◌≤◌};
+ghost use Rattle.std.specs.Prelude.{◌≡◌, ◌≤◌, false};
 ghost use Rattle.pkt_view.specs.Frame.{shown};
 ghost use Rattle.ctl_packets.specs.Packets.{hear, least_time};
 
 use conf_types::{Conf, Dp};
 use ctl_world::World;
-use neighbour_resolve::heard_sender;
+use neighbour_resolve::{Want, heard_sender};
 use net_base::{DpId, Vid};
 use pkt_view::FrameView;
 
@@ -30,16 +30,21 @@ fn least_time(conf: &Conf, group: DpId, dps: &[Dp]) -> u32
     }
 }
 
-/// The neighbour that a frame lets hear is known.
-pub(crate) fn hear(world: &mut World, dp: DpId, vid: Vid, frame: &FrameView<'_>)
-    ensures { world.new ≡ hear dp vid (shown frame.now) world.old }
+/// The neighbour that a frame lets hear is known. Answers whether one was heard that there is room for.
+pub(crate) fn hear(world: &mut World, dp: DpId, vid: Vid, frame: &FrameView<'_>) -> bool
+    ensures done { world.new ≡ hear dp vid (shown frame.now) world.old }
+    ensures same { result ≡ false → world.new ≡ world.old }
 {
     let Some(sender) = heard_sender(&world.conf, vid, frame) else {
-        return;
+        return false;
     };
     let group = world.conf.group_number(dp);
     let timeout = least_time(&world.conf, group, world.conf.dps().as_slice()) * 1000;
-    let _ = world
+    let heard = world
         .neighbours
         .heard(group, vid, sender.ip, sender.mac, timeout, world.moment);
+    match heard {
+        Want::Added | Want::Known => true,
+        Want::Full => false,
+    }
 }

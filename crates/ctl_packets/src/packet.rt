@@ -1,6 +1,7 @@
-ghost use Rattle.std.specs.Prelude.{◌≡◌, OnOk};
+ghost use Rattle.std.specs.Prelude.{◌≡◌, false, IfOk, OnOk};
 ghost use Rattle.conf_types.specs.State.{is_running};
 ghost use Rattle.pkt_view.specs.Frame.{shown, shown_upper, HasFixedPart};
+ghost use Rattle.ctl_world.specs.Alike.{IsAlike};
 ghost use Rattle.ctl_packets.specs.Packets.{packet_by, packet_in, packet_of_table};
 
 use crate::gleaning::glean;
@@ -27,7 +28,7 @@ const ROUTES: u8 = 4;
 /// The table of the packets for gateways themselves.
 const GATEWAYS: u8 = 6;
 
-/// What a frame of a VLAN does, by the table that sent it.
+/// What a frame of a VLAN does, by the table that sent it. Answers whether something was learned.
 fn packet_of_table(
     alloc: Global,
     world: &mut World,
@@ -37,22 +38,24 @@ fn packet_of_table(
     port: PortNo,
     vid: Vid,
     frame: &FrameView<'_>,
-) -> Result<(), NoMemory>
+) -> Result<bool, NoMemory>
     requires { HasFixedPart (shown_upper frame.now.upper) }
-    ensures { OnOk result (world.new ≡ packet_of_table table conn dp port vid (shown frame.now) world.old) }
+    ensures done { OnOk result (world.new ≡ packet_of_table table conn dp port vid (shown frame.now) world.old) }
+    ensures alike { IfOk result (λ changed. changed ≡ false → IsAlike world.new world.old) }
 {
     match table {
         SOURCES => learn(alloc, world, dp, port, vid, frame.src),
         ROUTES => glean(alloc, world, dp, vid, frame),
         GATEWAYS => {
-            hear(world, dp, vid, frame);
-            reply(alloc, world, conn, dp, port, vid, frame)
+            let changed = hear(world, dp, vid, frame);
+            reply(alloc, world, conn, dp, port, vid, frame)?;
+            Ok(changed)
         }
-        _ => Ok(()),
+        _ => Ok(false),
     }
 }
 
-/// What a packet does that came in by a port.
+/// What a packet does that came in by a port. Answers whether something was learned.
 fn packet_by(
     alloc: Global,
     world: &mut World,
@@ -60,15 +63,16 @@ fn packet_by(
     conn: u32,
     dp: DpId,
     port: PortNo,
-) -> Result<(), NoMemory>
-    ensures { OnOk result (world.new ≡ packet_by packet.now conn dp world.old port) }
+) -> Result<bool, NoMemory>
+    ensures done { OnOk result (world.new ≡ packet_by packet.now conn dp world.old port) }
+    ensures alike { IfOk result (λ changed. changed ≡ false → IsAlike world.new world.old) }
 {
     let Some(frame) = view(packet.payload.as_slice()) else {
-        return Ok(());
+        return Ok(false);
     };
     match counted_vid(&world.conf, dp, port, &frame) {
         Some(vid) => packet_of_table(alloc, world, packet.table, conn, dp, port, vid, &frame),
-        None => Ok(()),
+        None => Ok(false),
     }
 }
 
@@ -82,22 +86,24 @@ fn is_running(running: &[DpId], dp: DpId) -> bool
 /// Takes a packet that a datapath sent on a connection (PACKET_IN; OpenFlow 1.3, 7.4.1). It counts
 /// where the datapath runs, with the cookie of this controller, with the port that it came in by, and
 /// where its frame has exactly one tag, of a VLAN that the port is an edge member of; every other one is
-/// passed over. After `NoMemory` nothing is known of what is left.
+/// passed over. Answers whether something was learned of it; where nothing was, it was passed over or
+/// answered at most. After `NoMemory` nothing is known of what is left.
 pub fn packet_in(
     alloc: Global,
     world: &mut World,
     packet: &PacketIn,
     conn: u32,
     dp: DpId,
-) -> Result<(), NoMemory>
-    ensures { OnOk result (world.new ≡ packet_in packet.now conn dp world.old) }
+) -> Result<bool, NoMemory>
+    ensures done { OnOk result (world.new ≡ packet_in packet.now conn dp world.old) }
+    ensures alike { IfOk result (λ changed. changed ≡ false → IsAlike world.new world.old) }
 {
     let running = world.running(alloc)?;
     if packet.cookie != COOKIE || !is_running(running.as_slice(), dp) {
-        return Ok(());
+        return Ok(false);
     }
     match in_port(packet.fields.as_slice()) {
         Some(port) => packet_by(alloc, world, packet, conn, dp, port),
-        None => Ok(()),
+        None => Ok(false),
     }
 }

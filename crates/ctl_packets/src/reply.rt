@@ -1,5 +1,6 @@
 ghost use Rattle.std.specs.Prelude.{◌≡◌, IfOk, OnOk};
 ghost use Rattle.pkt_view.specs.Frame.{shown};
+ghost use Rattle.ctl_world.specs.Alike.{IsAlike};
 ghost use Rattle.ctl_packets.specs.Packets.{outgoing, reply};
 
 use conf_types::Conf;
@@ -39,7 +40,8 @@ pub(crate) fn reply(
     vid: Vid,
     frame: &FrameView<'_>,
 ) -> Result<(), NoMemory>
-    ensures { OnOk result (world.new ≡ reply conn dp port vid (shown frame.now) world.old) }
+    ensures done { OnOk result (world.new ≡ reply conn dp port vid (shown frame.now) world.old) }
+    ensures alike { OnOk result (IsAlike world.new world.old) }
 {
     let made = answer(alloc, &world.conf, dp, port, frame)?;
     match outgoing(alloc, &world.conf, dp, port, vid, made)? {

@@ -67,7 +67,7 @@ module _ (cold_order : (conf : Configuration) (state : State) (d : Dp) → IsInK
   pub wanted_order : (w : World) (dp : DpId) → IsInKeyOrder (wanted w dp)
   wanted_order w dp = elim (dp_with w.conf.dps dp) as (λ o. IsInKeyOrder (option_map_or (cold w.conf (now w)) o [])) [ Some d ↦ cold_order w.conf (now w) d | None ↦ tt ]
 
-  abbrev Case : World → World → Type 0
+  abbrev pub Case : World → World → Type 0
   Case w v = (v ≡ w) ⊎ ((number : ℕ) × IsSaid number w v)
 
   on_case : (dp : DpId) (w : World) (c : Conn) → Case w (batch_on dp w c)
@@ -77,7 +77,7 @@ module _ (cold_order : (conf : Configuration) (state : State) (d : Dp) → IsInK
         | false ↦ elim (said_case c.number (difference c.sent (wanted w dp)) (wanted w dp) w (wanted_order w dp)) [ inl nothing ↦ inl nothing.1 | inr is ↦ inr (c.number, is) ]
       ]
 
-  batch_case : (dp : DpId) (w : World) → Case w (batch dp w)
+  pub batch_case : (dp : DpId) (w : World) → Case w (batch dp w)
   batch_case dp w = elim (conn_of w.conns dp) as (λ o. Case w (option_map_or (batch_on dp w) o w)) [ Some c ↦ on_case dp w c | None ↦ inl refl ]
 
   case_ordered : (w v : World) → Case w v → AreOrdered w → AreOrdered v

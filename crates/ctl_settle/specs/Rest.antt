@@ -1,11 +1,15 @@
 -- When a settling has nothing to say, and until when.
-use Rattle.std.specs.Prelude.{◌≡◌, ◌⊎◌, ◌≤◌, ◌<◌, ℕ, true, None, Some, is_some, not, filter}
-use Rattle.std.specs.List.{AllByRecursion}
+use Rattle.std.specs.Prelude.{◌≡◌, ◌⊎◌, ◌≤◌, ◌<◌, ◌+◌, ℕ, true, List, None, Some, is_some, min, not, filter, if◌then◌else◌}
+use Rattle.std.specs.List.{AllByRecursion, fold}
 use Rattle.net_base.specs.declared.numbers.DpId.{DpId}
 use Rattle.of_match.specs.FlowTables.{IsInKeyOrder}
+use Rattle.conf_types.specs.declared.state.HostRec.{HostRec}
+use Rattle.conf_types.specs.declared.state.NeighRec.{NeighRec}
+use Rattle.conf_types.specs.Configuration.{Configuration}
+use Rattle.conf_types.specs.Count.{sum_up_to_greatest}
 use Rattle.conf_types.specs.Lists.{EachBefore}
-use Rattle.conf_types.specs.State.{is_running, is_to_forget}
-use Rattle.neighbour_resolve.specs.Due.{said}
+use Rattle.conf_types.specs.State.{fresh_for, is_fresh, is_permanent, is_running, is_to_forget}
+use Rattle.neighbour_resolve.specs.Due.{never, said}
 use Rattle.ctl_world.specs.declared.conns.Conn.{Conn}
 use Rattle.ctl_world.specs.Connections.{conn_of}
 use Rattle.ctl_world.specs.World.{World, running}
@@ -28,6 +32,25 @@ NoneIsOver w = filter (λ h. not (is_to_forget w.conf w.moment.0 h)) w.hosts.hos
 -- it stays so at each moment from now on and before this one
 abbrev pub RestsUntil : (moment : ℕ) → World → Type 0
 RestsUntil moment w = (m : ℕ) → w.moment.0 ≤ m → m < moment → IsAtRest (at_moment m w) × NoneIsOver (at_moment m w)
+
+-- the moment at which a host turns stale, or of one that is stale the moment at which it is to be forgotten; of one that
+-- stays for good the moment that never comes
+abbrev pub host_until : Configuration → (moment : ℕ) → HostRec → ℕ
+host_until conf moment h =
+    if is_permanent conf h then never
+    else if is_fresh conf moment h then sum_up_to_greatest h.learned.0 (fresh_for conf h.dp)
+    else sum_up_to_greatest h.learned.0 (fresh_for conf h.dp + 30000)
+
+-- the least of all of them
+abbrev pub hosts_until : Configuration → (moment : ℕ) → List HostRec → ℕ
+hosts_until conf moment hosts = fold (λ least h. min least (host_until conf moment h)) never hosts
+
+-- the least moment at which a neighbour is due
+abbrev pub neighbours_until : List NeighRec → ℕ
+neighbours_until neighbours = fold (λ least n. min least n.due.0) never neighbours
+
+abbrev pub rests_until : World → ℕ
+rests_until w = min (hosts_until w.conf w.moment.0 w.hosts.hosts) (neighbours_until w.neighbours.neighbours)
 
 -- the connections stand by number, and what was noted of each is in key order
 pub record AreInOrder (w : World) : Type 0 where

@@ -1,7 +1,7 @@
 //! What holds of the definitions. A function's contract is the law, and its body is at most calls of the
 //! laws that it rests on.
 
-ghost use Rattle.std.specs.Prelude.{◌≡◌, ◌⊎◌, ◌↔◌, ◌<◌, ◌≤◌, List, [], Some, true, is_some, length};
+ghost use Rattle.std.specs.Prelude.{◌≡◌, ◌⊎◌, ◌↔◌, ◌<◌, ◌≤◌, ℕ, List, [], Some, true, is_some, length};
 ghost use Rattle.std.specs.List.{AllByRecursion};
 ghost use Rattle.net_base.specs.declared.numbers.DpId.{DpId};
 ghost use Rattle.of_match.specs.declared.entry.Command.{Command};
@@ -13,13 +13,17 @@ ghost use Rattle.conf_types.specs.State.{is_running};
 ghost use Rattle.plan_difference.specs.Difference.{difference};
 ghost use Rattle.plan_difference.specs.Needed.{AscendByKey, IsNeeded, NameKeys};
 ghost use Rattle.ctl_world.specs.declared.conns.Conn.{Conn};
+ghost use Rattle.ctl_world.specs.Alike.{IsAlike};
 ghost use Rattle.ctl_world.specs.Connections.{conn_of};
 ghost use Rattle.ctl_world.specs.World.{IsSound, World, running};
+ghost use Rattle.ctl_settle.specs.Rest.{AreInOrder, IsAtRest, NoneIsOver, RestsUntil};
 ghost use Rattle.ctl_settle.specs.Settling.{ask_all, batch, settle, wanted};
 
 use cold_start::laws::a_cold_start_is_the_plan_in_key_order;
 use ctl_world::laws::{such_changes_leave_it_sound, what_is_said_leaves_it_sound};
-use neighbour_resolve::laws::{datapaths_are_asked_in_order, what_is_left_is_valid};
+use neighbour_resolve::laws::{
+    a_settling_ends, datapaths_are_asked_in_order, what_is_left_is_valid,
+};
 use plan_difference::laws::{
     a_difference_is_the_least_list, a_difference_leads_from_one_plan_to_the_other,
     each_command_of_a_difference_is_needed, equal_plans_have_no_difference,
@@ -57,6 +61,34 @@ pub fn a_settling_leaves_nothing_waiting()
     equal_plans_have_no_difference();
     datapaths_are_asked_in_order();
 }
+
+/// Where a turn has settled, no neighbour is due, and each running datapath has a barrier outstanding or
+/// the entries that it is to have. The connections stay in order.
+pub fn a_settling_leaves_it_at_rest()
+    ensures rests { (w : World) → AreInOrder w → IsAtRest (settle w) }
+    ensures in_order { (w : World) → AreInOrder w → AreInOrder (settle w) }
+{
+    a_settling_ends();
+    a_cold_start_is_the_plan_in_key_order();
+    equal_plans_have_no_difference();
+    datapaths_are_asked_in_order();
+}
+
+/// Where a world rests a settling says nothing and changes nothing.
+pub fn what_rests_settles_as_it_is()
+    ensures { (w : World) → IsAtRest w → settle w ≡ w }
+{
+    a_cold_start_is_the_plan_in_key_order();
+    equal_plans_have_no_difference();
+    datapaths_are_asked_in_order();
+}
+
+/// A world rests where one that looks the same to a settling does, and as long.
+pub fn alike_worlds_rest_alike()
+    ensures rest { (v w : World) → IsAlike v w → IsAtRest w → IsAtRest v }
+    ensures until { (moment : ℕ) (v w : World) → IsAlike v w → RestsUntil moment w → RestsUntil moment v }
+    ensures none_over { (v w : World) → IsAlike v w → NoneIsOver w → NoneIsOver v }
+{}
 
 /// A switch that holds the entries noted and does the commands of a batch, in whichever order, then holds
 /// those that its datapath is to have (OpenFlow 1.3, 6.2).

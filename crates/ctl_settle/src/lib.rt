@@ -6,7 +6,9 @@ mod asking;
 mod batch;
 pub mod laws;
 mod order;
+mod resting;
 mod settling;
 
 pub use order::in_order;
+pub use resting::rests_until;
 pub use settling::settle;

@@ -1,10 +1,9 @@
 -- The frame at the front of the bytes that came.
-use Rattle.std.proofs.Common.{◌≡◌, ℕ, ◌<◌, ◌≤◌, Bool, true, false, List, ◌++◌, length, take, drop, ltb, refl, sym, ap, ◌∙◌, arith, length-append}
+use Rattle.std.proofs.Common.{◌≡◌, ℕ, false, List, ◌++◌, length, take, drop, ltb, ap, ◌∙◌, arith, length-append}
 use Rattle.std.proofs.lemmas.Bool.{le-ltb}
 use Rattle.std.proofs.Math.Seq.{take-append_seam, drop-append_seam}
 use Rattle.switch_session.specs.Frames.{told, IsFrame}
 use Rattle.switch_session.proofs.FrameLemmas.{told-append}
-use Rattle.ctl_world.specs.declared.frames.Front.{Front}
 use Rattle.ctl_world.specs.declared.frames.Front.TheVariants.{Frame}
 use Rattle.ctl_world.specs.Frames.{behind, front}
 

@@ -1,9 +1,12 @@
+pub mod Faces
 pub mod Fronts
 pub mod Leaving
+pub mod Lost
 pub mod Places
 pub mod Says
 pub mod SoundChanges
 pub mod SoundEnds
 pub mod SoundKept
 pub mod SoundPlaces
+pub mod Stays
 pub mod Steps

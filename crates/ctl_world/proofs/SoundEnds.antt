@@ -95,3 +95,19 @@ close_sound cause number w conf sound = added_sound (said.Closing number cause �
 
 pub ended_sound : (cause : Closing) (number : ℕ) (w : World) → IsValid w.conf → IsSound w → IsSound (ended cause number w)
 ended_sound cause number w conf sound = added_sound (end_line number cause ∷ []) (drop_conn number w) (forget_sound w (without number w.conns) conf sound)
+
+-- ---- nothing is lost of a sound world
+
+all_kept : {A : Type 0} (test : A → Bool) (xs : List A) → AllByRecursion (λ x. test x ≡ true) xs → filter test xs ≡ xs
+all_kept test [] all = refl
+all_kept test (x ∷ xs) all = ap (λ b. cond b (x ∷ filter test xs) (filter test xs)) all.0 ∙ ap (λ ys. x ∷ ys) (all_kept test xs all.1)
+
+pub nothing_lost : (w : World) → IsSound w → forget_lost w ≡ w
+nothing_lost w sound =
+    let hosts : filter (stands (running w) (ups w)) w.hosts.hosts ≡ w.hosts.hosts =
+    all_kept (stands (running w) (ups w)) w.hosts.hosts
+    (all_map (IsHost w.conf (now w)) (λ h. stands (running w) (ups w) h ≡ true) (λ h is. and_from (is_running (running w) h.dp) (is_up (ups w) h.dp h.port) is.runs is.up) w.hosts.hosts sound.valid.hosts) in
+    let neighbours : filter (is_reached w.conf (running w)) w.neighbours.neighbours ≡ w.neighbours.neighbours =
+    all_kept (is_reached w.conf (running w)) w.neighbours.neighbours
+    (all_map (IsNeighbour w.conf (now w)) (λ n. is_reached w.conf (running w) n ≡ true) (λ n is. is.runs) w.neighbours.neighbours sound.valid.neighbours) in
+    λ i. record w { hosts = record w.hosts { hosts = hosts i }; neighbours = record w.neighbours { neighbours = neighbours i } }

@@ -1,7 +1,9 @@
 pub mod Connections
 pub mod Ends
 pub mod Frames
+pub mod Lost
 pub mod Saying
+pub mod Staying
 pub mod TablesSaid
 pub mod World
 pub mod Alike

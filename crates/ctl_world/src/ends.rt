@@ -2,12 +2,13 @@ ghost use Rattle.std.specs.Prelude.{◌≡◌, ◌==◌, ◌&&◌, ◌++◌, ◌
 ghost use Rattle.std.specs.Fmt.{decimal};
 ghost use Rattle.std.specs.List.{find, list_any};
 ghost use Rattle.std.specs.Option.{option_copied};
-ghost use Rattle.conf_types.specs.State.{is_running};
+ghost use Rattle.conf_types.specs.State.{is_host_at, is_running};
 ghost use Rattle.ctl_world.specs.Ends.{close, closing_text, drop_conn, end_line, ended, forget_lost, is_reached, stands};
+ghost use Rattle.ctl_world.specs.Lost.{is_at_any, lost_ports, with_lost};
 
 use crate::said::Said;
 use crate::world::World;
-use conf_types::{Conf, HostRec, NeighRec, UpRec, is_up};
+use conf_types::{Conf, HostRec, NeighRec, UpRec, UpRecs, is_up};
 use host_learn::HostTable;
 use itoa::Buffer;
 use neighbour_resolve::Neighbours;
@@ -27,26 +28,72 @@ fn stands(running: &[DpId], ups: &[UpRec], host: &HostRec) -> bool
     is_running(running, host.dp) && is_up(ups, host.dp, host.port)
 }
 
-fn first_lost(hosts: &HostTable, running: &[DpId], ups: &[UpRec]) -> Option<HostRec>
-    ensures { result ≡ find (λ h. not (stands running.now ups.now h)) hosts.now.hosts }
+fn is_at(host: &HostRec, port: &UpRec) -> bool
+    ensures { result ≡ is_host_at port.now.dp port.now.port host.now }
 {
-    for place in 0..hosts.len() {
-        if let Some(host) = hosts.at(place) {
-            if !stands(running, ups, host) {
-                return Some(*host);
-            }
-        }
-    }
-    None
+    host.dp == port.dp && host.port == port.port
 }
 
-/// Forgets the hosts that don't stand where they may.
-fn forget_hosts(hosts: &mut HostTable, running: &[DpId], ups: &[UpRec])
-    ensures { hosts.new ≡ record hosts.old { hosts = filter (stands running.now ups.now) hosts.old.hosts } }
+fn is_at_any(ports: &[UpRec], host: &HostRec) -> bool
+    ensures { result ≡ is_at_any ports.now host.now }
 {
-    while let Some(host) = first_lost(hosts, running, ups) {
-        hosts.forget_port(host.dp, host.port);
+    ports.iter().any(|port| is_at(host, port))
+}
+
+fn note_lost(
+    lost: &mut UpRecs,
+    running: &[DpId],
+    ups: &[UpRec],
+    host: &HostRec,
+) -> Result<(), NoMemory>
+    ensures { OnOk result (lost.new ≡ with_lost running.now ups.now lost.old host.now) }
+{
+    if stands(running, ups, host) || is_at_any(lost.as_slice(), host) {
+        return Ok(());
     }
+    lost.push(UpRec {
+        dp: host.dp,
+        port: host.port,
+    })
+}
+
+/// The ports of the hosts that don't stand where they may, each once.
+fn lost_ports(
+    alloc: Global,
+    hosts: &[HostRec],
+    running: &[DpId],
+    ups: &[UpRec],
+) -> Result<UpRecs, NoMemory>
+    ensures { IfOk result (λ lost. lost ≡ lost_ports running.now ups.now hosts.now) }
+{
+    let mut lost = UpRecs::new(alloc);
+    for host in hosts {
+        note_lost(&mut lost, running, ups, host)?;
+    }
+    Ok(lost)
+}
+
+fn forget_ports(hosts: &mut HostTable, ports: &[UpRec])
+    ensures { hosts.new ≡ record hosts.old { hosts = filter (λ h. not (is_at_any ports.now h)) hosts.old.hosts } }
+{
+    for port in ports {
+        hosts.forget_port(port.dp, port.port);
+    }
+}
+
+/// Forgets the hosts that don't stand where they may. After `NoMemory` nothing changed.
+fn forget_hosts(
+    alloc: Global,
+    hosts: &mut HostTable,
+    running: &[DpId],
+    ups: &[UpRec],
+) -> Result<(), NoMemory>
+    ensures { OnOk result (hosts.new ≡ record hosts.old { hosts = filter (stands running.now ups.now) hosts.old.hosts }) }
+{
+    let listed = hosts.hosts(alloc)?;
+    let lost = lost_ports(alloc, listed.as_slice(), running, ups)?;
+    forget_ports(hosts, lost.as_slice());
+    Ok(())
 }
 
 fn is_reached(conf: &Conf, running: &[DpId], neighbour: &NeighRec) -> bool
@@ -107,7 +154,7 @@ impl World {
     {
         let running = self.running(alloc)?;
         let ups = self.ups(alloc)?;
-        forget_hosts(&mut self.hosts, running.as_slice(), ups.as_slice());
+        forget_hosts(alloc, &mut self.hosts, running.as_slice(), ups.as_slice())?;
         forget_neighbours(&mut self.neighbours, &self.conf, running.as_slice());
         Ok(())
     }

@@ -11,10 +11,11 @@ ghost use Rattle.of13_codec.specs.declared.message.Message.{Message};
 ghost use Rattle.switch_session.specs.declared.closing.Closing.{Closing};
 ghost use Rattle.ctl_world.specs.declared.conns.Conn.{Conn};
 ghost use Rattle.ctl_world.specs.declared.said.Said.{Said};
+ghost use Rattle.ctl_world.specs.Alike.{IsAlike, face};
 ghost use Rattle.ctl_world.specs.Connections.{change, put};
 ghost use Rattle.ctl_world.specs.Ends.{close, ended, forget_lost};
 ghost use Rattle.ctl_world.specs.Saying.{add_said, ask, repeat, say};
-ghost use Rattle.ctl_world.specs.World.{IsSound, World, first, running_of, ups_of};
+ghost use Rattle.ctl_world.specs.World.{IsSound, World, first, now, running, running_of, ups, ups_of};
 
 /// What is known before anything happened is sound: nothing was learned.
 pub fn what_is_known_first_is_sound()
@@ -59,4 +60,30 @@ pub fn a_state_of_a_new_configuration()
       hosts = kept_hosts next (ups_of next w.conns) w.moment.0 w.hosts;
       neighbours = kept_neighbours next (running_of next w.conns) w.neighbours;
     }) }
+{}
+
+/// Worlds that look the same to a settling have the same datapaths run, the same interfaces up and the
+/// same state, and are sound together.
+pub fn alike_worlds_run_alike()
+    ensures same { (w : World) → IsAlike w w }
+    ensures turned { (v w : World) → IsAlike v w → IsAlike w v }
+    ensures through { (u v w : World) → IsAlike u v → IsAlike v w → IsAlike u w }
+    ensures running { (v w : World) → IsAlike v w → running v ≡ running w }
+    ensures ups { (v w : World) → IsAlike v w → ups v ≡ ups w }
+    ensures now { (v w : World) → IsAlike v w → now v ≡ now w }
+    ensures sound { (v w : World) → IsAlike v w → IsSound w → IsSound v }
+{}
+
+/// A world looks the same to a settling where a connection changes but keeps its face, and behind what
+/// is said, on a connection or as a line, unless a reply to it is awaited.
+pub fn what_is_said_is_alike()
+    ensures change { (number : ℕ) (w : World) (f : Conn → Conn) → ((c : Conn) → face (f c) ≡ face c) → IsAlike (record w { conns = change number f w.conns }) w }
+    ensures say { (number : ℕ) (m : Message) (w : World) → IsAlike (say number m w) w }
+    ensures repeat { (number : ℕ) (m : Message) (xid : ℕ) (w : World) → IsAlike (repeat number m xid w) w }
+    ensures added { (more : List Said) (w : World) → IsAlike (add_said more w) w }
+{}
+
+/// In a sound world there is nothing to forget.
+pub fn a_sound_world_has_lost_nothing()
+    ensures { (w : World) → IsSound w → forget_lost w ≡ w }
 {}

@@ -9,6 +9,7 @@ pub mod laws;
 mod now;
 mod said;
 mod saying;
+mod staying;
 mod world;
 
 pub use conns::{Conn, Conns};

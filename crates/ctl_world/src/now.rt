@@ -8,7 +8,7 @@ ghost use Rattle.ctl_world.specs.World.{has_ports, is_at_work, is_up_by, now, ru
 
 use crate::conns::{Conn, Conns};
 use crate::world::World;
-use conf_types::{Conf, Dp, DpIds, HostRecs, NeighRecs, Port, UpRec, UpRecs};
+use conf_types::{Conf, Dp, DpIds, NeighRecs, Port, UpRec, UpRecs};
 use net_base::{DpId, NoMemory};
 use packet_way::Now;
 use std::alloc::Global;
@@ -104,18 +104,6 @@ fn ups_of(alloc: Global, dps: &[Dp], conns: &Conns) -> Result<UpRecs, NoMemory>
     Ok(ups)
 }
 
-fn hosts_of(alloc: Global, world: &World) -> Result<HostRecs, NoMemory>
-    ensures { IfOk result (λ hosts. hosts ≡ world.now.hosts.hosts) }
-{
-    let mut hosts = HostRecs::new(alloc);
-    for place in 0..world.hosts.len() {
-        if let Some(host) = world.hosts.at(place) {
-            hosts.push(*host)?;
-        }
-    }
-    Ok(hosts)
-}
-
 impl World {
     /// The datapaths that run, in the order of the configuration.
     pub fn running(&self, alloc: Global) -> Result<DpIds, NoMemory>
@@ -140,7 +128,7 @@ impl World {
             moment: self.moment,
             running: self.running(alloc)?,
             ups: self.ups(alloc)?,
-            hosts: hosts_of(alloc, self)?,
+            hosts: self.hosts.hosts(alloc)?,
             neighbours: NeighRecs::from_slice(alloc, self.neighbours.list())?,
         })
     }

@@ -1,23 +1,16 @@
-use Rattle.std.proofs.Common.{◌<◌, filter, length, sym, ap, ◌∙◌, subst}
-use Rattle.conf_types.specs.State.{is_host_at}
-use Rattle.host_learn.specs.Table.{Table}
-use Rattle.ctl_world.specs.Ends.{stands}
-use Rattle.ctl_world.proofs.Leaving.{at_its_port, fewer, left, none_left, stand_alike}
+use Rattle.std.proofs.Common.{List, filter, not, ap, ◌∙◌}
+use Rattle.conf_types.specs.declared.state.HostRec.{HostRec}
+use Rattle.conf_types.specs.declared.state.UpRec.{UpRec}
+use Rattle.ctl_world.specs.Lost.{is_at_any, lost_ports}
+use Rattle.ctl_world.proofs.Lost.{off_lost}
 use Rattle.ctl_world.proofs.ends.forget_hosts.Goals as goal
 
-pub loop-host-smaller : goal.loop-host-smaller
-loop-host-smaller c =
-    let h = c.in-Some.host in
-    subst (λ (t : Table). length t.hosts < length c.loop-host.hosts.hosts) (sym c.forget_port.ensures)
-    (fewer (stands c.args.running.now c.args.ups.now) (is_host_at h.dp h.port) h (at_its_port h) (stand_alike c.args.running.now c.args.ups.now h) c.loop-host.hosts.hosts c.in-Some.ensures)
-
-pub loop-host-preserved : goal.loop-host-preserved
-loop-host-preserved c =
-    let h = c.in-Some.host in
-    let keep = stands c.args.running.now c.args.ups.now in
-    ap (λ (t : Table). record t { hosts = filter keep t.hosts }) c.forget_port.ensures
-    ∙ ap (λ hs. record c.loop-host.hosts { hosts = hs }) (left keep (is_host_at h.dp h.port) h (at_its_port h) (stand_alike c.args.running.now c.args.ups.now h) c.loop-host.hosts.hosts c.in-Some.ensures)
-    ∙ c.loop-host.invariant
-
 pub returns : goal.returns
-returns c = ap (λ hs. record c.loop-host.hosts { hosts = hs }) (sym (none_left (stands c.args.running.now c.args.ups.now) c.loop-host.hosts.hosts c.in_default.ensures)) ∙ c.loop-host.invariant
+returns c =
+    let table = c.args.hosts.now in
+    let running = c.args.running.now in
+    let ups = c.args.ups.now in
+    let lost = c.as_slice-2.ensures ∙ c.in_ok-lost.ensures ∙ ap (lost_ports running ups) (c.as_slice.ensures ∙ c.in_ok-listed.ensures) in
+    c.forget_ports.ensures
+    ∙ ap (λ (ports : List UpRec). record table { hosts = filter (λ h. not (is_at_any ports h)) table.hosts }) lost
+    ∙ ap (λ (hosts : List HostRec). record table { hosts = hosts }) (off_lost running ups table.hosts)

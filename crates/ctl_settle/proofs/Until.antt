@@ -1,0 +1,132 @@
+-- Until the first host turns stale or is to be forgotten, or a neighbour is due, what rests goes on resting.
+use Rattle.std.proofs.Common.{◌≡◌, ℕ, ◌+◌, ◌<◌, ◌≤◌, ◌==◌, ◌&&◌, ◌||◌, ◌++◌, Bool, true, false, cond, not, Option, Some, None, List, [], ◌∷◌, map, filter, find, nat_lt, nat_le, refl, inl, inr, sym, ap, ◌∙◌, arith, if◌then◌else◌}
+use Rattle.std.specs.Prelude.{min}
+use Rattle.std.specs.List.{AllByRecursion, flat_map, fold}
+use Rattle.std.specs.Option.{option_map, option_map_or}
+use Rattle.std.proofs.lemmas.Bool.{le-ltb, lt-leb, lt-ltb, ltb-false}
+use Rattle.net_base.specs.declared.numbers.DpId.{DpId}
+use Rattle.of_match.specs.declared.entry.Command.TheVariants.{Add}
+use Rattle.of_match.specs.declared.entry.Entry.{Entry}
+use Rattle.of_match.specs.Settled.{after_all}
+use Rattle.conf_types.specs.declared.datapath.Dp.{Dp}
+use Rattle.conf_types.specs.declared.state.HostRec.{HostRec}
+use Rattle.conf_types.specs.declared.state.NeighRec.{NeighRec}
+use Rattle.conf_types.specs.Configuration.{Configuration, dp_with}
+use Rattle.conf_types.specs.Count.{sum_up_to_greatest}
+use Rattle.conf_types.specs.State.{State, fresh_for, is_permanent, is_stale, is_to_forget}
+use Rattle.packet_way.specs.Known.{stack_of}
+use Rattle.plan_base.specs.declared.table.Table.TheVariants.{Source, Ipv4Route}
+use Rattle.plan_base.specs.Actions.{to_controller}
+use Rattle.plan_base.specs.Entries.{entry, leads_to}
+use Rattle.plan_base.specs.Fields.{eth_src, in_port, vid_field}
+use Rattle.plan_units.specs.Fixed.{fixed}
+use Rattle.plan_units.specs.Units.{is_of_group, of_port, of_routes, of_vlan, plan}
+use Rattle.vlan_compile.specs.Destinations.{destinations}
+use Rattle.vlan_compile.specs.Sources.{elsewhere}
+use Rattle.cold_start.specs.Cold.{cold}
+use Rattle.neighbour_resolve.specs.Due.{is_due, never, said_of}
+use Rattle.ctl_world.specs.World.{World, now}
+use Rattle.ctl_settle.specs.Rest.{IsAtRest, NoneIsOver, RestsUntil, at_moment, host_until, rests_until}
+use Rattle.ctl_settle.specs.Settling.{wanted}
+
+-- ---- the least of a list
+
+module _ {A : Type 0} (f : A → ℕ) where
+  least_first : (first : ℕ) (xs : List A) → fold (λ least x. min least (f x)) first xs ≤ first
+  least_first first [] = omega arith
+  least_first first (x ∷ xs) = omega (arith, least_first (min first (f x)) xs)
+
+  least_each : (m first : ℕ) (xs : List A) → m < fold (λ least x. min least (f x)) first xs → AllByRecursion (λ x. m < f x) xs
+  least_each m first [] less = tt
+  least_each m first (x ∷ xs) less = (omega (arith, less, least_first (min first (f x)) xs), least_each m (min first (f x)) xs less)
+
+-- ---- hosts
+
+-- before its end, and before a later one where that is past, a host stays as fresh as it is, and isn't to be forgotten
+fresh_by : (moment m end over : ℕ) → moment ≤ m → end ≤ over → (stays fresh : Bool) → nat_lt moment end ≡ fresh
+    → m < (if stays then never else if (stays || fresh) then end else over)
+    → (not (stays || nat_lt m end) ≡ not (stays || nat_lt moment end)) × (not (not stays && nat_le over m) ≡ true)
+fresh_by moment m end over from order true fresh is before = (refl, refl)
+fresh_by moment m end over from order false true is before =
+    (ap not (lt-ltb m end before ∙ sym is), ap not (lt-leb over m (omega (arith, before, order))))
+fresh_by moment m end over from order false false is before =
+    (ap not (le-ltb m end (omega (arith, ltb-false moment end is, from)) ∙ sym is), ap not (lt-leb over m before))
+
+module _ (conf : Configuration) (moment m : ℕ) (from : moment ≤ m) where
+  as_fresh : (h : HostRec) → m < host_until conf moment h → (is_stale conf m h ≡ is_stale conf moment h) × (not (is_to_forget conf m h) ≡ true)
+  as_fresh h =
+      let end : ℕ = sum_up_to_greatest h.learned.0 (fresh_for conf h.dp) in
+      let over : ℕ = sum_up_to_greatest h.learned.0 (fresh_for conf h.dp + 30000) in
+      fresh_by moment m end over from (omega arith) (is_permanent conf h) (nat_lt moment end) refl
+
+  -- ---- the entries look at the moment by nothing else
+
+  module _ (state : State) (d : Dp) where
+    abbrev by_stale : HostRec → Bool → List Entry
+    by_stale h stale =
+        ((if h.dp.0 == d.id.0 then entry Source 30 (in_port h.port ∷ eth_src h.mac ∷ vid_field h.vid ∷ []) (leads_to (if stale then to_controller ∷ [] else []) (Some Ipv4Route)) ∷ [] else [])
+        ++ (if is_permanent conf h then elsewhere h ∷ [] else [])) ++ destinations d h (stack_of conf state.ups)
+
+    abbrev hosts_at : ℕ → List HostRec → List Entry
+    hosts_at n hosts = flat_map (λ h. by_stale h (is_stale conf n h)) (filter (is_of_group conf d) hosts)
+
+    hosts_same : (hosts : List HostRec) → AllByRecursion (λ h. m < host_until conf moment h) hosts → hosts_at m hosts ≡ hosts_at moment hosts
+    hosts_same [] before = refl
+    hosts_same (h ∷ hosts) before =
+        elim (is_of_group conf d h) as (λ b. flat_map (λ h. by_stale h (is_stale conf m h)) (cond b (h ∷ filter (is_of_group conf d) hosts) (filter (is_of_group conf d) hosts))
+        ≡ flat_map (λ h. by_stale h (is_stale conf moment h)) (cond b (h ∷ filter (is_of_group conf d) hosts) (filter (is_of_group conf d) hosts))) [
+          | true ↦ λ i. by_stale h ((as_fresh h before.0).0 i) ++ hosts_same hosts before.1 i
+          | false ↦ hosts_same hosts before.1
+        ]
+
+    abbrev at : ℕ → State
+    at n = record state { moment = n }
+
+    plan_same : AllByRecursion (λ h. m < host_until conf moment h) state.hosts → plan conf (at m) d ≡ plan conf (at moment) d
+    plan_same before =
+        ap (λ hosts. fixed conf d ++ (flat_map (of_port conf state d) d.ports ++ (flat_map (of_vlan conf state d) conf.vlans ++ (hosts ++ flat_map (of_routes conf state d) conf.vlans)))) (hosts_same state.hosts before)
+
+    cold_same : AllByRecursion (λ h. m < host_until conf moment h) state.hosts → cold conf (at m) d ≡ cold conf (at moment) d
+    unfolding cold
+    cold_same before = ap (λ entries. after_all [] (map Add entries)) (plan_same before)
+
+  none_over : (hosts : List HostRec) → AllByRecursion (λ h. m < host_until conf moment h) hosts → filter (λ h. not (is_to_forget conf m h)) hosts ≡ hosts
+  none_over [] before = refl
+  none_over (h ∷ hosts) before =
+      let rest = filter (λ g. not (is_to_forget conf m g)) hosts in
+      ap (λ b. cond b (h ∷ rest) rest) (as_fresh h before.0).1 ∙ ap (λ hs. h ∷ hs) (none_over hosts before.1)
+
+-- ---- neighbours
+
+none_due : (m : ℕ) (neighbours : List NeighRec) → AllByRecursion (λ (n : NeighRec). m < n.due.0) neighbours → ◌≡◌ {A = Option NeighRec} (find (is_due m) neighbours) None
+none_due m [] before = refl
+none_due m (n ∷ neighbours) before =
+    ap (λ b. cond (b && not (n.due.0 == never)) (Some n) (find (is_due m) neighbours)) (lt-leb n.due.0 m before.0) ∙ none_due m neighbours before.1
+
+-- ---- the whole
+
+module _ (w : World) (rests : IsAtRest w) (m : ℕ) (from : w.moment.0 ≤ m) (before : m < rests_until w) where
+  hosts_before : AllByRecursion (λ h. m < host_until w.conf w.moment.0 h) w.hosts.hosts
+  hosts_before = least_each (host_until w.conf w.moment.0) m never w.hosts.hosts (omega (arith, before))
+
+  neighbours_before : AllByRecursion (λ (n : NeighRec). m < n.due.0) w.neighbours.neighbours
+  neighbours_before = least_each (λ (n : NeighRec). n.due.0) m never w.neighbours.neighbours (omega (arith, before))
+
+  wanted_same : (dp : DpId) → wanted (at_moment m w) dp ≡ wanted w dp
+  wanted_same dp =
+      elim (dp_with w.conf.dps dp) as (λ o. option_map_or (cold w.conf (now (at_moment m w))) o [] ≡ option_map_or (cold w.conf (now w)) o []) [
+        | Some d ↦ cold_same w.conf w.moment.0 m from (now w) d hosts_before
+        | None ↦ refl
+      ]
+
+  rests_on : IsAtRest (at_moment m w)
+  rests_on = record {
+    asks = ap (option_map (said_of w.conf m)) (none_due m w.neighbours.neighbours neighbours_before);
+    batches = λ dp runs c some. elim (rests.batches dp runs c some) [ inl waits ↦ inl waits | inr has ↦ inr (has ∙ sym (wanted_same dp)) ];
+  }
+
+  over_none : NoneIsOver (at_moment m w)
+  over_none = none_over w.conf w.moment.0 m from w.hosts.hosts hosts_before
+
+pub rests_so_long : (w : World) → IsAtRest w → RestsUntil (rests_until w) w
+rests_so_long w rests = λ m from before. (rests_on w rests m from before, over_none w rests m from before)

@@ -1,0 +1,71 @@
+ghost use Rattle.std.specs.Prelude.{◌≡◌, ◌<◌, ◌^◌, IfOk};
+ghost use Rattle.conf_types.specs.State.{fresh_for};
+ghost use Rattle.ctl_settle.specs.Rest.{IsAtRest, RestsUntil, host_until, hosts_until, neighbours_until};
+
+use conf_types::{Conf, HostRec, NeighRec};
+use ctl_world::World;
+use net_base::{DpId, Moment, NoMemory};
+use std::alloc::Global;
+
+/// The greatest moment, which never comes.
+const NEVER: u64 = u64::MAX;
+
+/// Milliseconds after which a host that is stale is to be forgotten.
+const STALE_FOR: u64 = 30_000;
+
+/// How long a host of a datapath is fresh, in milliseconds.
+fn fresh_for(conf: &Conf, dp: DpId) -> u64
+    ensures exact { result ≡ fresh_for conf.now dp }
+    ensures small { result < 2 ^ 43 }
+{
+    match conf.dp(dp) {
+        Some(dp) => u64::from(dp.timeout) * 1000,
+        None => 0,
+    }
+}
+
+/// The moment at which a host turns stale, or of one that is stale the moment at which it is to be forgotten.
+fn host_until(conf: &Conf, now: Moment, host: &HostRec) -> u64
+    ensures { result ≡ host_until conf.now now.0 host.now }
+{
+    if conf.is_permanent(host) {
+        return NEVER;
+    }
+    let fresh_for = fresh_for(conf, host.dp);
+    if conf.is_fresh(now, host) {
+        host.learned.0.saturating_add(fresh_for)
+    } else {
+        host.learned.0.saturating_add(fresh_for + STALE_FOR)
+    }
+}
+
+fn hosts_until(conf: &Conf, now: Moment, hosts: &[HostRec]) -> u64
+    ensures { result ≡ hosts_until conf.now now.0 hosts.now }
+{
+    let mut least = NEVER;
+    for host in hosts {
+        least = least.min(host_until(conf, now, host));
+    }
+    least
+}
+
+fn neighbours_until(neighbours: &[NeighRec]) -> u64
+    ensures { result ≡ neighbours_until neighbours.now }
+{
+    let mut least = NEVER;
+    for neighbour in neighbours {
+        least = least.min(neighbour.due.0);
+    }
+    least
+}
+
+/// Until which moment a world that rests goes on resting, where nothing but the clock changes: the first
+/// one, in milliseconds, at which a host turns stale or is to be forgotten, or a neighbour is due, and
+/// 2^64 - 1 where there is none.
+pub fn rests_until(alloc: Global, world: &World) -> Result<u64, NoMemory>
+    ensures { IfOk result (λ moment. IsAtRest world.now → RestsUntil moment world.now) }
+{
+    let hosts = world.hosts.hosts(alloc)?;
+    let first = hosts_until(&world.conf, world.moment, hosts.as_slice());
+    Ok(first.min(neighbours_until(world.neighbours.list())))
+}
