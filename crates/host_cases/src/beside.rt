@@ -70,12 +70,13 @@ fn ups(alloc: Global, conf: &Conf, down: &HostRec) -> Result<UpRecs, NoMemory> {
 }
 
 fn is_equal(pair: &Pair) -> bool {
+    let mut seen = pair.table.iter();
     for (place, host) in pair.plain.hosts().iter().enumerate() {
-        if pair.table.at(place) != Some(host) {
+        if seen.next() != Some(host) || pair.table.at(place) != Some(host) {
             return false;
         }
     }
-    pair.table.len() == pair.plain.hosts().len()
+    seen.next().is_none() && pair.table.len() == pair.plain.hosts().len()
 }
 
 /// Whether both say the same of a host that is heard.
@@ -99,7 +100,12 @@ fn call(conf: &Conf, pair: &mut Pair, which: u64, host: &HostRec) -> Result<bool
             pair.plain.forget_dp(host.dp);
             Ok(true)
         }
-        6..=31 => {
+        6 => {
+            pair.table.forget_due(conf, host.learned);
+            pair.plain.forget_due(conf, host.learned);
+            Ok(true)
+        }
+        7..=31 => {
             let found = pair.table.get(conf, host.dp, host.vid, host.mac);
             Ok(found == pair.plain.get(conf, host.dp, host.vid, host.mac))
         }

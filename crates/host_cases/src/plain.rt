@@ -6,7 +6,7 @@ ghost use Rattle.std.specs.Option.{option_copied};
 ghost use Rattle.conf_types.specs.State.{is_to_forget};
 ghost use Rattle.host_learn.specs.Kept.{has_room, kept, last_of_each, may_stay, with_room};
 ghost use Rattle.host_learn.specs.Learning.{answer, hosts_after, is_full, is_full_at, is_full_in, is_host, is_in_place, is_kept_off, is_known, is_occupied, learned, moved, refreshed, stands_there, takes_in};
-ghost use Rattle.host_learn.specs.Table.{first_due, has_key, host_of, off_datapath, off_port, without_first};
+ghost use Rattle.host_learn.specs.Table.{first_due, has_key, host_of, off_datapath, off_due, off_port, without_first};
 
 use conf_types::{Conf, HostRec, UpRec, is_up};
 use host_learn::Learn;
@@ -212,6 +212,12 @@ fn take_due(hosts: &mut Vec<HostRec>, conf: &Conf, now: Moment) -> Option<HostRe
     }
 }
 
+fn leave_due(hosts: &mut Vec<HostRec>, conf: &Conf, now: Moment)
+    ensures { hosts.new.items ≡ off_due conf.now now.0 hosts.old.items }
+{
+    hosts.retain(|host| !conf.is_to_forget(now, host));
+}
+
 fn leave_port(hosts: &mut Vec<HostRec>, dp: DpId, port: PortNo)
     ensures { hosts.new.items ≡ off_port dp port hosts.old.items }
 {
@@ -323,6 +329,13 @@ impl Plain {
         ensures list { self.new ≡ record self.old { hosts = without_first (is_to_forget conf.now now.0) self.old.hosts } }
     {
         take_due(&mut self.hosts, conf, now)
+    }
+
+    /// Takes out the hosts that are to be forgotten at a moment.
+    pub fn forget_due(&mut self, conf: &Conf, now: Moment)
+        ensures { self.new ≡ record self.old { hosts = off_due conf.now now.0 self.old.hosts } }
+    {
+        leave_due(&mut self.hosts, conf, now);
     }
 
     /// Takes out the hosts at a port.

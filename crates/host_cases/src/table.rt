@@ -37,13 +37,11 @@ fn one(alloc: Global, host: Option<HostRec>) -> Result<String, NoMemory> {
 /// The hosts in the order of learning.
 fn list(alloc: Global, table: &HostTable) -> Result<String, NoMemory> {
     let mut out = String::new(alloc);
-    for place in 0..table.len() {
+    for (place, host) in table.iter().enumerate() {
         if place > 0 {
             out.push_str("; ")?;
         }
-        if let Some(host) = table.at(place) {
-            put_host(alloc, &mut out, host)?;
-        }
+        put_host(alloc, &mut out, host)?;
     }
     if table.is_empty() {
         out.push_str("none")?;
@@ -65,13 +63,11 @@ fn age_of(conf: &Conf, moment: Moment, host: &HostRec) -> &'static str {
 /// How old each host is, in the order of learning.
 fn ages(alloc: Global, conf: &Conf, table: &HostTable, moment: Moment) -> Result<String, NoMemory> {
     let mut out = String::new(alloc);
-    for place in 0..table.len() {
+    for (place, host) in table.iter().enumerate() {
         if place > 0 {
             out.push_str(", ")?;
         }
-        if let Some(host) = table.at(place) {
-            out.push_str(age_of(conf, moment, host))?;
-        }
+        out.push_str(age_of(conf, moment, host))?;
     }
     Ok(out)
 }
@@ -99,9 +95,10 @@ fn ups(alloc: Global, words: &mut SplitWhitespace<'_>) -> Result<UpRecs, NoMemor
     Ok(ups)
 }
 
-/// `port DP PORT`, or `dp DP`.
-fn forget(table: &mut HostTable, words: &mut SplitWhitespace<'_>) -> Option<()> {
+/// `port DP PORT`, `dp DP` or `due MOMENT`.
+fn forget(table: &mut HostTable, conf: &Conf, words: &mut SplitWhitespace<'_>) -> Option<()> {
     match words.next()? {
+        "due" => table.forget_due(conf, moment(words)?),
         "port" => {
             let dp = dp_id(words)?;
             table.forget_port(dp, port_no(words)?);
@@ -172,7 +169,7 @@ pub fn answer(
             None => None,
         },
         "table" | "kept" => replace(alloc, conf, table, name, words)?,
-        "forget" => forget(table, words),
+        "forget" => forget(table, conf, words),
         "list" => Some(()),
         _ => None,
     };

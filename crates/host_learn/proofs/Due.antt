@@ -37,7 +37,7 @@ module _ (conf : Configuration) (moment : ℕ) where
         | inr is ↦ is
       ]
 
-  none_of : (shelves : List Shelf) (host : HostRec) → is_shelved shelves host ≡ true → list_any (is_due_from conf moment) shelves ≡ false → nat_le (sum_up_to_greatest host.learned.0 (fresh_for conf host.dp + 30000)) moment ≡ false
+  pub none_of : (shelves : List Shelf) (host : HostRec) → is_shelved shelves host ≡ true → list_any (is_due_from conf moment) shelves ≡ false → nat_le (sum_up_to_greatest host.learned.0 (fresh_for conf host.dp + 30000)) moment ≡ false
   none_of [] host on off = absurd (false≢true on)
   none_of (shelf ∷ shelves) host on off =
       let parts = neither (is_due_from conf moment shelf) (list_any (is_due_from conf moment) shelves) off in
@@ -50,8 +50,11 @@ module _ (conf : Configuration) (moment : ℕ) where
   never true = refl
   never false = refl
 
+  pub not_forgotten : (host : HostRec) → nat_le (sum_up_to_greatest host.learned.0 (fresh_for conf host.dp + 30000)) moment ≡ false → is_to_forget conf moment host ≡ false
+  not_forgotten host off = ap (λ b. not (is_permanent conf host) && b) off ∙ never (not (is_permanent conf host))
+
   pub none_due : (shelves : List Shelf) → list_any (is_due_from conf moment) shelves ≡ false → (entries : List Entry) → AllByRecursion (λ (e : Entry). is_shelved shelves e.1 ≡ true) entries → first_place (is_to_forget conf moment) entries ≡ None
   none_due shelves off [] on = refl
   none_due shelves off (e ∷ entries) on =
-      let stays : is_to_forget conf moment e.1 ≡ false = ap (λ b. not (is_permanent conf e.1) && b) (none_of shelves e.1 on.0 off) ∙ never (not (is_permanent conf e.1)) in
+      let stays = not_forgotten e.1 (none_of shelves e.1 on.0 off) in
       ap (λ b. if b then Some e.0 else first_place (is_to_forget conf moment) entries) stays ∙ none_due shelves off entries on.1

@@ -1,24 +1,28 @@
 -- Taking out the first that passes, until none does; and giving each that is heard its moment.
-use Rattle.std.proofs.Common.{◌≡◌, ℕ, ◌+◌, ◌<◌, ◌==◌, ◌&&◌, ◌++◌, Bool, true, false, cond, not, Option, Some, None, List, [], ◌∷◌, filter, find, length, inl, inr, refl, sym, ap, ◌∙◌, arith, subst, eq-eqb, sum_by, count_by, if◌then◌else◌}
+use Rattle.std.proofs.Common.{◌≡◌, ℕ, ◌+◌, ◌<◌, ◌≤◌, ◌==◌, ◌&&◌, ◌++◌, Bool, true, false, cond, not, Option, Some, None, List, [], ◌∷◌, filter, find, nat_le, length, inl, inr, refl, sym, ap, ◌∙◌, arith, subst, eq-eqb, sum_by, count_by, if◌then◌else◌}
 use Rattle.std.specs.List.{AllByRecursion}
 use Rattle.std.specs.BTreeMap.{is_at}
+use Rattle.std.specs.BTreeMap.Range.{entries_between}
+use Rattle.std.specs.declared.ops.Bound.TheVariants.{Included, Unbounded}
 use Rattle.std.specs.Map.{lookup}
-use Rattle.std.specs.Ordering.{nat_cmp}
-use Rattle.std.proofs.lemmas.Bool.{cases_Bool, and_parts, eqb-true}
-use Rattle.std.proofs.lemmas.List.Sums.{sum_by-cons}
+use Rattle.std.specs.Ordering.{is_le, nat_cmp}
+use Rattle.std.proofs.lemmas.Bool.{cases_Bool, and_parts, eqb-true, le-leb, lt-leb}
+use Rattle.std.proofs.lemmas.Bool.Decides.{nat_tests}
+use Rattle.std.proofs.lemmas.List.Sums.{count_by-le-length, length-filter, sum_by-cons}
 use Rattle.net_base.specs.declared.numbers.Moment.{Moment}
 use Rattle.conf_types.specs.declared.state.HostRec.{HostRec}
 use Rattle.conf_types.specs.Configuration.{Configuration}
 use Rattle.host_learn.specs.Addresses.{Entry, off_place, heard_at}
+use Rattle.host_learn.specs.Leaving.{from_place}
 use Rattle.host_learn.specs.Learning.{is_heard, is_in_place, moved, refreshed}
 use Rattle.host_learn.specs.Order.{AreRising, first_entry, first_place, hosts_of, is_old, is_other}
 use Rattle.host_learn.specs.Table.{without_first}
 use Rattle.host_learn.proofs.Entries.{IsOnly, filter_off, none_heard, none_off, not_there, off_other, only, same_test, sum_off, eqb-false}
 
-some_is : {A : Type 0} (a b : A) → ◌≡◌ {A = Option A} (Some a) (Some b) → a ≡ b
+pub some_is : {A : Type 0} (a b : A) → ◌≡◌ {A = Option A} (Some a) (Some b) → a ≡ b
 some_is a b e = cc
 
-none_some : {A : Type 0} (a : A) → ◌≡◌ {A = Option A} None (Some a) → ⊥
+pub none_some : {A : Type 0} (a : A) → ◌≡◌ {A = Option A} None (Some a) → ⊥
 none_some a e = absurd (cc)
 
 -- the entry at a place that is found passes
@@ -75,6 +79,27 @@ pub place_is_entry : (test : HostRec → Bool) (entries : List Entry) → first_
 place_is_entry test [] = refl
 place_is_entry test (e ∷ entries) = ap (λ o. if test e.1 then Some e.0 else o) (place_is_entry test entries)
 
+-- ---- the entries from a place on
+
+pub from_first : (entries : List Entry) → from_place 0 entries ≡ entries
+from_first [] = refl
+from_first (e ∷ entries) = ap (λ b. cond b (e ∷ from_place 0 entries) (from_place 0 entries)) (le-leb 0 e.0 (omega arith)) ∙ ap (λ es. e ∷ es) (from_first entries)
+
+all_from : (n : ℕ) (entries : List Entry) → AllByRecursion (λ (e : Entry). n < e.0) entries → from_place n entries ≡ entries
+all_from n [] above = refl
+all_from n (e ∷ entries) above = let less : n < e.0 = above.0 in
+    ap (λ b. cond b (e ∷ from_place n entries) (from_place n entries)) (le-leb n e.0 (omega (arith, less))) ∙ ap (λ es. e ∷ es) (all_from n entries above.1)
+
+-- a tree's range from a key on
+pub range_from : (n : ℕ) (entries : List Entry) → entries_between nat_cmp (Included n) Unbounded entries ≡ from_place n entries
+range_from n [] = refl
+range_from n (e ∷ entries) =
+    ap (λ b. cond b (e ∷ entries_between nat_cmp (Included n) Unbounded entries) (entries_between nat_cmp (Included n) Unbounded entries)) (within n e.0)
+    ∙ ap (λ es. cond (nat_le n e.0) (e ∷ es) es) (range_from n entries)
+  where
+    within : (n k : ℕ) → (is_le (nat_cmp n k) && not false) ≡ nat_le n k
+    within n k = grind (arith, nat_tests)
+
 -- ---- the first host that passes
 
 module _ (test : HostRec → Bool) where
@@ -109,6 +134,26 @@ module _ (test : HostRec → Bool) where
         | inl here ↦ absurd (none_some e.0 (sym none ∙ ap (λ b. if b then Some e.0 else first_place test entries) here))
         | inr other ↦ let rest = no_first entries (sym (ap (λ b. if b then Some e.0 else first_place test entries) other) ∙ none) in
             (ap (λ b. cond b (Some e.1) (find test (hosts_of entries))) other ∙ rest.0, ap (λ b. cond b (hosts_of entries) (e.1 ∷ without_first test (hosts_of entries))) other ∙ ap (λ hs. e.1 ∷ hs) rest.1)
+      ]
+
+  -- ---- looking on from the place of the one before
+
+  -- what stands from the place of the first one on, where that one is out, has the first of the rest
+  pub looked_on : (n : ℕ) (entries : List Entry) → AreRising entries → first_place test entries ≡ Some n → first_place test (from_place n (off_place n entries)) ≡ first_place test (off_place n entries)
+  looked_on n [] rising first = refl
+  looked_on n (e ∷ entries) rising first =
+      elim (cases_Bool (test e.1)) [
+        | inl here ↦ let is : e.0 ≡ n = some_is e.0 n (sym (ap (λ b. if b then Some e.0 else first_place test entries) here) ∙ first) in
+            let above = subst (λ k. AllByRecursion (λ (f : Entry). k < f.0) entries) is rising.0 in
+            let rest : off_place n (e ∷ entries) ≡ entries = ap (λ b. cond (not b) (e ∷ off_place n entries) (off_place n entries)) (eq-eqb e.0 n is) ∙ none_off n entries above in
+            ap (first_place test) (ap (from_place n) rest ∙ all_from n entries above ∙ sym rest)
+        | inr other ↦ let later = sym (ap (λ b. if b then Some e.0 else first_place test entries) other) ∙ first in
+            let less : e.0 < n = above (λ (e : Entry). test e.1) e.0 n entries rising.0 (sym (place_is_entry test entries) ∙ later) in
+            let rest : off_place n (e ∷ entries) ≡ e ∷ off_place n entries = ap (λ b. cond (not b) (e ∷ off_place n entries) (off_place n entries)) (eqb-false e.0 n (λ same. omega arith)) in
+            ap (λ es. first_place test (from_place n es)) rest
+            ∙ ap (λ b. first_place test (cond b (e ∷ from_place n (off_place n entries)) (from_place n (off_place n entries)))) (lt-leb n e.0 less)
+            ∙ looked_on n entries rising.1 later
+            ∙ sym (ap (first_place test) rest ∙ ap (λ b. if b then Some e.0 else first_place test (off_place n entries)) other)
       ]
 
   pub hosts_filter : (entries : List Entry) → hosts_of (filter (λ (e : Entry). not (test e.1)) entries) ≡ filter (λ h. not (test h)) (hosts_of entries)
@@ -215,3 +260,8 @@ module _ (heard : HostRec) where
   fewer_old n entries rising first =
       let at = passing (is_old heard) n entries rising first in
       omega (arith, old_less n entries at.host rising at.found at.passes)
+
+-- ---- a part is within a limit
+
+pub part_within : (test : Entry → Bool) (entries : List Entry) (limit : ℕ) → length entries ≤ limit → length (filter test entries) ≤ limit
+part_within test entries limit within = omega (arith, length-filter test entries, count_by-le-length test entries, within)

@@ -11,6 +11,7 @@ pub mod Lists
 pub mod Moments
 pub mod Narrow
 pub mod PartValid
+pub mod Passed
 pub mod Shelved
 pub mod Sizes
 pub mod Spots

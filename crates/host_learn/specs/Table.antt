@@ -31,6 +31,10 @@ without_first test (host ∷ more) = if test host then more else host ∷ withou
 abbrev pub first_due : Configuration → ℕ → List HostRec → Option HostRec
 first_due conf moment hosts = find (is_to_forget conf moment) hosts
 
+-- without the hosts that are to be forgotten
+abbrev pub off_due : Configuration → ℕ → List HostRec → List HostRec
+off_due conf moment hosts = filter (λ host. not (is_to_forget conf moment host)) hosts
+
 -- without the hosts at a port
 abbrev pub off_port : DpId → ℕ → List HostRec → List HostRec
 off_port dp number hosts = filter (λ host. not (is_host_at dp number host)) hosts

@@ -1,6 +1,6 @@
 //! The hosts of an address in a VLAN, to be looked up.
 
-ghost use Rattle.std.specs.Prelude.{◌≡◌, ◌++◌, ◌∷◌, [], None, if◌then◌else◌, OnOk, OnErr};
+ghost use Rattle.std.specs.Prelude.{◌≡◌, ◌++◌, ◌∷◌, [], None, if◌then◌else◌, IsTrue, OnOk, OnErr};
 ghost use Rattle.indexmap.specs.IndexMap.{get};
 ghost use Rattle.host_learn.specs.Addresses.{entries_at, heard_at, is_address, off_place};
 
@@ -41,7 +41,7 @@ fn begin(
     ensures ok { OnOk result ((q : Address) → entries_at addresses.new q ≡ entries_at addresses.old q ++ (if is_address address q then entry ∷ [] else [])) }
     ensures err { OnErr result (addresses.new.entries ≡ addresses.old.entries) }
 {
-    let mut list = Vec::new(alloc);
+    let mut list = Vec::with_capacity(alloc, 1)?;
     list.push(entry)?;
     addresses.insert(address, list)?;
     Ok(())
@@ -77,10 +77,12 @@ pub(crate) fn put(
     Ok(())
 }
 
-fn leave(list: &mut Vec<Entry>, place: u64)
-    ensures { list.new.items ≡ off_place place list.old.items }
+fn leave(list: &mut Vec<Entry>, place: u64) -> bool
+    ensures left { list.new.items ≡ off_place place list.old.items }
+    ensures none { IsTrue result → list.new.items ≡ [] }
 {
     list.retain(|entry| entry.0 != place);
+    list.is_empty()
 }
 
 fn hear(list: &mut Vec<Entry>, place: u64, moment: Moment)
@@ -99,12 +101,23 @@ fn hear_each(list: &mut [Entry], place: u64, moment: Moment)
     }
 }
 
-/// Takes the host at a place out of those of its address.
+/// Takes the host at a place out of those of its address; whether none is left of these.
+fn take_one(addresses: &mut Addresses, address: &Address, place: u64) -> bool
+    ensures entries { (q : Address) → entries_at addresses.new q ≡ (if is_address address.now q then off_place place (entries_at addresses.old q) else entries_at addresses.old q) }
+    ensures none { IsTrue result → entries_at addresses.new address.now ≡ [] }
+{
+    match addresses.get_mut(address) {
+        Some(list) => leave(list, place),
+        None => false,
+    }
+}
+
+/// Takes the host at a place out of those of its address. An address without hosts isn't kept.
 pub(crate) fn take(addresses: &mut Addresses, address: &Address, place: u64)
     ensures { (q : Address) → entries_at addresses.new q ≡ (if is_address address.now q then off_place place (entries_at addresses.old q) else entries_at addresses.old q) }
 {
-    if let Some(list) = addresses.get_mut(address) {
-        leave(list, place);
+    if take_one(addresses, address, place) {
+        addresses.swap_remove(address);
     }
 }
 

@@ -2,6 +2,7 @@
 #![tactic(auto)]
 
 mod addresses;
+mod ageing;
 mod counts;
 mod host;
 mod kept;
@@ -12,4 +13,4 @@ mod shelves;
 mod table;
 
 pub use learn::Learn;
-pub use table::HostTable;
+pub use table::{HostTable, HostsIter};

@@ -10,10 +10,13 @@ ghost use Rattle.conf_types.specs.State.{is_host_at, is_host_in, is_to_forget};
 ghost use Rattle.indexmap.specs.IndexMap.{spare};
 ghost use Rattle.host_learn.specs.Addresses.{address_of, has_address, heard_at, off_place};
 ghost use Rattle.host_learn.specs.Counts.{at_spot};
+ghost use Rattle.host_learn.specs.Leaving.{from_place, leaves};
 ghost use Rattle.host_learn.specs.Order.{AreRising, AreShelves, both_spot, first_place, hosts_of, port_spot, share, vlan_part, vlan_spot};
+ghost use Rattle.host_learn.specs.Passed.{earlier, least_until};
 ghost use Rattle.host_learn.specs.Shelves.{is_shelved};
 
 use crate::addresses::{Address, Addresses, Entry, entries, put, refresh, take};
+use crate::ageing::Passed;
 use crate::counts::{Counts, Spot, count, lower, raise};
 use crate::shelves::{Shelf, hear, note, tighten};
 use conf_types::{Conf, HostRec};
@@ -21,6 +24,7 @@ use indexmap::IndexMap;
 use net_base::{DpId, Mac, Moment, NoMemory, PortNo, Vid};
 use std::alloc::{AllocError, Global};
 use std::collections::BTreeMap;
+use std::collections::btree_map::Values;
 use std::marker::Model;
 
 /// The hosts in the order of learning, each with a place that only grows. Contracts see the hosts with
@@ -35,9 +39,30 @@ pub(crate) struct Order {
     shelves: Vec<Shelf>,
 }
 
+/// The hosts that leave.
+#[derive(Clone, Copy)]
+pub(crate) enum Leaving {
+    /// Those at a port.
+    Port(DpId, PortNo),
+    /// Those of a datapath.
+    Datapath(DpId),
+}
+
+impl Leaving {
+    fn has(&self, host: &HostRec) -> bool
+        ensures { result ≡ leaves self.now host.now }
+    {
+        match *self {
+            Leaving::Port(dp, port) => host.is_at(dp, port),
+            Leaving::Datapath(dp) => host.dp == dp,
+        }
+    }
+}
+
 impl Model for Order {
     ghost use Rattle.std.specs.Prelude.{List};
     ghost use Rattle.host_learn.specs.Addresses.{Entry};
+    ghost use Rattle.host_learn.specs.Leaving.{from_place, leaves};
     ghost use Rattle.host_learn.specs.Order.{IsIndexed};
 
     ghost Value = { List Entry };
@@ -93,6 +118,12 @@ pub(crate) fn both_spot(host: &HostRec) -> Spot
         port: Some(host.port.get()),
         vid: Some(host.vid.get()),
     }
+}
+
+fn earlier(a: Moment, b: Moment) -> Moment
+    ensures { result ≡ earlier a b }
+{
+    if b.0 < a.0 { b } else { a }
 }
 
 fn count_in(counts: &mut Counts, host: &HostRec)
@@ -183,6 +214,13 @@ impl Order {
         ensures { option_copied result ≡ slice_get (hosts_of self.now) nth }
     {
         self.hosts.values().nth(nth)
+    }
+
+    /// The hosts alone, in order, one after another.
+    pub(crate) fn iter(&self) -> Values<'_, u64, HostRec>
+        ensures { result ≡ hosts_of self.now }
+    {
+        self.hosts.values()
     }
 
     /// The hosts alone, in order.
@@ -276,39 +314,35 @@ impl Order {
         tighten(&mut self.shelves, &self.hosts);
     }
 
-    /// Where the first host stands that is to be forgotten.
-    pub(crate) fn first_due(&self, conf: &Conf, now: Moment) -> Option<u64>
-        ensures value { result ≡ first_place (is_to_forget conf.now now.0) self.now }
+    /// Where the first host stands that is to be forgotten, behind those that were passed; and a moment
+    /// before which neither these nor those before that place were heard.
+    pub(crate) fn next_due(
+        &self,
+        passed: &Passed,
+        conf: &Conf,
+        now: Moment,
+    ) -> (Option<u64>, Moment)
+        ensures place { result.0 ≡ first_place (is_to_forget conf.now now.0) (from_place passed.now.front self.now) }
+        ensures least { result.1 ≡ least_until (is_to_forget conf.now now.0) passed.now.least (from_place passed.now.front self.now) }
         ensures rising { AreRising self.now }
     {
-        for (place, host) in &self.hosts {
+        let mut least = passed.least;
+        for (place, host) in self.hosts.range(passed.front..) {
             if conf.is_to_forget(now, host) {
-                return Some(*place);
+                return (Some(*place), least);
             }
+            least = earlier(least, host.learned);
         }
-        None
+        (None, least)
     }
 
-    /// Where the first host at a port stands.
-    pub(crate) fn first_at(&self, dp: DpId, port: PortNo) -> Option<u64>
-        ensures value { result ≡ first_place (is_host_at dp port) self.now }
+    /// Where the first host stands that leaves, from a place on.
+    pub(crate) fn first_leaving(&self, from: u64, leaving: &Leaving) -> Option<u64>
+        ensures value { result ≡ first_place (leaves leaving.now) (from_place from self.now) }
         ensures rising { AreRising self.now }
     {
-        for (place, host) in &self.hosts {
-            if host.is_at(dp, port) {
-                return Some(*place);
-            }
-        }
-        None
-    }
-
-    /// Where the first host of a datapath stands.
-    pub(crate) fn first_on(&self, dp: DpId) -> Option<u64>
-        ensures value { result ≡ first_place (λ host. host.dp.0 == dp.0) self.now }
-        ensures rising { AreRising self.now }
-    {
-        for (place, host) in &self.hosts {
-            if host.dp == dp {
+        for (place, host) in self.hosts.range(from..) {
+            if leaving.has(host) {
                 return Some(*place);
             }
         }

@@ -4,22 +4,21 @@ ghost use Rattle.std.specs.Option.{option_copied};
 ghost use Rattle.conf_types.specs.State.{is_host_at, is_to_forget};
 ghost use Rattle.host_learn.specs.Kept.{kept};
 ghost use Rattle.host_learn.specs.Learning.{answer, learned};
+ghost use Rattle.host_learn.specs.Leaving.{leaves};
 ghost use Rattle.host_learn.specs.Order.{hosts_of, is_due_from};
-ghost use Rattle.host_learn.specs.Table.{first_due, has_key, host_of, off_datapath, off_port, without_first};
+ghost use Rattle.host_learn.specs.Table.{first_due, has_key, host_of, off_datapath, off_due, off_port, without_first};
 
 use crate::addresses::Entry;
+use crate::ageing::{Passed, leave_any_due, take_due};
 use crate::host::has_key;
 use crate::kept::kept_hosts;
 use crate::learn::{Learn, answer, take_in};
-use crate::order::{Order, key_address};
-use crate::shelves::Shelf;
+use crate::order::{Leaving, Order, key_address};
 use conf_types::{Conf, HostRec, HostRecs, UpRec};
 use net_base::{DpId, Mac, Moment, NoMemory, PortNo, Vid};
 use std::alloc::Global;
+use std::collections::btree_map::Values;
 use std::marker::Model;
-
-/// Milliseconds after which a host that is stale is to be forgotten.
-const STALE_FOR: u64 = 30_000;
 
 /// The hosts that were learned, in the order of learning, and how many there are at most. Contracts
 /// see a `Table`.
@@ -28,18 +27,20 @@ pub struct HostTable {
     alloc: Global,
     limit: u32,
     order: Order,
+    passed: Passed,
 }
 
 impl Model for HostTable {
     ghost use Rattle.std.specs.Prelude.{◌≤◌, length};
     ghost use Rattle.host_learn.specs.Order.{hosts_of};
+    ghost use Rattle.host_learn.specs.Passed.{ArePassed};
     ghost use Rattle.host_learn.specs.Table.{Table};
 
     ghost Value = { Table };
 
     ghost view = { λ t. record { limit = t.limit; hosts = hosts_of t.order } };
 
-    ghost invariant = { λ t. length t.order ≤ t.limit };
+    ghost invariant = { λ t. (length t.order ≤ t.limit) × ArePassed t.passed t.order };
 }
 
 fn find_host<'a>(
@@ -59,55 +60,14 @@ fn find_host<'a>(
     None
 }
 
-/// Whether a host of a datapath that was last heard at the shelf's moment would be to be forgotten, if
-/// its port doesn't keep it for good.
-fn is_due_from(conf: &Conf, now: Moment, shelf: &Shelf) -> bool
-    ensures { result ≡ is_due_from conf.now now.0 shelf.now }
+/// Takes out the hosts that leave. Each is looked for from the place of the one before.
+fn leave(order: &mut Order, leaving: &Leaving)
+    ensures { order.new ≡ filter (λ e. not (leaves leaving.now e.1)) order.old }
 {
-    let fresh_for = match conf.dp(shelf.dp) {
-        Some(dp) => u64::from(dp.timeout) * 1000,
-        None => 0,
-    };
-    shelf.least.0.saturating_add(fresh_for + STALE_FOR) <= now.0
-}
-
-fn any_due_from(conf: &Conf, now: Moment, shelves: &[Shelf]) -> bool
-    ensures { result ≡ list_any (is_due_from conf.now now.0) shelves.now }
-{
-    shelves.iter().any(|shelf| is_due_from(conf, now, shelf))
-}
-
-/// Takes out the first host that is to be forgotten.
-fn take_due(order: &mut Order, conf: &Conf, now: Moment) -> Option<HostRec>
-    ensures found { result ≡ first_due conf.now now.0 (hosts_of order.old) }
-    ensures left { hosts_of order.new ≡ without_first (is_to_forget conf.now now.0) (hosts_of order.old) }
-    ensures fewer { length order.new ≤ length order.old }
-{
-    if !any_due_from(conf, now, order.shelves()) {
-        return None;
-    }
-    match order.first_due(conf, now) {
-        Some(place) => order.remove(place),
-        None => {
-            order.tighten();
-            None
-        }
-    }
-}
-
-fn leave_port(order: &mut Order, dp: DpId, port: PortNo)
-    ensures { order.new ≡ filter (λ e. not (is_host_at dp port e.1)) order.old }
-{
-    while let Some(place) = order.first_at(dp, port) {
+    let mut from = 0;
+    while let Some(place) = order.first_leaving(from, leaving) {
         order.remove(place);
-    }
-}
-
-fn leave_datapath(order: &mut Order, dp: DpId)
-    ensures { order.new ≡ filter (λ e. not (e.1.dp.0 == dp.0)) order.old }
-{
-    while let Some(place) = order.first_on(dp) {
-        order.remove(place);
+        from = place;
     }
 }
 
@@ -132,6 +92,7 @@ impl HostTable {
             alloc,
             limit,
             order: Order::new(alloc),
+            passed: Passed::none(),
         })
     }
 
@@ -157,6 +118,15 @@ impl HostTable {
         ensures within { OnSome result (place < length self.now.hosts) }
     {
         self.order.nth(place)
+    }
+
+    /// The hosts in the order of learning, one after another.
+    pub fn iter(&self) -> HostsIter<'_>
+        ensures { result ≡ self.now.hosts }
+    {
+        HostsIter {
+            rest: self.order.iter(),
+        }
     }
 
     /// The hosts in the order of learning.
@@ -190,6 +160,7 @@ impl HostTable {
             learned: now,
         };
         let said = answer(conf, self.limit, &self.order, &heard);
+        self.passed = Passed::none();
         take_in(conf, &mut self.order, &heard, said)?;
         Ok(said)
     }
@@ -200,21 +171,31 @@ impl HostTable {
         ensures found { result ≡ first_due conf.now now.0 self.old.hosts }
         ensures list { self.new ≡ record self.old { hosts = without_first (is_to_forget conf.now now.0) self.old.hosts } }
     {
-        take_due(&mut self.order, conf, now)
+        take_due(&mut self.order, &mut self.passed, conf, now)
+    }
+
+    /// Takes out the hosts that are to be forgotten at a moment, as `age` does one after another.
+    pub fn forget_due(&mut self, conf: &Conf, now: Moment)
+        ensures { self.new ≡ record self.old { hosts = off_due conf.now now.0 self.old.hosts } }
+    {
+        self.passed = Passed::none();
+        leave_any_due(&mut self.order, conf, now);
     }
 
     /// Takes out the hosts at a port.
     pub fn forget_port(&mut self, dp: DpId, port: PortNo)
         ensures { self.new ≡ record self.old { hosts = off_port dp port self.old.hosts } }
     {
-        leave_port(&mut self.order, dp, port);
+        self.passed = Passed::none();
+        leave(&mut self.order, &Leaving::Port(dp, port));
     }
 
     /// Takes out the hosts of a datapath.
     pub fn forget_dp(&mut self, dp: DpId)
         ensures { self.new ≡ record self.old { hosts = off_datapath dp self.old.hosts } }
     {
-        leave_datapath(&mut self.order, dp);
+        self.passed = Passed::none();
+        leave(&mut self.order, &Leaving::Datapath(dp));
     }
 
     /// The host with this address in the VLAN, in the group of the datapath; `None` exactly where
@@ -240,6 +221,36 @@ impl HostTable {
             alloc: self.alloc,
             limit: self.limit,
             order,
+            passed: Passed::none(),
         })
+    }
+}
+
+/// The hosts that are left to be seen, in the order of learning, which is what contracts see.
+#[derive(Debug, Drop)]
+pub struct HostsIter<'a> {
+    rest: Values<'a, u64, HostRec>,
+}
+
+impl<'a> Model for HostsIter<'a> {
+    ghost use Rattle.std.specs.Prelude.{List};
+    ghost use Rattle.conf_types.specs.declared.state.HostRec.{HostRec};
+
+    ghost Value = { List HostRec };
+
+    ghost view = { λ it. it.rest };
+}
+
+impl<'a> Iterator for HostsIter<'a> {
+    ghost use Rattle.std.specs.Iterator.{YieldsFirstRef, item_count};
+
+    type Item = &'a HostRec;
+
+    ghost next_gives = { YieldsFirstRef (λ rest. rest) };
+
+    ghost remaining = { item_count (λ rest. rest) };
+
+    fn next(&mut self) -> Option<&'a HostRec> {
+        self.rest.next()
     }
 }

@@ -3,5 +3,5 @@ use Rattle.std.proofs.lemmas.Fn.{filter_same}
 use Rattle.host_learn.specs.Addresses.{Entry}
 use Rattle.host_learn.proofs.addresses.leave.Goals as goal
 
-pub returns : goal.returns
-returns c = filter_same _ (λ (e : Entry). not (e.0 == c.args.place)) _ (λ x b f' k. (search rules, search rules)) _ _ c.retain.ensures.filtered
+pub returns-clause-left : goal.returns-clause-left
+returns-clause-left c = filter_same _ (λ (e : Entry). not (e.0 == c.args.place)) _ (λ x b f' k. (search rules, search rules)) _ _ c.retain.ensures.filtered

@@ -2,6 +2,7 @@ use Rattle.std.proofs.Common.{◌≤◌, List, [], length, filter, sym, ◌∙�
 use Rattle.conf_types.specs.declared.state.HostRec.{HostRec}
 use Rattle.host_learn.specs.Kept.{last_of_each, may_stay}
 use Rattle.host_learn.specs.Order.{hosts_of}
+use Rattle.host_learn.proofs.Passed.{none_are}
 use Rattle.host_learn.proofs.Sizes.{room_within}
 use Rattle.host_learn.proofs.Tallies.{hosts_many}
 use Rattle.host_learn.proofs.table.HostTable.kept.Goals as goal
@@ -22,4 +23,4 @@ invariant_of-result c =
     let order = c.in_ok-order.order in
     let within : length (hosts_of order) ≤ limit = subst (λ (hosts : List HostRec). length hosts ≤ limit) (sym (c.in_ok-order.ensures ∙ c.as_slice-2.ensures.value ∙ c.in_ok-hosts-2.ensures)) (room_within conf limit [] last (omega arith)) in
     let few : length order ≤ limit = omega (arith, hosts_many order, within) in
-    few
+    (few, none_are c.none.result c.none.ensures order)

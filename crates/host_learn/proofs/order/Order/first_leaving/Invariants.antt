@@ -1,10 +1,10 @@
 use Rattle.std.proofs.Common.{◌≡◌}
-use Rattle.conf_types.specs.State.{is_to_forget}
+use Rattle.host_learn.specs.Leaving.{from_place, leaves}
 use Rattle.host_learn.specs.Order.{first_place}
-use Rattle.host_learn.proofs.order.Order.first_due.Given as goal
+use Rattle.host_learn.proofs.order.Order.first_leaving.Given as goal
 
 abbrev pub invariant-loop-place : goal.invariant-loop-place
 invariant-loop-place l =
     (goal.iterator-loop-place).can_next l.place-iterator ×
     (goal.iterator-loop-place).is_finite l.place-iterator ×
-    (first_place (is_to_forget l.conf l.now.0) l.place-iterator ≡ first_place (is_to_forget l.conf l.now.0) l.self)
+    (first_place (leaves l.leaving) l.place-iterator ≡ first_place (leaves l.leaving) (from_place l.from l.self))

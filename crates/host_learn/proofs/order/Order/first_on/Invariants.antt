@@ -1,9 +1,0 @@
-use Rattle.std.proofs.Common.{◌≡◌, ◌==◌}
-use Rattle.host_learn.specs.Order.{first_place}
-use Rattle.host_learn.proofs.order.Order.first_on.Given as goal
-
-abbrev pub invariant-loop-place : goal.invariant-loop-place
-invariant-loop-place l =
-    (goal.iterator-loop-place).can_next l.place-iterator ×
-    (goal.iterator-loop-place).is_finite l.place-iterator ×
-    (first_place (λ host. host.dp.0 == l.dp.0) l.place-iterator ≡ first_place (λ host. host.dp.0 == l.dp.0) l.self)
