@@ -1,5 +1,5 @@
 -- A switch accepts each entry of a plan.
-use Rattle.std.proofs.Common.{◌≡◌, ℕ, ◌^◌, ◌<◌, ◌≤◌, Bool, true, false, cond, List, [], ◌∷◌, ◌++◌, map, Some, refl, arith, lit<, lit≤}
+use Rattle.std.proofs.Common.{ℕ, ◌^◌, ◌<◌, Bool, true, false, cond, List, [], ◌∷◌, refl, lit<, lit≤}
 use Rattle.std.specs.Prelude.{Contains}
 use Rattle.std.specs.List.{AllByRecursion, flat_map}
 use Rattle.net_base.specs.declared.address.Mac.{Mac}
@@ -7,7 +7,7 @@ use Rattle.net_base.specs.declared.field.Field.{Field}
 use Rattle.net_base.specs.declared.field.FieldId.TheVariants.{EthDst, EthSrc}
 use Rattle.net_base.specs.Address.{IsSixBytes}
 use Rattle.net_base.specs.Field.{exact}
-use Rattle.net_base.specs.WellFormed.{Fits, IsWellFormed}
+use Rattle.net_base.specs.WellFormed.{IsWellFormed}
 use Rattle.of_match.specs.declared.entry.Entry.{Entry}
 use Rattle.conf_types.specs.declared.datapath.Dp.{Dp}
 use Rattle.conf_types.specs.declared.state.HostRec.{HostRec}
@@ -19,7 +19,7 @@ use Rattle.plan_base.specs.Accepted.{IsFlowEntry}
 use Rattle.plan_base.specs.declared.table.Table.{Table}
 use Rattle.plan_base.specs.declared.table.Table.TheVariants.{Ipv4Route, Ipv6Route, Vip, Destination, Flood}
 use Rattle.plan_base.specs.Fields.{eth_src, eth_type}
-use Rattle.plan_base.proofs.Accepted.{fits_exact, fits_eth_src, fits_eth_type, fits_group_src, are_instrs, table_fits}
+use Rattle.plan_base.proofs.Accepted.{fits_exact, fits_eth_src, fits_eth_type, fits_group_src, table_fits}
 use Rattle.plan_base.proofs.Each.{all_from, all_append, all_map, all_filter, all_flat_map, all_contains, all_by}
 use Rattle.acl_compile.specs.Slices.{port_acl, vlan_acl}
 use Rattle.acl_compile.proofs.Accepted.{accepted_of_port, accepted_of_vlan}
@@ -28,7 +28,7 @@ use Rattle.vlan_compile.specs.Sources.{sources}
 use Rattle.vlan_compile.proofs.Accepted.{admissions_are, misses_are_accepted, sources_are, destinations_are, floods_are_accepted}
 use Rattle.route_compile.specs.Vips.{vip_slice}
 use Rattle.route_compile.proofs.Accepted.{fib_is_accepted, vips_are_accepted}
-use Rattle.plan_units.specs.Fixed.{drops, bridge_drops, lldp_drops, broadcast_drops, spoofed_drops, drop, gateways, from_group, pass, passes, fixed}
+use Rattle.plan_units.specs.Fixed.{drops, bridge_drops, lldp_drops, broadcast_drops, drop, gateways, from_group, pass, passes, fixed}
 use Rattle.plan_units.specs.Laws.{IsSetting}
 use Rattle.plan_units.specs.Units.{of_port, of_vlan, of_host, of_routes, is_of_group, hosts_of, plan}
 use Rattle.cold_start.proofs.Distinct.{in_conf, gateways_six}

@@ -1,10 +1,10 @@
 -- No two entries of a plan have one key.
-use Rattle.std.proofs.Common.{◌≡◌, ℕ, ◌+◌, ◌<◌, Bool, true, false, cond, not, ◌==◌, List, [], ◌∷◌, ◌++◌, map, filter, Some, refl, sym, ap, ◌∙◌, subst, arith, eqb-true, eq-eqb, true≢false}
+use Rattle.std.proofs.Common.{◌≡◌, ℕ, ◌+◌, ◌<◌, Bool, true, false, cond, not, ◌==◌, List, [], ◌∷◌, ◌++◌, map, refl, sym, ap, ◌∙◌, arith, eqb-true, eq-eqb, true≢false}
 use Rattle.std.specs.Prelude.{Contains}
 use Rattle.std.specs.List.{AllByRecursion, flat_map}
 use Rattle.net_base.specs.declared.address.Mac.{Mac}
 use Rattle.net_base.specs.declared.field.Field.{Field}
-use Rattle.net_base.specs.declared.field.FieldId.TheVariants.{EthDst, EthSrc}
+use Rattle.net_base.specs.declared.field.FieldId.TheVariants.{EthDst}
 use Rattle.net_base.specs.Address.{IsSixBytes, mac_value}
 use Rattle.net_base.specs.Field.{exact}
 use Rattle.of_match.specs.declared.entry.Entry.{Entry}
@@ -13,17 +13,17 @@ use Rattle.conf_types.specs.declared.datapath.Dp.{Dp}
 use Rattle.conf_types.specs.declared.datapath.Port.{Port}
 use Rattle.conf_types.specs.declared.state.HostRec.{HostRec}
 use Rattle.conf_types.specs.declared.vlan.Vlan.{Vlan}
-use Rattle.conf_types.specs.Configuration.{Configuration, dp_with}
+use Rattle.conf_types.specs.Configuration.{Configuration}
 use Rattle.conf_types.specs.Groups.{group_of}
 use Rattle.conf_types.specs.Lists.{EachBefore, is_same}
 use Rattle.conf_types.specs.State.{State, IsSameHost}
-use Rattle.conf_types.specs.Valid.{IsValid, IsVlan}
-use Rattle.packet_way.specs.declared.drops.TheConstants.{BROADCAST, LLDP, PVST_GROUP, BRIDGE_GROUP}
+use Rattle.conf_types.specs.Valid.{IsVlan}
+use Rattle.packet_way.specs.declared.drops.TheConstants.{PVST_GROUP, BRIDGE_GROUP}
 use Rattle.packet_way.specs.Known.{stack_of}
 use Rattle.plan_base.specs.Accepted.{HaveDistinctKeys}
 use Rattle.plan_base.specs.declared.table.Table.TheVariants.{Ipv4Route, Ipv6Route, Vip, Destination, Flood}
-use Rattle.plan_base.specs.Fields.{eth_src, eth_type}
-use Rattle.plan_base.proofs.Each.{all_from, all_append, all_map, all_filter, all_flat_map, all_of_filter, all_contains, before_from, before_append, before_map, before_both, all_across, all_by}
+use Rattle.plan_base.specs.Fields.{eth_src}
+use Rattle.plan_base.proofs.Each.{all_from, all_append, all_map, all_filter, all_flat_map, before_from, before_append, before_map, before_both, all_across, all_by}
 use Rattle.acl_compile.specs.Slices.{port_acl, vlan_acl}
 use Rattle.acl_compile.proofs.Accepted.{distinct_of_port, distinct_of_vlan}
 use Rattle.vlan_compile.specs.Admissions.{admissions}
@@ -32,10 +32,9 @@ use Rattle.vlan_compile.specs.Sources.{sources}
 use Rattle.vlan_compile.specs.Destinations.{destinations}
 use Rattle.vlan_compile.specs.Floods.{floods}
 use Rattle.vlan_compile.proofs.Keys.{admissions_differ, misses_differ, sources_differ, destinations_differ, floods_differ_in}
-use Rattle.route_compile.specs.Routes.{fib}
 use Rattle.route_compile.specs.Vips.{vip_slice}
 use Rattle.route_compile.proofs.Accepted.{fib_keys_are_distinct, vip_keys_are_distinct}
-use Rattle.plan_units.specs.Agrees.{same_address, same_bytes, equal_bytes}
+use Rattle.plan_units.specs.Agrees.{same_address, same_bytes}
 use Rattle.plan_units.specs.Facts.{found, datapath as is_datapath}
 use Rattle.plan_units.specs.Fixed.{drops, bridge_drops, lldp_drops, broadcast_drops, spoofed_drops, drop, once, gateways, from_group, pass, passes, fixed}
 use Rattle.plan_units.specs.Laws.{IsSetting}

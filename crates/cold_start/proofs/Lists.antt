@@ -1,5 +1,5 @@
 -- Lists that are taken apart from the end, and addresses that are kept once.
-use Rattle.std.proofs.Common.{◌≡◌, ℕ, zero, suc, ◌≤◌, ◌+◌, ◌-◌, ◌<◌, Bool, true, false, cond, not, ◌&&◌, ◌||◌, if◌then◌else◌, inl, inr, Some, List, [], ◌∷◌, ◌++◌, map, filter, reverse, length, take, drop, get_or, slice_get, remove, refl, sym, ap, ◌∙◌, true≢false, arith, append-nil}
+use Rattle.std.proofs.Common.{◌≡◌, ℕ, zero, suc, ◌≤◌, ◌+◌, ◌<◌, Bool, true, false, cond, not, ◌||◌, if◌then◌else◌, inl, inr, Some, List, [], ◌∷◌, ◌++◌, map, filter, reverse, length, take, get_or, slice_get, remove, refl, sym, ap, ◌∙◌, true≢false, arith, append-nil}
 use Rattle.std.specs.List.{AllByRecursion, list_any, flat_map}
 use Rattle.std.proofs.lemmas.Bool.{cases_Bool}
 use Rattle.std.proofs.lemmas.List.{append_assoc, map-append, reverse-append, take_more}

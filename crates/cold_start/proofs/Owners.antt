@@ -1,6 +1,6 @@
 -- Whose an entry is, by its key: what stands once, an interface, a VLAN, a host, or the routes of a VLAN.
-use Rattle.std.proofs.Common.{◌≡◌, ℕ, ◌+◌, ◌<◌, Bool, true, false, cond, ◌==◌, ◌&&◌, ◌||◌, nat_lt, if◌then◌else◌, List, [], ◌∷◌, ◌++◌, map, filter, Option, Some, None, option_to_list, refl, sym, ap, ◌∙◌, subst, arith}
-use Rattle.std.specs.List.{AllByRecursion, filter_map, enumerate_from}
+use Rattle.std.proofs.Common.{◌≡◌, ℕ, ◌+◌, Bool, true, false, cond, ◌==◌, ◌&&◌, ◌||◌, nat_lt, if◌then◌else◌, List, [], ◌∷◌, ◌++◌, map, filter, Option, Some, None, option_to_list, refl, ap, subst, arith}
+use Rattle.std.specs.List.{AllByRecursion, enumerate_from}
 use Rattle.std.specs.Option.{option_map, option_map_or}
 use Rattle.std.proofs.lemmas.Bool.Decides.{nat_tests}
 use Rattle.std.proofs.lemmas.Option.{same_Some, none-some}
@@ -15,7 +15,6 @@ use Rattle.conf_types.specs.declared.acl.Rule.{Rule}
 use Rattle.conf_types.specs.declared.datapath.Dp.{Dp}
 use Rattle.conf_types.specs.declared.datapath.Port.{Port}
 use Rattle.conf_types.specs.declared.state.HostRec.{HostRec}
-use Rattle.conf_types.specs.declared.state.NeighRec.{NeighRec}
 use Rattle.conf_types.specs.declared.vlan.Vlan.{Vlan}
 use Rattle.conf_types.specs.Attached.{rules_of}
 use Rattle.conf_types.specs.Configuration.{Configuration, port_with}
@@ -42,9 +41,9 @@ use Rattle.vlan_compile.specs.Destinations.{destinations, at_port, over_stack}
 use Rattle.vlan_compile.specs.Floods.{floods, floods_to, flood_entry, has_flooded, is_apart}
 use Rattle.vlan_compile.specs.Vlans.{native_vlan, tagged_vlans, vlans_of}
 use Rattle.route_compile.specs.Gateways.{has_gateway}
-use Rattle.route_compile.specs.Routes.{fib, item_entry, no_route}
+use Rattle.route_compile.specs.Routes.{item_entry, no_route}
 use Rattle.route_compile.specs.Vips.{vip_slice, arp_entry, echo_entry, heard_entry, end_entry}
-use Rattle.plan_units.specs.Fixed.{drops, bridge_drops, lldp_drops, broadcast_drops, spoofed_drops, drop, gateways, from_group, passes, fixed}
+use Rattle.plan_units.specs.Fixed.{drops, bridge_drops, lldp_drops, broadcast_drops, drop, gateways, from_group, passes, fixed}
 use Rattle.plan_units.specs.Units.{of_port, of_vlan, of_host, of_routes}
 
 -- the value of the first field with a number

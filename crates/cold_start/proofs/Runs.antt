@@ -1,10 +1,10 @@
 -- A run depends on which entries the tables have, and not on their order.
-use Rattle.std.proofs.Common.{◌≡◌, ℕ, List}
+use Rattle.std.proofs.Common.{ℕ, List}
 use Rattle.std.specs.Prelude.{Contains}
 use Rattle.of_match.specs.declared.entry.Entry.{Entry}
 use Rattle.of_match.specs.declared.packet.Packet.{Packet}
 use Rattle.of_match.specs.declared.packet.Sent.{Sent}
-use Rattle.of_match.specs.Pipeline.{IsBest, Misses, PipesFrom, misses, stops, goes}
+use Rattle.of_match.specs.Pipeline.{IsBest, PipesFrom, misses, stops, goes}
 use Rattle.flow_runs.specs.Runs.{SendsJust}
 
 module _ (es fs : List Entry) (there : (e : Entry) → Contains es e → Contains fs e) (back : (e : Entry) → Contains fs e → Contains es e) where

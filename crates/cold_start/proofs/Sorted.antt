@@ -1,60 +1,66 @@
--- A sort by key puts entries of distinct keys in key order, which makes them the tables that hold them.
-use Rattle.std.proofs.Common.{◌≡◌, ℕ, suc, ◌+◌, ◌<◌, Bool, true, false, List, [], ◌∷◌, ◌++◌, map, length, get_or, IsPermutation, IsSortedBy, refl, sym, ap, ◌∙◌, subst, arith, append-nil, true≢false}
-use Rattle.std.specs.List.{AllByRecursion}
-use Rattle.std.specs.declared.cmp.Ordering.{Ordering}
-use Rattle.std.specs.declared.cmp.Ordering.TheVariants.{Less, Equal, Greater}
-use Rattle.std.specs.Ordering.{is_lt, ordering_reverse}
-use Rattle.std.specs.Cmp.{IsStrictWeakOrder}
+-- The order of keys; entries in key order, which adds leave as they are, no two with one key.
+use Rattle.std.proofs.Common.{◌≡◌, Bool, true, false, ℕ, suc, ◌+◌, length, get_or, List, [], ◌∷◌, ◌++◌, map, refl, sym, ap, ◌∙◌, subst, arith, append-nil, true≢false}
+use Rattle.std.specs.Prelude.{IsTrue}
+use Rattle.std.specs.List.{AllByRecursion, AllAdjacentBelow, IsAllAdjacentAnswer}
 use Rattle.std.specs.Borrow.{Bor}
-use Rattle.std.specs.Fn.{Called, ComparesAs, Mut}
+use Rattle.std.specs.Fn.{Called, ComputesOnPairs, Mut}
 use Rattle.std.proofs.lemmas.Fn.{always_returns_same}
+use Rattle.of_match.proofs.AfterOrder.{less_from_test}
+use Rattle.std.specs.declared.cmp.Ordering.TheVariants.{Less, Equal, Greater}
+use Rattle.std.specs.declared.cmp.Ordering.{Ordering}
+use Rattle.std.specs.Ordering.{is_lt, nat_cmp, ordering_then, ordering_reverse}
 use Rattle.std.proofs.lemmas.List.{append_assoc}
-use Rattle.std.proofs.lemmas.List.Sorted.{ranks_by, IsPermutation-map}
 use Rattle.of_match.specs.declared.entry.Entry.{Entry}
 use Rattle.of_match.specs.declared.entry.Command.TheVariants.{Add}
-use Rattle.of_match.specs.KeyOrder.{key_cmp}
-use Rattle.of_match.specs.KeyLaws.{key_total, exact_keys}
+use Rattle.of_match.specs.declared.entry.Key.{Key}
+use Rattle.of_match.specs.KeyOrder.{match_cmp, key_cmp}
+use Rattle.of_match.specs.KeyLaws.{key_total}
 use Rattle.of_match.specs.FlowTables.{IsInKeyOrder, below, above, after}
 use Rattle.of_match.specs.Settled.{after_all}
-use Rattle.of_match.proofs.Settling.{settles_once}
 use Rattle.plan_base.specs.Accepted.{HaveDistinctKeys}
-use Rattle.cold_start.proofs.Permuted.{distinct_adds}
 
-abbrev before : Entry → Entry → Bool
-before x y = is_lt (key_cmp x.key y.key)
+-- ---- the order of keys, its first two parts taken together
 
--- where each call of the closure compares the keys
-pub sorted_by_key : {F : Type 0} {g : Mut F (Bor Entry × (Bor Entry × Unit {0})) Ordering} {f : F} (es : List Entry)
-    → ((lt : Entry → Entry → Bool) → IsStrictWeakOrder lt → ComparesAs g lt f → IsSortedBy lt es)
-    → ((a : Bor Entry × (Bor Entry × Unit {0})) (r : Ordering) (f' : F) → Called g f a r f' → (r ≡ key_cmp a.0.now.key a.1.0.now.key) × (f' ≡ f))
-    → IsSortedBy before es
-sorted_by_key {g = g} {f = f} es up h =
-    up before (ranks_by key_total (λ (e : Entry). e.key)) (always_returns_same g (λ a r. is_lt r ≡ is_lt (key_cmp a.0.now.key a.1.0.now.key)) f (λ a r f' k. (ap is_lt (h a r f' k).0, (h a r f' k).1)))
+then_then : (p q r : Ordering) → ordering_then p (ordering_then q r) ≡ ordering_then (ordering_then p q) r
+then_then Less q r = refl
+then_then Equal q r = refl
+then_then Greater q r = refl
 
-behind_head : (x : Entry) (es : List Entry) → IsSortedBy before (x ∷ es) → IsSortedBy before es
-behind_head x es up = λ k d le lt.
+pub key_by_parts : (a b : Key) → key_cmp a b ≡ ordering_then (ordering_then (nat_cmp a.table b.table) (nat_cmp a.priority b.priority)) (match_cmp a.fields b.fields)
+unfolding key_cmp
+key_by_parts a b = then_then (nat_cmp a.table b.table) (nat_cmp a.priority b.priority) (match_cmp a.fields b.fields)
+
+abbrev pub IsBefore : Entry → Entry → Type 0
+IsBefore x y = key_cmp x.key y.key ≡ Less
+
+-- ---- entries of which each is before the next one
+
+behind_head : (x : Entry) (es : List Entry) → AllAdjacentBelow IsBefore (x ∷ es) (length (x ∷ es)) → AllAdjacentBelow IsBefore es (length es)
+behind_head x es up = λ k d lt.
     let next : suc k + 1 ≡ suc (k + 1) = omega arith in
-    subst (λ (n : ℕ). before (get_or (x ∷ es) n d) (get_or es k d) ≡ false) next (up (suc k) d (omega arith) (omega (arith, lt)))
+    subst (λ (n : ℕ). IsBefore (get_or es k d) (get_or (x ∷ es) n d)) next (up (suc k) d (omega (arith, lt)))
 
-less : (x y : Entry) → before y x ≡ false → (x.key ≡ y.key → ⊥) → key_cmp x.key y.key ≡ Less
-less x y is apart = by (key_cmp x.key y.key) refl
-  where
-    by : (o : Ordering) → key_cmp x.key y.key ≡ o → key_cmp x.key y.key ≡ Less
-    by Less e = e
-    by Equal e = absurd (apart (exact_keys x.key y.key e))
-    by Greater e = absurd (true≢false (sym (ap is_lt (key_total.antisymm y.key x.key ∙ ap ordering_reverse e)) ∙ is))
-
-all_behind : (x y : Entry) → key_cmp x.key y.key ≡ Less → (es : List Entry) → AllByRecursion (λ f. key_cmp y.key f.key ≡ Less) es → AllByRecursion (λ f. key_cmp x.key f.key ≡ Less) es
+all_behind : (x y : Entry) → IsBefore x y → (es : List Entry) → AllByRecursion (IsBefore y) es → AllByRecursion (IsBefore x) es
 all_behind x y lt [] all = tt
 all_behind x y lt (f ∷ fs) all = (key_total.trans x.key y.key f.key lt all.0, all_behind x y lt fs all.1)
 
-pub in_order : (es : List Entry) → IsSortedBy before es → HaveDistinctKeys es → IsInKeyOrder es
-in_order [] up apart = tt
-in_order (x ∷ []) up apart = (tt, tt)
-in_order (x ∷ y ∷ es) up apart =
-    let more = in_order (y ∷ es) (behind_head x (y ∷ es) up) apart.1 in
-    let first = less x y (up 0 x (omega arith) (omega arith)) apart.0.0 in
+pub in_order : (es : List Entry) → AllAdjacentBelow IsBefore es (length es) → IsInKeyOrder es
+in_order [] up = tt
+in_order (x ∷ []) up = (tt, tt)
+in_order (x ∷ y ∷ es) up =
+    let more = in_order (y ∷ es) (behind_head x (y ∷ es) up) in
+    let first = up 0 x (omega arith) in
     ((first, all_behind x y first es more.0), more)
+
+-- where each call of the closure tells whether the first is before the second
+pub answered : {F : Type 0} {g : Mut F (Bor Entry × (Bor Entry × Unit {0})) Bool} {f : F} (es : List Entry) (r : Bool)
+    → ((e : Entry → Entry → Bool) → ComputesOnPairs g e f → IsAllAdjacentAnswer (λ x y b. b ≡ e x y) es r)
+    → ((a : Bor Entry × (Bor Entry × Unit {0})) (r : Bool) (f' : F) → Called g f a r f' → (r ≡ is_lt (key_cmp a.0.now.key a.1.0.now.key)) × (f' ≡ f))
+    → IsTrue r → IsInKeyOrder es
+answered {g = g} {f = f} es true cases h is =
+    let adjacent = cases (λ x y. is_lt (key_cmp x.key y.key)) (always_returns_same g (λ a r. r ≡ is_lt (key_cmp a.0.now.key a.1.0.now.key)) f h) in
+    in_order es (λ k d lt. less_from_test (key_cmp (get_or es k d).key (get_or es (k + 1) d).key) (sym (adjacent k d lt)))
+answered es false cases h is = absurd (true≢false (sym is))
 
 -- ---- adds in key order come one behind another
 
@@ -80,12 +86,7 @@ added held (e ∷ es) h =
     let whole : held ++ e ∷ [] ++ es ≡ held ++ (e ∷ es) = append_assoc held (e ∷ []) es in
     ap (λ xs. after_all xs (map Add es)) here ∙ added (held ++ e ∷ []) es (subst IsInKeyOrder (sym whole) h) ∙ whole
 
--- ---- the same entries in key order are the tables
-
-pub ordered_is : (es ordered : List Entry) → HaveDistinctKeys es → IsPermutation es ordered → IsInKeyOrder ordered → ordered ≡ after_all [] (map Add es)
-ordered_is es ordered apart moved order =
-    sym (added [] ordered order)
-    ∙ settles_once [] (map Add es) (after_all [] (map Add ordered)) (distinct_adds es apart) (record { order = map Add ordered; reordered = IsPermutation-map Add es ordered moved; leads = refl })
+-- ---- no two in key order have one key
 
 no_cycle : (x y : Entry) → key_cmp x.key y.key ≡ Less → x.key ≡ y.key → ⊥
 no_cycle x y lt same =

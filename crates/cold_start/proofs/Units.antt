@@ -1,12 +1,11 @@
 -- The entries of all units are the plan, and two units have no key in common.
-use Rattle.std.proofs.Common.{◌≡◌, ℕ, ◌+◌, ◌<◌, Bool, true, false, ◌==◌, ◌&&◌, List, [], ◌∷◌, ◌++◌, map, filter, Option, Some, None, refl, sym, ap, ◌∙◌, subst, arith, eqb-true, eq-eqb, true≢false, append-nil}
+use Rattle.std.proofs.Common.{◌≡◌, ℕ, ◌+◌, ◌<◌, Bool, true, false, ◌==◌, ◌&&◌, List, [], ◌∷◌, ◌++◌, map, Option, Some, None, refl, sym, ap, ◌∙◌, subst, arith, eqb-true, eq-eqb, true≢false}
 use Rattle.std.specs.Prelude.{Contains}
-use Rattle.std.specs.List.{AllByRecursion, find, flat_map}
+use Rattle.std.specs.List.{find, flat_map}
 use Rattle.std.specs.Option.{option_map_or}
 use Rattle.std.proofs.lemmas.Bool.{and_parts}
 use Rattle.std.proofs.lemmas.List.Concat.{flat_map-append}
 use Rattle.std.proofs.lemmas.List.Folds.{flat_map-map}
-use Rattle.std.proofs.lemmas.Option.{none-some}
 use Rattle.net_base.specs.declared.address.Mac.{Mac}
 use Rattle.net_base.specs.Address.{IsSixBytes, mac_value}
 use Rattle.of_match.specs.declared.entry.Entry.{Entry}
@@ -22,7 +21,7 @@ use Rattle.plan_base.proofs.Each.{all_contains, all_filter, before_both}
 use Rattle.plan_units.specs.declared.unit.Unit.{Unit as PlanUnit}
 use Rattle.plan_units.specs.declared.unit.Unit.TheVariants as unit
 use Rattle.plan_units.specs.Agrees.{same_address, same_bytes, equal_bytes}
-use Rattle.plan_units.specs.Facts.{Found, found, none_found, apart_or_one, one_number, datapath}
+use Rattle.plan_units.specs.Facts.{found, none_found, apart_or_one, one_number, datapath}
 use Rattle.plan_units.specs.Fixed.{fixed}
 use Rattle.plan_units.specs.Laws.{IsSetting}
 use Rattle.plan_units.specs.Units.{of_port, of_vlan, of_host, of_routes, is_of_group, hosts_of, entries, plan}
