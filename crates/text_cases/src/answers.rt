@@ -1,4 +1,6 @@
+use crate::asked::write_asked;
 use crate::gathered::write_gathered;
+use crate::raw::write_rules;
 use crate::trees::write_tree;
 use conf_check::{TextRefused, conf_of_bytes};
 use conf_shape::{ConfFault, find_fault};
@@ -7,8 +9,8 @@ use std::alloc::{AllocError, Global};
 use std::str::from_utf8;
 use yaml_subset::{Tree, YamlFault, YamlRefused, print_yaml, read_yaml};
 
-/// Writes what is said of a text: by the kind its configuration, what is gathered of the files that it
-/// lists, or what is said of its tree.
+/// Writes what is said of a text: by the kind its configuration, what a configuration's readers answer, what
+/// is gathered of the files that it lists, or what is said of its tree.
 pub fn write_answer(
     out: &mut String,
     alloc: Global,
@@ -18,6 +20,7 @@ pub fn write_answer(
     match kind {
         "conf" => write_checked(out, alloc, text),
         "gather" => write_gathered(out, alloc, text),
+        "ask" => write_asked(out, alloc, text),
         _ => match read_yaml(alloc, text) {
             Ok(tree) => write_of_tree(out, alloc, kind, &tree),
             Err(YamlRefused::At(fault)) => write_yaml_fault(out, &fault),
@@ -26,7 +29,7 @@ pub fn write_answer(
     }
 }
 
-/// Writes the tree, its canonical form, or the first fault of its shape.
+/// Writes the tree, its canonical form, the first fault of its shape, or its rules.
 fn write_of_tree(out: &mut String, alloc: Global, kind: &str, tree: &Tree) -> Result<(), NoMemory> {
     match kind {
         "yaml" => write_tree(out, tree),
@@ -38,6 +41,7 @@ fn write_of_tree(out: &mut String, alloc: Global, kind: &str, tree: &Tree) -> Re
             Some(fault) => write_conf_fault(out, &fault),
             None => out.push_str("right"),
         },
+        "rules" => write_rules(out, alloc, tree),
         _ => out.push_str("no such kind"),
     }
 }

@@ -2,7 +2,9 @@
 #![tactic(auto)]
 
 mod answers;
+mod asked;
 mod gathered;
+mod raw;
 mod table;
 mod trees;
 
