@@ -1,6 +1,6 @@
 -- The first of joined lists, and walks over lists that look for it.
-use Rattle.std.proofs.Common.{◌≡◌, ℕ, zero, suc, ◌+◌, ◌<◌, ◌≤◌, Bool, ◌||◌, List, [], ◌∷◌, ◌++◌, drop, take, length, get_or, drop-cons, add-one, append_assoc, Option, Some, None, refl, sym, ap, subst, ◌∙◌, arith}
-use Rattle.std.proofs.Math.Seq.{drop-nil, take-suc}
+use Rattle.std.proofs.Common.{◌≡◌, ℕ, zero, suc, ◌+◌, ◌<◌, ◌≤◌, Bool, ◌||◌, List, [], ◌∷◌, ◌++◌, drop, length, get_or, drop-cons, add-one, Option, Some, None, refl, sym, ap, subst, ◌∙◌, arith}
+use Rattle.std.proofs.Math.Seq.{drop-nil}
 use Rattle.std.proofs.lemmas.Grind.{flat_map-append}
 use Rattle.std.proofs.lemmas.List.Folds.{list_any-append}
 use Rattle.std.specs.List.{flat_map, zip, list_any, enumerate_from}
@@ -31,26 +31,6 @@ next xs ys i x e lt is =
 pub walked : {A B : Type 0} (f : A → List B) (xs ys : List A) (i : ℕ) (x : A) (all : Option B) → ys ≡ xs → i < length ys → x ≡ get_or ys i x
     → first (flat_map f (drop i xs)) ≡ all → Steps (f x) (first (flat_map f (drop (i + 1) xs))) all
 walked f xs ys i x all e lt is = stepped (f x) (flat_map f (drop (i + 1) xs)) (flat_map f (drop i xs)) all (ap (flat_map f) (next xs ys i x e lt is))
-
-taken : {A : Type 0} (xs ys : List A) (i : ℕ) (x : A) → ys ≡ xs → i < length ys → x ≡ get_or ys i x → take (i + 1) xs ≡ take i xs ++ x ∷ []
-taken xs ys i x e lt is =
-    subst (λ (zs : List _). take (i + 1) zs ≡ take i zs ++ x ∷ []) e
-    (ap (λ n. take n ys) (add-one i) ∙ take-suc ys i x lt ∙ ap (λ y. take i ys ++ y ∷ []) (sym is))
-
--- in a walk over a list of which each stands at its place and behind those before it
-pub walked_behind : {A B : Type 0} (site : List (List ℕ)) (f : List (List ℕ) × (List A × A) → List B) (es xs ys : List A) (i : ℕ) (x : A) (all : Option B)
-    → ys ≡ xs → i < length ys → x ≡ get_or ys i x
-    → first (flat_map f (flat_map (λ item. (nth site item.0, item.1) ∷ []) (enumerate_from i (with_earlier (es ++ take i xs) (drop i xs))))) ≡ all
-    → Steps (f (nth site i, (es ++ take i ys, x))) (first (flat_map f (flat_map (λ item. (nth site item.0, item.1) ∷ []) (enumerate_from (i + 1) (with_earlier (es ++ take (i + 1) xs) (drop (i + 1) xs)))))) all
-walked_behind {A} {B} site f es xs ys i x all e lt is =
-    let rest = λ (n : ℕ) (before behind : List A). flat_map f (flat_map (λ item. (nth site item.0, item.1) ∷ []) (enumerate_from n (with_earlier before behind))) in
-    let longer : (es ++ take i xs) ++ x ∷ [] ≡ es ++ take (i + 1) xs =
-    append_assoc es (take i xs) (x ∷ []) ∙ ap (λ t. es ++ t) (sym (taken xs ys i x e lt is)) in
-    let same : take i xs ≡ take i ys = ap (take i) (sym e) in
-    stepped (f (nth site i, (es ++ take i ys, x))) (rest (i + 1) (es ++ take (i + 1) xs) (drop (i + 1) xs)) (rest i (es ++ take i xs) (drop i xs)) all
-    (ap (rest i (es ++ take i xs)) (next xs ys i x e lt is)
-    ∙ ap (λ t. f (nth site i, (es ++ t, x)) ++ rest (i + 1) ((es ++ take i xs) ++ x ∷ []) (drop (i + 1) xs)) same
-    ∙ ap (λ t. f (nth site i, (es ++ take i ys, x)) ++ rest (i + 1) t (drop (i + 1) xs)) longer)
 
 -- in a walk over a list of which each stands at its place
 pub walked_each : {A B : Type 0} (site : List (List ℕ)) (f : List (List ℕ) × A → List B) (xs ys : List A) (i : ℕ) (x : A) (all : Option B)

@@ -4,3 +4,4 @@ pub mod Distinct
 pub mod First
 pub mod Gateways
 pub mod Groups
+pub mod Numbers

@@ -1,5 +1,5 @@
 -- Rules 1 to 7: what is named once, and what is named at all.
-use Rattle.std.specs.Prelude.{ℕ, ◌==◌, ◌&&◌, Bool, false, if◌then◌else◌, is_some, is_none, List, [], ◌++◌, map, codes}
+use Rattle.std.specs.Prelude.{ℕ, ◌==◌, ◌&&◌, ◌||◌, Bool, false, if◌then◌else◌, is_some, is_none, List, [], ◌++◌, map, codes, Option}
 use Rattle.std.specs.List.{flat_map}
 use Rattle.std.specs.Option.{option_map_or}
 use Rattle.conf_types.specs.Attached.{acl_named}
@@ -92,6 +92,13 @@ is_same_vlan o a b = option_map_or (λ m. option_map_or (λ n. m == n) (vid_of o
 
 abbrev pub named_again : OrderedConf → List (List ℕ) × (List VlanRef × VlanRef) → List ConfFault
 named_again o item = fault_if (is_repeat (is_same_vlan o) item.1) Duplicate item.0
+
+-- the same by the VLANs' numbers, of which the native one's stands apart
+abbrev pub is_same_vid : Option ℕ → Option ℕ → Bool
+is_same_vid a b = option_map_or (λ m. option_map_or (λ n. m == n) b false) a false
+
+abbrev pub vid_again : Option ℕ → List (List ℕ) × (List (Option ℕ) × Option ℕ) → List ConfFault
+vid_again native item = fault_if (is_same_vid native item.1.1 || is_repeat is_same_vid item.1) Duplicate item.0
 
 -- of the tagged VLANs, each with its place, and behind the native one and the tagged ones before it
 abbrev pub twice_of_port : OrderedConf → RawDp → RawPort → List ConfFault

@@ -1,19 +1,19 @@
 //! VLANs and ACLs that are named: each exists, and an interface names a VLAN at most once.
 
-ghost use Rattle.std.specs.Prelude.{◌≡◌, ◌==◌, ◌++◌, [], IfOk, codes, is_some, is_none};
+ghost use Rattle.std.specs.Prelude.{◌≡◌, IfOk, codes, is_some, is_none, map, option_and_then};
 ghost use Rattle.std.specs.List.{flat_map, list_any};
 ghost use Rattle.std.specs.Option.{option_copied};
 ghost use Rattle.conf_types.specs.Attached.{acl_named};
 ghost use Rattle.conf_resolve.specs.InOrder.{port_site};
-ghost use Rattle.conf_resolve.specs.Resolved.{to_list};
-ghost use Rattle.conf_rules.specs.Names.{unknown_vlan, native_at, tagged_at, unknown_of_port, unknown_of_dp, unknown_of_router, unknown_vlans, is_same_vlan, named_again, twice_of_port, twice_of_dp, vlans_twice, unknown_acl, unknown_acls_of_vlan, unknown_acls_of_port, unknown_acls_of_dp, unknown_acls};
+ghost use Rattle.conf_resolve.specs.Resolved.{vid_of};
+ghost use Rattle.conf_rules.specs.Names.{unknown_vlan, native_at, tagged_at, unknown_of_port, unknown_of_dp, unknown_of_router, unknown_vlans, is_same_vid, vid_again, twice_of_port, twice_of_dp, vlans_twice, unknown_acl, unknown_acls_of_vlan, unknown_acls_of_port, unknown_acls_of_dp, unknown_acls};
 ghost use Rattle.conf_rules.specs.Places.{first, nth, under, each_at, one_at, list_at};
 
 use crate::places::{Found, broken, is_same, nth, port_site, router_site, under, under_port};
 use conf_resolve::{OrderedConf, PlacedVlan, Resolved};
 use conf_shape::{ConfCause, RawDp, RawPort, RawRouter, VlanRef};
 use conf_types::Acl;
-use net_base::{Text, TryCopy};
+use net_base::{NoMemory, Text, TryCopy, Vid};
 use std::alloc::Global;
 
 fn unknown_native(alloc: Global, ordered: &OrderedConf, dp: &RawDp, port: &RawPort) -> Found
@@ -104,48 +104,54 @@ pub(crate) fn unknown_vlans(alloc: Global, ordered: &OrderedConf) -> Found
     Ok(None)
 }
 
-fn is_same_vlan(ordered: &OrderedConf, a: &VlanRef, b: &VlanRef) -> bool
-    ensures { result ≡ is_same_vlan ordered.now a.now b.now }
+fn native_vid(ordered: &OrderedConf, port: &RawPort) -> Option<Vid>
+    ensures { result ≡ option_and_then (vid_of ordered.now.vlans) port.now.native }
 {
-    match (ordered.vid_of(a), ordered.vid_of(b)) {
+    match &port.native {
+        Some(name) => ordered.vid_of(name),
+        None => None,
+    }
+}
+
+// The number of each VLAN that is named, each looked up once; `None` for one that doesn't exist.
+fn vids_of(
+    alloc: Global,
+    ordered: &OrderedConf,
+    names: &[VlanRef],
+) -> Result<Vec<Option<Vid>>, NoMemory>
+    ensures { IfOk result (λ vids. vids.items ≡ map (vid_of ordered.now.vlans) names.now) }
+{
+    names.iter().map(|name| ordered.vid_of(name)).collect(alloc)
+}
+
+fn is_same_vid(a: Option<Vid>, b: Option<Vid>) -> bool
+    ensures { result ≡ is_same_vid a b }
+{
+    match (a, b) {
         (Some(m), Some(n)) => m.get() == n.get(),
         _ => false,
     }
 }
 
-fn is_among(ordered: &OrderedConf, names: &[VlanRef], name: &VlanRef) -> bool
-    ensures { result ≡ list_any (λ other. is_same_vlan ordered.now other name.now) names.now }
+fn is_among(vids: &[Option<Vid>], vid: Option<Vid>) -> bool
+    ensures { result ≡ list_any (λ other. is_same_vid other vid) vids.now }
 {
-    names.iter().any(|other| is_same_vlan(ordered, other, name))
+    vids.iter().any(|other| is_same_vid(*other, vid))
 }
 
-// Whether the VLAN is the native one, or among the tagged ones before it.
-fn is_named_before(
-    ordered: &OrderedConf,
-    native: &Option<VlanRef>,
-    tagged: &[VlanRef],
-    name: &VlanRef,
-) -> bool
-    ensures { result ≡ list_any (λ other. is_same_vlan ordered.now other name.now) (to_list native.now ++ tagged.now) }
-{
-    match native {
-        Some(native) => { is_same_vlan(ordered, native, name) || is_among(ordered, tagged, name) }
-        None => is_among(ordered, tagged, name),
-    }
-}
-
-fn named_again(
+// The fault of a tagged VLAN that is the native one, or among the tagged ones before it.
+fn vid_again(
     alloc: Global,
-    ordered: &OrderedConf,
     dp: &RawDp,
     port: &RawPort,
-    earlier: &[VlanRef],
+    native: &Option<Vid>,
+    earlier: &[Option<Vid>],
     at: usize,
-    name: &VlanRef,
+    vid: Option<Vid>,
 ) -> Found
-    ensures { IfOk result (λ found. found ≡ first (named_again ordered.now (nth (under (port_site dp.now port.now) (codes "tagged_vlans")) at, (to_list port.now.native ++ earlier.now, name.now)))) }
+    ensures { IfOk result (λ found. found ≡ first (vid_again native.now (nth (under (port_site dp.now port.now) (codes "tagged_vlans")) at, (earlier.now, vid)))) }
 {
-    if is_named_before(ordered, &port.native, earlier, name) {
+    if is_same_vid(*native, vid) || is_among(earlier, vid) {
         let site = under_port(alloc, dp, port, "tagged_vlans")?;
         return broken(alloc, ConfCause::Duplicate, nth(alloc, site, at)?);
     }
@@ -156,9 +162,11 @@ fn named_again(
 fn twice_of_port(alloc: Global, ordered: &OrderedConf, dp: &RawDp, port: &RawPort) -> Found
     ensures { IfOk result (λ found. found ≡ first (twice_of_port ordered.now dp.now port.now)) }
 {
-    let tagged = port.tagged.as_slice();
-    for (i, name) in tagged.iter().enumerate() {
-        if let Some(found) = named_again(alloc, ordered, dp, port, &tagged[..i], i, name)? {
+    let native = native_vid(ordered, port);
+    let made = vids_of(alloc, ordered, port.tagged.as_slice())?;
+    let vids = made.as_slice();
+    for (i, vid) in vids.iter().enumerate() {
+        if let Some(found) = vid_again(alloc, dp, port, &native, &vids[..i], i, *vid)? {
             return Ok(Some(found));
         }
     }

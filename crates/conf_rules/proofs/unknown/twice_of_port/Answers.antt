@@ -1,17 +1,11 @@
-use Rattle.std.proofs.Common.{codes, sym, ◌∙◌}
+use Rattle.std.proofs.Common.{codes, map, ap, ◌∙◌}
 use Rattle.conf_resolve.specs.InOrder.{port_site}
-use Rattle.conf_resolve.specs.Resolved.{to_list}
-use Rattle.conf_rules.specs.Names.{named_again}
-use Rattle.conf_rules.specs.Places.{under}
-use Rattle.conf_rules.proofs.First.{walked_behind}
+use Rattle.conf_resolve.specs.Resolved.{vid_of}
+use Rattle.conf_rules.specs.Places.{first, under}
+use Rattle.conf_rules.proofs.Numbers.{by_numbers}
 use Rattle.conf_rules.proofs.unknown.twice_of_port.Goals as goal
 
-pub returns-in-Some : goal.returns-in-Some
-returns-in-Some c =
-    (walked_behind (under (port_site c.args.dp.now c.args.port.now) (codes "tagged_vlans")) (named_again c.args.ordered.now) (to_list c.args.port.now.native) c.args.port.now.tagged _ c.loop-i.i c.index-tagged-i.result _ c.as_slice-tagged.ensures c.loop-i-test.true c.index-tagged-i.is c.loop-i.invariant).1
-    c.in-Some.found (sym c.in_ok-found.ensures ∙ c.in-Some.is)
-
-pub loop-i-preserved : goal.loop-i-preserved
-loop-i-preserved c =
-    (walked_behind (under (port_site c.args.dp.now c.args.port.now) (codes "tagged_vlans")) (named_again c.args.ordered.now) (to_list c.args.port.now.native) c.args.port.now.tagged _ c.loop-i.i c.index-tagged-i.result _ c.as_slice-tagged.ensures c.loop-i-test.true c.index-tagged-i.is c.loop-i.invariant).0
-    (sym c.in_ok-found.ensures ∙ c.in_default.is)
+pub loop-i-init : goal.loop-i-init
+loop-i-init c =
+    ap first (by_numbers c.args.ordered.now c.args.port.now.native (under (port_site c.args.dp.now c.args.port.now) (codes "tagged_vlans")) c.args.port.now.tagged _ _ c.native_vid-native.ensures
+    (c.as_slice-vids.ensures.value ∙ c.in_ok-made.ensures ∙ ap (map (vid_of c.args.ordered.now.vlans)) c.as_slice.ensures))
