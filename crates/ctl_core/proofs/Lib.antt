@@ -1,11 +1,16 @@
 pub mod Heard
 pub mod HeardOn
+pub mod InOrder
+pub mod Ordered
 pub mod ReloadSteps
+pub mod Rests
 pub mod SaidTables
 pub mod SoundFrames
 pub mod SoundGateways
 pub mod SoundReloads
 pub mod SoundSteps
 pub mod SoundTurns
+pub mod Stands
+pub mod Stays
 pub mod TurnAges
 pub mod TurnLooks

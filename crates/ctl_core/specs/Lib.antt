@@ -1,4 +1,5 @@
 pub mod Hearing
+pub mod Known
 pub mod Reloading
 pub mod Story
 pub mod Turns

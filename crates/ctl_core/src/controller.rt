@@ -1,11 +1,13 @@
 ghost use Rattle.std.specs.Prelude.{◌≡◌, ◌==◌, ◌&&◌, map, Some, None, IfOk, OnErr};
 ghost use Rattle.std.specs.List.{list_any};
 ghost use Rattle.std.specs.Option.{option_and_then, option_copied};
-ghost use Rattle.ctl_world.specs.World.{first, is_at_work, World as Seen};
+ghost use Rattle.packet_way.specs.Present.{state_of};
+ghost use Rattle.ctl_world.specs.World.{first, is_at_work, now, World as Seen};
 ghost use Rattle.ctl_core.specs.Turns.{turn};
 ghost use Rattle.ctl_core.specs.Story.{saying_of, tables_of};
 
 use crate::hearing::a_configuration_is_valid;
+use crate::known::Known;
 use crate::turns::work;
 use conf_types::{Conf, Dp, Tally};
 use ctl_world::laws::what_is_known_first_is_sound;
@@ -14,6 +16,7 @@ use fg_outside::Happening;
 use net_base::{Bytes, DpId, Items, NoMemory, Text, TryCopy};
 use of_match::Tables;
 use of13_codec::encode;
+use packet_way::Now;
 use std::alloc::{AllocError, Global};
 use std::marker::Model;
 use switch_session::{Closing, Stage};
@@ -36,20 +39,21 @@ pub type Sayings = Items<Saying>;
 #[derive(Drop)]
 pub struct Controller {
     alloc: Global,
-    world: World,
+    known: Known,
     is_spent: bool,
 }
 
 impl Model for Controller {
     ghost use Rattle.std.specs.Prelude.{Option, false, ◌≡◌};
+    ghost use Rattle.ctl_core.specs.Known.{HasSettled};
     ghost use Rattle.ctl_core.specs.Story.{unless_spent};
-    ghost use Rattle.ctl_world.specs.World.{IsSound, World};
+    ghost use Rattle.ctl_world.specs.World.{World};
 
     ghost Value = { Option World };
 
-    ghost view = { λ c. unless_spent c.is_spent c.world };
+    ghost view = { λ c. unless_spent c.is_spent c.known.world };
 
-    ghost invariant = { λ c. c.is_spent ≡ false → IsSound c.world };
+    ghost invariant = { λ c. c.is_spent ≡ false → HasSettled c.known };
 }
 
 fn make_saying(alloc: Global, said: &Said) -> Result<Saying, NoMemory>
@@ -118,9 +122,10 @@ impl Controller {
     {
         what_is_known_first_is_sound();
         a_configuration_is_valid(&conf);
+        let world = World::new(alloc, conf)?;
         Ok(Controller {
             alloc,
-            world: World::new(alloc, conf)?,
+            known: Known { world, until: 0 },
             is_spent: false,
         })
     }
@@ -138,9 +143,9 @@ impl Controller {
             return Err(AllocError);
         }
         self.is_spent = true;
-        self.world.said = Saids::new(self.alloc);
-        work(self.alloc, &mut self.world, what, units)?;
-        let sayings = make_sayings(self.alloc, self.world.said.as_slice())?;
+        self.known.world.said = Saids::new(self.alloc);
+        work(self.alloc, &mut self.known, what, units)?;
+        let sayings = make_sayings(self.alloc, self.known.world.said.as_slice())?;
         self.is_spent = false;
         Ok(sayings)
     }
@@ -149,14 +154,21 @@ impl Controller {
     pub fn conf(&self) -> &Conf
         ensures { (w : Seen) → self.now ≡ Some w → result.now ≡ w.conf }
     {
-        &self.world.conf
+        &self.known.world.conf
     }
 
     /// The last moment, in milliseconds: 0 at first.
     pub fn moment(&self) -> u64
         ensures { (w : Seen) → self.now ≡ Some w → result ≡ w.moment.0 }
     {
-        self.world.moment.0
+        self.known.world.moment.0
+    }
+
+    /// The state by which flow entries are made. A spent controller's says nothing.
+    pub fn now(&self) -> Result<Now, NoMemory>
+        ensures { IfOk result (λ made. (w : Seen) → self.now ≡ Some w → state_of made ≡ now w) }
+    {
+        self.known.world.now(self.alloc)
     }
 
     /// The entries that a datapath's switch holds once it has done all that was said; `None` exactly where
@@ -167,6 +179,6 @@ impl Controller {
         if self.is_spent {
             return None;
         }
-        tables_of(&self.world, dp)
+        tables_of(&self.known.world, dp)
     }
 }

@@ -1,18 +1,28 @@
 //! What a frame does that a switch sent.
 
-ghost use Rattle.std.specs.Prelude.{◌≡◌, IfOk, OnOk};
+ghost use Rattle.std.specs.Prelude.{◌≡◌, false, IfOk, OnOk};
 ghost use Rattle.conf_types.specs.Valid.{IsValid};
+ghost use Rattle.switch_session.specs.declared.closing.Closing.TheVariants.{BadFrame};
+ghost use Rattle.ctl_world.specs.Alike.{IsAlike};
 ghost use Rattle.ctl_world.specs.Connections.{conn_with};
+ghost use Rattle.ctl_world.specs.Ends.{close};
+ghost use Rattle.ctl_world.specs.Frames.{front};
 ghost use Rattle.ctl_world.specs.World.{IsSound};
-ghost use Rattle.ctl_core.specs.Hearing.{echo, follow, has_frame, hear_frames, hear_message, hear_next, heard_in, packet, says, tell_version, turn_away};
+ghost use Rattle.ctl_settle.specs.Settling.{settle};
+ghost use Rattle.ctl_core.specs.Hearing.{echo, follow, has_frame, hear_frames, hear_message, hear_next, heard_in, packet, read, says, tell_version, turn_away, unread};
+ghost use Rattle.ctl_core.specs.Known.{HasSettled};
 
 use crate::gateways::begin;
-use crate::laws::a_frame_leaves_it_sound;
+use crate::known::{Known, settle_anew, settle_where_due};
+use crate::laws::{a_frame_leaves_it_sound, what_happens_keeps_connections_in_order};
 use crate::setup::{introduce, unfit, wipe};
 use conf_types::{Conf, Tally};
 use ctl_packets::packet_in;
-use ctl_settle::settle;
-use ctl_world::laws::forgetting_what_is_lost_makes_it_sound;
+use ctl_settle::laws::alike_worlds_rest_alike;
+use ctl_world::laws::{
+    a_sound_world_has_lost_nothing, alike_worlds_run_alike, forgetting_what_is_lost_makes_it_sound,
+    what_is_said_is_alike,
+};
 use ctl_world::{Front, World};
 use net_base::{Bytes, DpId, NoMemory, TryCopy};
 use of13_codec::{Message, WireRefused, decode};
@@ -26,18 +36,21 @@ pub(crate) fn a_configuration_is_valid(conf: &Conf)
     let _ = conf.dps();
 }
 
+/// Takes a packet, and tells whether something changed that a settling looks at.
 fn hear_packet(
     alloc: Global,
     world: &mut World,
     message: &Message,
     conn: u32,
     dp: Option<DpId>,
-) -> Result<(), NoMemory>
-    ensures { OnOk result (world.new ≡ packet message.now conn dp world.old) }
+) -> Result<bool, NoMemory>
+    ensures done { OnOk result (world.new ≡ packet message.now conn dp world.old) }
+    ensures alike { IfOk result (λ changed. changed ≡ false → IsAlike world.new world.old) }
 {
+    alike_worlds_run_alike();
     match (message, dp) {
         (Message::PacketIn(packet), Some(dp)) => packet_in(alloc, world, packet, conn, dp),
-        _ => Ok(()),
+        _ => Ok(false),
     }
 }
 
@@ -49,8 +62,11 @@ fn answer_echo(
     conn: u32,
     xid: u32,
 ) -> Result<(), NoMemory>
-    ensures { OnOk result (world.new ≡ echo message.now conn xid world.old) }
+    ensures done { OnOk result (world.new ≡ echo message.now conn xid world.old) }
+    ensures alike { OnOk result (IsAlike world.new world.old) }
 {
+    alike_worlds_run_alike();
+    what_is_said_is_alike();
     match message {
         Message::EchoRequest(data) => {
             let data = data.copy(alloc)?;
@@ -97,7 +113,8 @@ fn turn_away(
     world.close(alloc, cause, conn)
 }
 
-/// Does what follows from the step that a connection took.
+/// Does what follows from the step that a connection took, and tells whether something changed that a
+/// settling looks at.
 fn follow(
     alloc: Global,
     world: &mut World,
@@ -106,45 +123,61 @@ fn follow(
     xid: u32,
     conn: u32,
     dp: Option<DpId>,
-) -> Result<(), NoMemory>
-    ensures { OnOk result (world.new ≡ follow step message.now xid conn dp world.old) }
+) -> Result<bool, NoMemory>
+    ensures done { OnOk result (world.new ≡ follow step message.now xid conn dp world.old) }
+    ensures alike { IfOk result (λ changed. changed ≡ false → IsAlike world.new world.old) }
 {
+    alike_worlds_run_alike();
     match step {
-        Step::AskFeatures => world.say(conn, Message::FeaturesRequest),
+        Step::Nothing | Step::Settled | Step::PortChanged(_) => return Ok(false),
+        Step::Packet => return hear_packet(alloc, world, message, conn, dp),
+        Step::Echo => {
+            answer_echo(alloc, world, message, conn, xid)?;
+            return Ok(false);
+        }
+        Step::AskFeatures => world.say(conn, Message::FeaturesRequest)?,
         Step::Features {
             dp,
             n_tables,
             auxiliary,
         } => {
             let unfit = unfit(&world.conf, dp, n_tables, auxiliary);
-            introduce(alloc, world, conn, dp, unfit)
+            introduce(alloc, world, conn, dp, unfit)?;
         }
-        Step::PortsKnown => wipe(alloc, world, conn),
-        Step::Wiped => begin(alloc, world, dp),
-        Step::Packet => hear_packet(alloc, world, message, conn, dp),
-        Step::Echo => answer_echo(alloc, world, message, conn, xid),
-        Step::Close(cause) => turn_away(alloc, world, cause, conn, xid),
-        Step::Nothing | Step::Settled | Step::PortChanged(_) => Ok(()),
+        Step::PortsKnown => wipe(alloc, world, conn)?,
+        Step::Wiped => begin(alloc, world, dp)?,
+        Step::Close(cause) => turn_away(alloc, world, cause, conn, xid)?,
     }
+    Ok(true)
 }
 
-/// A connection hears a message.
+/// A connection hears a message. Where its state stays as it is, nothing is lost that was known, so that
+/// nothing is looked through.
 fn hear_message(
     alloc: Global,
     world: &mut World,
     message: &Message,
     xid: u32,
     conn: u32,
-) -> Result<(), NoMemory>
-    ensures { OnOk result (world.new ≡ hear_message message.now xid conn world.old) }
+) -> Result<bool, NoMemory>
+    requires { IsSound world.old }
+    ensures heard { OnOk result (world.new ≡ hear_message message.now xid conn world.old) }
+    ensures alike { IfOk result (λ changed. changed ≡ false → IsAlike world.new world.old) }
 {
+    alike_worlds_run_alike();
+    a_sound_world_has_lost_nothing();
     let dp = match world.conns.get(conn) {
         Some(found) => found.dp,
-        None => return Ok(()),
+        None => return Ok(false),
     };
+    let stays = world.conns.stays(conn, message, xid);
     let step = world.conns.hear(conn, message, xid)?;
+    if stays {
+        return follow(alloc, world, step, message, xid, conn, dp);
+    }
     world.forget_lost(alloc)?;
-    follow(alloc, world, step, message, xid, conn, dp)
+    follow(alloc, world, step, message, xid, conn, dp)?;
+    Ok(true)
 }
 
 /// The message of a frame; `None` where it spells none.
@@ -160,42 +193,95 @@ fn read_message(alloc: Global, frame: &[u8]) -> Result<Option<(Message, u32)>, N
     }
 }
 
-/// A connection hears a frame; one that spells no message closes it.
-fn hear_frame(alloc: Global, world: &mut World, frame: &[u8], conn: u32) -> Result<(), NoMemory>
-    ensures { OnOk result (world.new ≡ heard_in (says frame.now) conn world.old) }
+/// A connection hears a frame; one that spells no message closes it. Tells whether something changed that
+/// a settling looks at.
+fn hear_frame(alloc: Global, world: &mut World, frame: &[u8], conn: u32) -> Result<bool, NoMemory>
+    requires { IsSound world.old }
+    ensures heard { OnOk result (world.new ≡ heard_in (says frame.now) conn world.old) }
+    ensures alike { IfOk result (λ changed. changed ≡ false → IsAlike world.new world.old) }
 {
     match read_message(alloc, frame)? {
         Some((message, xid)) => hear_message(alloc, world, &message, xid, conn),
-        None => world.close(alloc, Closing::BadFrame, conn),
+        None => {
+            world.close(alloc, Closing::BadFrame, conn)?;
+            Ok(true)
+        }
     }
+}
+
+/// Takes what stands at the front of the bytes that came.
+fn read_front(alloc: Global, known: &mut Known, conn: u32) -> Result<Front, NoMemory>
+    requires { HasSettled known.old }
+    ensures front { IfOk result (λ made. made ≡ front (unread conn known.old.world)) }
+    ensures read { OnOk result (known.new.world ≡ read conn known.old.world) }
+    ensures settled { OnOk result (HasSettled known.new) }
+{
+    a_frame_leaves_it_sound();
+    what_happens_keeps_connections_in_order();
+    what_is_said_is_alike();
+    alike_worlds_rest_alike();
+    known.world.conns.next_frame(alloc, conn)
+}
+
+/// A connection hears a frame, and what follows from it is said.
+fn hear_one<T: Tally>(
+    alloc: Global,
+    known: &mut Known,
+    frame: &[u8],
+    conn: u32,
+    units: &mut T,
+) -> Result<(), NoMemory>
+    requires { HasSettled known.old }
+    ensures heard { OnOk result (known.new.world ≡ settle (heard_in (says frame.now) conn known.old.world)) }
+    ensures settled { OnOk result (HasSettled known.new) }
+{
+    a_frame_leaves_it_sound();
+    what_happens_keeps_connections_in_order();
+    alike_worlds_rest_alike();
+    a_configuration_is_valid(&known.world.conf);
+    let changed = hear_frame(alloc, &mut known.world, frame, conn)?;
+    settle_where_due(alloc, known, changed, units)
+}
+
+/// A connection is closed for bytes that are no frame.
+fn refuse<T: Tally>(
+    alloc: Global,
+    known: &mut Known,
+    conn: u32,
+    units: &mut T,
+) -> Result<(), NoMemory>
+    requires { HasSettled known.old }
+    ensures refused { OnOk result (known.new.world ≡ settle (close BadFrame conn known.old.world)) }
+    ensures settled { OnOk result (HasSettled known.new) }
+{
+    what_happens_keeps_connections_in_order();
+    forgetting_what_is_lost_makes_it_sound();
+    a_configuration_is_valid(&known.world.conf);
+    known.world.close(alloc, Closing::BadFrame, conn)?;
+    settle_anew(alloc, known, units)
 }
 
 /// Takes what stands at the front of the bytes that came, and settles; `false` where less than a frame
 /// stands there, or the connection was closed for it.
 fn hear_front<T: Tally>(
     alloc: Global,
-    world: &mut World,
+    known: &mut Known,
     conn: u32,
     units: &mut T,
 ) -> Result<bool, NoMemory>
-    requires { IsSound world.old }
-    ensures heard { OnOk result (world.new ≡ hear_next conn world.old) }
-    ensures more { IfOk result (λ more. more ≡ has_frame conn world.old) }
-    ensures sound { OnOk result (IsSound world.new) }
+    requires { HasSettled known.old }
+    ensures heard { OnOk result (known.new.world ≡ hear_next conn known.old.world) }
+    ensures more { IfOk result (λ more. more ≡ has_frame conn known.old.world) }
+    ensures settled { OnOk result (HasSettled known.new) }
 {
-    a_frame_leaves_it_sound();
-    forgetting_what_is_lost_makes_it_sound();
-    a_configuration_is_valid(&world.conf);
-    match world.conns.next_frame(alloc, conn)? {
+    match read_front(alloc, known, conn)? {
         Front::Part => Ok(false),
         Front::Frame(frame) => {
-            hear_frame(alloc, world, frame.as_slice(), conn)?;
-            settle(alloc, world, units)?;
+            hear_one(alloc, known, frame.as_slice(), conn, units)?;
             Ok(true)
         }
         Front::Bad => {
-            world.close(alloc, Closing::BadFrame, conn)?;
-            settle(alloc, world, units)?;
+            refuse(alloc, known, conn, units)?;
             Ok(false)
         }
     }
@@ -204,17 +290,17 @@ fn hear_front<T: Tally>(
 /// Hears the frames in the bytes that came, at most so many. Each settles.
 pub(crate) fn hear_frames<T: Tally>(
     alloc: Global,
-    world: &mut World,
+    known: &mut Known,
     conn: u32,
     most: usize,
     units: &mut T,
 ) -> Result<(), NoMemory>
-    requires { IsSound world.old }
-    ensures heard { OnOk result (world.new ≡ hear_frames most conn world.old) }
-    ensures sound { OnOk result (IsSound world.new) }
+    requires { HasSettled known.old }
+    ensures heard { OnOk result (known.new.world ≡ hear_frames most conn known.old.world) }
+    ensures settled { OnOk result (HasSettled known.new) }
 {
     for _ in 0..most {
-        if !hear_front(alloc, world, conn, units)? {
+        if !hear_front(alloc, known, conn, units)? {
             return Ok(());
         }
     }

@@ -1,15 +1,25 @@
 //! What holds of the definitions. A function's contract is the law, and its body is at most calls of the
 //! laws that it rests on.
 
-ghost use Rattle.std.specs.Prelude.{ℕ, List, Option};
+ghost use Rattle.std.specs.Prelude.{◌≡◌, ◌++◌, ◌∷◌, [], codes, ℕ, false, List, Option, Err};
+ghost use Rattle.fg_outside.specs.declared.hub.Happening.TheVariants.{Reload};
 ghost use Rattle.conf_types.specs.Valid.{IsValid};
 ghost use Rattle.of13_codec.specs.declared.message.Message.{Message};
+ghost use Rattle.switch_session.specs.declared.closing.Closing.{Closing};
+ghost use Rattle.ctl_world.specs.declared.said.Said.TheVariants.{Line};
+ghost use Rattle.ctl_world.specs.Connections.{is_open};
+ghost use Rattle.ctl_world.specs.Ends.{close, ended};
 ghost use Rattle.ctl_world.specs.World.{IsSound, World};
+ghost use Rattle.ctl_settle.specs.Rest.{AreInOrder, IsAtRest};
+ghost use Rattle.ctl_settle.specs.Settling.{settle};
 ghost use Rattle.ctl_core.specs.Hearing.{heard_in, read};
 ghost use Rattle.ctl_core.specs.Reloading.{accepted, reload};
-ghost use Rattle.ctl_core.specs.Turns.{feed, open_conn, pass};
+ghost use Rattle.ctl_core.specs.Turns.{feed, open_conn, pass, turn};
 
 use conf_check::laws::an_accepted_configuration_is_valid;
+use ctl_settle::laws::{
+    a_settling_leaves_nothing_waiting, alike_worlds_rest_alike, what_rests_settles_as_it_is,
+};
 
 /// Whatever a frame says, what was learned stays valid.
 pub fn a_frame_leaves_it_sound()
@@ -33,4 +43,30 @@ pub fn a_reload_leaves_it_sound()
     ensures { (text : List ℕ) (w : World) → IsValid w.conf → IsSound w → IsSound (reload (accepted text) w) }
 {
     an_accepted_configuration_is_valid();
+}
+
+/// Connections stay by number, and what was noted of each in key order, whatever happens. What opens is
+/// new.
+pub fn what_happens_keeps_connections_in_order()
+    ensures opened { (number : ℕ) (w : World) → is_open w.conns number ≡ false → AreInOrder w → AreInOrder (open_conn number w) }
+    ensures fed { (number : ℕ) (piece : List ℕ) (w : World) → AreInOrder w → AreInOrder (feed number piece w) }
+    ensures read { (number : ℕ) (w : World) → AreInOrder w → AreInOrder (read number w) }
+    ensures heard { (said : Option (Message × ℕ)) (number : ℕ) (w : World) → AreInOrder w → AreInOrder (heard_in said number w) }
+    ensures closed { (cause : Closing) (number : ℕ) (w : World) → AreInOrder w → AreInOrder (close cause number w) }
+    ensures ended { (cause : Closing) (number : ℕ) (w : World) → AreInOrder w → AreInOrder (ended cause number w) }
+    ensures passed { (moment : ℕ) (w : World) → AreInOrder w → AreInOrder (pass moment w) }
+    ensures reloaded { (text : List ℕ) (w : World) → AreInOrder w → AreInOrder (reload (accepted text) w) }
+    ensures settled { (w : World) → AreInOrder w → AreInOrder (settle w) }
+{
+    a_settling_leaves_nothing_waiting();
+}
+
+/// A reload that is refused changes nothing, where nothing waits to be said: all that is said is the line
+/// that tells why.
+pub fn a_refused_reload_changes_nothing()
+    ensures { (text cause : List ℕ) (w : World) → IsAtRest w → accepted text ≡ Err cause
+        → turn (Reload text) w ≡ record w { said = Line (codes "reload: " ++ cause) ∷ [] } }
+{
+    alike_worlds_rest_alike();
+    what_rests_settles_as_it_is();
 }

@@ -4,6 +4,7 @@
 mod controller;
 mod gateways;
 mod hearing;
+mod known;
 pub mod laws;
 mod reloading;
 mod setup;

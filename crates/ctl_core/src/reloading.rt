@@ -1,8 +1,9 @@
 //! What a new configuration does.
 
-ghost use Rattle.std.specs.Prelude.{◌≡◌, ◌++◌, ℕ, List, map, filter, Ok, Err, IfOk, OnOk};
+ghost use Rattle.std.specs.Prelude.{◌≡◌, ◌++◌, ℕ, List, map, filter, false, Ok, Err, IfOk, OnOk};
 ghost use Rattle.std.specs.List.{filter_map};
 ghost use Rattle.conf_types.specs.Groups.{group_of};
+ghost use Rattle.ctl_world.specs.Alike.{IsAlike};
 ghost use Rattle.ctl_world.specs.World.{running};
 ghost use Rattle.conf_check.specs.Accepted.{IsTextRefused};
 ghost use Rattle.ctl_core.specs.Reloading.{Gives, accepted, close_each, close_of, is_gone, of_text, of_tree, reload, renew, vanished, want_all, want_each, yaml_fault_text};
@@ -14,6 +15,7 @@ use conf_gather::laws::a_file_is_read_by_the_grammar;
 use conf_shape::ConfFault;
 use conf_types::{Conf, DpIds};
 use ctl_settle::in_order;
+use ctl_world::laws::what_is_said_is_alike;
 use ctl_world::{Conn, Said, World};
 use itoa::Buffer;
 use net_base::{DpId, NoMemory, Text};
@@ -182,12 +184,20 @@ fn refuse(alloc: Global, world: &mut World, cause: &Text) -> Result<(), NoMemory
 
 /// A text is to take the place of the configuration. One that has a configuration does so: the
 /// connections of datapaths that it hasn't are closed, what may stay is kept, and the gateways of the
-/// groups that run are wanted. Any other changes nothing, and a line says why.
-pub(crate) fn reload(alloc: Global, world: &mut World, text: &[u8]) -> Result<(), NoMemory>
-    ensures { OnOk result (world.new ≡ reload (accepted text.now) world.old) }
+/// groups that run are wanted. Any other changes nothing, and a line says why. Tells whether it did so.
+pub(crate) fn reload(alloc: Global, world: &mut World, text: &[u8]) -> Result<bool, NoMemory>
+    ensures reloaded { OnOk result (world.new ≡ reload (accepted text.now) world.old) }
+    ensures alike { IfOk result (λ taken. taken ≡ false → IsAlike world.new world.old) }
 {
+    what_is_said_is_alike();
     match read_text(alloc, text)? {
-        Read::Accepted(next) => accept(alloc, world, next),
-        Read::Refused(cause) => refuse(alloc, world, &cause),
+        Read::Accepted(next) => {
+            accept(alloc, world, next)?;
+            Ok(true)
+        }
+        Read::Refused(cause) => {
+            refuse(alloc, world, &cause)?;
+            Ok(false)
+        }
     }
 }

@@ -1,17 +1,24 @@
 //! What happens, turn by turn.
 
-ghost use Rattle.std.specs.Prelude.{◌≡◌, map, filter, not, OnOk, IfOk};
+ghost use Rattle.std.specs.Prelude.{◌≡◌, map, filter, not, false, OnOk, IfOk};
 ghost use Rattle.fg_outside.specs.declared.hub.Happening.TheVariants.{Opened, Heard, Closed, Moment as Shown, Reload};
 ghost use Rattle.conf_types.specs.State.{is_to_forget};
-ghost use Rattle.ctl_world.specs.World.{IsSound};
+ghost use Rattle.ctl_world.specs.Alike.{IsAlike};
+ghost use Rattle.ctl_core.specs.Known.{HasSettled};
 ghost use Rattle.ctl_core.specs.Turns.{age, closing_for, feed, hear, look, look_each, open_conn, pass, pass_in, show, stir, turn, work};
 
 use crate::hearing::{a_configuration_is_valid, hear_frames};
-use crate::laws::{a_moment_leaves_it_sound, a_reload_leaves_it_sound, what_comes_leaves_it_sound};
+use crate::known::{Known, settle_anew, settle_where_due};
+use crate::laws::{
+    a_moment_leaves_it_sound, a_reload_leaves_it_sound, what_comes_leaves_it_sound,
+    what_happens_keeps_connections_in_order,
+};
 use crate::reloading::reload;
 use conf_types::{Conf, Tally};
-use ctl_settle::settle;
-use ctl_world::laws::forgetting_what_is_lost_makes_it_sound;
+use ctl_settle::laws::{alike_worlds_rest_alike, what_rests_settles_as_it_is};
+use ctl_world::laws::{
+    alike_worlds_run_alike, forgetting_what_is_lost_makes_it_sound, what_is_said_is_alike,
+};
 use ctl_world::{Conn, World};
 use fg_outside::{EndCause, Happening};
 use host_learn::HostTable;
@@ -41,22 +48,35 @@ fn open(alloc: Global, world: &mut World, conn: u32) -> Result<(), NoMemory>
     world.say(conn, hello)
 }
 
+/// Bytes came on a connection.
+fn feed(known: &mut Known, conn: u32, piece: &[u8]) -> Result<(), NoMemory>
+    requires { HasSettled known.old }
+    ensures fed { OnOk result (known.new.world ≡ feed conn piece.now known.old.world) }
+    ensures settled { OnOk result (HasSettled known.new) }
+{
+    what_comes_leaves_it_sound();
+    what_happens_keeps_connections_in_order();
+    what_is_said_is_alike();
+    alike_worlds_rest_alike();
+    let moment = known.world.moment;
+    known.world.conns.feed(conn, piece, moment)
+}
+
 /// Bytes came on a connection: their frames are heard.
 fn hear<T: Tally>(
     alloc: Global,
-    world: &mut World,
+    known: &mut Known,
     conn: u32,
     piece: &[u8],
     units: &mut T,
 ) -> Result<(), NoMemory>
-    requires { IsSound world.old }
-    ensures heard { OnOk result (world.new ≡ hear conn piece.now world.old) }
-    ensures sound { OnOk result (IsSound world.new) }
+    requires { HasSettled known.old }
+    ensures heard { OnOk result (known.new.world ≡ hear conn piece.now known.old.world) }
+    ensures settled { OnOk result (HasSettled known.new) }
 {
-    what_comes_leaves_it_sound();
-    world.conns.feed(conn, piece, world.moment)?;
-    let most = world.conns.unread_len(conn);
-    hear_frames(alloc, world, conn, most, units)
+    feed(known, conn, piece)?;
+    let most = known.world.conns.unread_len(conn);
+    hear_frames(alloc, known, conn, most, units)
 }
 
 fn closing_for(cause: EndCause) -> Closing
@@ -69,36 +89,54 @@ fn closing_for(cause: EndCause) -> Closing
     }
 }
 
-/// An echo is asked for, or the connection closed, where no byte came for too long.
-fn stir(alloc: Global, world: &mut World, quiet: Quiet, conn: u32) -> Result<(), NoMemory>
-    ensures { OnOk result (world.new ≡ stir quiet conn world.old) }
+/// An echo is asked for, or the connection closed, where no byte came for too long. Tells whether it was
+/// closed.
+fn stir(alloc: Global, world: &mut World, quiet: Quiet, conn: u32) -> Result<bool, NoMemory>
+    ensures stirred { OnOk result (world.new ≡ stir quiet conn world.old) }
+    ensures alike { IfOk result (λ closed. closed ≡ false → IsAlike world.new world.old) }
 {
+    alike_worlds_run_alike();
+    what_is_said_is_alike();
     match quiet {
-        Quiet::Well => Ok(()),
-        Quiet::Echo => world.say(conn, Message::EchoRequest(Bytes::new(alloc))),
-        Quiet::Silent => world.close(alloc, Closing::Silent, conn),
+        Quiet::Well => Ok(false),
+        Quiet::Echo => {
+            world.say(conn, Message::EchoRequest(Bytes::new(alloc)))?;
+            Ok(false)
+        }
+        Quiet::Silent => {
+            world.close(alloc, Closing::Silent, conn)?;
+            Ok(true)
+        }
     }
 }
 
-fn look(alloc: Global, world: &mut World, conn: u32) -> Result<(), NoMemory>
-    ensures { OnOk result (world.new ≡ look conn world.old) }
+/// Looks after a connection, and tells whether it was closed.
+fn look(alloc: Global, world: &mut World, conn: u32) -> Result<bool, NoMemory>
+    ensures looked { OnOk result (world.new ≡ look conn world.old) }
+    ensures alike { IfOk result (λ closed. closed ≡ false → IsAlike world.new world.old) }
 {
+    alike_worlds_run_alike();
+    what_is_said_is_alike();
     if !world.conns.is_open(conn) {
-        return Ok(());
+        return Ok(false);
     }
     let quiet = world.conns.look(conn, world.moment);
     stir(alloc, world, quiet, conn)
 }
 
-fn look_each(alloc: Global, world: &mut World, conns: &[u32]) -> Result<(), NoMemory>
-    ensures { OnOk result (world.new ≡ look_each conns.now world.old) }
+/// Looks after connections, and tells whether one was closed.
+fn look_each(alloc: Global, world: &mut World, conns: &[u32]) -> Result<bool, NoMemory>
+    ensures looked { OnOk result (world.new ≡ look_each conns.now world.old) }
+    ensures alike { IfOk result (λ closed. closed ≡ false → IsAlike world.new world.old) }
 {
+    alike_worlds_run_alike();
     match conns {
         [conn, more @ ..] => {
-            look(alloc, world, *conn)?;
-            look_each(alloc, world, more)
+            let closed = look(alloc, world, *conn)?;
+            let others = look_each(alloc, world, more)?;
+            Ok(closed || others)
         }
-        [] => Ok(()),
+        [] => Ok(false),
     }
 }
 
@@ -107,6 +145,12 @@ fn age(hosts: &mut HostTable, conf: &Conf, moment: Moment)
     ensures { hosts.new ≡ record hosts.old { hosts = filter (λ h. not (is_to_forget conf.now moment.0 h)) hosts.old.hosts } }
 {
     while let Some(_) = hosts.age(conf, moment) {}
+}
+
+fn age_hosts(world: &mut World)
+    ensures { world.new ≡ age world.old }
+{
+    age(&mut world.hosts, &world.conf, world.moment);
 }
 
 fn numbers(alloc: Global, conns: &[Conn]) -> Result<Vec<u32>, NoMemory>
@@ -119,120 +163,132 @@ fn numbers(alloc: Global, conns: &[Conn]) -> Result<Vec<u32>, NoMemory>
     Ok(numbers)
 }
 
-/// The clock shows a moment; one below the last counts as that.
-fn pass(alloc: Global, world: &mut World, moment: u64) -> Result<(), NoMemory>
-    ensures { OnOk result (world.new ≡ pass moment world.old) }
+/// The clock shows a moment; one below the last counts as that. The connections are looked after, and
+/// whether one was closed is told.
+fn look_after(alloc: Global, world: &mut World, moment: u64) -> Result<bool, NoMemory>
+    ensures looked { OnOk result (world.new ≡ look_each (map (λ c. c.number) world.old.conns) (show moment world.old)) }
+    ensures alike { IfOk result (λ closed. closed ≡ false → IsAlike world.new (show moment world.old)) }
 {
     world.moment = Moment(world.moment.0.max(moment));
     let numbers = numbers(alloc, world.conns.as_slice())?;
-    look_each(alloc, world, numbers.as_slice())?;
-    age(&mut world.hosts, &world.conf, world.moment);
-    Ok(())
+    look_each(alloc, world, numbers.as_slice())
 }
 
 /// What opens is new, and what is heard or ends is open; else nothing is done.
 pub(crate) fn work<T: Tally>(
     alloc: Global,
-    world: &mut World,
+    known: &mut Known,
     what: &Happening,
     units: &mut T,
 ) -> Result<(), NoMemory>
-    requires { IsSound world.old }
-    ensures done { OnOk result (world.new ≡ work what.now world.old) }
-    ensures sound { OnOk result (IsSound world.new) }
+    requires { HasSettled known.old }
+    ensures done { OnOk result (known.new.world ≡ work what.now known.old.world) }
+    ensures settled { OnOk result (HasSettled known.new) }
 {
     match what {
-        Happening::Opened(conn) => opened(alloc, world, *conn, units),
-        Happening::Heard { conn, piece } => heard(alloc, world, *conn, piece.as_slice(), units),
-        Happening::Closed { conn, cause } => closed(alloc, world, *conn, *cause, units),
-        Happening::Moment(moment) => passed(alloc, world, *moment, units),
-        Happening::Reload(text) => reloaded(alloc, world, text.as_slice(), units),
+        Happening::Opened(conn) => opened(alloc, known, *conn, units),
+        Happening::Heard { conn, piece } => heard(alloc, known, *conn, piece.as_slice(), units),
+        Happening::Closed { conn, cause } => closed(alloc, known, *conn, *cause, units),
+        Happening::Moment(moment) => passed(alloc, known, *moment, units),
+        Happening::Reload(text) => reloaded(alloc, known, text.as_slice(), units),
     }
 }
 
 fn opened<T: Tally>(
     alloc: Global,
-    world: &mut World,
+    known: &mut Known,
     conn: u32,
     units: &mut T,
 ) -> Result<(), NoMemory>
-    requires { IsSound world.old }
-    ensures done { OnOk result (world.new ≡ work (Opened conn) world.old) }
-    ensures sound { OnOk result (IsSound world.new) }
+    requires { HasSettled known.old }
+    ensures done { OnOk result (known.new.world ≡ work (Opened conn) known.old.world) }
+    ensures settled { OnOk result (HasSettled known.new) }
 {
-    if world.conns.is_open(conn) {
+    if known.world.conns.is_open(conn) {
         return Ok(());
     }
     what_comes_leaves_it_sound();
-    open(alloc, world, conn)?;
-    settle(alloc, world, units)
+    what_happens_keeps_connections_in_order();
+    open(alloc, &mut known.world, conn)?;
+    settle_anew(alloc, known, units)
 }
 
 fn heard<T: Tally>(
     alloc: Global,
-    world: &mut World,
+    known: &mut Known,
     conn: u32,
     piece: &[u8],
     units: &mut T,
 ) -> Result<(), NoMemory>
-    requires { IsSound world.old }
-    ensures done { OnOk result (world.new ≡ work (Heard conn piece.now) world.old) }
-    ensures sound { OnOk result (IsSound world.new) }
+    requires { HasSettled known.old }
+    ensures done { OnOk result (known.new.world ≡ work (Heard conn piece.now) known.old.world) }
+    ensures settled { OnOk result (HasSettled known.new) }
 {
-    if !world.conns.is_open(conn) {
+    if !known.world.conns.is_open(conn) {
         return Ok(());
     }
-    hear(alloc, world, conn, piece, units)
+    hear(alloc, known, conn, piece, units)
 }
 
 fn closed<T: Tally>(
     alloc: Global,
-    world: &mut World,
+    known: &mut Known,
     conn: u32,
     cause: EndCause,
     units: &mut T,
 ) -> Result<(), NoMemory>
-    requires { IsSound world.old }
-    ensures done { OnOk result (world.new ≡ work (Closed conn cause) world.old) }
-    ensures sound { OnOk result (IsSound world.new) }
+    requires { HasSettled known.old }
+    ensures done { OnOk result (known.new.world ≡ work (Closed conn cause) known.old.world) }
+    ensures settled { OnOk result (HasSettled known.new) }
 {
-    if !world.conns.is_open(conn) {
+    if !known.world.conns.is_open(conn) {
         return Ok(());
     }
-    a_configuration_is_valid(&world.conf);
+    a_configuration_is_valid(&known.world.conf);
     forgetting_what_is_lost_makes_it_sound();
-    world.end(alloc, closing_for(cause), conn)?;
-    settle(alloc, world, units)
+    what_happens_keeps_connections_in_order();
+    known.world.end(alloc, closing_for(cause), conn)?;
+    settle_anew(alloc, known, units)
 }
 
+/// Where no connection was closed and nothing is due yet, no host is looked at.
 fn passed<T: Tally>(
     alloc: Global,
-    world: &mut World,
+    known: &mut Known,
     moment: u64,
     units: &mut T,
 ) -> Result<(), NoMemory>
-    requires { IsSound world.old }
-    ensures done { OnOk result (world.new ≡ work (Shown moment) world.old) }
-    ensures sound { OnOk result (IsSound world.new) }
+    requires { HasSettled known.old }
+    ensures done { OnOk result (known.new.world ≡ work (Shown moment) known.old.world) }
+    ensures settled { OnOk result (HasSettled known.new) }
 {
-    a_configuration_is_valid(&world.conf);
+    a_configuration_is_valid(&known.world.conf);
     a_moment_leaves_it_sound();
-    pass(alloc, world, moment)?;
-    settle(alloc, world, units)
+    what_happens_keeps_connections_in_order();
+    alike_worlds_rest_alike();
+    what_rests_settles_as_it_is();
+    let closed = look_after(alloc, &mut known.world, moment)?;
+    if !closed && known.world.moment.0 < known.until {
+        return Ok(());
+    }
+    age_hosts(&mut known.world);
+    settle_anew(alloc, known, units)
 }
 
 fn reloaded<T: Tally>(
     alloc: Global,
-    world: &mut World,
+    known: &mut Known,
     text: &[u8],
     units: &mut T,
 ) -> Result<(), NoMemory>
-    requires { IsSound world.old }
-    ensures done { OnOk result (world.new ≡ work (Reload text.now) world.old) }
-    ensures sound { OnOk result (IsSound world.new) }
+    requires { HasSettled known.old }
+    ensures done { OnOk result (known.new.world ≡ work (Reload text.now) known.old.world) }
+    ensures settled { OnOk result (HasSettled known.new) }
 {
-    a_configuration_is_valid(&world.conf);
+    a_configuration_is_valid(&known.world.conf);
     a_reload_leaves_it_sound();
-    reload(alloc, world, text)?;
-    settle(alloc, world, units)
+    what_happens_keeps_connections_in_order();
+    alike_worlds_rest_alike();
+    let taken = reload(alloc, &mut known.world, text)?;
+    settle_where_due(alloc, known, taken, units)
 }

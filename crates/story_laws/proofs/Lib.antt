@@ -14,13 +14,11 @@ pub mod Setup
 pub mod Singly
 pub mod StoryIds
 pub mod StoryOpen
-pub mod StoryOrder
 pub mod StoryOrdered
 pub mod StoryParts
+pub mod StoryRests
 pub mod StorySound
-pub mod StoryStands
 pub mod StoryTold
 pub mod StoryTurns
-pub mod StoryWaits
 pub mod StoryWalks
 pub mod Ways

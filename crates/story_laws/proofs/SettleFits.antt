@@ -30,8 +30,8 @@ use Rattle.story_laws.proofs.Numbered.{is_its, of_with, one_of}
 use Rattle.story_laws.proofs.PlainSteps.{asks_stays}
 use Rattle.story_laws.proofs.Settles.{asks_alike, batch_batched, batched_running, batched_wanted, batches_batched, number_of, running_stage, settled_alike}
 use Rattle.story_laws.proofs.Setup.{AreFit}
-use Rattle.story_laws.proofs.StoryOrder.{AreOrdered}
-use Rattle.story_laws.proofs.StoryStands.{due_conf}
+use Rattle.ctl_core.proofs.Ordered.{AreOrdered}
+use Rattle.ctl_core.proofs.Stands.{due_conf}
 use Rattle.story_laws.proofs.Ways.{Holds, OnConn, Way}
 
 -- ---- a settling leaves it fitting

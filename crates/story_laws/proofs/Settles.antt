@@ -24,7 +24,7 @@ use Rattle.ctl_settle.specs.Settling.{ask_all, ask_due, ask_each, ask_on, batch,
 use Rattle.ctl_settle.proofs.Batches.{AreByNumber, IsQuiet, IsSaid, IsStep, said_case, said_quiet, say_step, step_conf, step_keys, step_none, step_now, step_numbers, step_other, step_own}
 use Rattle.ctl_settle.proofs.Waiting.{wanted_order}
 use Rattle.story_laws.proofs.Numbered.{unlike}
-use Rattle.story_laws.proofs.StoryOrder.{AreOrdered}
+use Rattle.ctl_core.proofs.Ordered.{AreOrdered}
 
 -- ---- what runs
 

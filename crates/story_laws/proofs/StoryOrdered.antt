@@ -1,18 +1,15 @@
 -- Behind a story the connections stand by number, and the entries of each in key order.
 use Rattle.std.proofs.Common.{◌≡◌, ℕ, List, Ok}
-use Rattle.fg_outside.specs.declared.hub.Happening.{Happening}
 use Rattle.conf_types.specs.Configuration.{Configuration}
 use Rattle.ctl_world.specs.Ends.{ended}
-use Rattle.ctl_world.specs.World.{World, first}
+use Rattle.ctl_world.specs.World.{World}
 use Rattle.ctl_settle.specs.Settling.{settle}
 use Rattle.ctl_settle.proofs.Batches.{AreByNumber, AreInKeyOrder}
 use Rattle.ctl_core.specs.Hearing.{heard_in}
 use Rattle.ctl_core.specs.Reloading.{accepted, reload}
-use Rattle.ctl_core.specs.Story.{behind}
 use Rattle.ctl_core.specs.Turns.{open_conn, pass}
-use Rattle.story_laws.proofs.StoryOrder.{AreOrdered}
-use Rattle.story_laws.proofs.StoryStands.{Stands, ended_stands, feed_stands, heard_stands, open_stands, pass_stands, read_stands, reload_stands, settle_stands}
-use Rattle.story_laws.proofs.StoryTurns.{Keeps, behind_kept}
+use Rattle.ctl_core.proofs.Stands.{Stands, ended_stands, feed_stands, heard_stands, open_stands, pass_stands, read_stands, reload_stands, settle_stands}
+use Rattle.story_laws.proofs.StoryTurns.{Keeps}
 
 module _ (numbers : (w : World) → AreByNumber w.conns → AreInKeyOrder w.conns → AreByNumber (settle w).conns)
     (keys : (w : World) → AreByNumber w.conns → AreInKeyOrder w.conns → AreInKeyOrder (settle w).conns) where
@@ -30,6 +27,3 @@ module _ (numbers : (w : World) → AreByNumber w.conns → AreInKeyOrder w.conn
     passes = λ moment w stands. settled P (pass moment w) (pass_stands P moment w stands);
     reloads = λ text w stands. settled P (reload (accepted text) w) (reload_stands P (accepted text) (valid text) w stands);
   }
-
-  pub story_ordered : (conf : Configuration) (story : List Happening) → AreOrdered (behind (first conf) story).conns
-  story_ordered conf story = (behind_kept (Stands (λ c. Unit {0})) (keeps_order (λ c. Unit {0}) (λ text next is. tt)) (first conf) story (tt, (tt, tt))).1

@@ -30,7 +30,7 @@ use Rattle.story_laws.proofs.Numbered.{of_with}
 use Rattle.story_laws.proofs.Settles.{running_stage, settled_alike}
 use Rattle.story_laws.proofs.SettleFits.{seen_of}
 use Rattle.story_laws.proofs.Setup.{AreFit}
-use Rattle.story_laws.proofs.StoryOrder.{AreOrdered}
+use Rattle.ctl_core.proofs.Ordered.{AreOrdered}
 use Rattle.story_laws.proofs.StoryTold.{Any, IsTold, Laws, first_told, settles, told_walks}
 use Rattle.story_laws.proofs.StoryWalks.{any_pieces, story_kept, story_seen}
 use Rattle.story_laws.proofs.Ways.{OnConn}

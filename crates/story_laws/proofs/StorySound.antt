@@ -23,7 +23,7 @@ use Rattle.ctl_core.proofs.SoundFrames.{heard_sound, read_sound}
 use Rattle.ctl_core.proofs.SoundReloads.{reload_sound}
 use Rattle.ctl_core.proofs.SoundTurns.{feed_sound, open_sound, pass_sound}
 use Rattle.story_laws.proofs.StoryOrdered.{keeps_order}
-use Rattle.story_laws.proofs.StoryStands.{Stands}
+use Rattle.ctl_core.proofs.Stands.{Stands}
 use Rattle.story_laws.proofs.StoryTurns.{Keeps, behind_kept}
 
 -- it is sound, of a valid configuration, with its connections in order

@@ -35,9 +35,9 @@ use Rattle.story_laws.proofs.Lows.{wanted_low}
 use Rattle.story_laws.proofs.PlainSteps.{ended_stays, feed_stays, pass_stays, read_stays, reload_stays}
 use Rattle.story_laws.proofs.SettleFits.{settled_fit}
 use Rattle.story_laws.proofs.Setup.{AreFit, heard_fit, open_fit}
-use Rattle.story_laws.proofs.StoryOrder.{AreOrdered}
+use Rattle.ctl_core.proofs.Ordered.{AreOrdered}
 use Rattle.story_laws.proofs.StorySound.{StandsSound, settle_sound, text_valid}
-use Rattle.story_laws.proofs.StoryStands.{ended_stands, feed_stands, heard_stands, open_stands, pass_stands, read_stands, reload_stands, settle_stands}
+use Rattle.ctl_core.proofs.Stands.{ended_stands, feed_stands, heard_stands, open_stands, pass_stands, read_stands, reload_stands, settle_stands}
 use Rattle.story_laws.proofs.StoryWalks.{Walks}
 use Rattle.story_laws.proofs.Ways.{OnConn}
 

@@ -13,14 +13,17 @@ ghost use Rattle.conf_types.specs.Valid.{IsValid};
 ghost use Rattle.ctl_world.specs.declared.conns.Conn.{Conn};
 ghost use Rattle.ctl_world.specs.Connections.{conn_of};
 ghost use Rattle.ctl_world.specs.World.{IsSound, first, running};
+ghost use Rattle.ctl_settle.specs.Rest.{IsAtRest};
 ghost use Rattle.ctl_settle.specs.Settling.{wanted};
 ghost use Rattle.ctl_core.specs.Story.{behind};
 
 use conf_check::laws::an_accepted_configuration_is_valid;
+use ctl_core::laws::what_happens_keeps_connections_in_order;
 use ctl_settle::laws::{
-    a_batch_leaves_the_state, a_settling_leaves_nothing_waiting, asks_leave_the_state,
+    a_batch_leaves_the_state, a_settling_leaves_it_at_rest, a_settling_leaves_nothing_waiting,
+    alike_worlds_rest_alike, asks_leave_the_state,
 };
-use ctl_world::laws::what_is_known_first_is_sound;
+use ctl_world::laws::{what_is_known_first_is_sound, what_is_said_is_alike};
 
 /// Whatever happens to a controller that begins with a valid configuration, what it knows is sound: its
 /// configuration is valid, all that it learned is valid by that, and no table holds more than it may.
@@ -41,7 +44,17 @@ pub fn connections_stand_by_number()
     ensures numbers { (conf : Configuration) (story : List Happening) → EachBefore (λ a b. a.number < b.number) (behind (first conf) story).conns }
     ensures keys { (conf : Configuration) (story : List Happening) → AllByRecursion (λ c. IsInKeyOrder c.sent) (behind (first conf) story).conns }
 {
-    a_settling_leaves_nothing_waiting();
+    what_happens_keeps_connections_in_order();
+}
+
+/// Whatever happens, after each turn nothing is left to say: no neighbour is due, and nothing waits. So a
+/// settling would change nothing.
+pub fn after_each_turn_it_rests()
+    ensures { (conf : Configuration) (story : List Happening) → IsAtRest (behind (first conf) story) }
+{
+    a_settling_leaves_it_at_rest();
+    what_is_said_is_alike();
+    alike_worlds_rest_alike();
 }
 
 /// Whatever happens, after each turn nothing waits: on the connection of each datapath that runs a barrier is
@@ -51,5 +64,5 @@ pub fn after_each_turn_nothing_waits()
         → (c : Conn) → conn_of (behind (first conf) story).conns dp ≡ Some c
         → (is_some c.session.state.awaited ≡ true) ⊎ (c.sent ≡ wanted (behind (first conf) story) dp) }
 {
-    a_settling_leaves_nothing_waiting();
+    after_each_turn_it_rests();
 }

@@ -1,22 +1,47 @@
-use Rattle.std.proofs.Common.{◌≡◌, Some, sym, ap, ◌∙◌}
+use Rattle.std.proofs.Common.{◌≡◌, Some, sym, ap, subst, ◌∙◌}
 use Rattle.std.specs.Option.{option_copied, option_map_or}
-use Rattle.std.proofs.lemmas.Result.{on_ok_weaker}
-use Rattle.switch_session.specs.declared.state.Step.{Step}
+use Rattle.std.proofs.lemmas.Result.{IfOk-weaker, on_ok_weaker}
 use Rattle.switch_session.specs.declared.state.Step.TheVariants.{Nothing}
 use Rattle.switch_session.specs.Stages.{leads}
 use Rattle.ctl_world.specs.declared.conns.Conn.{Conn}
-use Rattle.ctl_world.specs.Connections.{conn_with}
+use Rattle.ctl_world.specs.Alike.{IsAlike}
+use Rattle.ctl_world.specs.Connections.{change, conn_with, with_heard}
 use Rattle.ctl_world.specs.Ends.{forget_lost}
+use Rattle.ctl_world.specs.World.{World}
 use Rattle.ctl_core.specs.Hearing.{follow}
+use Rattle.ctl_core.proofs.Stays.{nothing_lost, world_stays}
 use Rattle.ctl_core.proofs.hearing.hear_message.Goals as goal
 
-pub returns : goal.returns
-returns c =
+pub returns-then-stays : goal.returns-then-stays
+returns-then-stays c =
     let m = c.args.message.now in
-    let w = c.args.world.now in
-    let d = c.in-Some.found.now in
-    let at : conn_with w.conns c.args.conn ≡ Some d = sym c.get.ensures ∙ ap option_copied c.in-Some.is in
-    let step : c.in_ok-step.step ≡ (leads d.session.state m c.args.xid).1 =
-    c.in_ok-step.ensures.step ∙ ap (λ o. option_map_or (λ (e : Conn). (leads e.session.state m c.args.xid).1) o Nothing) at in
+    let xid = c.args.xid in
+    let number = c.args.conn in
+    let w : World = c.args.world.now in
+    let d : Conn = c.in-Some.found.now in
+    let at : conn_with w.conns number ≡ Some d = sym c.get.ensures ∙ ap option_copied c.in-Some.is in
+    let step : c.in_ok-step.step ≡ (leads d.session.state m xid).1 =
+    c.in_ok-step.ensures.step ∙ ap (λ o. option_map_or (λ (e : Conn). (leads e.session.state m xid).1) o Nothing) at in
+    let same : (leads d.session.state m xid).0 ≡ d.session.state = c.stays-stays.ensures c.if-stays.true d at in
+    let v : World = record w { conns = c.hear.new.self } in
+    let heard : World = record w { conns = change number (with_heard m xid) w.conns } in
+    let left : v ≡ heard = ap (λ cs. record w { conns = cs }) c.in_ok-step.ensures.noted in
+    let put : heard ≡ w = world_stays m xid number w d at same in
+    let kept : v ≡ forget_lost heard = left ∙ sym (nothing_lost m xid number w d at same (c.a_sound_world_has_lost_nothing.ensures w c.requires)) in
+    record {
+      heard = rw at (on_ok_weaker c.follow.result (λ is. is ∙ ap (λ s. follow s m xid number d.dp v) step ∙ ap (follow (leads d.session.state m xid).1 m xid number d.dp) kept) c.follow.ensures.done);
+      alike = IfOk-weaker c.follow.result _ _ (λ changed alike none. subst (IsAlike c.follow.new.world) (left ∙ put) (alike none)) c.follow.ensures.alike;
+    }
+
+pub returns-clause-heard : goal.returns-clause-heard
+returns-clause-heard c =
+    let m = c.args.message.now in
+    let xid = c.args.xid in
+    let number = c.args.conn in
+    let w : World = c.args.world.now in
+    let d : Conn = c.in-Some.found.now in
+    let at : conn_with w.conns number ≡ Some d = sym c.get.ensures ∙ ap option_copied c.in-Some.is in
+    let step : c.in_ok-step.step ≡ (leads d.session.state m xid).1 =
+    c.in_ok-step.ensures.step ∙ ap (λ o. option_map_or (λ (e : Conn). (leads e.session.state m xid).1) o Nothing) at in
     let left = c.in_ok-forget_lost.ensures ∙ ap (λ cs. forget_lost (record w { conns = cs })) c.in_ok-step.ensures.noted in
-    rw at (on_ok_weaker c.follow.result (λ is. is ∙ ap (λ s. follow s m c.args.xid c.args.conn d.dp c.forget_lost.new.self) step ∙ ap (follow (leads d.session.state m c.args.xid).1 m c.args.xid c.args.conn d.dp) left) c.follow.ensures)
+    rw at (c.in_ok-follow.ensures.done ∙ ap (λ s. follow s m xid number d.dp c.forget_lost.new.self) step ∙ ap (follow (leads d.session.state m xid).1 m xid number d.dp) left)

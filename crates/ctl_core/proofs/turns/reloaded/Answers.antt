@@ -1,6 +1,14 @@
 use Rattle.std.proofs.Common.{subst, sym}
 use Rattle.ctl_world.specs.World.{IsSound}
+use Rattle.ctl_settle.specs.Rest.{AreInOrder}
 use Rattle.ctl_core.proofs.turns.reloaded.Goals as goal
 
-pub settle-requires : goal.settle-requires
-settle-requires g c = subst IsSound (sym c.in_ok-reload.ensures) (c.a_reload_leaves_it_sound.ensures c.args.text.now c.args.world.now c.a_configuration_is_valid.ensures c.requires)
+pub settle_where_due-requires : goal.settle_where_due-requires
+settle_where_due-requires g c =
+    let k = c.args.known.now in
+    let reloaded = sym c.in_ok-taken.ensures.reloaded in
+    record {
+      sound = subst IsSound reloaded (c.a_reload_leaves_it_sound.ensures c.args.text.now k.world c.a_configuration_is_valid.ensures c.requires.sound);
+      in_order = subst AreInOrder reloaded (c.what_happens_keeps_connections_in_order.ensures.reloaded c.args.text.now k.world c.requires.in_order);
+      rests = λ same. c.alike_worlds_rest_alike.ensures.until k.until c.reload.new.world k.world (c.in_ok-taken.ensures.alike same) c.requires.rests;
+    }

@@ -48,7 +48,7 @@ use Rattle.ctl_settle.specs.Settling.{ask_all, ask_due, ask_each, ask_on, batch,
 use Rattle.ctl_core.specs.Hearing.{begin, echo, follow, hear_message, hear_on, heard_in, introduce, packet, read, replace, take_dp, turn_away, unfit, want_gateways, want_in}
 use Rattle.ctl_core.specs.Reloading.{close_each, close_of, reload, renew, vanished, want_all, want_each}
 use Rattle.ctl_core.specs.Turns.{feed, look, look_each, look_on, open_conn, pass, show, stir}
-use Rattle.story_laws.proofs.StoryOrder.{AreOrdered, change_ordered, put_ordered, without_ordered}
+use Rattle.ctl_core.proofs.Ordered.{AreOrdered, change_ordered, put_ordered, without_ordered}
 
 -- ---- a settling leaves the configuration
 
@@ -138,7 +138,7 @@ module _ (P : Configuration → Type 0) where
         | None ↦ stands
       ]
 
-  close_stands : (cause : Closing) (number : ℕ) (w : World) → Stands P w → Stands P (close cause number w)
+  pub close_stands : (cause : Closing) (number : ℕ) (w : World) → Stands P w → Stands P (close cause number w)
   close_stands cause number w stands = (stands.0, without_ordered number w.conns stands.1)
 
   pub ended_stands : (cause : Closing) (number : ℕ) (w : World) → Stands P w → Stands P (ended cause number w)

@@ -1,0 +1,71 @@
+-- What rests, and stays settled, where nothing changes that a settling looks at.
+use Rattle.std.proofs.Common.{◌≡◌, ℕ, ◌<◌, max, List, [], ◌∷◌, refl, sym, ap, ◌∙◌, subst, arith}
+use Rattle.net_base.specs.declared.numbers.Moment.{Moment}
+use Rattle.ctl_world.specs.declared.conns.Conn.{Conn}
+use Rattle.conf_types.specs.Configuration.{Configuration}
+use Rattle.ctl_world.specs.Alike.{IsAlike, face}
+use Rattle.ctl_world.specs.Connections.{with_fed}
+use Rattle.ctl_world.specs.World.{IsSound, World, first}
+use Rattle.ctl_settle.specs.Rest.{AreInOrder, IsAtRest, NoneIsOver, RestsUntil}
+use Rattle.ctl_settle.specs.Settling.{settle}
+use Rattle.ctl_core.specs.declared.known.Known.{Known}
+use Rattle.ctl_core.specs.Known.{HasSettled}
+use Rattle.ctl_core.specs.Turns.{age, show}
+
+-- bytes that come are nothing that a settling looks at
+pub fed_face : (piece : List ℕ) (moment : Moment) (c : Conn) → face (with_fed piece moment c) ≡ face c
+fed_face [] moment c = refl
+fed_face (byte ∷ piece) moment c = refl
+
+-- a settling before the moment is left out
+pub left_out : ((w : World) → IsAtRest w → settle w ≡ w) → (until : ℕ) (w : World) → RestsUntil until w → w.moment.0 < until → w ≡ settle w
+left_out same until w rests less = sym (same w (rests w.moment.0 (omega arith) less).0)
+
+-- what looks the same is settled as well
+pub still_settled : ((until : ℕ) (v w : World) → IsAlike v w → RestsUntil until w → RestsUntil until v) → (k : Known) (v : World) → HasSettled k
+    → IsSound v → AreInOrder v → IsAlike v k.world → HasSettled (record k { world = v })
+still_settled rests k v settled sound order alike = record { sound = sound; in_order = order; rests = rests k.until v k.world alike settled.rests }
+
+-- ---- the clock
+
+shown_rests : (until moment : ℕ) (w : World) → RestsUntil until w → RestsUntil until (show moment w)
+shown_rests until moment w rests = λ m later less. rests m (omega (arith, later)) less
+
+module _ (rest : (v w : World) → IsAlike v w → IsAtRest w → IsAtRest v) (over : (v w : World) → IsAlike v w → NoneIsOver w → NoneIsOver v)
+    (rests_alike : (until : ℕ) (v w : World) → IsAlike v w → RestsUntil until w → RestsUntil until v) (same : (w : World) → IsAtRest w → settle w ≡ w)
+    (k : Known) (settled : HasSettled k) (moment : ℕ) (v : World) (alike : IsAlike v (show moment k.world)) where
+  pub moment_rests : RestsUntil k.until v
+  moment_rests = rests_alike k.until v (show moment k.world) alike (shown_rests k.until moment k.world settled.rests)
+
+  module _ (less : v.moment.0 < k.until) where
+    before : max k.world.moment.0 moment < k.until
+    before = subst (λ (n : ℕ). n < k.until) (ap (λ m. m.0) alike.moment) less
+
+    shown : IsAtRest (show moment k.world) × NoneIsOver (show moment k.world)
+    shown = settled.rests (max k.world.moment.0 moment) (omega arith) before
+
+    -- no host's time is over
+    pub none_ages : age v ≡ v
+    none_ages = let none = over v (show moment k.world) alike shown.1 in λ i. record v { hosts = record v.hosts { hosts = none i } }
+
+    pub moment_passes : v ≡ settle (age v)
+    moment_passes = sym (ap settle none_ages ∙ same v (rest v (show moment k.world) alike shown.0))
+
+-- ---- before anything happened
+
+pub first_settled : (w : World) (conf : Configuration) → w ≡ first conf → IsSound (first conf) → HasSettled (record { world = w; until = 0 })
+first_settled w conf is sound = record {
+  sound = subst IsSound (sym is) sound;
+  in_order = subst AreInOrder (sym is) (record { numbers = tt; keys = tt });
+  rests = λ m later before. absurd (omega arith);
+}
+
+-- what was said is nothing that a settling looks at
+pub unsaid_settled : (k : Known) → HasSettled k → HasSettled (record k { world = record k.world { said = [] } })
+unsaid_settled k settled = record {
+  sound = record { valid = settled.sound.valid; hosts = settled.sound.hosts; neighbours = settled.sound.neighbours };
+  in_order = record { numbers = settled.in_order.numbers; keys = settled.in_order.keys };
+  rests = λ m later before.
+      let at = settled.rests m later before in
+      (record { asks = at.0.asks; batches = at.0.batches }, at.1);
+}
