@@ -12,5 +12,4 @@ pub mod SoundSteps
 pub mod SoundTurns
 pub mod Stands
 pub mod Stays
-pub mod TurnAges
 pub mod TurnLooks

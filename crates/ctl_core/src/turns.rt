@@ -1,8 +1,7 @@
 //! What happens, turn by turn.
 
-ghost use Rattle.std.specs.Prelude.{◌≡◌, map, filter, not, false, OnOk, IfOk};
+ghost use Rattle.std.specs.Prelude.{◌≡◌, map, false, OnOk, IfOk};
 ghost use Rattle.fg_outside.specs.declared.hub.Happening.TheVariants.{Opened, Heard, Closed, Moment as Shown, Reload};
-ghost use Rattle.conf_types.specs.State.{is_to_forget};
 ghost use Rattle.ctl_world.specs.Alike.{IsAlike};
 ghost use Rattle.ctl_core.specs.Known.{HasSettled};
 ghost use Rattle.ctl_core.specs.Turns.{age, closing_for, feed, hear, look, look_each, open_conn, pass, pass_in, show, stir, turn, work};
@@ -14,14 +13,13 @@ use crate::laws::{
     what_happens_keeps_connections_in_order,
 };
 use crate::reloading::reload;
-use conf_types::{Conf, Tally};
+use conf_types::Tally;
 use ctl_settle::laws::{alike_worlds_rest_alike, what_rests_settles_as_it_is};
 use ctl_world::laws::{
     alike_worlds_run_alike, forgetting_what_is_lost_makes_it_sound, what_is_said_is_alike,
 };
 use ctl_world::{Conn, World};
 use fg_outside::{EndCause, Happening};
-use host_learn::HostTable;
 use net_base::{Bytes, Moment, NoMemory};
 use of_match::Tables;
 use of13_codec::Message;
@@ -141,16 +139,10 @@ fn look_each(alloc: Global, world: &mut World, conns: &[u32]) -> Result<bool, No
 }
 
 /// Forgets the hosts whose time is over.
-fn age(hosts: &mut HostTable, conf: &Conf, moment: Moment)
-    ensures { hosts.new ≡ record hosts.old { hosts = filter (λ h. not (is_to_forget conf.now moment.0 h)) hosts.old.hosts } }
-{
-    while let Some(_) = hosts.age(conf, moment) {}
-}
-
-fn age_hosts(world: &mut World)
+fn age(world: &mut World)
     ensures { world.new ≡ age world.old }
 {
-    age(&mut world.hosts, &world.conf, world.moment);
+    world.hosts.forget_due(&world.conf, world.moment);
 }
 
 fn numbers(alloc: Global, conns: &[Conn]) -> Result<Vec<u32>, NoMemory>
@@ -271,7 +263,7 @@ fn passed<T: Tally>(
     if !closed && known.world.moment.0 < known.until {
         return Ok(());
     }
-    age_hosts(&mut known.world);
+    age(&mut known.world);
     settle_anew(alloc, known, units)
 }
 

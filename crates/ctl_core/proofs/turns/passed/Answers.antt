@@ -27,7 +27,7 @@ returns-then-known g c =
 pub settle_anew-requires : goal.settle_anew-requires
 settle_anew-requires g c =
     let w = c.args.known.now.world in
-    let aged = c.age_hosts.ensures ∙ ap age c.in_ok-closed.ensures.looked in
+    let aged = c.age.ensures ∙ ap age c.in_ok-closed.ensures.looked in
     record {
       sound = subst IsSound (sym aged) (c.a_moment_leaves_it_sound.ensures c.args.moment w c.a_configuration_is_valid.ensures c.requires.sound);
       in_order = subst AreInOrder (sym aged) (c.what_happens_keeps_connections_in_order.ensures.passed c.args.moment w c.requires.in_order);
