@@ -1,5 +1,5 @@
-//! Cases of plans: the entries of a cold start, and the commands that lead from one state or
-//! configuration to the next. Each line of the input is a case, and is printed with its answer where it
+//! Cases of plans: the entries of a cold start, what is sent by them, and the commands that lead from one state
+//! or configuration to the next. Each line of the input is a case, and is printed with its answer where it
 //! asks for one; an empty line, and one that begins with `#`, is printed as it is.
 #![tactic(auto)]
 
@@ -12,6 +12,7 @@ use std::str::SplitWhitespace;
 use std::{io, mem};
 
 mod plan;
+mod sent;
 mod state;
 mod units;
 
@@ -83,6 +84,7 @@ fn answer(
     };
     let text = match name {
         "cold" => plan::cold_start(alloc, &bench.conf, &bench.now, dp, words)?,
+        "sends" => sent::sent(alloc, &bench.conf, &bench.now, dp, words)?,
         "event" => plan::event(alloc, &bench.conf, &bench.last_now, &bench.now, dp)?,
         "reload" => plan::reload(
             alloc,
