@@ -1,0 +1,5 @@
+pub mod Parts
+pub mod Acls
+pub mod Vlans
+pub mod Routes
+pub mod Plan

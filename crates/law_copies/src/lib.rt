@@ -1,0 +1,4 @@
+//! That the controller gets whole packets.
+#![tactic(auto)]
+
+pub mod laws;
