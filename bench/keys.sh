@@ -35,6 +35,7 @@ of_code() {
 }
 of_document() {
     awk '
+        /^## / { map = ""; next }
         /^### / { map = toupper(substr($0, 5)); gsub(" ", "_", map); next }
         map == "" { next }
         /^\| `/ {
