@@ -1,4 +1,5 @@
 pub mod Adding
+pub mod Naming
 pub mod Once
 pub mod Placing
 pub mod Unwritten

@@ -1,4 +1,5 @@
 pub mod Added
 pub mod InOrder
 pub mod InRange
+pub mod Indexed
 pub mod Resolved

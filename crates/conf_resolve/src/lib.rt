@@ -1,6 +1,7 @@
 //! A raw configuration in the order in which it is checked, and what its names stand for.
 #![tactic(auto)]
 
+mod by_name;
 mod lookups;
 mod made;
 mod numbers;

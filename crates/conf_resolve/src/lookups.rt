@@ -2,11 +2,11 @@
 
 ghost use Rattle.std.specs.Prelude.{◌≡◌};
 ghost use Rattle.std.specs.List.{find};
-ghost use Rattle.std.specs.Option.{option_copied, option_map};
+ghost use Rattle.std.specs.Option.{option_copied};
 ghost use Rattle.conf_types.specs.Lists.{is_same};
 ghost use Rattle.conf_resolve.specs.Resolved.{vid_of, is_called, number_named, far_end};
 
-use crate::ordered::{OrderedConf, PlacedVlan};
+use crate::ordered::OrderedConf;
 use conf_shape::{RawDp, RawPort, RawStackEnd, VlanRef};
 use conf_types::{PortRef, StackEnd};
 use net_base::{PortNo, Text, Vid};
@@ -15,23 +15,6 @@ fn is_same_text(a: &Text, b: &Text) -> bool
     ensures { result ≡ is_same a.now b.now }
 {
     a.as_str() == b.as_str()
-}
-
-fn find_vlan<'a>(vlans: &'a [PlacedVlan], name: &Text) -> Option<&'a PlacedVlan>
-    ensures { option_copied result ≡ find (λ v. is_same v.vlan.names.name name.now) vlans.now }
-{
-    vlans
-        .iter()
-        .find(|placed| is_same_text(&placed.vlan.names.name, name))
-}
-
-fn vid_named(vlans: &[PlacedVlan], name: &Text) -> Option<Vid>
-    ensures { result ≡ option_map (λ v. v.vlan.vid) (find (λ v. is_same v.vlan.names.name name.now) vlans.now) }
-{
-    match find_vlan(vlans, name) {
-        Some(placed) => Some(placed.vlan.vid),
-        None => None,
-    }
 }
 
 fn find_dp<'a>(dps: &'a [RawDp], name: &Text) -> Option<&'a RawDp>
@@ -73,7 +56,7 @@ impl OrderedConf {
     {
         match name {
             VlanRef::Vid(vid) => Some(*vid),
-            VlanRef::Name(name) => vid_named(self.vlans.as_slice(), name),
+            VlanRef::Name(name) => self.vlans.vid_named(name),
         }
     }
 

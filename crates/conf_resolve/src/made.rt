@@ -7,7 +7,7 @@ ghost use Rattle.conf_resolve.specs.InOrder.{made_vlan, by_number, by_numbers};
 ghost use Rattle.conf_resolve.specs.InRange.{NamesVlan};
 ghost use Rattle.conf_resolve.specs.Added.{has_vid, new_number, with_each};
 
-use crate::ordered::{PlacedVlan, PlacedVlans};
+use crate::ordered::PlacedVlan;
 use conf_shape::{RawAclNames, RawNames, RawVlan, VlanRef};
 use net_base::{Items, Mac, Names, NoMemory, Text, TryCopy, Vid};
 use std::alloc::Global;
@@ -84,7 +84,7 @@ fn new_number(vlans: &[PlacedVlan], name: &VlanRef) -> Option<Vid>
 
 fn add_made(
     alloc: Global,
-    vlans: &mut PlacedVlans,
+    vlans: &mut Items<PlacedVlan>,
     site: &Names,
     step: &str,
     vid: Vid,
@@ -100,7 +100,7 @@ fn add_made(
 /// Adds the VLAN that a number names at a step below a site, where none has the number.
 pub fn add_named(
     alloc: Global,
-    vlans: &mut PlacedVlans,
+    vlans: &mut Items<PlacedVlan>,
     site: &Names,
     step: &str,
     name: &VlanRef,
@@ -116,7 +116,7 @@ pub fn add_named(
 /// Adds the VLANs that the numbers of a list name, each at its place.
 pub fn add_numbers(
     alloc: Global,
-    vlans: &mut PlacedVlans,
+    vlans: &mut Items<PlacedVlan>,
     site: &Names,
     names: &[VlanRef],
 ) -> Result<(), NoMemory>

@@ -1,7 +1,15 @@
 //! A raw configuration in the order in which it is checked.
 
+ghost use Rattle.std.specs.Prelude.{◌≡◌, IfOk};
+ghost use Rattle.std.specs.List.{find};
+ghost use Rattle.std.specs.Option.{option_map};
+ghost use Rattle.conf_types.specs.Lists.{is_same};
+
+use crate::by_name::{NamedVids, first_vids};
 use conf_shape::{RawAcls, RawDps, RawRouters, RawVlan};
-use net_base::{Items, Names};
+use net_base::{Items, Names, NoMemory, Text, Vid};
+use std::alloc::Global;
+use std::marker::Model;
 
 /// A VLAN, written or made, with the keys and places in lists that lead to it, the outermost first.
 #[derive(Drop)]
@@ -10,8 +18,48 @@ pub struct PlacedVlan {
     pub vlan: RawVlan,
 }
 
-/// VLANs, each with its place.
-pub type PlacedVlans = Items<PlacedVlan>;
+/// VLANs, each with its place, to be looked up by a name. Contracts see their list.
+#[derive(Drop)]
+pub struct PlacedVlans {
+    vlans: Items<PlacedVlan>,
+    vids: NamedVids,
+}
+
+impl Model for PlacedVlans {
+    ghost use Rattle.std.specs.Prelude.{List};
+    ghost use Rattle.conf_resolve.specs.declared.ordered.PlacedVlan.{PlacedVlan};
+    ghost use Rattle.conf_resolve.specs.Indexed.{LeadToFirst};
+
+    ghost Value = { List PlacedVlan };
+
+    ghost view = { λ p. p.vlans };
+
+    ghost invariant = { λ p. LeadToFirst p.vlans p.vids };
+}
+
+impl PlacedVlans {
+    /// These VLANs.
+    pub fn new(alloc: Global, vlans: Items<PlacedVlan>) -> Result<PlacedVlans, NoMemory>
+        ensures { IfOk result (λ made. made ≡ vlans) }
+    {
+        let vids = first_vids(alloc, vlans.as_slice())?;
+        Ok(PlacedVlans { vlans, vids })
+    }
+
+    /// The VLANs, in order.
+    pub fn as_slice(&self) -> &[PlacedVlan]
+        ensures { result.now ≡ self.now }
+    {
+        self.vlans.as_slice()
+    }
+
+    /// The number of the first VLAN of this name; `None` exactly where no VLAN has it.
+    pub fn vid_named(&self, name: &Text) -> Option<Vid>
+        ensures { result ≡ option_map (λ v. v.vlan.vid) (find (λ v. is_same v.vlan.names.name name.now) self.now) }
+    {
+        self.vids.get(name.as_str()).copied()
+    }
+}
 
 /// A raw configuration in the order in which it is checked: datapaths, ACLs and routers by the bytes
 /// of their names, interfaces and VLANs by their numbers, those that tie as they are written.

@@ -10,7 +10,7 @@ use crate::made::{add_named, add_numbers, under};
 use crate::order::in_order;
 use crate::ordered::{PlacedVlan, PlacedVlans};
 use conf_shape::{RawDp, RawPort, RawRouter, RawVlan, VlanRef};
-use net_base::{Names, NoMemory, Text, TryCopy};
+use net_base::{Items, Names, NoMemory, Text, TryCopy};
 use std::alloc::Global;
 
 /// An entry of a section of the document.
@@ -34,7 +34,7 @@ fn port_site(alloc: Global, dp: &RawDp, port: &RawPort) -> Result<Names, NoMemor
 
 fn add_native(
     alloc: Global,
-    vlans: &mut PlacedVlans,
+    vlans: &mut Items<PlacedVlan>,
     site: &Names,
     native: &Option<VlanRef>,
 ) -> Result<(), NoMemory>
@@ -48,7 +48,7 @@ fn add_native(
 
 fn add_port(
     alloc: Global,
-    vlans: &mut PlacedVlans,
+    vlans: &mut Items<PlacedVlan>,
     dp: &RawDp,
     port: &RawPort,
 ) -> Result<(), NoMemory>
@@ -62,7 +62,7 @@ fn add_port(
 
 fn add_ports(
     alloc: Global,
-    vlans: &mut PlacedVlans,
+    vlans: &mut Items<PlacedVlan>,
     dp: &RawDp,
     ports: &[RawPort],
 ) -> Result<(), NoMemory>
@@ -74,7 +74,7 @@ fn add_ports(
     Ok(())
 }
 
-fn add_dps(alloc: Global, vlans: &mut PlacedVlans, dps: &[RawDp]) -> Result<(), NoMemory>
+fn add_dps(alloc: Global, vlans: &mut Items<PlacedVlan>, dps: &[RawDp]) -> Result<(), NoMemory>
     ensures { OnOk result (vlans.new ≡ with_each vlans.old (named_by_dps dps.now)) }
 {
     for dp in dps {
@@ -83,7 +83,11 @@ fn add_dps(alloc: Global, vlans: &mut PlacedVlans, dps: &[RawDp]) -> Result<(), 
     Ok(())
 }
 
-fn add_router(alloc: Global, vlans: &mut PlacedVlans, router: &RawRouter) -> Result<(), NoMemory>
+fn add_router(
+    alloc: Global,
+    vlans: &mut Items<PlacedVlan>,
+    router: &RawRouter,
+) -> Result<(), NoMemory>
     ensures { OnOk result (vlans.new ≡ with_each vlans.old (of_router router.now)) }
 {
     let site = top_site(alloc, "routers", &router.name)?;
@@ -93,7 +97,7 @@ fn add_router(alloc: Global, vlans: &mut PlacedVlans, router: &RawRouter) -> Res
 
 fn add_routers(
     alloc: Global,
-    vlans: &mut PlacedVlans,
+    vlans: &mut Items<PlacedVlan>,
     routers: &[RawRouter],
 ) -> Result<(), NoMemory>
     ensures { OnOk result (vlans.new ≡ with_each vlans.old (named_by_routers routers.now)) }
@@ -113,10 +117,10 @@ fn written(alloc: Global, vlan: &RawVlan) -> Result<PlacedVlan, NoMemory>
     })
 }
 
-fn all_written(alloc: Global, vlans: &[RawVlan]) -> Result<PlacedVlans, NoMemory>
+fn all_written(alloc: Global, vlans: &[RawVlan]) -> Result<Items<PlacedVlan>, NoMemory>
     ensures { IfOk result (λ made. made ≡ map written vlans.now) }
 {
-    let mut made = PlacedVlans::new(alloc);
+    let mut made = Items::new(alloc);
     for vlan in vlans {
         made.push(written(alloc, vlan)?)?;
     }
@@ -136,5 +140,5 @@ pub fn vlans_by(
     let mut made = all_written(alloc, vlans)?;
     add_dps(alloc, &mut made, dps)?;
     add_routers(alloc, &mut made, routers)?;
-    in_order(alloc, made)
+    PlacedVlans::new(alloc, in_order(alloc, made)?)
 }
