@@ -2,6 +2,7 @@
 #![tactic(auto)]
 
 mod by_name;
+mod collected;
 mod lookups;
 mod made;
 mod numbers;

@@ -5,8 +5,9 @@ ghost use Rattle.std.specs.Fmt.{decimal};
 ghost use Rattle.net_base.specs.Numbers.{IsVid};
 ghost use Rattle.conf_resolve.specs.InOrder.{made_vlan, by_number, by_numbers};
 ghost use Rattle.conf_resolve.specs.InRange.{NamesVlan};
-ghost use Rattle.conf_resolve.specs.Added.{has_vid, new_number, with_each};
+ghost use Rattle.conf_resolve.specs.Added.{new_number, with_each};
 
+use crate::collected::CollectedVlans;
 use crate::ordered::PlacedVlan;
 use conf_shape::{RawAclNames, RawNames, RawVlan, VlanRef};
 use net_base::{Items, Mac, Names, NoMemory, Text, TryCopy, Vid};
@@ -57,22 +58,14 @@ fn make_vlan(alloc: Global, vid: Vid) -> Result<RawVlan, NoMemory>
     })
 }
 
-fn has_vid(vlans: &[PlacedVlan], vid: Vid) -> bool
-    ensures found { result ≡ has_vid vlans.now vid }
-    ensures range { IsVid vid }
-{
-    let number = vid.get();
-    vlans.iter().any(|placed| placed.vlan.vid.get() == number)
-}
-
 /// The number that is named, where none of the VLANs has it.
-fn new_number(vlans: &[PlacedVlan], name: &VlanRef) -> Option<Vid>
+fn new_number(vlans: &CollectedVlans, name: &VlanRef) -> Option<Vid>
     ensures number { result ≡ new_number vlans.now name.now }
     ensures range { NamesVlan name.now }
 {
     match name {
         VlanRef::Vid(vid) => {
-            if has_vid(vlans, *vid) {
+            if vlans.has_vid(*vid) {
                 None
             } else {
                 Some(*vid)
@@ -84,7 +77,7 @@ fn new_number(vlans: &[PlacedVlan], name: &VlanRef) -> Option<Vid>
 
 fn add_made(
     alloc: Global,
-    vlans: &mut Items<PlacedVlan>,
+    vlans: &mut CollectedVlans,
     site: &Names,
     step: &str,
     vid: Vid,
@@ -100,14 +93,14 @@ fn add_made(
 /// Adds the VLAN that a number names at a step below a site, where none has the number.
 pub fn add_named(
     alloc: Global,
-    vlans: &mut Items<PlacedVlan>,
+    vlans: &mut CollectedVlans,
     site: &Names,
     step: &str,
     name: &VlanRef,
 ) -> Result<(), NoMemory>
     ensures { OnOk result (vlans.new ≡ with_each vlans.old (by_number (site.now ++ step.now ∷ []) name.now)) }
 {
-    match new_number(vlans.as_slice(), name) {
+    match new_number(vlans, name) {
         Some(vid) => add_made(alloc, vlans, site, step, vid),
         None => Ok(()),
     }
@@ -116,7 +109,7 @@ pub fn add_named(
 /// Adds the VLANs that the numbers of a list name, each at its place.
 pub fn add_numbers(
     alloc: Global,
-    vlans: &mut Items<PlacedVlan>,
+    vlans: &mut CollectedVlans,
     site: &Names,
     names: &[VlanRef],
 ) -> Result<(), NoMemory>

@@ -6,11 +6,12 @@ ghost use Rattle.std.specs.Option.{option_map_or};
 ghost use Rattle.conf_resolve.specs.InOrder.{port_site, written, by_number, of_port, of_router, named_by_dps, named_by_routers, vlans_by};
 ghost use Rattle.conf_resolve.specs.Added.{with_each};
 
+use crate::collected::CollectedVlans;
 use crate::made::{add_named, add_numbers, under};
 use crate::order::in_order;
 use crate::ordered::{PlacedVlan, PlacedVlans};
 use conf_shape::{RawDp, RawPort, RawRouter, RawVlan, VlanRef};
-use net_base::{Items, Names, NoMemory, Text, TryCopy};
+use net_base::{Names, NoMemory, Text, TryCopy};
 use std::alloc::Global;
 
 /// An entry of a section of the document.
@@ -34,7 +35,7 @@ fn port_site(alloc: Global, dp: &RawDp, port: &RawPort) -> Result<Names, NoMemor
 
 fn add_native(
     alloc: Global,
-    vlans: &mut Items<PlacedVlan>,
+    vlans: &mut CollectedVlans,
     site: &Names,
     native: &Option<VlanRef>,
 ) -> Result<(), NoMemory>
@@ -48,7 +49,7 @@ fn add_native(
 
 fn add_port(
     alloc: Global,
-    vlans: &mut Items<PlacedVlan>,
+    vlans: &mut CollectedVlans,
     dp: &RawDp,
     port: &RawPort,
 ) -> Result<(), NoMemory>
@@ -62,7 +63,7 @@ fn add_port(
 
 fn add_ports(
     alloc: Global,
-    vlans: &mut Items<PlacedVlan>,
+    vlans: &mut CollectedVlans,
     dp: &RawDp,
     ports: &[RawPort],
 ) -> Result<(), NoMemory>
@@ -74,7 +75,7 @@ fn add_ports(
     Ok(())
 }
 
-fn add_dps(alloc: Global, vlans: &mut Items<PlacedVlan>, dps: &[RawDp]) -> Result<(), NoMemory>
+fn add_dps(alloc: Global, vlans: &mut CollectedVlans, dps: &[RawDp]) -> Result<(), NoMemory>
     ensures { OnOk result (vlans.new ≡ with_each vlans.old (named_by_dps dps.now)) }
 {
     for dp in dps {
@@ -83,11 +84,7 @@ fn add_dps(alloc: Global, vlans: &mut Items<PlacedVlan>, dps: &[RawDp]) -> Resul
     Ok(())
 }
 
-fn add_router(
-    alloc: Global,
-    vlans: &mut Items<PlacedVlan>,
-    router: &RawRouter,
-) -> Result<(), NoMemory>
+fn add_router(alloc: Global, vlans: &mut CollectedVlans, router: &RawRouter) -> Result<(), NoMemory>
     ensures { OnOk result (vlans.new ≡ with_each vlans.old (of_router router.now)) }
 {
     let site = top_site(alloc, "routers", &router.name)?;
@@ -97,7 +94,7 @@ fn add_router(
 
 fn add_routers(
     alloc: Global,
-    vlans: &mut Items<PlacedVlan>,
+    vlans: &mut CollectedVlans,
     routers: &[RawRouter],
 ) -> Result<(), NoMemory>
     ensures { OnOk result (vlans.new ≡ with_each vlans.old (named_by_routers routers.now)) }
@@ -117,10 +114,10 @@ fn written(alloc: Global, vlan: &RawVlan) -> Result<PlacedVlan, NoMemory>
     })
 }
 
-fn all_written(alloc: Global, vlans: &[RawVlan]) -> Result<Items<PlacedVlan>, NoMemory>
+fn all_written(alloc: Global, vlans: &[RawVlan]) -> Result<CollectedVlans, NoMemory>
     ensures { IfOk result (λ made. made ≡ map written vlans.now) }
 {
-    let mut made = Items::new(alloc);
+    let mut made = CollectedVlans::new(alloc);
     for vlan in vlans {
         made.push(written(alloc, vlan)?)?;
     }
@@ -140,5 +137,5 @@ pub fn vlans_by(
     let mut made = all_written(alloc, vlans)?;
     add_dps(alloc, &mut made, dps)?;
     add_routers(alloc, &mut made, routers)?;
-    PlacedVlans::new(alloc, in_order(alloc, made)?)
+    PlacedVlans::new(alloc, in_order(alloc, made.into_items())?)
 }

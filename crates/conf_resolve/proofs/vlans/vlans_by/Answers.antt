@@ -15,4 +15,4 @@ returns c =
     vlans_named vlans c.in_ok-made.made c.add_routers.new.vlans by_dps by_routers c.in_ok-made.ensures
     (c.in_ok-add_routers.ensures ∙ ap (λ (v : List PlacedVlan). with_each v by_routers) c.in_ok-add_dps.ensures)
     ∙ ap (λ (vids : List ℕ). vlans ++ further vids (by_dps ++ by_routers)) (written_vids c.args.vlans.now) in
-    IfOk-weaker c.new.result _ _ (λ made h. h ∙ c.in_ok-in_order.ensures ∙ ap (in_order (λ (v w : PlacedVlan). nat_lt v.vlan.vid w.vlan.vid)) all) c.new.ensures
+    IfOk-weaker c.new.result _ _ (λ made h. h ∙ c.in_ok-in_order.ensures ∙ ap (in_order (λ (v w : PlacedVlan). nat_lt v.vlan.vid w.vlan.vid)) (c.into_items.ensures ∙ all)) c.new.ensures
