@@ -4,7 +4,6 @@ use Rattle.std.specs.List.{AllByRecursion}
 use Rattle.std.specs.BTreeMap.{is_at}
 use Rattle.std.specs.Map.{lookup}
 use Rattle.std.specs.Ordering.{nat_cmp}
-use Rattle.std.specs.declared.vec.Vec.{Vec}
 use Rattle.std.proofs.lemmas.List.Elements.{filter-append}
 use Rattle.std.proofs.lemmas.List.Sums.{sum_by-cons, sum_by_push}
 use Rattle.std.proofs.lemmas.Bool.{cases_Bool}
@@ -13,6 +12,7 @@ use Rattle.net_base.specs.declared.numbers.Moment.{Moment}
 use Rattle.conf_types.specs.declared.state.HostRec.{HostRec}
 use Rattle.indexmap.specs.IndexMap.{IndexMap}
 use Rattle.host_learn.specs.declared.addresses.Address.{Address}
+use Rattle.host_learn.specs.declared.addresses.Standing.{Standing}
 use Rattle.host_learn.specs.declared.counts.Spot.{Spot}
 use Rattle.host_learn.specs.declared.shelves.Shelf.{Shelf}
 use Rattle.host_learn.specs.Addresses.{Entry, address_of, entries_at, has_address, heard_at, is_address, off_place}
@@ -24,7 +24,7 @@ use Rattle.host_learn.proofs.Shelved.{lowered_apart, lowered_here, lowered_keeps
 use Rattle.host_learn.proofs.AtAddress.{flips}
 use Rattle.host_learn.proofs.Entries.{IsOnly, filter_heard, filter_off, heard_all, heard_other, heard_rising, not_there, off_other, only, sum_heard, sum_off}
 
-module _ {A S T : Type 0} (next : ℕ) (entries : List Entry) (addresses : IndexMap Address (Vec Entry A) S) (counts : IndexMap Spot ℕ T) (shelves : List Shelf) (is : IsIndexed next entries addresses counts shelves) where
+module _ {S T : Type 0} (next : ℕ) (entries : List Entry) (addresses : IndexMap Address Standing S) (counts : IndexMap Spot ℕ T) (shelves : List Shelf) (is : IsIndexed next entries addresses counts shelves) where
   -- each spot has the host's part
   pub part : (n : ℕ) (host : HostRec) → lookup (is_at (nat_cmp n)) entries ≡ Some host → (q : Spot) → share q host ≤ at_spot counts q
   part n host found q =
@@ -33,7 +33,7 @@ module _ {A S T : Type 0} (next : ℕ) (entries : List Entry) (addresses : Index
       omega (arith, whole, all)
 
   pub without : (n : ℕ) (host : HostRec) → lookup (is_at (nat_cmp n)) entries ≡ Some host
-      → (addresses' : IndexMap Address (Vec Entry A) S) (counts' : IndexMap Spot ℕ T)
+      → (addresses' : IndexMap Address Standing S) (counts' : IndexMap Spot ℕ T)
       → ((q : Address) → entries_at addresses' q ≡ (if is_address (address_of host) q then off_place n (entries_at addresses q) else entries_at addresses q))
       → ((q : Spot) → at_spot counts' q + share q host ≡ at_spot counts q)
       → IsIndexed next (off_place n entries) addresses' counts' shelves
@@ -57,7 +57,7 @@ module _ {A S T : Type 0} (next : ℕ) (entries : List Entry) (addresses : Index
   }
 
   pub with_one : (host : HostRec) (after : ℕ) → next < after
-      → (addresses' : IndexMap Address (Vec Entry A) S) (counts' : IndexMap Spot ℕ T)
+      → (addresses' : IndexMap Address Standing S) (counts' : IndexMap Spot ℕ T)
       → ((q : Address) → entries_at addresses' q ≡ entries_at addresses q ++ (if is_address (address_of host) q then (next, host) ∷ [] else []))
       → ((q : Spot) → at_spot counts' q ≡ at_spot counts q + share q host)
       → IsIndexed after (entries ++ (next, host) ∷ []) addresses' counts' (noted host.dp host.learned shelves)
@@ -79,7 +79,7 @@ module _ {A S T : Type 0} (next : ℕ) (entries : List Entry) (addresses : Index
   }
 
   -- the same entries kept otherwise
-  pub same : (addresses' : IndexMap Address (Vec Entry A) S) (counts' : IndexMap Spot ℕ T) → ((q : Address) → entries_at addresses' q ≡ entries_at addresses q) → ((q : Spot) → at_spot counts' q ≡ at_spot counts q)
+  pub same : (addresses' : IndexMap Address Standing S) (counts' : IndexMap Spot ℕ T) → ((q : Address) → entries_at addresses' q ≡ entries_at addresses q) → ((q : Spot) → at_spot counts' q ≡ at_spot counts q)
       → IsIndexed next entries addresses' counts' shelves
   same addresses' counts' ats spots = record {
     rising = is.rising;
@@ -90,7 +90,7 @@ module _ {A S T : Type 0} (next : ℕ) (entries : List Entry) (addresses : Index
     shelves_apart = is.shelves_apart;
   }
 
-  pub same_noted : (dp : DpId) (t : Moment) (addresses' : IndexMap Address (Vec Entry A) S) (counts' : IndexMap Spot ℕ T) → ((q : Address) → entries_at addresses' q ≡ entries_at addresses q) → ((q : Spot) → at_spot counts' q ≡ at_spot counts q)
+  pub same_noted : (dp : DpId) (t : Moment) (addresses' : IndexMap Address Standing S) (counts' : IndexMap Spot ℕ T) → ((q : Address) → entries_at addresses' q ≡ entries_at addresses q) → ((q : Spot) → at_spot counts' q ≡ at_spot counts q)
       → IsIndexed next entries addresses' counts' (noted dp t shelves)
   same_noted dp t addresses' counts' ats spots = record {
     rising = is.rising;
@@ -124,7 +124,7 @@ module _ {A S T : Type 0} (next : ℕ) (entries : List Entry) (addresses : Index
 
   -- another moment at a place
   pub again : (n : ℕ) (host : HostRec) (m : Moment) → lookup (is_at (nat_cmp n)) entries ≡ Some host
-      → (addresses' : IndexMap Address (Vec Entry A) S)
+      → (addresses' : IndexMap Address Standing S)
       → ((q : Address) → entries_at addresses' q ≡ (if is_address (address_of host) q then heard_at n m (entries_at addresses q) else entries_at addresses q))
       → IsIndexed next (heard_at n m entries) addresses' counts (map (lowered host.dp m) shelves)
   again n host m found addresses' ats =

@@ -39,6 +39,12 @@ module _ {A : Type 0} where
   none_passes p [] is = tt
   none_passes p (x ∷ xs) is = let parts = neither (p x) (list_any p xs) is in (parts.0, none_passes p xs parts.1)
 
+  pub filter_none : (p : A → Bool) (xs : List A) → list_any p xs ≡ false → filter p xs ≡ []
+  filter_none p [] is = refl
+  filter_none p (x ∷ xs) is =
+      let parts = neither (p x) (list_any p xs) is in
+      ap (λ b. cond b (x ∷ filter p xs) (filter p xs)) parts.0 ∙ filter_none p xs parts.1
+
   -- ---- parts
 
   pub part_skip : (xs : List A) (y : A) (ys : List A) → IsPartOf xs ys → IsPartOf xs (y ∷ ys)

@@ -1,12 +1,13 @@
 -- The hosts of an address in a VLAN, with their places, as they are kept to be looked up.
-use Rattle.std.specs.Prelude.{ℕ, ◌==◌, ◌&&◌, not, Bool, List, [], map, filter, nat_eq, if◌then◌else◌}
+use Rattle.std.specs.Prelude.{ℕ, ◌==◌, ◌&&◌, not, Bool, List, [], ◌∷◌, map, filter, nat_eq, if◌then◌else◌}
 use Rattle.std.specs.Cmp.Lexicographic.{pointwise}
 use Rattle.std.specs.Option.{option_map_or}
-use Rattle.std.specs.declared.vec.Vec.{Vec}
 use Rattle.net_base.specs.declared.numbers.Moment.{Moment}
 use Rattle.conf_types.specs.declared.state.HostRec.{HostRec}
 use Rattle.indexmap.specs.IndexMap.{IndexMap, get}
 use Rattle.host_learn.specs.declared.addresses.Address.{Address}
+use Rattle.host_learn.specs.declared.addresses.Standing.{Standing}
+use Rattle.host_learn.specs.declared.addresses.Standing.TheVariants.{One, Several}
 
 -- a host with its place
 abbrev pub Entry : Type 0
@@ -21,9 +22,14 @@ address_of host = record { vid = host.vid; mac = host.mac }
 abbrev pub has_address : Address → Entry → Bool
 has_address address entry = is_address address (address_of entry.1)
 
+-- the entries of an address, as they are kept
+abbrev pub entries_of : Standing → List Entry
+entries_of (One entry) = entry ∷ []
+entries_of (Several list) = list.items
+
 -- the entries that are kept under an address
-abbrev pub entries_at : {A S : Type 0} → IndexMap Address (Vec Entry A) S → Address → List Entry
-entries_at addresses address = option_map_or (λ v. v.items) (get is_address addresses address) []
+abbrev pub entries_at : {S : Type 0} → IndexMap Address Standing S → Address → List Entry
+entries_at addresses address = option_map_or entries_of (get is_address addresses address) []
 
 -- without the entry at a place
 abbrev pub off_place : ℕ → List Entry → List Entry

@@ -1,7 +1,6 @@
 -- The hosts with their places in the order of learning, and what is kept to look them up.
 use Rattle.std.specs.Prelude.{◌≡◌, ◌==◌, ◌<◌, ◌+◌, ◌&&◌, not, map, nat_le, Bool, true, false, ℕ, List, [], ◌∷◌, filter, sum_by, Option, Some, None, if◌then◌else◌}
 use Rattle.std.specs.List.{AllByRecursion}
-use Rattle.std.specs.declared.vec.Vec.{Vec}
 use Rattle.net_base.specs.declared.numbers.DpId.{DpId}
 use Rattle.conf_types.specs.declared.state.HostRec.{HostRec}
 use Rattle.conf_types.specs.Configuration.{Configuration}
@@ -11,6 +10,7 @@ use Rattle.conf_types.specs.Groups.{group_of}
 use Rattle.conf_types.specs.Lists.{EachBefore}
 use Rattle.indexmap.specs.IndexMap.{IndexMap}
 use Rattle.host_learn.specs.declared.addresses.Address.{Address}
+use Rattle.host_learn.specs.declared.addresses.Standing.{Standing}
 use Rattle.host_learn.specs.declared.counts.Spot.{Spot}
 use Rattle.host_learn.specs.declared.shelves.Shelf.{Shelf}
 use Rattle.host_learn.specs.Addresses.{Entry, entries_at, has_address}
@@ -71,7 +71,7 @@ abbrev pub AreShelves : List Shelf → Type 0
 AreShelves = EachBefore (λ (s : Shelf) (t : Shelf). (s.dp.0 == t.dp.0) ≡ false)
 
 -- what is kept beside the entries is of these entries
-pub record IsIndexed {A S T : Type 0} (next : ℕ) (entries : List Entry) (addresses : IndexMap Address (Vec Entry A) S) (counts : IndexMap Spot ℕ T) (shelves : List Shelf) : Type 0 where
+pub record IsIndexed {S T : Type 0} (next : ℕ) (entries : List Entry) (addresses : IndexMap Address Standing S) (counts : IndexMap Spot ℕ T) (shelves : List Shelf) : Type 0 where
   pub rising : AreRising entries
   pub below : AllByRecursion (λ (e : Entry). e.0 < next) entries
   pub at : (a : Address) → entries_at addresses a ≡ filter (has_address a) entries
