@@ -45,7 +45,7 @@ pub enum Message {
     PacketOut(PacketOut),
     /// FLOW_MOD (7.3.4.1).
     FlowMod(FlowMod),
-    /// MULTIPART_REQUEST of the ports' descriptions (7.3.5.8).
+    /// MULTIPART_REQUEST of the ports' descriptions (7.3.5.7).
     PortDescRequest,
     /// MULTIPART_REQUEST of a port's counters, or of all ports' (7.3.5.6).
     PortStatsRequest {

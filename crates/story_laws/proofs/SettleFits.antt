@@ -34,6 +34,10 @@ use Rattle.ctl_core.proofs.Ordered.{AreOrdered}
 use Rattle.ctl_core.proofs.Stands.{due_conf}
 use Rattle.story_laws.proofs.Ways.{Holds, OnConn, Way}
 
+has_none : (o : Option ℕ) → is_some o ≡ false → o ≡ None
+has_none None is = refl
+has_none (Some x) is = absurd (true≢false is)
+
 -- ---- a settling leaves it fitting
 
 module _ (cold_order : (conf : Configuration) (state : State) (d : Dp) → IsInKeyOrder (cold conf state d))
@@ -95,10 +99,11 @@ module _ (cold_order : (conf : Configuration) (state : State) (d : Dp) → IsInK
       pub is : t ≡ before ++ more
       pub said : AreOf (difference c.sent goal) more
       pub awaits : is_some awaited ≡ true
+      pub free : c.session.state.awaited ≡ None
       pub reached : sent ≡ goal
 
     abbrev Seen : Option ℕ → List Entry → Told → Type 0
-    Seen awaited sent t = ((t ≡ before) × (sent ≡ c.sent)) ⊎ IsTold awaited sent t
+    Seen awaited sent t = ((t ≡ before) × (sent ≡ c.sent) × (awaited ≡ c.session.state.awaited)) ⊎ IsTold awaited sent t
 
     abbrev SeenEach : Way
     SeenEach n stage awaited sent t = n ≡ c.number → Seen awaited sent t
@@ -111,7 +116,7 @@ module _ (cold_order : (conf : Configuration) (state : State) (d : Dp) → IsInK
         by (Some d) is = λ own.
             let it : Some c ≡ Some d = sym (of_with w.conns dp c ordered.0 some) ∙ (ap (conn_with w.conns) (sym own) ∙ is) in
             let same : c ≡ d = cc in
-            inl (ap (λ (k : ℕ). tables_said k (past ++ w.said)) own, ap (λ (k : Conn). k.sent) (sym same))
+            inl (ap (λ (k : ℕ). tables_said k (past ++ w.said)) own, ap (λ (k : Conn). k.sent) (sym same), ap (λ (k : Conn). k.session.state.awaited) (sym same))
 
     -- its connection is found by its identifier alone
     only_it : (v : World) → AreOrdered v.conns → number_of v dp ≡ Some c.number → (id : DpId) (d : Conn) → conn_of v.conns id ≡ Some d → d.number ≡ c.number → id ≡ dp
@@ -148,6 +153,7 @@ module _ (cold_order : (conf : Configuration) (state : State) (d : Dp) → IsInK
               is = ap (λ (t : Told). t ++ more) still.0;
               said = subst (λ (es : List Entry). AreOf (difference es goal) more) still.1 (subst (λ (es : List Entry). AreOf (difference d.sent es) more) wants said);
               awaits = refl;
+              free = sym still.2 ∙ has_none d.session.state.awaited waits;
               reached = wants;
             })
 

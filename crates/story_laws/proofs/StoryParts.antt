@@ -95,7 +95,8 @@ module _ (laws : Laws) where
       where
         by : (o : Option Conn) → conn_of (settle w).conns dp ≡ o
             → (more : Told) × (tables_said c.number (past ++ (settle w).said) ≡ tables_said c.number (past ++ w.said) ++ more)
-            × ((more ≡ []) ⊎ (map (λ (m : Message × ℕ). m.0) more ≡ map command_message (difference c.sent (wanted (settle w) dp)) ++ messages.BarrierRequest ∷ []))
+            × ((more ≡ [])
+            ⊎ ((c.session.state.awaited ≡ None) × (map (λ (m : Message × ℕ). m.0) more ≡ map command_message (difference c.sent (wanted (settle w) dp)) ++ messages.BarrierRequest ∷ [])))
         by None none =
             let numbers : Some c.number ≡ None = sym (ap (option_map (λ (x : Conn). x.number)) is) ∙ sym ((settled_alike laws.order w ordered).numbers dp) ∙ ap (option_map (λ (x : Conn). x.number)) none in
             absurd (cc)
@@ -103,7 +104,7 @@ module _ (laws : Laws) where
             let seen = seen_of laws.order laws.leads laws.same past w ordered dp c is d some in
             elim (seen.1) [
               | inl still ↦ ([], still.0 ∙ sym (append-nil (tables_said c.number (past ++ w.said))), inl refl)
-              | inr said ↦ (said.more, said.is, inr said.said)
+              | inr said ↦ (said.more, said.is, inr (said.free, said.said))
             ]
 
   -- ---- of a story

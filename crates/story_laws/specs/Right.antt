@@ -1,5 +1,5 @@
 -- What is right of all that a controller says.
-use Rattle.std.specs.Prelude.{◌≡◌, ◌⊎◌, ℕ, ◌^◌, ◌<◌, true, is_some, List, [], ◌∷◌, ◌++◌, map, Some}
+use Rattle.std.specs.Prelude.{◌≡◌, ◌⊎◌, ℕ, ◌^◌, ◌<◌, true, is_some, List, [], ◌∷◌, ◌++◌, map, Some, None}
 use Rattle.std.specs.List.{AllByRecursion}
 use Rattle.net_base.specs.declared.numbers.DpId.{DpId}
 use Rattle.fg_outside.specs.declared.hub.Happening.{Happening}
@@ -86,13 +86,14 @@ HasOneBatch w said =
 
 -- ---- least batch
 
--- What is said in a settling of the tables of a datapath that runs is nothing, or the difference of what was noted as sent and
--- its cold start, in key order, with a barrier behind it.
+-- What is said in a settling of the tables of a datapath that runs is nothing; or no barrier is outstanding on its connection, and
+-- it is the difference of what was noted as sent and its cold start, in key order, with a barrier behind it.
 abbrev pub SaysTheLeast : Settling → Type 0
 SaysTheLeast s =
     (dp : DpId) (c : Conn) → is_running (running (known_behind s)) dp ≡ true → conn_of s.before.conns dp ≡ Some c
     → (more : List (Message × ℕ)) × (tables_said c.number (said_behind s) ≡ tables_said c.number (said_before s) ++ more)
-    × ((more ≡ []) ⊎ (map (λ m. m.0) more ≡ map command_message (difference c.sent (wanted (known_behind s) dp)) ++ messages.BarrierRequest ∷ []))
+    × ((more ≡ [])
+    ⊎ ((c.session.state.awaited ≡ None) × (map (λ m. m.0) more ≡ map command_message (difference c.sent (wanted (known_behind s) dp)) ++ messages.BarrierRequest ∷ [])))
 
 -- ---- all of it
 

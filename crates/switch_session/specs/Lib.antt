@@ -1,5 +1,6 @@
 pub mod Closings
 pub mod Connections
 pub mod Frames
+pub mod Replies
 pub mod Stages
 pub mod Told

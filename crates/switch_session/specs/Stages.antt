@@ -49,7 +49,7 @@ greeted s version bitmap =
 abbrev pub introduced : State → FeaturesReply → State × Step
 introduced s reply = (record s { stage = Ports }, Introduced reply.dp reply.n_tables reply.auxiliary)
 
--- a part of the reply with the ports' descriptions (7.3.5.8); with the last one all are told
+-- a part of the reply with the ports' descriptions (7.3.5.7); with the last one all are told
 abbrev pub described : State → (more : Bool) → List PortDesc → State × Step
 described s more ports =
     let all = tell_all s.ports ports in

@@ -1,9 +1,10 @@
 //! Laws of the definitions: each function is empty, and its contract is the law.
 
-ghost use Rattle.std.specs.Prelude.{◌≡◌, ℕ, List, []};
+ghost use Rattle.std.specs.Prelude.{◌≡◌, ◌⊎◌, ℕ, true, List, [], Some, None};
 ghost use Rattle.std.specs.List.{concat};
 ghost use Rattle.of13_codec.specs.declared.message.Message.{Message};
 ghost use Rattle.switch_session.specs.Stages.{State, leads};
+ghost use Rattle.switch_session.specs.Replies.{is_reply_in};
 ghost use Rattle.switch_session.specs.Told.{AreTold};
 ghost use Rattle.switch_session.specs.Frames.{IsBegun, IsBad, HasNoFrame, Splits, Calls};
 
@@ -21,4 +22,14 @@ pub fn any_pieces_give_the_frames_of_the_stream()
 /// Whatever is heard, at most 4,096 ports are told, no two of one number.
 pub fn ports_are_told_once()
     ensures { (s : State) (message : Message) (xid : ℕ) → AreTold s.ports → AreTold (leads s message xid).0.ports }
+{}
+
+/// A barrier, or the request for the ports, is awaited until a reply with its transaction id is heard, and no
+/// longer; and no message makes anything awaited.
+pub fn what_is_awaited_goes_with_its_reply()
+    ensures stays { (s : State) (message : Message) (xid id : ℕ) → s.awaited ≡ Some id
+        → ((leads s message xid).0.awaited ≡ Some id) ⊎ ((is_reply_in s.stage message ≡ true) × (xid ≡ id)) }
+    ensures goes { (s : State) (message : Message) (id : ℕ) → s.awaited ≡ Some id → is_reply_in s.stage message ≡ true
+        → (leads s message id).0.awaited ≡ None }
+    ensures none { (s : State) (message : Message) (xid : ℕ) → s.awaited ≡ None → (leads s message xid).0.awaited ≡ None }
 {}

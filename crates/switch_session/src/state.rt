@@ -21,7 +21,7 @@ pub enum Stage {
     Greeting,
     /// Its FEATURES_REPLY is awaited (7.3.1).
     Features,
-    /// The descriptions of its ports are awaited (7.3.5.8).
+    /// The descriptions of its ports are awaited (7.3.5.7).
     Ports,
     /// The barrier behind the wiping of its tables is awaited (7.3.8).
     Wiping,
