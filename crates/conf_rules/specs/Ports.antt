@@ -83,7 +83,7 @@ wrong_acl conf a = flat_map (wrong_rule conf a) (rules_at a)
 abbrev pub wrong_acl_ports : OrderedConf → Configuration → List ConfFault
 wrong_acl_ports o conf = flat_map (wrong_acl conf) o.acls
 
--- ---- rule 9: a rule has what its fields ask for (OpenFlow 1.3, 7.2.3.8)
+-- ---- rule 9: a rule has what its fields ask for (OpenFlow 1.3, 7.2.3.6)
 
 abbrev pub lacking_field : List (List ℕ) → List Field → RawField → List ConfFault
 lacking_field site fields f = fault_if (not (has_prerequisite f.field.id fields)) (Conflict 9) (site ++ codes "rule" ∷ f.key ∷ [])

@@ -269,7 +269,7 @@ fn lacking_of_acl(alloc: Global, acl: &RawAcl) -> Found
     Ok(None)
 }
 
-/// A rule has what its fields ask for (OpenFlow 1.3, 7.2.3.8).
+/// A rule has what its fields ask for (OpenFlow 1.3, 7.2.3.6).
 #[tactic(auto, using(crate::proofs::First::first_rules))]
 pub(crate) fn lacking_rules(alloc: Global, ordered: &OrderedConf) -> Found
     ensures { IfOk result (λ found. found ≡ first (lacking_rules ordered.now)) }
