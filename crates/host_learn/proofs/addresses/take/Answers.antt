@@ -1,4 +1,4 @@
-use Rattle.std.proofs.Common.{rules, ◌≡◌, ◌==◌, false, not, sym, ap, ◌∙◌}
+use Rattle.std.proofs.Common.{rules, ◌≡◌, ◌==◌, false, not}
 use Rattle.std.specs.List.{list_any}
 use Rattle.host_learn.specs.Addresses.{Entry, entries_at, off_place}
 use Rattle.host_learn.proofs.AtAddress.{gone}
