@@ -19,10 +19,10 @@ first_some (g ∷ fs) gs f e = e
 abbrev pub Steps : {B : Type 0} → List B → Option B → Option B → Type 0
 Steps {B} here further all = (first here ≡ None → further ≡ all) × ((b : B) → first here ≡ Some b → Some b ≡ all)
 
-stepped : {B : Type 0} (fs gs hs : List B) (all : Option B) → hs ≡ fs ++ gs → first hs ≡ all → Steps fs (first gs) all
+pub stepped : {B : Type 0} (fs gs hs : List B) (all : Option B) → hs ≡ fs ++ gs → first hs ≡ all → Steps fs (first gs) all
 stepped fs gs hs all e so_far = (λ none. sym (first_none fs gs none) ∙ sym (ap first e) ∙ so_far, λ b some. sym (first_some fs gs b some) ∙ sym (ap first e) ∙ so_far)
 
-next : {A : Type 0} (xs ys : List A) (i : ℕ) (x : A) → ys ≡ xs → i < length ys → x ≡ get_or ys i x → drop i xs ≡ x ∷ drop (i + 1) xs
+pub next : {A : Type 0} (xs ys : List A) (i : ℕ) (x : A) → ys ≡ xs → i < length ys → x ≡ get_or ys i x → drop i xs ≡ x ∷ drop (i + 1) xs
 next xs ys i x e lt is =
     subst (λ (zs : List _). drop i zs ≡ x ∷ drop (i + 1) zs) e
     (drop-cons ys i x lt ∙ ap (λ y. y ∷ drop (suc i) ys) (sym is) ∙ ap (λ n. x ∷ drop n ys) (sym (add-one i)))

@@ -3,7 +3,6 @@ use Rattle.std.proofs.Common.{◌≡◌, ℕ, zero, suc, ◌+◌, ◌*◌, ◌�
 use Rattle.std.specs.Prelude.{nat_lt, count_by}
 use Rattle.std.specs.List.{list_any}
 use Rattle.std.proofs.Math.Nat.{mul-le-mul_left}
-use Rattle.std.proofs.lemmas.List.Sums.{sum_by-cons}
 use Rattle.net_base.specs.declared.numbers.DpId.{DpId}
 use Rattle.std.proofs.lemmas.Bool.{ltb-true, ltb-false, lt-ltb}
 use Rattle.conf_types.specs.declared.datapath.Dp.{Dp}
@@ -15,6 +14,7 @@ use Rattle.conf_shape.specs.declared.refused.ConfFault.{ConfFault}
 use Rattle.conf_shape.specs.declared.refused.LimitName.TheVariants as limit
 use Rattle.conf_rules.specs.Limits.{above, whole_dps}
 use Rattle.conf_rules.specs.Places.{first}
+use Rattle.conf_rules.proofs.Groups.{count-same}
 
 pub any-mapped : {A B : Type 0} (p : B → Bool) (v : A → B) (xs : List A) → list_any (λ x. p (v x)) xs ≡ list_any p (map v xs)
 any-mapped p v [] = refl
@@ -40,14 +40,6 @@ product-fits g s few =
     let m : min 1025 s ≤ 1025 = omega arith in
     let l = mul-le-mul_left g m in
     omega arith
-
-count-same : {A : Type 0} (p q : A → Bool) → ((x : A) → p x ≡ q x) → (xs : List A) → count_by p xs ≡ count_by q xs
-count-same p q same [] = refl
-count-same p q same (x ∷ xs) =
-    sum_by-cons (λ y. cond (p y) 1 0) x xs
-    ∙ ap (λ b. cond b 1 0 + count_by p xs) (same x)
-    ∙ ap (λ n. cond (q x) 1 0 + n) (count-same p q same xs)
-    ∙ sym (sum_by-cons (λ y. cond (q y) 1 0) x xs)
 
 -- groups, by the datapaths alone
 pub groups-count : (conf : Configuration) → count_by (λ d. (group_of (of_dps conf.dps) d.id).0 == d.id.0) conf.dps ≡ group_count conf

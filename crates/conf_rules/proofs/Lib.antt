@@ -1,7 +1,11 @@
 pub mod Beside
 pub mod Capped
 pub mod Distinct
+pub mod Earlier
 pub mod First
 pub mod Gateways
 pub mod Groups
 pub mod Numbers
+pub mod SeenNames
+pub mod SeenTagged
+pub mod SeenVids

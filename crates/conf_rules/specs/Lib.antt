@@ -4,4 +4,5 @@ pub mod Places
 pub mod Ports
 pub mod Routing
 pub mod Rules
+pub mod Seen
 pub mod Sizes

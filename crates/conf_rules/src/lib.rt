@@ -1,14 +1,18 @@
 //! The rules of a configuration, and the first place where one is broken.
 #![tactic(auto)]
 
+mod edges;
 mod limits;
+mod members;
 mod names;
 mod places;
 mod ports;
 mod routing;
 mod rules;
+mod seen;
 mod sizes;
 mod targets;
 mod unknown;
+mod vids;
 
 pub use rules::find_fault;

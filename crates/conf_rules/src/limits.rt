@@ -184,7 +184,7 @@ fn are_many_rules(conf: &Resolved, names: &[Text]) -> bool
 fn many_rules_on_vlan(alloc: Global, conf: &Resolved, placed: &PlacedVlan, vlan: &Vlan) -> Found
     ensures { IfOk result (λ found. found ≡ first (many_rules_on_vlan conf.now (placed.now, vlan.now))) }
 {
-    if is_attached_somewhere(conf, vlan) && are_many_rules(conf, vlan.acls.as_slice()) {
+    if are_many_rules(conf, vlan.acls.as_slice()) && is_attached_somewhere(conf, vlan) {
         let site = placed.site.copy(alloc)?;
         return broken(alloc, ConfCause::TooMany(LimitName::Rules), site);
     }

@@ -1,31 +1,25 @@
 //! What is named once, and what is named at all.
 
-ghost use Rattle.std.specs.Prelude.{◌≡◌, ◌==◌, ◌++◌, [], IfOk, is_some, is_none};
-ghost use Rattle.std.specs.List.{flat_map, list_any};
-ghost use Rattle.conf_types.specs.Lists.{is_same};
-ghost use Rattle.conf_rules.specs.Names.{vid_site, repeated_vlan, repeated_vlans, repeated_dp, repeated_dps, number_site, repeated_port, repeated_ports_of, repeated_ports, are_both, both_of_vlan, both_of_dp, acls_twice};
-ghost use Rattle.conf_rules.specs.Places.{first, fault_if};
+ghost use Rattle.std.specs.Prelude.{◌≡◌, ◌++◌, [], IfOk, codes};
+ghost use Rattle.std.specs.List.{flat_map};
+ghost use Rattle.conf_resolve.specs.InOrder.{dp_site, port_site};
+ghost use Rattle.conf_shape.specs.declared.refused.ConfCause.TheVariants.{Duplicate};
+ghost use Rattle.conf_rules.specs.Names.{vid_site, repeated_vlans, repeated_dps, number_site, repeated_ports_of, repeated_ports, are_both, both_of_vlan, both_of_dp, acls_twice};
+ghost use Rattle.conf_rules.specs.Places.{first, fault_if, name_site, under};
 
-use crate::places::{Found, broken, dp_site, is_same, name_site, port_site, under, under_port};
+use crate::places::{Found, broken, dp_site, name_site, port_site, under, under_port};
+use crate::seen::{see_name, see_number};
 use conf_resolve::{OrderedConf, PlacedVlan};
 use conf_shape::{ConfCause, RawAclNames, RawDp, RawPort};
-use net_base::{DpId, Names, NoMemory, PortNo, Text, TryCopy, Vid};
+use net_base::{Names, NoMemory, TryCopy};
 use std::alloc::Global;
+use std::collections::BTreeSet;
 
-fn has_vid(vlans: &[PlacedVlan], vid: Vid) -> bool
-    ensures { result ≡ list_any (λ v. v.vlan.vid == vid) vlans.now }
-{
-    vlans
-        .iter()
-        .any(|placed| placed.vlan.vid.get() == vid.get())
-}
-
-fn has_vlan_name(vlans: &[PlacedVlan], name: &Text) -> bool
-    ensures { result ≡ list_any (λ v. is_same v.vlan.names.name name.now) vlans.now }
-{
-    vlans
-        .iter()
-        .any(|placed| is_same(&placed.vlan.names.name, name))
+/// Whether the number and the name of an item are those of an earlier one.
+#[derive(Clone, Copy)]
+struct Again {
+    number: bool,
+    name: bool,
 }
 
 fn vid_site(alloc: Global, placed: &PlacedVlan) -> Result<Names, NoMemory>
@@ -39,13 +33,13 @@ fn vid_site(alloc: Global, placed: &PlacedVlan) -> Result<Names, NoMemory>
     }
 }
 
-fn repeated_vlan(alloc: Global, earlier: &[PlacedVlan], placed: &PlacedVlan) -> Found
-    ensures { IfOk result (λ found. found ≡ first (repeated_vlan (earlier.now, placed.now))) }
+fn repeated_vlan(alloc: Global, placed: &PlacedVlan, again: Again) -> Found
+    ensures { IfOk result (λ found. found ≡ first (fault_if again.number Duplicate (vid_site placed.now) ++ fault_if again.name Duplicate (name_site placed.now.site placed.now.vlan.names))) }
 {
-    if has_vid(earlier, placed.vlan.vid) {
+    if again.number {
         return broken(alloc, ConfCause::Duplicate, vid_site(alloc, placed)?);
     }
-    if has_vlan_name(earlier, &placed.vlan.names.name) {
+    if again.name {
         let site = placed.site.copy(alloc)?;
         let site = name_site(alloc, site, &placed.vlan.names)?;
         return broken(alloc, ConfCause::Duplicate, site);
@@ -58,35 +52,26 @@ fn repeated_vlan(alloc: Global, earlier: &[PlacedVlan], placed: &PlacedVlan) -> 
 pub(crate) fn repeated_vlans(alloc: Global, ordered: &OrderedConf) -> Found
     ensures { IfOk result (λ found. found ≡ first (repeated_vlans ordered.now)) }
 {
-    let vlans = ordered.vlans.as_slice();
-    for (i, placed) in vlans.iter().enumerate() {
-        if let Some(found) = repeated_vlan(alloc, &vlans[..i], placed)? {
+    let mut vids = BTreeSet::new(alloc);
+    let mut names = BTreeSet::new(alloc);
+    for placed in ordered.vlans.as_slice() {
+        let number = see_number(&mut vids, u64::from(placed.vlan.vid.get()))?;
+        let name = see_name(alloc, &mut names, &placed.vlan.names.name)?;
+        if let Some(found) = repeated_vlan(alloc, placed, Again { number, name })? {
             return Ok(Some(found));
         }
     }
     Ok(None)
 }
 
-fn has_id(dps: &[RawDp], id: DpId) -> bool
-    ensures { result ≡ list_any (λ d. d.id.0 == id.0) dps.now }
+fn repeated_dp(alloc: Global, dp: &RawDp, again: Again) -> Found
+    ensures { IfOk result (λ found. found ≡ first (fault_if again.number Duplicate (under (dp_site dp.now) (codes "dp_id")) ++ fault_if again.name Duplicate (name_site (dp_site dp.now) dp.now.names))) }
 {
-    dps.iter().any(|dp| dp.id.0 == id.0)
-}
-
-fn has_dp_name(dps: &[RawDp], name: &Text) -> bool
-    ensures { result ≡ list_any (λ d. is_same d.names.name name.now) dps.now }
-{
-    dps.iter().any(|dp| is_same(&dp.names.name, name))
-}
-
-fn repeated_dp(alloc: Global, earlier: &[RawDp], dp: &RawDp) -> Found
-    ensures { IfOk result (λ found. found ≡ first (repeated_dp (earlier.now, dp.now))) }
-{
-    if has_id(earlier, dp.id) {
+    if again.number {
         let site = under(alloc, dp_site(alloc, dp)?, "dp_id")?;
         return broken(alloc, ConfCause::Duplicate, site);
     }
-    if has_dp_name(earlier, &dp.names.name) {
+    if again.name {
         let site = name_site(alloc, dp_site(alloc, dp)?, &dp.names)?;
         return broken(alloc, ConfCause::Duplicate, site);
     }
@@ -98,25 +83,16 @@ fn repeated_dp(alloc: Global, earlier: &[RawDp], dp: &RawDp) -> Found
 pub(crate) fn repeated_dps(alloc: Global, ordered: &OrderedConf) -> Found
     ensures { IfOk result (λ found. found ≡ first (repeated_dps ordered.now)) }
 {
-    let dps = ordered.dps.as_slice();
-    for (i, dp) in dps.iter().enumerate() {
-        if let Some(found) = repeated_dp(alloc, &dps[..i], dp)? {
+    let mut ids = BTreeSet::new(alloc);
+    let mut names = BTreeSet::new(alloc);
+    for dp in ordered.dps.as_slice() {
+        let number = see_number(&mut ids, dp.id.0)?;
+        let name = see_name(alloc, &mut names, &dp.names.name)?;
+        if let Some(found) = repeated_dp(alloc, dp, Again { number, name })? {
             return Ok(Some(found));
         }
     }
     Ok(None)
-}
-
-fn has_number(ports: &[RawPort], no: PortNo) -> bool
-    ensures { result ≡ list_any (λ p. p.no == no) ports.now }
-{
-    ports.iter().any(|port| port.no.get() == no.get())
-}
-
-fn has_port_name(ports: &[RawPort], name: &Text) -> bool
-    ensures { result ≡ list_any (λ p. is_same p.names.name name.now) ports.now }
-{
-    ports.iter().any(|port| is_same(&port.names.name, name))
 }
 
 fn number_site(alloc: Global, dp: &RawDp, port: &RawPort) -> Result<Names, NoMemory>
@@ -129,13 +105,13 @@ fn number_site(alloc: Global, dp: &RawDp, port: &RawPort) -> Result<Names, NoMem
     }
 }
 
-fn repeated_port(alloc: Global, dp: &RawDp, earlier: &[RawPort], port: &RawPort) -> Found
-    ensures { IfOk result (λ found. found ≡ first (repeated_port dp.now (earlier.now, port.now))) }
+fn repeated_port(alloc: Global, dp: &RawDp, port: &RawPort, again: Again) -> Found
+    ensures { IfOk result (λ found. found ≡ first (fault_if again.number Duplicate (number_site dp.now port.now) ++ fault_if again.name Duplicate (name_site (port_site dp.now port.now) port.now.names))) }
 {
-    if has_number(earlier, port.no) {
+    if again.number {
         return broken(alloc, ConfCause::Duplicate, number_site(alloc, dp, port)?);
     }
-    if has_port_name(earlier, &port.names.name) {
+    if again.name {
         let site = name_site(alloc, port_site(alloc, dp, port)?, &port.names)?;
         return broken(alloc, ConfCause::Duplicate, site);
     }
@@ -146,9 +122,12 @@ fn repeated_port(alloc: Global, dp: &RawDp, earlier: &[RawPort], port: &RawPort)
 fn repeated_ports_of(alloc: Global, dp: &RawDp) -> Found
     ensures { IfOk result (λ found. found ≡ first (repeated_ports_of dp.now)) }
 {
-    let ports = dp.ports.as_slice();
-    for (i, port) in ports.iter().enumerate() {
-        if let Some(found) = repeated_port(alloc, dp, &ports[..i], port)? {
+    let mut numbers = BTreeSet::new(alloc);
+    let mut names = BTreeSet::new(alloc);
+    for port in dp.ports.as_slice() {
+        let number = see_number(&mut numbers, u64::from(port.no.get()))?;
+        let name = see_name(alloc, &mut names, &port.names.name)?;
+        if let Some(found) = repeated_port(alloc, dp, port, Again { number, name })? {
             return Ok(Some(found));
         }
     }

@@ -4,12 +4,13 @@ ghost use Rattle.std.specs.Prelude.{◌≡◌, ◌==◌, ◌+◌, ◌++◌, leng
 ghost use Rattle.std.specs.List.{list_any};
 ghost use Rattle.conf_types.specs.Attached.{rules_of, names_in, is_named};
 ghost use Rattle.conf_types.specs.Lists.{is_among, different};
-ghost use Rattle.conf_types.specs.Membership.{is_edge_member};
 ghost use Rattle.conf_types.specs.Routing.{vips_of, vips_in, routes_of, routes_in};
-ghost use Rattle.conf_types.specs.Valid.{members_at, ports_named, route_items};
+ghost use Rattle.conf_types.specs.Valid.{ports_named, route_items};
 ghost use Rattle.conf_rules.specs.Limits.{capped, acl_entries, acl_outputs, members, routes, gateways_of};
-ghost use Rattle.conf_rules.specs.Sizes.{named_rules, cost, vlan_cost};
+ghost use Rattle.conf_rules.specs.Sizes.{named_rules, cost, vlan_cost, members_among};
 
+use crate::edges::Edges;
+use crate::members::Counted;
 use crate::routing::{find_router, find_vlan};
 use crate::unknown::find_acl;
 use conf_resolve::Resolved;
@@ -58,10 +59,10 @@ fn entries(conf: &Resolved, cap: usize, names: &[Text]) -> usize
     }
 }
 
-fn entries_for_vlan(conf: &Resolved, cap: usize, dp: &Dp, vlan: &Vlan) -> usize
-    ensures { result ≡ min cap (vlan_cost (λ rules. length rules + 1) conf.now dp.now vlan.now) }
+fn entries_for_vlan(conf: &Resolved, cap: usize, edges: &Edges, vlan: &Vlan) -> usize
+    ensures { result ≡ min cap (vlan_cost (λ rules. length rules + 1) conf.now edges.now.dp.now vlan.now) }
 {
-    if dp.has_edge_member(vlan.vid) {
+    if edges.has(vlan.vid) {
         entries(conf, cap, vlan.acls.as_slice())
     } else {
         0
@@ -77,13 +78,20 @@ fn entries_on_ports(conf: &Resolved, cap: usize, dp: &Dp) -> usize
     )
 }
 
-fn entries_for_vlans(conf: &Resolved, cap: usize, dp: &Dp) -> usize
-    ensures { result ≡ capped cap (λ v. min cap (vlan_cost (λ rules. length rules + 1) conf.now dp.now v)) conf.now.vlans }
+fn entries_for_edges(conf: &Resolved, cap: usize, edges: &Edges) -> usize
+    ensures { result ≡ capped cap (λ v. min cap (vlan_cost (λ rules. length rules + 1) conf.now edges.now.dp.now v)) conf.now.vlans }
 {
     conf.vlans().as_slice().iter().fold(
         0,
-        |sum, vlan| add(cap, sum, entries_for_vlan(conf, cap, dp, vlan)),
+        |sum, vlan| add(cap, sum, entries_for_vlan(conf, cap, edges, vlan)),
     )
+}
+
+fn entries_for_vlans(conf: &Resolved, cap: usize, dp: &Dp) -> usize
+    ensures { result ≡ capped cap (λ v. min cap (vlan_cost (λ rules. length rules + 1) conf.now dp.now v)) conf.now.vlans }
+{
+    let edges = Edges::of(dp);
+    entries_for_edges(conf, cap, &edges)
 }
 
 /// How many entries the ACLs that are attached on a datapath take.
@@ -164,10 +172,10 @@ fn outputs(conf: &Resolved, dp: &Dp, cap: usize, names: &[Text]) -> usize
     }
 }
 
-fn outputs_for_vlan(conf: &Resolved, dp: &Dp, cap: usize, vlan: &Vlan) -> usize
-    ensures { result ≡ min cap (vlan_cost (λ rules. sum_by (ports_named dp.now) rules) conf.now dp.now vlan.now) }
+fn outputs_for_vlan(conf: &Resolved, dp: &Dp, cap: usize, edges: &Edges, vlan: &Vlan) -> usize
+    ensures { result ≡ min cap (vlan_cost (λ rules. sum_by (ports_named dp.now) rules) conf.now edges.now.dp.now vlan.now) }
 {
-    if dp.has_edge_member(vlan.vid) {
+    if edges.has(vlan.vid) {
         outputs(conf, dp, cap, vlan.acls.as_slice())
     } else {
         0
@@ -183,13 +191,20 @@ fn outputs_on_ports(conf: &Resolved, dp: &Dp, cap: usize) -> usize
     )
 }
 
-fn outputs_for_vlans(conf: &Resolved, dp: &Dp, cap: usize) -> usize
-    ensures { result ≡ capped cap (λ v. min cap (vlan_cost (λ rules. sum_by (ports_named dp.now) rules) conf.now dp.now v)) conf.now.vlans }
+fn outputs_for_edges(conf: &Resolved, dp: &Dp, cap: usize, edges: &Edges) -> usize
+    ensures { result ≡ capped cap (λ v. min cap (vlan_cost (λ rules. sum_by (ports_named dp.now) rules) conf.now edges.now.dp.now v)) conf.now.vlans }
 {
     conf.vlans().as_slice().iter().fold(
         0,
-        |sum, vlan| add(cap, sum, outputs_for_vlan(conf, dp, cap, vlan)),
+        |sum, vlan| add(cap, sum, outputs_for_vlan(conf, dp, cap, edges, vlan)),
     )
+}
+
+fn outputs_for_vlans(conf: &Resolved, dp: &Dp, cap: usize) -> usize
+    ensures { result ≡ capped cap (λ v. min cap (vlan_cost (λ rules. sum_by (ports_named dp.now) rules) conf.now dp.now v)) conf.now.vlans }
+{
+    let edges = Edges::of(dp);
+    outputs_for_edges(conf, dp, cap, &edges)
 }
 
 /// How many ports the ACLs that are attached on a datapath name there, rule by rule.
@@ -203,41 +218,21 @@ pub(crate) fn acl_outputs(conf: &Resolved, cap: usize, dp: &Dp) -> usize
     )
 }
 
-/// How many VLANs have the interface as a member.
-fn members_at(conf: &Resolved, port: &Port) -> usize
-    ensures { result ≡ members_at conf.now port.now }
-{
-    if port.is_stack() {
-        conf.vlans().len()
-    } else {
-        edge_members(conf, port)
-    }
-}
-
-fn edge_members(conf: &Resolved, port: &Port) -> usize
-    ensures { result ≡ count_by (λ v. is_edge_member port.now v.vid) conf.now.vlans }
-{
-    conf.vlans()
-        .as_slice()
-        .iter()
-        .filter(|vlan| port.is_edge_member(vlan.vid))
-        .count()
-}
-
-fn add_members(conf: &Resolved, cap: usize, dp: &Dp) -> usize
-    ensures { result ≡ capped cap (members_at conf.now) dp.now.ports }
+fn add_members(counted: &Counted, cap: usize, dp: &Dp) -> usize
+    ensures { result ≡ capped cap (members_among counted.now.vlans.now) dp.now.ports }
 {
     dp.ports
         .as_slice()
         .iter()
-        .fold(0, |sum, port| add(cap, sum, members_at(conf, port)))
+        .fold(0, |sum, port| add(cap, sum, counted.members(port)))
 }
 
 /// How many members the VLANs have on a datapath.
 pub(crate) fn members(conf: &Resolved, cap: usize, dp: &Dp) -> usize
     ensures { result ≡ min cap (members conf.now dp.now) }
 {
-    add_members(conf, cap, dp)
+    let counted = Counted::of(conf.vlans().as_slice());
+    add_members(&counted, cap, dp)
 }
 
 /// How many routes there are.

@@ -1,15 +1,17 @@
 //! VLANs and ACLs that are named: each exists, and an interface names a VLAN at most once.
 
 ghost use Rattle.std.specs.Prelude.{◌≡◌, IfOk, codes, is_some, is_none, map, option_and_then};
-ghost use Rattle.std.specs.List.{flat_map, list_any};
+ghost use Rattle.std.specs.List.{flat_map};
 ghost use Rattle.std.specs.Option.{option_copied};
 ghost use Rattle.conf_types.specs.Attached.{acl_named};
 ghost use Rattle.conf_resolve.specs.InOrder.{port_site};
 ghost use Rattle.conf_resolve.specs.Resolved.{vid_of};
-ghost use Rattle.conf_rules.specs.Names.{unknown_vlan, native_at, tagged_at, unknown_of_port, unknown_of_dp, unknown_of_router, unknown_vlans, is_same_vid, vid_again, twice_of_port, twice_of_dp, vlans_twice, unknown_acl, unknown_acls_of_vlan, unknown_acls_of_port, unknown_acls_of_dp, unknown_acls};
-ghost use Rattle.conf_rules.specs.Places.{first, nth, under, each_at, one_at, list_at};
+ghost use Rattle.conf_shape.specs.declared.refused.ConfCause.TheVariants.{Duplicate};
+ghost use Rattle.conf_rules.specs.Names.{unknown_vlan, native_at, tagged_at, unknown_of_port, unknown_of_dp, unknown_of_router, unknown_vlans, twice_of_port, twice_of_dp, vlans_twice, unknown_acl, unknown_acls_of_vlan, unknown_acls_of_port, unknown_acls_of_dp, unknown_acls};
+ghost use Rattle.conf_rules.specs.Places.{first, fault_if, nth, under, each_at, one_at, list_at};
 
 use crate::places::{Found, broken, is_same, nth, port_site, router_site, under, under_port};
+use crate::vids::{see_some, seen_once};
 use conf_resolve::{OrderedConf, PlacedVlan, Resolved};
 use conf_shape::{ConfCause, RawDp, RawPort, RawRouter, VlanRef};
 use conf_types::Acl;
@@ -124,34 +126,11 @@ fn vids_of(
     names.iter().map(|name| ordered.vid_of(name)).collect(alloc)
 }
 
-fn is_same_vid(a: Option<Vid>, b: Option<Vid>) -> bool
-    ensures { result ≡ is_same_vid a b }
-{
-    match (a, b) {
-        (Some(m), Some(n)) => m.get() == n.get(),
-        _ => false,
-    }
-}
-
-fn is_among(vids: &[Option<Vid>], vid: Option<Vid>) -> bool
-    ensures { result ≡ list_any (λ other. is_same_vid other vid) vids.now }
-{
-    vids.iter().any(|other| is_same_vid(*other, vid))
-}
-
 // The fault of a tagged VLAN that is the native one, or among the tagged ones before it.
-fn vid_again(
-    alloc: Global,
-    dp: &RawDp,
-    port: &RawPort,
-    native: &Option<Vid>,
-    earlier: &[Option<Vid>],
-    at: usize,
-    vid: Option<Vid>,
-) -> Found
-    ensures { IfOk result (λ found. found ≡ first (vid_again native.now (nth (under (port_site dp.now port.now) (codes "tagged_vlans")) at, (earlier.now, vid)))) }
+fn vid_again(alloc: Global, dp: &RawDp, port: &RawPort, at: usize, is_again: bool) -> Found
+    ensures { IfOk result (λ found. found ≡ first (fault_if is_again Duplicate (nth (under (port_site dp.now port.now) (codes "tagged_vlans")) at))) }
 {
-    if is_same_vid(*native, vid) || is_among(earlier, vid) {
+    if is_again {
         let site = under_port(alloc, dp, port, "tagged_vlans")?;
         return broken(alloc, ConfCause::Duplicate, nth(alloc, site, at)?);
     }
@@ -164,9 +143,10 @@ fn twice_of_port(alloc: Global, ordered: &OrderedConf, dp: &RawDp, port: &RawPor
 {
     let native = native_vid(ordered, port);
     let made = vids_of(alloc, ordered, port.tagged.as_slice())?;
-    let vids = made.as_slice();
-    for (i, vid) in vids.iter().enumerate() {
-        if let Some(found) = vid_again(alloc, dp, port, &native, &vids[..i], i, *vid)? {
+    let mut seen = seen_once(native);
+    for (i, vid) in made.as_slice().iter().enumerate() {
+        let is_again = see_some(&mut seen, *vid);
+        if let Some(found) = vid_again(alloc, dp, port, i, is_again)? {
             return Ok(Some(found));
         }
     }

@@ -1,7 +1,12 @@
-use Rattle.std.proofs.Common.{◌∙◌}
+use Rattle.std.proofs.Common.{ap, ◌∙◌}
 use Rattle.conf_types.specs.Valid.{members_at}
+use Rattle.conf_rules.specs.Limits.{capped}
+use Rattle.conf_rules.specs.Sizes.{members_among}
 use Rattle.conf_rules.proofs.Capped.{capped-sum}
 use Rattle.conf_rules.proofs.sizes.members.Goals as goal
 
 pub returns : goal.returns
-returns c = c.add_members.ensures ∙ capped-sum c.args.cap (members_at c.args.conf.now) c.args.dp.now.ports
+returns c =
+    c.add_members.ensures
+    ∙ ap (λ vlans. capped c.args.cap (members_among vlans) c.args.dp.now.ports) (c.of-counted.ensures ∙ c.as_slice.ensures ∙ c.vlans.ensures)
+    ∙ capped-sum c.args.cap (members_at c.args.conf.now) c.args.dp.now.ports

@@ -1,0 +1,53 @@
+//! The VLANs of which a datapath has edge ports.
+
+ghost use Rattle.std.specs.Prelude.{◌≡◌, ◌||◌, ◌<◌, ℕ, false, slice_index_or};
+ghost use Rattle.std.specs.List.{list_any};
+ghost use Rattle.conf_types.specs.Membership.{is_edge_member, has_edge_member};
+
+use crate::vids::{see_all, see_some, seen_once};
+use conf_types::{Dp, Port};
+use net_base::Vid;
+
+/// A datapath, and a table of the VLANs of which it has edge ports.
+#[derive(Drop)]
+pub(crate) struct Edges<'a> {
+    dp: &'a Dp,
+    seen: [bool; 4096],
+    ghost right: { (n : ℕ) → n < 4096 → slice_index_or seen n false ≡ has_edge_member dp.now n },
+}
+
+/// From now on the VLANs of which the interface is an edge port are seen.
+fn see_port(seen: &mut [bool; 4096], port: &Port)
+    ensures { (n : ℕ) → n < 4096 → slice_index_or seen.new n false ≡ (slice_index_or seen.old n false || is_edge_member port.now n) }
+{
+    if port.is_edge() {
+        see_some(seen, port.native);
+        see_all(seen, port.tagged.as_slice());
+    }
+}
+
+fn see_ports(ports: &[Port]) -> [bool; 4096]
+    ensures { (n : ℕ) → n < 4096 → slice_index_or result n false ≡ list_any (λ p. is_edge_member p n) ports.now }
+{
+    let mut seen = seen_once(None);
+    for port in ports {
+        see_port(&mut seen, port);
+    }
+    seen
+}
+
+impl<'a> Edges<'a> {
+    pub(crate) fn of(dp: &'a Dp) -> Edges<'a>
+        ensures { result.dp.now ≡ dp.now }
+    {
+        let seen = see_ports(dp.ports.as_slice());
+        Edges { dp, seen }
+    }
+
+    /// Whether the datapath has an edge port of the VLAN.
+    pub(crate) fn has(&self, vid: Vid) -> bool
+        ensures { result ≡ has_edge_member self.now.dp.now vid }
+    {
+        self.seen[usize::from(vid.get())]
+    }
+}
