@@ -23,6 +23,10 @@ use Rattle.conf_rules.specs.Places.{fault_if, under, each_at, vlans_of, with_ear
 abbrev pub are_routed : Configuration → ℕ → ℕ → Bool
 are_routed conf v w = v == w || list_any (λ r. is_among r.vlans v && is_among r.vlans w) conf.routers
 
+-- the same, by routers alone
+abbrev pub are_joined : List Router → ℕ → ℕ → Bool
+are_joined routers v w = v == w || list_any (λ r. is_among r.vlans v && is_among r.vlans w) routers
+
 -- the VLANs, each with its place and with those before it
 abbrev pub vlans_behind : OrderedConf → Configuration → List (PlacedVlan × (List Vlan × Vlan))
 vlans_behind o conf = zip o.vlans (with_earlier [] conf.vlans)

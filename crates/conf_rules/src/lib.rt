@@ -7,6 +7,7 @@ mod members;
 mod names;
 mod places;
 mod ports;
+mod routed;
 mod routing;
 mod rules;
 mod seen;

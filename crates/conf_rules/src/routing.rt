@@ -8,27 +8,15 @@ ghost use Rattle.conf_types.specs.Lists.{is_among};
 ghost use Rattle.conf_types.specs.Networks.{is_held};
 ghost use Rattle.conf_types.specs.Routing.{router_with, vips_of};
 ghost use Rattle.conf_rules.specs.Places.{first, nth, under};
-ghost use Rattle.conf_rules.specs.Routing.{are_routed, overlap, overlaps_earlier, overlapping_of_vlan, overlapping_vips, is_in_router, shared_of_router, shared_vlans, lies_in, route_site, leads_inside, wrong_route, wrong_routes_of, wrong_routes, is_same_route, repeats_earlier, repeated_of_vlan, repeated_routes};
+ghost use Rattle.conf_rules.specs.Routing.{are_joined, are_routed, overlap, overlaps_earlier, overlapping_of_vlan, overlapping_vips, is_in_router, shared_of_router, shared_vlans, lies_in, route_site, leads_inside, wrong_route, wrong_routes_of, wrong_routes, is_same_route, repeats_earlier, repeated_of_vlan, repeated_routes};
 
 use crate::places::{Found, broken, nth, router_site, under};
+use crate::routed::Joined;
 use conf_resolve::{OrderedConf, PlacedVlan, Resolved};
 use conf_shape::{ConfCause, RawRouter};
 use conf_types::{Route, Router, Vlan};
 use net_base::{Ip4, Names, Net4, NoMemory, TryCopy, Vid};
 use std::alloc::Global;
-
-fn share_router(routers: &[Router], v: Vid, w: Vid) -> bool
-    ensures { result ≡ list_any (λ r. is_among r.vlans v && is_among r.vlans w) routers.now }
-{
-    routers.iter().any(|router| router.has(v) && router.has(w))
-}
-
-/// Whether packets are routed between the two VLANs, or they are one.
-fn are_routed(conf: &Resolved, v: Vid, w: Vid) -> bool
-    ensures { result ≡ are_routed conf.now v w }
-{
-    v.get() == w.get() || share_router(conf.routers().as_slice(), v, w)
-}
 
 fn holds(net: &Net4, ip: Ip4) -> bool
     ensures { result ≡ is_held net.now ip.0 }
@@ -53,24 +41,39 @@ fn overlaps_some(others: &[Net4], vip: &Net4) -> bool
     others.iter().any(|other| overlap(other, vip))
 }
 
-fn overlaps_vlan(conf: &Resolved, earlier: &[Vlan], vlan: &Vlan, vip: &Net4) -> bool
+fn overlaps_joined(joined: &Joined, earlier: &[Vlan], vip: &Net4) -> bool
+    ensures { result ≡ list_any (λ w. are_joined joined.now.routers.now w.vid joined.now.vid && list_any (λ other. overlap other vip.now) w.vips) earlier.now }
+{
+    earlier.iter().any(|other| joined.has(other.vid) && overlaps_some(other.vips.as_slice(), vip))
+}
+
+fn overlaps_vlan(
+    conf: &Resolved,
+    joined: &Joined,
+    earlier: &[Vlan],
+    vlan: &Vlan,
+    vip: &Net4,
+) -> bool
+    requires routers { joined.now.routers.now ≡ conf.now.routers }
+    requires vid { joined.now.vid ≡ vlan.now.vid }
     ensures { result ≡ list_any (λ w. are_routed conf.now w.vid vlan.now.vid && list_any (λ other. overlap other vip.now) w.vips) earlier.now }
 {
-    earlier.iter().any(|other| {
-        are_routed(conf, other.vid, vlan.vid) && overlaps_some(other.vips.as_slice(), vip)
-    })
+    overlaps_joined(joined, earlier, vip)
 }
 
 fn overlaps_earlier(
     conf: &Resolved,
+    joined: &Joined,
     earlier: &[Vlan],
     vlan: &Vlan,
     vips: &[Net4],
     vip: &Net4,
 ) -> bool
+    requires routers { joined.now.routers.now ≡ conf.now.routers }
+    requires vid { joined.now.vid ≡ vlan.now.vid }
     ensures { result ≡ overlaps_earlier conf.now (earlier.now, vlan.now) (vips.now, vip.now) }
 {
-    overlaps_vlan(conf, earlier, vlan, vip) || overlaps_some(vips, vip)
+    overlaps_vlan(conf, joined, earlier, vlan, vip) || overlaps_some(vips, vip)
 }
 
 /// Where a VIP of a VLAN is written.
@@ -92,8 +95,12 @@ fn overlapping_of_vlan(
     ensures { IfOk result (λ found. found ≡ first (overlapping_of_vlan conf.now (placed.now, (earlier.now, vlan.now)))) }
 {
     let vips = vlan.vips.as_slice();
+    if vips.is_empty() {
+        return Ok(None);
+    }
+    let joined = Joined::of(conf.routers().as_slice(), vlan.vid);
     for (i, vip) in vips.iter().enumerate() {
-        if overlaps_earlier(conf, earlier, vlan, &vips[..i], vip) {
+        if overlaps_earlier(conf, &joined, earlier, vlan, &vips[..i], vip) {
             return broken(alloc, ConfCause::Conflict(12), vip_site(alloc, placed, i)?);
         }
     }
@@ -284,24 +291,39 @@ fn has_route(routes: &[Route], route: &Route) -> bool
     routes.iter().any(|other| is_same_route(other, route))
 }
 
-fn repeats_vlan(conf: &Resolved, earlier: &[Vlan], vlan: &Vlan, route: &Route) -> bool
+fn repeats_joined(joined: &Joined, earlier: &[Vlan], route: &Route) -> bool
+    ensures { result ≡ list_any (λ w. are_joined joined.now.routers.now w.vid joined.now.vid && list_any (λ other. is_same_route other route.now) w.routes) earlier.now }
+{
+    earlier.iter().any(|other| joined.has(other.vid) && has_route(other.routes.as_slice(), route))
+}
+
+fn repeats_vlan(
+    conf: &Resolved,
+    joined: &Joined,
+    earlier: &[Vlan],
+    vlan: &Vlan,
+    route: &Route,
+) -> bool
+    requires routers { joined.now.routers.now ≡ conf.now.routers }
+    requires vid { joined.now.vid ≡ vlan.now.vid }
     ensures { result ≡ list_any (λ w. are_routed conf.now w.vid vlan.now.vid && list_any (λ other. is_same_route other route.now) w.routes) earlier.now }
 {
-    earlier.iter().any(|other| {
-        are_routed(conf, other.vid, vlan.vid) && has_route(other.routes.as_slice(), route)
-    })
+    repeats_joined(joined, earlier, route)
 }
 
 fn repeats_earlier(
     conf: &Resolved,
+    joined: &Joined,
     earlier: &[Vlan],
     vlan: &Vlan,
     routes: &[Route],
     route: &Route,
 ) -> bool
+    requires routers { joined.now.routers.now ≡ conf.now.routers }
+    requires vid { joined.now.vid ≡ vlan.now.vid }
     ensures { result ≡ repeats_earlier conf.now (earlier.now, vlan.now) (routes.now, route.now) }
 {
-    repeats_vlan(conf, earlier, vlan, route) || has_route(routes, route)
+    repeats_vlan(conf, joined, earlier, vlan, route) || has_route(routes, route)
 }
 
 #[tactic(auto, using(crate::proofs::First::first_rules))]
@@ -315,8 +337,12 @@ fn repeated_of_vlan(
     ensures { IfOk result (λ found. found ≡ first (repeated_of_vlan conf.now (placed.now, (earlier.now, vlan.now)))) }
 {
     let routes = vlan.routes.as_slice();
+    if routes.is_empty() {
+        return Ok(None);
+    }
+    let joined = Joined::of(conf.routers().as_slice(), vlan.vid);
     for (i, route) in routes.iter().enumerate() {
-        if repeats_earlier(conf, earlier, vlan, &routes[..i], route) {
+        if repeats_earlier(conf, &joined, earlier, vlan, &routes[..i], route) {
             let site = route_site(alloc, placed, i, "ip_dst")?;
             return broken(alloc, ConfCause::Duplicate, site);
         }
