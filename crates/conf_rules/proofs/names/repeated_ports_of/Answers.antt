@@ -1,4 +1,4 @@
-use Rattle.std.proofs.Common.{rules, Bool, ◌++◌, codes, sym, ◌∙◌}
+use Rattle.std.proofs.Common.{rules, Bool, ◌++◌, sym, ◌∙◌}
 use Rattle.conf_resolve.specs.InOrder.{port_site}
 use Rattle.conf_shape.specs.declared.raw.RawPort.{RawPort}
 use Rattle.conf_shape.specs.declared.refused.ConfCause.TheVariants.{Duplicate}

@@ -1,4 +1,4 @@
-use Rattle.std.proofs.Common.{rules, Bool, ◌++◌, codes, sym, ◌∙◌}
+use Rattle.std.proofs.Common.{rules, Bool, ◌++◌, sym, ◌∙◌}
 use Rattle.conf_resolve.specs.declared.ordered.PlacedVlan.{PlacedVlan}
 use Rattle.conf_shape.specs.declared.refused.ConfCause.TheVariants.{Duplicate}
 use Rattle.conf_rules.specs.Names.{vid_site}
