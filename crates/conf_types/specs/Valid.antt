@@ -99,7 +99,7 @@ pub record DatapathsAreValid (conf : Configuration) : Type 0 where
 -- ---- ACLs
 
 pub record IsRule (rule : Rule) : Type 0 where
-  -- by number, no two with one; each with what it asks of the others (OpenFlow 1.3, 7.2.3.8)
+  -- by number, no two with one; each with what it asks of the others (OpenFlow 1.3, 7.2.3.6)
   pub fields : IsWellFormed rule.fields
   pub each : AllByRecursion (λ f. MayAsk f.id f) rule.fields
 

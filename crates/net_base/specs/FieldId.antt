@@ -9,7 +9,7 @@ abbrev pub row : ℕ → ℕ → Option Prerequisite → FieldRow
 row number byte_len prerequisite = record { number = number; byte_len = byte_len; prerequisite = prerequisite }
 
 -- the table of fields: the number of each, how many bytes a value takes, and what it asks of the
--- match that it stands in (OpenFlow 1.3, 7.2.3.7, table 12 and `oxm_ofb_match_fields`; 7.2.3.8)
+-- match that it stands in (OpenFlow 1.3, 7.2.3.7, table 12 and `oxm_ofb_match_fields`; 7.2.3.6)
 abbrev pub row_of : FieldId → FieldRow
 row_of InPort = row 0 4 None
 row_of EthDst = row 3 6 None

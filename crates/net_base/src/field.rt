@@ -32,7 +32,7 @@ pub enum FieldId {
     ArpTpa,
 }
 
-/// What a field of a match asks of the match that it stands in (OpenFlow 1.3, 7.2.3.8).
+/// What a field of a match asks of the match that it stands in (OpenFlow 1.3, 7.2.3.6).
 #[derive(Clone, Copy, Debug, PartialEq, Eq)]
 pub enum Prerequisite {
     /// A VLAN identifier that isn't 0, whatever its mask.
