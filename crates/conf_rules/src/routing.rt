@@ -1,6 +1,6 @@
 //! The networks of VLANs between which packets are routed.
 
-ghost use Rattle.std.specs.Prelude.{◌≡◌, ◌&&◌, ◌∷◌, IfOk, codes};
+ghost use Rattle.std.specs.Prelude.{◌≡◌, ◌&&◌, ◌<◌, ◌∷◌, ℕ, IfOk, codes, false, slice_index_or};
 ghost use Rattle.std.specs.List.{flat_map, list_any};
 ghost use Rattle.std.specs.Option.{option_copied};
 ghost use Rattle.conf_types.specs.Configuration.{vlan_with};
@@ -12,6 +12,7 @@ ghost use Rattle.conf_rules.specs.Routing.{are_joined, are_routed, overlap, over
 
 use crate::places::{Found, broken, nth, router_site, under};
 use crate::routed::Joined;
+use crate::vids::{see_all, seen_once};
 use conf_resolve::{OrderedConf, PlacedVlan, Resolved};
 use conf_shape::{ConfCause, RawRouter};
 use conf_types::{Route, Router, Vlan};
@@ -124,10 +125,12 @@ pub(crate) fn overlapping_vips(alloc: Global, ordered: &OrderedConf, conf: &Reso
     Ok(None)
 }
 
-fn is_in_router(routers: &[Router], vid: Vid) -> bool
+/// Whether a VLAN is in one of the routers, of whose VLANs there is a table.
+fn is_in_router(routed: &[bool; 4096], routers: &[Router], vid: Vid) -> bool
+    requires { (n : ℕ) → n < 4096 → slice_index_or routed.now n false ≡ list_any (is_in_router n) routers.now }
     ensures { result ≡ list_any (is_in_router vid) routers.now }
 {
-    routers.iter().any(|router| router.has(vid))
+    routed[usize::from(vid.get())]
 }
 
 #[tactic(auto, using(crate::proofs::First::first_rules))]
@@ -135,14 +138,16 @@ fn shared_of_router(
     alloc: Global,
     ordered: &OrderedConf,
     raw: &RawRouter,
+    routed: &[bool; 4096],
     earlier: &[Router],
     router: &Router,
 ) -> Found
+    requires { (n : ℕ) → n < 4096 → slice_index_or routed.now n false ≡ list_any (is_in_router n) earlier.now }
     ensures { IfOk result (λ found. found ≡ first (shared_of_router ordered.now (raw.now, (earlier.now, router.now)))) }
 {
     for (i, name) in raw.vlans.as_slice().iter().enumerate() {
         if let Some(vid) = ordered.vid_of(name) {
-            if is_in_router(earlier, vid) {
+            if is_in_router(routed, earlier, vid) {
                 let site = under(alloc, router_site(alloc, raw)?, "vlans")?;
                 return broken(alloc, ConfCause::Conflict(13), nth(alloc, site, i)?);
             }
@@ -157,13 +162,22 @@ pub(crate) fn shared_vlans(alloc: Global, ordered: &OrderedConf, conf: &Resolved
     ensures { IfOk result (λ found. found ≡ first (shared_vlans ordered.now conf.now)) }
 {
     let routers = conf.routers().as_slice();
+    let mut routed = seen_once(None);
     for (i, raw) in ordered.routers.as_slice().iter().enumerate() {
         let Some(router) = routers.get(i) else {
             return Ok(None);
         };
-        if let Some(found) = shared_of_router(alloc, ordered, raw, &routers[..i], router)? {
+        if let Some(found) = shared_of_router(
+            alloc,
+            ordered,
+            raw,
+            &routed,
+            &routers[..i],
+            router,
+        )? {
             return Ok(Some(found));
         }
+        see_all(&mut routed, router.vlans.as_slice());
     }
     Ok(None)
 }
