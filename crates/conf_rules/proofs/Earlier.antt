@@ -1,6 +1,6 @@
 -- Walks over lists of which each item stands behind those before it.
 use Rattle.std.proofs.Common.{◌≡◌, ℕ, ◌+◌, ◌<◌, ◌==◌, ◌||◌, Bool, List, [], ◌∷◌, ◌++◌, take, drop, length, get_or, Option, sym, ap, subst, ◌∙◌}
-use Rattle.std.specs.List.{flat_map, list_any, enumerate_from}
+use Rattle.std.specs.List.{flat_map, list_any, enumerate_from, zip}
 use Rattle.std.specs.Ordering.{nat_cmp}
 use Rattle.std.specs.BTreeSet.{BTreeSet, contains, contains_text}
 use Rattle.std.specs.declared.string.String.{String}
@@ -12,7 +12,7 @@ use Rattle.conf_rules.specs.Places.{first, nth, with_earlier}
 use Rattle.conf_rules.specs.Seen.{HasNumbers, HasNames}
 use Rattle.conf_rules.proofs.First.{Steps, stepped, next}
 
-taken : {A : Type 0} (xs ys : List A) (i : ℕ) (x : A) → ys ≡ xs → i < length ys → x ≡ get_or ys i x → take (i + 1) xs ≡ take i xs ++ x ∷ []
+pub taken : {A : Type 0} (xs ys : List A) (i : ℕ) (x : A) → ys ≡ xs → i < length ys → x ≡ get_or ys i x → take (i + 1) xs ≡ take i xs ++ x ∷ []
 taken xs ys i x e lt is =
     subst (λ (zs : List _). take (i + 1) zs ≡ take i zs ++ x ∷ []) e (take_more ys i x lt ∙ ap (λ y. take i ys ++ y ∷ []) (sym is))
 
@@ -34,6 +34,19 @@ walked_each_behind {A} {B} site f xs ys i x all e lt is =
     stepped (f (nth site i, (take i xs, x))) (rest (i + 1) (take (i + 1) xs) (drop (i + 1) xs)) (rest i (take i xs) (drop i xs)) all
     (ap (rest i (take i xs)) (next xs ys i x e lt is)
     ∙ ap (λ es. f (nth site i, (take i xs, x)) ++ rest (i + 1) es (drop (i + 1) xs)) (sym (taken xs ys i x e lt is)))
+
+-- beside another list
+pub walked_beside_behind : {A B C : Type 0} (f : A × (List B × B) → List C) (xs zs : List A) (ys ws : List B) (i : ℕ) (x : A) (y : B) (all : Option C)
+    → zs ≡ xs → i < length zs → x ≡ get_or zs i x → ws ≡ ys → i < length ws → y ≡ get_or ws i y
+    → first (flat_map f (zip (drop i xs) (with_earlier (take i ys) (drop i ys)))) ≡ all
+    → Steps (f (x, (take i ws, y))) (first (flat_map f (zip (drop (i + 1) xs) (with_earlier (take (i + 1) ys) (drop (i + 1) ys))))) all
+walked_beside_behind {A} {B} {C} f xs zs ys ws i x y all e lt is d less same =
+    let rest = λ (es behind : List B). flat_map f (zip (drop (i + 1) xs) (with_earlier es behind)) in
+    stepped (f (x, (take i ws, y))) (rest (take (i + 1) ys) (drop (i + 1) ys)) (flat_map f (zip (drop i xs) (with_earlier (take i ys) (drop i ys)))) all
+    (ap (λ (t : List A). flat_map f (zip t (with_earlier (take i ys) (drop i ys)))) (next xs zs i x e lt is)
+    ∙ ap (λ (t : List B). flat_map f (zip (x ∷ drop (i + 1) xs) (with_earlier (take i ys) t))) (next ys ws i y d less same)
+    ∙ ap (λ (es : List B). f (x, (take i ys, y)) ++ rest es (drop (i + 1) ys)) (sym (taken ys ws i y d less same))
+    ∙ ap (λ (es : List B). f (x, (take i es, y)) ++ rest (take (i + 1) ys) (drop (i + 1) ys)) (sym d))
 
 -- some of those so far, and one more
 pub any_more : {A : Type 0} (p : A → Bool) (xs ys : List A) (i : ℕ) (x : A) → ys ≡ xs → i < length ys → x ≡ get_or ys i x

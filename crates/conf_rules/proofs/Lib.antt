@@ -2,9 +2,12 @@ pub mod Beside
 pub mod Capped
 pub mod Distinct
 pub mod Earlier
+pub mod Exchanged
 pub mod First
 pub mod Gateways
 pub mod Groups
+pub mod MetRoutes
+pub mod MetVips
 pub mod Numbers
 pub mod SeenNames
 pub mod SeenTagged

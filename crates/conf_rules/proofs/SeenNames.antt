@@ -10,7 +10,7 @@ use Rattle.std.specs.declared.alloc.Global.{Global}
 use Rattle.std.proofs.lemmas.Map.Text.{btree_set_updates_text, is_eq-slice_cmp}
 use Rattle.conf_types.specs.Lists.{is_same}
 
-cond_or : (b a : Bool) → cond b true a ≡ (a || b)
+pub cond_or : (b a : Bool) → cond b true a ≡ (a || b)
 cond_or true true = refl
 cond_or true false = refl
 cond_or false true = refl

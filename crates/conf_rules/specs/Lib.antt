@@ -1,4 +1,6 @@
 pub mod Limits
+pub mod MetRoutes
+pub mod MetVips
 pub mod Names
 pub mod Places
 pub mod Ports

@@ -4,6 +4,8 @@
 mod edges;
 mod limits;
 mod members;
+mod met_routes;
+mod met_vips;
 mod names;
 mod places;
 mod ports;

@@ -1,47 +1,50 @@
 //! The VLANs that packets of a VLAN are routed to.
 
-ghost use Rattle.std.specs.Prelude.{◌≡◌, ◌<◌, ℕ, false, slice_index_or};
+ghost use Rattle.std.specs.Prelude.{◌≡◌, ◌==◌, ◌||◌, ◌<◌, ℕ, IfOk, OnOk, false, slice_index_or};
+ghost use Rattle.conf_types.specs.Lists.{is_among};
 ghost use Rattle.conf_rules.specs.Routing.{are_joined};
 
-use crate::vids::{see_all, seen_once};
+use crate::vids::{see_vid, seen_once};
 use conf_types::Router;
-use net_base::Vid;
+use net_base::{NoMemory, Vid};
+use std::alloc::Global;
 
-/// A VLAN, and a table of those in its routers and of itself.
-#[derive(Drop)]
-pub(crate) struct Joined<'a> {
-    routers: &'a [Router],
-    vid: Vid,
-    seen: [bool; 4096],
-    ghost right: { (n : ℕ) → n < 4096 → slice_index_or seen n false ≡ are_joined routers.now n vid },
+/// Adds an identifier that isn't listed; there is a table of those that are.
+fn list_vid(seen: &mut [bool; 4096], vids: &mut Vec<Vid>, vid: Vid) -> Result<(), NoMemory>
+    requires { (n : ℕ) → n < 4096 → slice_index_or seen.old n false ≡ is_among vids.old.items n }
+    ensures seen { OnOk result ((n : ℕ) → n < 4096 → slice_index_or seen.new n false ≡ is_among vids.new.items n) }
+    ensures vids { OnOk result ((n : ℕ) → is_among vids.new.items n ≡ (is_among vids.old.items n || vid == n)) }
+{
+    if see_vid(seen, vid) {
+        return Ok(());
+    }
+    vids.push(vid)?;
+    Ok(())
 }
 
-fn see_routed(routers: &[Router], vid: Vid) -> [bool; 4096]
-    ensures { (n : ℕ) → n < 4096 → slice_index_or result n false ≡ are_joined routers.now n vid }
+/// Adds those identifiers that aren't listed; there is a table of those that are.
+fn list_vids(seen: &mut [bool; 4096], vids: &mut Vec<Vid>, more: &[Vid]) -> Result<(), NoMemory>
+    requires { (n : ℕ) → n < 4096 → slice_index_or seen.old n false ≡ is_among vids.old.items n }
+    ensures seen { OnOk result ((n : ℕ) → n < 4096 → slice_index_or seen.new n false ≡ is_among vids.new.items n) }
+    ensures vids { OnOk result ((n : ℕ) → is_among vids.new.items n ≡ (is_among vids.old.items n || is_among more.now n)) }
+{
+    for vid in more {
+        list_vid(seen, vids, *vid)?;
+    }
+    Ok(())
+}
+
+/// The VLANs that packets of a VLAN are routed to by these routers, and the VLAN itself, each once.
+pub(crate) fn routed_vids(alloc: Global, routers: &[Router], vid: Vid) -> Result<Vec<Vid>, NoMemory>
+    ensures { IfOk result (λ vids. (n : ℕ) → is_among vids.items n ≡ are_joined routers.now n vid) }
 {
     let mut seen = seen_once(Some(vid));
+    let mut vids = Vec::new(alloc);
+    vids.push(vid)?;
     for router in routers {
         if router.has(vid) {
-            see_all(&mut seen, router.vlans.as_slice());
+            list_vids(&mut seen, &mut vids, router.vlans.as_slice())?;
         }
     }
-    seen
-}
-
-impl<'a> Joined<'a> {
-    /// The VLANs that packets of this one are routed to by these routers.
-    pub(crate) fn of(routers: &'a [Router], vid: Vid) -> Joined<'a>
-        ensures routers { result.routers.now ≡ routers.now }
-        ensures vid { result.vid ≡ vid }
-    {
-        let seen = see_routed(routers, vid);
-        Joined { routers, vid, seen }
-    }
-
-    /// Whether packets are routed between the two VLANs, or they are one.
-    pub(crate) fn has(&self, other: Vid) -> bool
-        ensures { result ≡ are_joined self.now.routers.now other self.now.vid }
-    {
-        self.seen[usize::from(other.get())]
-    }
+    Ok(vids)
 }

@@ -1,23 +1,28 @@
 //! The networks of VLANs between which packets are routed.
 
-ghost use Rattle.std.specs.Prelude.{◌≡◌, ◌&&◌, ◌<◌, ◌∷◌, ℕ, IfOk, codes, false, slice_index_or};
+ghost use Rattle.std.specs.Prelude.{◌≡◌, ◌<◌, ◌∷◌, ℕ, IfOk, None, codes, false, slice_index_or};
 ghost use Rattle.std.specs.List.{flat_map, list_any};
 ghost use Rattle.std.specs.Option.{option_copied};
 ghost use Rattle.conf_types.specs.Configuration.{vlan_with};
 ghost use Rattle.conf_types.specs.Lists.{is_among};
 ghost use Rattle.conf_types.specs.Networks.{is_held};
 ghost use Rattle.conf_types.specs.Routing.{router_with, vips_of};
+ghost use Rattle.conf_rules.specs.MetRoutes.{HasRoutes, led, led_behind};
+ghost use Rattle.conf_rules.specs.MetVips.{HasVips, met_vips};
 ghost use Rattle.conf_rules.specs.Places.{first, nth, under};
-ghost use Rattle.conf_rules.specs.Routing.{are_joined, are_routed, overlap, overlaps_earlier, overlapping_of_vlan, overlapping_vips, is_in_router, shared_of_router, shared_vlans, lies_in, route_site, leads_inside, wrong_route, wrong_routes_of, wrong_routes, is_same_route, repeats_earlier, repeated_of_vlan, repeated_routes};
+ghost use Rattle.conf_rules.specs.Routing.{are_routed, overlap, overlaps_earlier, overlapping_of_vlan, overlapping_vips, is_in_router, shared_of_router, shared_vlans, lies_in, route_site, leads_inside, wrong_route, wrong_routes_of, wrong_routes, repeats_earlier, repeated_of_vlan, repeated_routes};
 
+use crate::met_routes::{MetRoutes, has_route_of, meet_route};
+use crate::met_vips::{MetVips, meet_vips, met_vips};
 use crate::places::{Found, broken, nth, router_site, under};
-use crate::routed::Joined;
+use crate::routed::routed_vids;
 use crate::vids::{see_all, seen_once};
 use conf_resolve::{OrderedConf, PlacedVlan, Resolved};
 use conf_shape::{ConfCause, RawRouter};
 use conf_types::{Route, Router, Vlan};
 use net_base::{Ip4, Names, Net4, NoMemory, TryCopy, Vid};
 use std::alloc::Global;
+use std::collections::{HashMap, HashSet};
 
 fn holds(net: &Net4, ip: Ip4) -> bool
     ensures { result ≡ is_held net.now ip.0 }
@@ -42,39 +47,28 @@ fn overlaps_some(others: &[Net4], vip: &Net4) -> bool
     others.iter().any(|other| overlap(other, vip))
 }
 
-fn overlaps_joined(joined: &Joined, earlier: &[Vlan], vip: &Net4) -> bool
-    ensures { result ≡ list_any (λ w. are_joined joined.now.routers.now w.vid joined.now.vid && list_any (λ other. overlap other vip.now) w.vips) earlier.now }
+/// Whether a VIP overlaps one of these VLANs' that was met.
+fn overlaps_met(met: &MetVips, vids: &[Vid], vip: &Net4) -> bool
+    ensures { result ≡ list_any (λ n. list_any (λ other. overlap other vip.now) (met_vips met.now n)) vids.now }
 {
-    earlier.iter().any(|other| joined.has(other.vid) && overlaps_some(other.vips.as_slice(), vip))
-}
-
-fn overlaps_vlan(
-    conf: &Resolved,
-    joined: &Joined,
-    earlier: &[Vlan],
-    vlan: &Vlan,
-    vip: &Net4,
-) -> bool
-    requires routers { joined.now.routers.now ≡ conf.now.routers }
-    requires vid { joined.now.vid ≡ vlan.now.vid }
-    ensures { result ≡ list_any (λ w. are_routed conf.now w.vid vlan.now.vid && list_any (λ other. overlap other vip.now) w.vips) earlier.now }
-{
-    overlaps_joined(joined, earlier, vip)
+    vids.iter()
+        .any(|vid| overlaps_some(met_vips(met, *vid), vip))
 }
 
 fn overlaps_earlier(
     conf: &Resolved,
-    joined: &Joined,
+    met: &MetVips,
+    vids: &[Vid],
     earlier: &[Vlan],
     vlan: &Vlan,
     vips: &[Net4],
     vip: &Net4,
 ) -> bool
-    requires routers { joined.now.routers.now ≡ conf.now.routers }
-    requires vid { joined.now.vid ≡ vlan.now.vid }
+    requires met { HasVips met.now earlier.now }
+    requires vids { (n : ℕ) → is_among vids.now n ≡ are_routed conf.now n vlan.now.vid }
     ensures { result ≡ overlaps_earlier conf.now (earlier.now, vlan.now) (vips.now, vip.now) }
 {
-    overlaps_vlan(conf, joined, earlier, vlan, vip) || overlaps_some(vips, vip)
+    overlaps_met(met, vids, vip) || overlaps_some(vips, vip)
 }
 
 /// Where a VIP of a VLAN is written.
@@ -90,18 +84,21 @@ fn overlapping_of_vlan(
     alloc: Global,
     conf: &Resolved,
     placed: &PlacedVlan,
+    met: &MetVips,
     earlier: &[Vlan],
     vlan: &Vlan,
 ) -> Found
+    requires { HasVips met.now earlier.now }
     ensures { IfOk result (λ found. found ≡ first (overlapping_of_vlan conf.now (placed.now, (earlier.now, vlan.now)))) }
 {
     let vips = vlan.vips.as_slice();
     if vips.is_empty() {
         return Ok(None);
     }
-    let joined = Joined::of(conf.routers().as_slice(), vlan.vid);
+    let made = routed_vids(alloc, conf.routers().as_slice(), vlan.vid)?;
+    let vids = made.as_slice();
     for (i, vip) in vips.iter().enumerate() {
-        if overlaps_earlier(conf, &joined, earlier, vlan, &vips[..i], vip) {
+        if overlaps_earlier(conf, met, vids, earlier, vlan, &vips[..i], vip) {
             return broken(alloc, ConfCause::Conflict(12), vip_site(alloc, placed, i)?);
         }
     }
@@ -114,13 +111,15 @@ pub(crate) fn overlapping_vips(alloc: Global, ordered: &OrderedConf, conf: &Reso
     ensures { IfOk result (λ found. found ≡ first (overlapping_vips ordered.now conf.now)) }
 {
     let vlans = conf.vlans().as_slice();
+    let mut met = HashMap::new(alloc);
     for (i, placed) in ordered.vlans.as_slice().iter().enumerate() {
         let Some(vlan) = vlans.get(i) else {
             return Ok(None);
         };
-        if let Some(found) = overlapping_of_vlan(alloc, conf, placed, &vlans[..i], vlan)? {
+        if let Some(found) = overlapping_of_vlan(alloc, conf, placed, &met, &vlans[..i], vlan)? {
             return Ok(Some(found));
         }
+        meet_vips(alloc, &mut met, vlan.vid, vlan.vips.as_slice())?;
     }
     Ok(None)
 }
@@ -293,51 +292,20 @@ pub(crate) fn wrong_routes(alloc: Global, ordered: &OrderedConf, conf: &Resolved
     Ok(None)
 }
 
-fn is_same_route(a: &Route, b: &Route) -> bool
-    ensures { result ≡ is_same_route a.now b.now }
-{
-    a.dst.ip.0 == b.dst.ip.0 && a.dst.len == b.dst.len
-}
-
-fn has_route(routes: &[Route], route: &Route) -> bool
-    ensures { result ≡ list_any (λ other. is_same_route other route.now) routes.now }
-{
-    routes.iter().any(|other| is_same_route(other, route))
-}
-
-fn repeats_joined(joined: &Joined, earlier: &[Vlan], route: &Route) -> bool
-    ensures { result ≡ list_any (λ w. are_joined joined.now.routers.now w.vid joined.now.vid && list_any (λ other. is_same_route other route.now) w.routes) earlier.now }
-{
-    earlier.iter().any(|other| joined.has(other.vid) && has_route(other.routes.as_slice(), route))
-}
-
-fn repeats_vlan(
-    conf: &Resolved,
-    joined: &Joined,
-    earlier: &[Vlan],
-    vlan: &Vlan,
-    route: &Route,
-) -> bool
-    requires routers { joined.now.routers.now ≡ conf.now.routers }
-    requires vid { joined.now.vid ≡ vlan.now.vid }
-    ensures { result ≡ list_any (λ w. are_routed conf.now w.vid vlan.now.vid && list_any (λ other. is_same_route other route.now) w.routes) earlier.now }
-{
-    repeats_joined(joined, earlier, route)
-}
-
 fn repeats_earlier(
     conf: &Resolved,
-    joined: &Joined,
+    met: &MetRoutes,
+    vids: &[Vid],
     earlier: &[Vlan],
     vlan: &Vlan,
     routes: &[Route],
     route: &Route,
 ) -> bool
-    requires routers { joined.now.routers.now ≡ conf.now.routers }
-    requires vid { joined.now.vid ≡ vlan.now.vid }
+    requires met { HasRoutes met.now (led_behind earlier.now vlan.now.vid routes.now) }
+    requires vids { (n : ℕ) → is_among vids.now n ≡ are_routed conf.now n vlan.now.vid }
     ensures { result ≡ repeats_earlier conf.now (earlier.now, vlan.now) (routes.now, route.now) }
 {
-    repeats_vlan(conf, joined, earlier, vlan, route) || has_route(routes, route)
+    has_route_of(met, vids, route)
 }
 
 #[tactic(auto, using(crate::proofs::First::first_rules))]
@@ -345,21 +313,26 @@ fn repeated_of_vlan(
     alloc: Global,
     conf: &Resolved,
     placed: &PlacedVlan,
+    met: &mut MetRoutes,
     earlier: &[Vlan],
     vlan: &Vlan,
 ) -> Found
-    ensures { IfOk result (λ found. found ≡ first (repeated_of_vlan conf.now (placed.now, (earlier.now, vlan.now)))) }
+    requires { HasRoutes met.old (led earlier.now) }
+    ensures found { IfOk result (λ found. found ≡ first (repeated_of_vlan conf.now (placed.now, (earlier.now, vlan.now)))) }
+    ensures met { IfOk result (λ found. found ≡ None → HasRoutes met.new (led_behind earlier.now vlan.now.vid vlan.now.routes)) }
 {
     let routes = vlan.routes.as_slice();
     if routes.is_empty() {
         return Ok(None);
     }
-    let joined = Joined::of(conf.routers().as_slice(), vlan.vid);
+    let made = routed_vids(alloc, conf.routers().as_slice(), vlan.vid)?;
+    let vids = made.as_slice();
     for (i, route) in routes.iter().enumerate() {
-        if repeats_earlier(conf, &joined, earlier, vlan, &routes[..i], route) {
+        if repeats_earlier(conf, met, vids, earlier, vlan, &routes[..i], route) {
             let site = route_site(alloc, placed, i, "ip_dst")?;
             return broken(alloc, ConfCause::Duplicate, site);
         }
+        meet_route(met, vlan.vid, route)?;
     }
     Ok(None)
 }
@@ -370,11 +343,12 @@ pub(crate) fn repeated_routes(alloc: Global, ordered: &OrderedConf, conf: &Resol
     ensures { IfOk result (λ found. found ≡ first (repeated_routes ordered.now conf.now)) }
 {
     let vlans = conf.vlans().as_slice();
+    let mut met = HashSet::new(alloc);
     for (i, placed) in ordered.vlans.as_slice().iter().enumerate() {
         let Some(vlan) = vlans.get(i) else {
             return Ok(None);
         };
-        if let Some(found) = repeated_of_vlan(alloc, conf, placed, &vlans[..i], vlan)? {
+        if let Some(found) = repeated_of_vlan(alloc, conf, placed, &mut met, &vlans[..i], vlan)? {
             return Ok(Some(found));
         }
     }

@@ -1,8 +1,0 @@
-use Rattle.std.proofs.Common.{◌≡◌, ◌<◌, ℕ, false, slice_index_or, take}
-use Rattle.conf_rules.specs.Routing.{are_joined}
-use Rattle.conf_rules.proofs.routed.see_routed.Given as goal
-
--- those of the routers so far are seen
-abbrev pub invariant-loop-router : goal.invariant-loop-router
-invariant-loop-router l =
-    (n : ℕ) → n < 4096 → slice_index_or l.seen n false ≡ are_joined (take l.router-index l.routers) n l.vid
