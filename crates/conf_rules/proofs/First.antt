@@ -55,7 +55,7 @@ zip-nil [] ys e = refl
 zip-nil (x ∷ xs) [] e = refl
 zip-nil (x ∷ xs) (y ∷ ys) e = cc
 
-drop-past : {A : Type 0} (xs : List A) (i : ℕ) → length xs ≤ i → drop i xs ≡ []
+pub drop-past : {A : Type 0} (xs : List A) (i : ℕ) → length xs ≤ i → drop i xs ≡ []
 drop-past [] i h = drop-nil i
 drop-past (x ∷ xs) zero h = absurd (omega arith)
 drop-past (x ∷ xs) (suc i) h = drop-past xs i (omega arith)

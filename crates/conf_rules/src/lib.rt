@@ -7,6 +7,7 @@ mod members;
 mod met_routes;
 mod met_vips;
 mod names;
+mod numbered;
 mod places;
 mod ports;
 mod routed;

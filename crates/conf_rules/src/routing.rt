@@ -3,7 +3,6 @@
 ghost use Rattle.std.specs.Prelude.{◌≡◌, ◌<◌, ◌∷◌, ℕ, IfOk, None, codes, false, slice_index_or};
 ghost use Rattle.std.specs.List.{flat_map, list_any};
 ghost use Rattle.std.specs.Option.{option_copied};
-ghost use Rattle.conf_types.specs.Configuration.{vlan_with};
 ghost use Rattle.conf_types.specs.Lists.{is_among};
 ghost use Rattle.conf_types.specs.Networks.{is_held};
 ghost use Rattle.conf_types.specs.Routing.{router_with, vips_of};
@@ -14,6 +13,7 @@ ghost use Rattle.conf_rules.specs.Routing.{are_routed, overlap, overlaps_earlier
 
 use crate::met_routes::{MetRoutes, has_route_of, meet_route};
 use crate::met_vips::{MetVips, meet_vips, met_vips};
+use crate::numbered::Numbered;
 use crate::places::{Found, broken, nth, router_site, under};
 use crate::routed::routed_vids;
 use crate::vids::{see_all, seen_once};
@@ -194,41 +194,38 @@ fn lies_in_some(dst: &Net4, vips: &[Net4]) -> bool
     vips.iter().any(|vip| lies_in(dst, vip))
 }
 
-pub(crate) fn find_vlan(vlans: &[Vlan], vid: Vid) -> Option<&Vlan>
-    ensures { option_copied result ≡ vlan_with vlans.now vid }
-{
-    vlans.iter().find(|vlan| vlan.vid.get() == vid.get())
-}
-
 pub(crate) fn find_router(routers: &[Router], vid: Vid) -> Option<&Router>
     ensures { option_copied result ≡ router_with routers.now vid }
 {
     routers.iter().find(|router| router.has(vid))
 }
 
-fn leads_into(conf: &Resolved, vid: Vid, dst: &Net4) -> bool
+fn leads_into(conf: &Resolved, numbered: &Numbered, vid: Vid, dst: &Net4) -> bool
+    requires { numbered.now.vlans.now ≡ conf.now.vlans }
     ensures { result ≡ list_any (lies_in dst.now) (vips_of conf.now vid) }
 {
-    match find_vlan(conf.vlans().as_slice(), vid) {
+    match numbered.find(vid) {
         Some(vlan) => lies_in_some(dst, vlan.vips.as_slice()),
         None => false,
     }
 }
 
-fn leads_into_some(conf: &Resolved, vids: &[Vid], dst: &Net4) -> bool
+fn leads_into_some(conf: &Resolved, numbered: &Numbered, vids: &[Vid], dst: &Net4) -> bool
+    requires { numbered.now.vlans.now ≡ conf.now.vlans }
     ensures { result ≡ list_any (λ vid. list_any (lies_in dst.now) (vips_of conf.now vid)) vids.now }
 {
-    vids.iter().any(|vid| leads_into(conf, *vid, dst))
+    vids.iter().any(|vid| leads_into(conf, numbered, *vid, dst))
 }
 
 /// Whether a route leads into a VIP network that packets of the VLAN are routed to.
 #[tactic(auto, using(crate::proofs::First::any_rules))]
-fn leads_inside(conf: &Resolved, vid: Vid, dst: &Net4) -> bool
+fn leads_inside(conf: &Resolved, numbered: &Numbered, vid: Vid, dst: &Net4) -> bool
+    requires { numbered.now.vlans.now ≡ conf.now.vlans }
     ensures { result ≡ leads_inside conf.now vid dst.now }
 {
     match find_router(conf.routers().as_slice(), vid) {
-        Some(router) => leads_into_some(conf, router.vlans.as_slice(), dst),
-        None => leads_into_some(conf, &[vid], dst),
+        Some(router) => leads_into_some(conf, numbered, router.vlans.as_slice(), dst),
+        None => leads_into_some(conf, numbered, &[vid], dst),
     }
 }
 
@@ -244,14 +241,16 @@ fn route_site(alloc: Global, placed: &PlacedVlan, at: usize, key: &str) -> Resul
 fn wrong_route(
     alloc: Global,
     conf: &Resolved,
+    numbered: &Numbered,
     placed: &PlacedVlan,
     vlan: &Vlan,
     at: usize,
     route: &Route,
 ) -> Found
+    requires { numbered.now.vlans.now ≡ conf.now.vlans }
     ensures { IfOk result (λ found. found ≡ first (wrong_route conf.now vlan.now (nth (under placed.now.site (codes "routes")) at, route.now))) }
 {
-    if leads_inside(conf, vlan.vid, &route.dst) {
+    if leads_inside(conf, numbered, vlan.vid, &route.dst) {
         let site = route_site(alloc, placed, at, "ip_dst")?;
         return broken(alloc, ConfCause::Conflict(14), site);
     }
@@ -263,11 +262,18 @@ fn wrong_route(
 }
 
 #[tactic(auto, using(crate::proofs::First::first_rules))]
-fn wrong_routes_of(alloc: Global, conf: &Resolved, placed: &PlacedVlan, vlan: &Vlan) -> Found
+fn wrong_routes_of(
+    alloc: Global,
+    conf: &Resolved,
+    numbered: &Numbered,
+    placed: &PlacedVlan,
+    vlan: &Vlan,
+) -> Found
+    requires { numbered.now.vlans.now ≡ conf.now.vlans }
     ensures { IfOk result (λ found. found ≡ first (wrong_routes_of conf.now (placed.now, vlan.now))) }
 {
     for (i, route) in vlan.routes.as_slice().iter().enumerate() {
-        if let Some(found) = wrong_route(alloc, conf, placed, vlan, i, route)? {
+        if let Some(found) = wrong_route(alloc, conf, numbered, placed, vlan, i, route)? {
             return Ok(Some(found));
         }
     }
@@ -281,11 +287,12 @@ pub(crate) fn wrong_routes(alloc: Global, ordered: &OrderedConf, conf: &Resolved
     ensures { IfOk result (λ found. found ≡ first (wrong_routes ordered.now conf.now)) }
 {
     let vlans = conf.vlans().as_slice();
+    let numbered = Numbered::of(vlans);
     for (i, placed) in ordered.vlans.as_slice().iter().enumerate() {
         let Some(vlan) = vlans.get(i) else {
             return Ok(None);
         };
-        if let Some(found) = wrong_routes_of(alloc, conf, placed, vlan)? {
+        if let Some(found) = wrong_routes_of(alloc, conf, &numbered, placed, vlan)? {
             return Ok(Some(found));
         }
     }

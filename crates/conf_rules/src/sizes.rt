@@ -11,7 +11,8 @@ ghost use Rattle.conf_rules.specs.Sizes.{named_rules, cost, vlan_cost, members_a
 
 use crate::edges::Edges;
 use crate::members::Counted;
-use crate::routing::{find_router, find_vlan};
+use crate::numbered::Numbered;
+use crate::routing::find_router;
 use crate::unknown::find_acl;
 use conf_resolve::Resolved;
 use conf_types::{Dp, Port, PortRef, Route, Rule, Vlan};
@@ -251,75 +252,82 @@ fn add_routes(conf: &Resolved, cap: usize) -> usize
         .fold(0, |sum, vlan| add(cap, sum, vlan.routes.len()))
 }
 
-fn vips_of(conf: &Resolved, vid: Vid) -> usize
+fn vips_of(conf: &Resolved, numbered: &Numbered, vid: Vid) -> usize
+    requires { numbered.now.vlans.now ≡ conf.now.vlans }
     ensures { result ≡ length (vips_of conf.now vid) }
 {
-    match find_vlan(conf.vlans().as_slice(), vid) {
+    match numbered.find(vid) {
         Some(vlan) => vlan.vips.len(),
         None => 0,
     }
 }
 
-fn routes_of(conf: &Resolved, vid: Vid) -> usize
+fn routes_of(conf: &Resolved, numbered: &Numbered, vid: Vid) -> usize
+    requires { numbered.now.vlans.now ≡ conf.now.vlans }
     ensures { result ≡ length (routes_of conf.now vid) }
 {
-    match find_vlan(conf.vlans().as_slice(), vid) {
+    match numbered.find(vid) {
         Some(vlan) => vlan.routes.len(),
         None => 0,
     }
 }
 
-fn add_vips(conf: &Resolved, cap: usize, vids: &[Vid]) -> usize
+fn add_vips(conf: &Resolved, numbered: &Numbered, cap: usize, vids: &[Vid]) -> usize
+    requires { numbered.now.vlans.now ≡ conf.now.vlans }
     ensures { result ≡ capped cap (λ vid. length (vips_of conf.now vid)) vids.now }
 {
     vids.iter()
-        .fold(0, |sum, vid| add(cap, sum, vips_of(conf, *vid)))
+        .fold(0, |sum, vid| add(cap, sum, vips_of(conf, numbered, *vid)))
 }
 
-fn add_routes_of(conf: &Resolved, cap: usize, vids: &[Vid]) -> usize
+fn add_routes_of(conf: &Resolved, numbered: &Numbered, cap: usize, vids: &[Vid]) -> usize
+    requires { numbered.now.vlans.now ≡ conf.now.vlans }
     ensures { result ≡ capped cap (λ vid. length (routes_of conf.now vid)) vids.now }
 {
-    vids.iter()
-        .fold(0, |sum, vid| add(cap, sum, routes_of(conf, *vid)))
+    vids.iter().fold(0, |sum, vid| add(cap, sum, routes_of(conf, numbered, *vid)))
 }
 
-fn items_of(conf: &Resolved, cap: usize, vids: &[Vid]) -> usize
+fn items_of(conf: &Resolved, numbered: &Numbered, cap: usize, vids: &[Vid]) -> usize
+    requires { numbered.now.vlans.now ≡ conf.now.vlans }
     ensures { result ≡ min cap (length (vips_in conf.now vids.now) + length (routes_in conf.now vids.now)) }
 {
     add(
         cap,
-        add_vips(conf, cap, vids),
-        add_routes_of(conf, cap, vids),
+        add_vips(conf, numbered, cap, vids),
+        add_routes_of(conf, numbered, cap, vids),
     )
 }
 
 /// The VIPs and routes that packets of a VLAN may take.
-fn route_items(conf: &Resolved, cap: usize, vlan: &Vlan) -> usize
+fn route_items(conf: &Resolved, numbered: &Numbered, cap: usize, vlan: &Vlan) -> usize
+    requires { numbered.now.vlans.now ≡ conf.now.vlans }
     ensures { result ≡ min cap (route_items conf.now vlan.now) }
 {
     if vlan.vips.is_empty() {
         return 0;
     }
     match find_router(conf.routers().as_slice(), vlan.vid) {
-        Some(router) => items_of(conf, cap, router.vlans.as_slice()),
-        None => items_of(conf, cap, &[vlan.vid]),
+        Some(router) => items_of(conf, numbered, cap, router.vlans.as_slice()),
+        None => items_of(conf, numbered, cap, &[vlan.vid]),
     }
 }
 
-fn add_route_items(conf: &Resolved, cap: usize) -> usize
+fn add_route_items(conf: &Resolved, numbered: &Numbered, cap: usize) -> usize
+    requires { numbered.now.vlans.now ≡ conf.now.vlans }
     ensures { result ≡ capped cap (λ v. min cap (route_items conf.now v)) conf.now.vlans }
 {
-    conf.vlans()
-        .as_slice()
-        .iter()
-        .fold(0, |sum, vlan| add(cap, sum, route_items(conf, cap, vlan)))
+    conf.vlans().as_slice().iter().fold(
+        0,
+        |sum, vlan| add(cap, sum, route_items(conf, numbered, cap, vlan)),
+    )
 }
 
 /// The VIPs and routes that packets of each VLAN may take, VLAN by VLAN.
 pub(crate) fn all_route_items(conf: &Resolved, cap: usize) -> usize
     ensures { result ≡ min cap (sum_by (route_items conf.now) conf.now.vlans) }
 {
-    add_route_items(conf, cap)
+    let numbered = Numbered::of(conf.vlans().as_slice());
+    add_route_items(conf, &numbered, cap)
 }
 
 fn has_gateway(routes: &[Route], ip: Ip4) -> bool
