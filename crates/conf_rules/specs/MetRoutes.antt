@@ -17,13 +17,13 @@ destination_of vid route = record { vid = vid; ip = route.dst.ip; len = route.ds
 abbrev pub has_route : {S : Type 0} → HashSet Destination S → ℕ → Route → Bool
 has_route met vid route = contains is_same_destination met (destination_of vid route)
 
--- some VLAN with the identifier has such a route
-abbrev pub led : List Vlan → ℕ → Route → Bool
-led vlans n route = list_any (λ w. w.vid == n && list_any (λ other. is_same_route other route) w.routes) vlans
+-- a VLAN with the identifier has a route to the same network
+abbrev pub has_same_route : List Vlan → ℕ → Route → Bool
+has_same_route vlans n route = list_any (λ w. w.vid == n && list_any (λ other. is_same_route other route) w.routes) vlans
 
--- or the routes of one more VLAN
-abbrev pub led_behind : List Vlan → ℕ → List Route → ℕ → Route → Bool
-led_behind vlans vid routes n route = led vlans n route || (vid == n && list_any (λ other. is_same_route other route) routes)
+-- or one of these routes of the next VLAN is such
+abbrev pub has_same_route_so_far : List Vlan → ℕ → List Route → ℕ → Route → Bool
+has_same_route_so_far vlans vid routes n route = has_same_route vlans n route || (vid == n && list_any (λ other. is_same_route other route) routes)
 
 -- the set has these routes, by VLAN and network, and no others
 abbrev pub HasRoutes : {S : Type 0} → HashSet Destination S → (ℕ → Route → Bool) → Type 0

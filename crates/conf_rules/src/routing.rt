@@ -6,7 +6,7 @@ ghost use Rattle.std.specs.Option.{option_copied};
 ghost use Rattle.conf_types.specs.Lists.{is_among};
 ghost use Rattle.conf_types.specs.Networks.{is_held};
 ghost use Rattle.conf_types.specs.Routing.{router_with, vips_of};
-ghost use Rattle.conf_rules.specs.MetRoutes.{HasRoutes, led, led_behind};
+ghost use Rattle.conf_rules.specs.MetRoutes.{HasRoutes, has_same_route, has_same_route_so_far};
 ghost use Rattle.conf_rules.specs.MetVips.{HasVips, met_vips};
 ghost use Rattle.conf_rules.specs.Places.{first, nth, under};
 ghost use Rattle.conf_rules.specs.Routing.{are_routed, overlap, overlaps_earlier, overlapping_of_vlan, overlapping_vips, is_in_router, shared_of_router, shared_vlans, lies_in, route_site, leads_inside, wrong_route, wrong_routes_of, wrong_routes, repeats_earlier, repeated_of_vlan, repeated_routes};
@@ -308,7 +308,7 @@ fn repeats_earlier(
     routes: &[Route],
     route: &Route,
 ) -> bool
-    requires met { HasRoutes met.now (led_behind earlier.now vlan.now.vid routes.now) }
+    requires met { HasRoutes met.now (has_same_route_so_far earlier.now vlan.now.vid routes.now) }
     requires vids { (n : ℕ) → is_among vids.now n ≡ are_routed conf.now n vlan.now.vid }
     ensures { result ≡ repeats_earlier conf.now (earlier.now, vlan.now) (routes.now, route.now) }
 {
@@ -324,9 +324,9 @@ fn repeated_of_vlan(
     earlier: &[Vlan],
     vlan: &Vlan,
 ) -> Found
-    requires { HasRoutes met.old (led earlier.now) }
+    requires { HasRoutes met.old (has_same_route earlier.now) }
     ensures found { IfOk result (λ found. found ≡ first (repeated_of_vlan conf.now (placed.now, (earlier.now, vlan.now)))) }
-    ensures met { IfOk result (λ found. found ≡ None → HasRoutes met.new (led_behind earlier.now vlan.now.vid vlan.now.routes)) }
+    ensures met { IfOk result (λ found. found ≡ None → HasRoutes met.new (has_same_route_so_far earlier.now vlan.now.vid vlan.now.routes)) }
 {
     let routes = vlan.routes.as_slice();
     if routes.is_empty() {

@@ -1,5 +1,5 @@
 use Rattle.std.proofs.Common.{◌≡◌, drop, take, codes, [], ◌∷◌}
-use Rattle.conf_rules.specs.MetRoutes.{HasRoutes, led_behind}
+use Rattle.conf_rules.specs.MetRoutes.{HasRoutes, has_same_route_so_far}
 use Rattle.conf_rules.specs.Places.{first, nth, under, with_earlier, each_at}
 use Rattle.conf_rules.specs.Routing.{repeated_route}
 use Rattle.std.specs.List.{flat_map, enumerate_from}
@@ -9,4 +9,4 @@ use Rattle.conf_rules.proofs.routing.repeated_of_vlan.Given as goal
 abbrev pub invariant-loop-i : goal.invariant-loop-i
 invariant-loop-i l =
     (first (flat_map (repeated_route l.conf (l.earlier, l.vlan)) (flat_map (λ item. (nth (under l.placed.site (codes "routes")) item.0, item.1) ∷ []) (enumerate_from l.i (with_earlier (take l.i l.vlan.routes) (drop l.i l.vlan.routes))))) ≡ first (flat_map (repeated_route l.conf (l.earlier, l.vlan)) (each_at (under l.placed.site (codes "routes")) (with_earlier [] l.vlan.routes))))
-    × HasRoutes l.met (led_behind l.earlier l.vlan.vid (take l.i l.vlan.routes))
+    × HasRoutes l.met (has_same_route_so_far l.earlier l.vlan.vid (take l.i l.vlan.routes))
