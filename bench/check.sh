@@ -1,8 +1,8 @@
 #!/usr/bin/env bash
 # Measures the check of a configuration at its limits: 64 datapaths with 256 interfaces each, 1,024 VLANs, 8,192
-# pairs of VLAN and port and 20,000 ACL entries a datapath, in nine files that include each other. A program of this
-# script's own calls the checkout's crates on the files in memory. Prints the milliseconds of each part, at an
-# eighth of the datapaths and at all of them; checks nothing.
+# pairs of VLAN and port and 20,000 ACL entries a datapath, in 64 files that the main one includes. A program of this
+# script's own calls the checkout's crates on the files in memory. Prints the microseconds of each part, with VLANs
+# that interfaces name by numbers and by names, at an eighth of the datapaths and at all of them; checks nothing.
 # Usage: bench/check.sh
 set -eu
 top=$(cd "$(dirname "$0")/.." && pwd)
@@ -93,24 +93,27 @@ program=$work/crates/check_bench/out/check_bench
 
 cd "$work"
 python3 - <<'FILES'
-def interface(port):
-    tags = ", ".join(str(1 + (port * 32 + k) % 1024) for k in range(31))
+def interface(port, named):
+    tags = ", ".join(named(1 + (port * 32 + k) % 1024) for k in range(31))
     acl = ", acl_in: a" if port <= 19 else ""
-    return f"{port}: {{native_vlan: {1 + (port * 32 + 31) % 1024}, tagged_vlans: [{tags}]{acl}}}"
+    return f"{port}: {{native_vlan: {named(1 + (port * 32 + 31) % 1024)}, tagged_vlans: [{tags}]{acl}}}"
 
-ports = "\n".join("            " + interface(port) for port in range(1, 257))
-parts = [f"part{place}.yaml" for place in range(64)]
-for place, name in enumerate(parts):
-    with open(name, "w") as out:
-        print(f"dps:\n    s{place}:\n        dp_id: {place}\n        interfaces:\n{ports}", file=out)
 rules = "\n".join(f"        - rule: {{dl_type: 0x800, nw_proto: 6, tcp_dst: {k}, actions: {{allow: 1}}}}" for k in range(1000))
 vlans = "\n".join(f"    v{vid}: {{vid: {vid}}}" for vid in range(1, 1025))
-for count, name in ((8, "few.yaml"), (64, "all.yaml")):
-    with open(name, "w") as out:
-        print(f"include: [{', '.join(parts[:count])}]\nacls:\n    a:\n{rules}\nvlans:\n{vlans}", file=out)
+for kind, named in (("number", str), ("name", lambda vid: f"v{vid}")):
+    ports = "\n".join("            " + interface(port, named) for port in range(1, 257))
+    parts = [f"{kind}{place}.yaml" for place in range(64)]
+    for place, name in enumerate(parts):
+        with open(name, "w") as out:
+            print(f"dps:\n    s{place}:\n        dp_id: {place}\n        interfaces:\n{ports}", file=out)
+    for count, size in ((8, "few"), (64, "all")):
+        with open(f"{kind}-{size}.yaml", "w") as out:
+            print(f"include: [{', '.join(parts[:count])}]\nacls:\n    a:\n{rules}\nvlans:\n{vlans}", file=out)
 FILES
 grep -m 1 'model name' /proc/cpuinfo | sed 's/^.*: /processor: /'
-for name in few all; do
-  cp "$name.yaml" main.yaml
-  "$program" main.yaml part?.yaml part??.yaml | sed "s/^/$name: /"
+for kind in number name; do
+  for size in few all; do
+    cp "$kind-$size.yaml" main.yaml
+    "$program" main.yaml "$kind"?.yaml "$kind"??.yaml | sed "s/^/VLANs by $kind, $size: /"
+  done
 done
