@@ -7,6 +7,7 @@ pub mod Lows
 pub mod Numbered
 pub mod Openings
 pub mod PacketBytes
+pub mod PacketSteps
 pub mod PlainSteps
 pub mod SettleFits
 pub mod Settles

@@ -1,34 +1,22 @@
 -- What is done in a turn, step by step: what each single step keeps of the connections and of what was said, all of it keeps.
-use Rattle.std.proofs.Common.{◌≡◌, ℕ, zero, suc, ◌==◌, ◌&&◌, ◌++◌, Bool, true, false, codes, Option, Some, None, List, [], ◌∷◌, Result, Ok, Err, length, map, is_some, refl, sym, subst, ◌∙◌, if◌then◌else◌}
+use Rattle.std.proofs.Common.{◌≡◌, ℕ, zero, suc, ◌==◌, ◌++◌, Bool, true, false, codes, Option, Some, None, List, [], ◌∷◌, Result, Ok, Err, length, map, is_some, refl, sym, subst, ◌∙◌, if◌then◌else◌}
 use Rattle.std.specs.List.{find, list_any}
 use Rattle.std.specs.Option.{option_map_or}
-use Rattle.net_base.specs.declared.address.Ip4.{Ip4}
-use Rattle.net_base.specs.declared.address.Mac.{Mac}
 use Rattle.net_base.specs.declared.numbers.DpId.{DpId}
 use Rattle.of_match.specs.declared.entry.Command.{Command}
 use Rattle.of_match.specs.declared.entry.Command.TheVariants.{Add, DeleteAll, DeleteStrict}
 use Rattle.of_match.specs.declared.entry.Entry.{Entry}
-use Rattle.of_match.specs.InPort.{in_port}
-use Rattle.conf_types.specs.declared.state.HostRec.{HostRec}
-use Rattle.conf_types.specs.declared.vlan.Vlan.{Vlan}
-use Rattle.conf_types.specs.Configuration.{Configuration, vlan_with}
+use Rattle.conf_types.specs.Configuration.{Configuration}
 use Rattle.conf_types.specs.Groups.{group_of}
-use Rattle.conf_types.specs.Links.{is_up}
-use Rattle.conf_types.specs.State.{is_running}
-use Rattle.host_learn.specs.Learning.{learned}
 use Rattle.of13_codec.specs.declared.message.Message.{Message}
 use Rattle.of13_codec.specs.declared.message.Message.TheVariants as messages
-use Rattle.of13_codec.specs.declared.packet_in.PacketIn.{PacketIn}
-use Rattle.pkt_view.specs.Frame.{FrameParts, parts}
 use Rattle.plan_difference.specs.Difference.{difference}
 use Rattle.flow_messages.specs.Messages.{command_message, delete_all}
 use Rattle.neighbour_resolve.specs.declared.neighbour.Due.{Due}
 use Rattle.neighbour_resolve.specs.declared.neighbour.Due.TheVariants.{Ask, Gone}
 use Rattle.neighbour_resolve.specs.Answers.{answer}
 use Rattle.neighbour_resolve.specs.Asks.{AskOn, asks, in_order}
-use Rattle.neighbour_resolve.specs.Counted.{counted_vid}
 use Rattle.neighbour_resolve.specs.Due.{said}
-use Rattle.neighbour_resolve.specs.Hearing.{heard_sender}
 use Rattle.switch_session.specs.declared.closing.Closing.{Closing}
 use Rattle.switch_session.specs.declared.closing.Closing.TheVariants.{BadFrame, Replaced, Silent, UnknownDp, WrongVersion}
 use Rattle.switch_session.specs.declared.quiet.Quiet.{Quiet}
@@ -46,14 +34,14 @@ use Rattle.ctl_world.specs.Ends.{close, end_line, forget_lost}
 use Rattle.ctl_world.specs.Frames.{front, with_read}
 use Rattle.ctl_world.specs.Saying.{ask, packet_out, say, say_by}
 use Rattle.ctl_world.specs.TablesSaid.{is_hello}
-use Rattle.ctl_world.specs.World.{World, running, ups}
-use Rattle.ctl_packets.specs.Packets.{destination, glean, glean_at, glean_in, glean_to, hear as hear_packet, hear_from, is_for_gateway, is_resolved, learn, network_vlan, outgoing, packet_at, packet_by, packet_in, packet_of_table, reply, want}
+use Rattle.ctl_world.specs.World.{World, running}
 use Rattle.ctl_settle.specs.Settling.{ask_all, ask_due, ask_each, ask_on, batch, batch_on, batches, say_batch, say_due, say_each, settle, take_due, wanted}
 use Rattle.ctl_core.specs.Hearing.{begin, echo, follow, hear_on, heard_in, introduce, packet, read, replace, take_dp, turn_away, unfit, unread, want_gateways, want_in, wipe}
 use Rattle.ctl_core.specs.Reloading.{close_each, close_of, reload, renew, vanished, want_all, want_each}
 use Rattle.ctl_core.specs.Turns.{feed, look, look_each, look_on, pass, show, stir}
 use Rattle.story_laws.specs.Sayable.{is_answer}
 use Rattle.story_laws.proofs.Numbered.{has_it}
+use Rattle.story_laws.proofs.PacketSteps.{packet_kept}
 use Rattle.story_laws.proofs.Openings.{change_open, found_open, front_open}
 
 -- ---- single steps
@@ -125,57 +113,8 @@ module _ (J : List Conn → List Said → Type 0) (single : Steps J) where
 
   -- ---- packets
 
-  learn_stays : (dp : DpId) (port vid : ℕ) (mac : Mac) (w : World) → Stays w → Stays (learn dp port vid mac w)
-  learn_stays dp port vid mac w stays =
-      let heard : HostRec = record { dp = dp; port = port; vid = vid; mac = mac; learned = w.moment } in
-      either (is_up (ups w) dp port) (record w { hosts = learned w.conf w.hosts heard }) w stays stays
-
-  glean_in_stays : (group : DpId) (ip : Ip4) (w : World) (vid : ℕ) → Stays w → Stays (glean_in group ip w vid)
-  glean_in_stays group ip w vid stays = either (is_resolved w.neighbours.neighbours group vid ip.0) w (want group vid ip w) stays stays
-
-  glean_to_stays : (group : DpId) (vid : ℕ) (ip : Ip4) (w : World) → Stays w → Stays (glean_to group vid ip w)
-  glean_to_stays group vid ip w stays = with_any (glean_in group ip w) (network_vlan w.conf vid ip.0) w (λ v. glean_in_stays group ip w v stays) stays
-
-  glean_at_stays : (dp : DpId) (frame : FrameParts) (w : World) (v : Vlan) → Stays w → Stays (glean_at dp frame w v)
-  glean_at_stays dp frame w v stays =
-      let to : Ip4 → World = λ ip. glean_to (group_of w.conf dp) v.vid ip w in
-      either (is_for_gateway v frame) (option_map_or to (destination frame.upper) w) w
-      (with_any to (destination frame.upper) w (λ ip. glean_to_stays (group_of w.conf dp) v.vid ip w stays) stays) stays
-
-  glean_stays : (dp : DpId) (vid : ℕ) (frame : FrameParts) (w : World) → Stays w → Stays (glean dp vid frame w)
-  glean_stays dp vid frame w stays = with_any (glean_at dp frame w) (vlan_with w.conf.vlans vid) w (λ v. glean_at_stays dp frame w v stays) stays
-
-  hear_stays : (dp : DpId) (vid : ℕ) (frame : FrameParts) (w : World) → Stays w → Stays (hear_packet dp vid frame w)
-  hear_stays dp vid frame w stays = with_any (hear_from dp vid w) (heard_sender w.conf vid frame) w (λ s. stays) stays
-
-  reply_stays : (number : ℕ) (dp : DpId) (port vid : ℕ) (frame : FrameParts) (w : World) → Stays w → Stays (reply number dp port vid frame w)
-  reply_stays number dp port vid frame w stays =
-      with_any (λ out. say number (packet_out out) w) (outgoing w.conf dp port vid (answer w.conf dp port frame)) w (λ out. said_stays number (packet_out out) (plain refl refl) w stays) stays
-
-  table_stays : (table number : ℕ) (dp : DpId) (port vid : ℕ) (frame : FrameParts) (w : World) → Stays w → Stays (packet_of_table table number dp port vid frame w)
-  table_stays table number dp port vid frame w stays =
-      let learned : World = learn dp port vid frame.src w in
-      let gleaned : World = glean dp vid frame w in
-      let answered : World = reply number dp port vid frame (hear_packet dp vid frame w) in
-      either (table == 3) learned (if table == 4 then gleaned else if table == 6 then answered else w) (learn_stays dp port vid frame.src w stays)
-      (either (table == 4) gleaned (if table == 6 then answered else w) (glean_stays dp vid frame w stays)
-      (either (table == 6) answered w (reply_stays number dp port vid frame (hear_packet dp vid frame w) (hear_stays dp vid frame w stays)) stays))
-
-  at_stays : (m : PacketIn) (number : ℕ) (dp : DpId) (w : World) (port : ℕ) (frame : FrameParts) → Stays w → Stays (packet_at m number dp w port frame)
-  at_stays m number dp w port frame stays =
-      with_any (λ vid. packet_of_table m.table number dp port vid frame w) (counted_vid w.conf dp port frame) w (λ vid. table_stays m.table number dp port vid frame w stays) stays
-
-  by_stays : (m : PacketIn) (number : ℕ) (dp : DpId) (w : World) (port : ℕ) → Stays w → Stays (packet_by m number dp w port)
-  by_stays m number dp w port stays = with_any (packet_at m number dp w port) (parts m.payload) w (λ frame. at_stays m number dp w port frame stays) stays
-
-  packet_in_stays : (m : PacketIn) (number : ℕ) (dp : DpId) (w : World) → Stays w → Stays (packet_in m number dp w)
-  packet_in_stays m number dp w stays =
-      either (m.cookie == 0x5adc15c0 && is_running (running w) dp) (option_map_or (packet_by m number dp w) (in_port m.fields) w) w
-      (with_any (packet_by m number dp w) (in_port m.fields) w (λ port. by_stays m number dp w port stays) stays) stays
-
   packet_stays : (m : Message) (number : ℕ) (dp : Option DpId) (w : World) → Stays w → Stays (packet m number dp w)
-  packet_stays (messages.PacketIn m) number (Some dp) w stays = packet_in_stays m number dp w stays
-  packet_stays m number dp w stays = stays
+  packet_stays m number dp w stays = packet_kept J (λ n out v kept. said_stays n (packet_out out) (plain refl refl) v kept) m number dp w stays
 
   -- ---- one message
 

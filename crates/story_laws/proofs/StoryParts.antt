@@ -1,5 +1,5 @@
 -- The parts of what is right of a story that speak of flow tables.
-use Rattle.std.proofs.Common.{◌≡◌, ℕ, ◌++◌, true, Option, Some, None, List, [], ◌∷◌, map, inl, inr, refl, sym, ap, subst, ◌∙◌, true≢false}
+use Rattle.std.proofs.Common.{◌≡◌, ℕ, ◌++◌, true, Option, Some, None, List, [], ◌∷◌, map, is_some, inl, inr, refl, sym, ap, subst, ◌∙◌, true≢false}
 use Rattle.std.specs.Prelude.{◌⊎◌, IfSome}
 use Rattle.std.specs.List.{AllByRecursion}
 use Rattle.std.specs.Option.{option_map}
@@ -23,7 +23,7 @@ use Rattle.ctl_world.specs.TablesSaid.{tables_said}
 use Rattle.ctl_world.specs.World.{World, first, has_ports, running}
 use Rattle.ctl_settle.specs.Settling.{settle, wanted}
 use Rattle.ctl_core.specs.Story.{behind}
-use Rattle.story_laws.specs.Right.{HasColdTables, HasOneBatch, IsNoted, LeadsTo, SaysTheLeast}
+use Rattle.story_laws.specs.Right.{HasColdTables, HasOneBatch, HoldsColdStart, IsNoted, LeadsTo, NothingWaits, SaysTheLeast}
 use Rattle.story_laws.specs.Settlings.{said_in, settlings}
 use Rattle.story_laws.proofs.Fits.{EndsIn, Fits, FitsEach, IsNoting, Told}
 use Rattle.story_laws.proofs.Numbered.{of_with}
@@ -63,6 +63,13 @@ one_batch_of w all fit number xid c is ports waits =
     let t : Told = tables_said number (all ++ []) in
     let it : OnConn FitsEach number c t = subst (λ o. IfSome o (λ d. OnConn FitsEach number d t)) is (fit number) in
     subst (λ (s : List Said). EndsIn (tables_said number s) xid) (append-nil all) (ends_of c.session.state.stage c.session.state.awaited c.sent t xid it ports waits)
+
+pub held_of : (w : World) (all : List Said) → NothingWaits w → IsNoted w all → HoldsColdStart w all
+held_of w all waits noted dp c runs is free =
+    elim (waits dp c runs is) [
+      | inl some ↦ absurd (true≢false (sym some ∙ ap (λ (o : Option ℕ). is_some o) free))
+      | inr same ↦ subst (LeadsTo (tables_said c.number all)) same (noted dp c runs is)
+    ]
 
 module _ (laws : Laws) where
   -- ---- before each settling

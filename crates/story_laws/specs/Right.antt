@@ -75,6 +75,12 @@ abbrev pub IsNoted : World → List Said → Type 0
 IsNoted w said =
     (dp : DpId) (c : Conn) → is_running (running w) dp ≡ true → conn_of w.conns dp ≡ Some c → LeadsTo (tables_said c.number said) c.sent
 
+-- where no barrier is outstanding, all that was said of the tables of a datapath that runs leads to the cold start of what is known
+abbrev pub HoldsColdStart : World → List Said → Type 0
+HoldsColdStart w said =
+    (dp : DpId) (c : Conn) → is_running (running w) dp ≡ true → conn_of w.conns dp ≡ Some c → c.session.state.awaited ≡ None
+    → LeadsTo (tables_said c.number said) (wanted w dp)
+
 -- ---- one batch
 
 -- while a barrier is outstanding, it is the last that was said of the tables on its connection
@@ -105,6 +111,7 @@ pub record IsRight (conf : Configuration) (story : List Happening) : Type 0 wher
   pub description : AllByRecursion IsOfBytes story → AllByRecursion Describes (settlings (first conf) story)
   pub nothing_waits : NothingWaits (behind (first conf) story)
   pub noted : IsNoted (behind (first conf) story) (said_in (first conf) story)
+  pub held : HoldsColdStart (behind (first conf) story) (said_in (first conf) story)
   pub one_batch : HasOneBatch (behind (first conf) story) (said_in (first conf) story)
   pub least_batch : AllByRecursion SaysTheLeast (settlings (first conf) story)
   pub ids : IdsCount (behind (first conf) story) (said_in (first conf) story)

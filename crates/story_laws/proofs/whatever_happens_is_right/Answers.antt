@@ -1,8 +1,10 @@
+use Rattle.ctl_core.specs.Story.{behind}
 use Rattle.ctl_world.specs.World.{first}
+use Rattle.story_laws.specs.Settlings.{said_in}
 use Rattle.story_laws.proofs.Described.{story_described}
 use Rattle.story_laws.proofs.StoryIds.{story_ids}
 use Rattle.story_laws.proofs.StoryOpen.{story_on_open}
-use Rattle.story_laws.proofs.StoryParts.{story_cold, story_least, story_noted, story_one_batch}
+use Rattle.story_laws.proofs.StoryParts.{held_of, story_cold, story_least, story_noted, story_one_batch}
 use Rattle.story_laws.proofs.StoryTold.{Laws}
 use Rattle.story_laws.proofs.whatever_happens_is_right.Goals as goal
 
@@ -25,6 +27,7 @@ returns c =
       description = story_described laws c.a_cold_start_sends_each_packet_as_described.ensures conf story valid;
       nothing_waits = λ dp conn runs is. c.after_each_turn_nothing_waits.ensures conf story dp runs conn is;
       noted = story_noted laws conf story valid;
+      held = held_of (behind (first conf) story) (said_in (first conf) story) (λ dp conn runs is. c.after_each_turn_nothing_waits.ensures conf story dp runs conn is) (story_noted laws conf story valid);
       one_batch = story_one_batch laws conf story valid;
       least_batch = story_least laws conf story valid;
       ids = story_ids conf story;
