@@ -6,6 +6,7 @@ mod beside;
 mod plain;
 mod table;
 
+use case_lines::{Answers, answered};
 use conf_check::conf_of_bytes;
 use conf_types::Conf;
 use host_learn::HostTable;
@@ -59,26 +60,21 @@ fn answer(alloc: Global, bench: &mut Bench, line: &str) -> Result<Option<String>
     }
 }
 
-/// What is printed for a line.
-fn printed(alloc: Global, bench: &mut Bench, line: &str) -> Result<String, NoMemory> {
-    if line.is_empty() || line.starts_with('#') {
-        return format!(in alloc; "{line}");
-    }
-    if let Some(text) = line.strip_prefix("conf ") {
-        let answer = take_conf(alloc, bench, text);
-        return format!(in alloc; "{line} => {answer}");
-    }
-    match answer(alloc, bench, line)? {
-        Some(answer) => format!(in alloc; "{line} => {answer}"),
-        None => format!(in alloc; "{line} => no case"),
+impl Answers for Bench {
+    fn answer(&mut self, alloc: Global, line: &str) -> Result<String, NoMemory> {
+        if let Some(text) = line.strip_prefix("conf ") {
+            let answer = take_conf(alloc, self, text);
+            return format!(in alloc; " => {answer}");
+        }
+        match answer(alloc, self, line)? {
+            Some(answer) => format!(in alloc; " => {answer}"),
+            None => String::from_str(alloc, " => no case"),
+        }
     }
 }
 
 fn main(rt: HostRuntime) -> io::Result<()> {
-    let mut bench = open(rt.alloc())?;
-    for line in rt.lines(rt.alloc()) {
-        let text = printed(rt.alloc(), &mut bench, line?.as_str())?;
-        println!(rt; "{text}")?;
-    }
-    Ok(())
+    let table = io::read_to_string(rt.alloc(), rt.stdin())?;
+    let text = answered(rt.alloc(), &mut open(rt.alloc())?, table.as_str())?;
+    print!(rt; "{text}")
 }

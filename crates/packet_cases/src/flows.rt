@@ -1,7 +1,7 @@
 //! Matches, actions and flow tables. A field is spelled `NUMBER=VALUE/MASK`, both in hexadecimal digits,
 //! and fields are joined by commas; an action is `out:PORT`, `push:TYPE`, `pop`, `ttl` or `set:FIELD`.
 
-use crate::bytes_of;
+use case_lines::bytes_of;
 use case_text::{number, port_no, put_entry};
 use net_base::{Field, FieldId, Fields, NoMemory, PortNo, TryCopy};
 use of_match::{
@@ -109,41 +109,52 @@ pub fn write_run(
     }
 }
 
-/// Adds an entry, or deletes one by its key: a table, a priority, fields, and of an added one a port that it
-/// sends to and maybe a table that it goes on to.
-pub fn add(
+fn key(alloc: Global, words: &mut SplitWhitespace<'_>) -> Result<Key, NoMemory> {
+    let table = u8::try_from(number(words).unwrap_or(0)).unwrap_or(0);
+    let priority = u16::try_from(number(words).unwrap_or(0)).unwrap_or(0);
+    let fields = fields(alloc, words)?;
+    Ok(Key {
+        table,
+        priority,
+        fields,
+    })
+}
+
+fn sent_to(alloc: Global, words: &mut SplitWhitespace<'_>) -> Result<Instr, NoMemory> {
+    let port = u32::try_from(number(words).unwrap_or(0)).unwrap_or(0);
+    let actions = Actions::from_slice(alloc, &[Action::Output { port, max_len: 0 }])?;
+    Ok(Instr::Apply(actions))
+}
+
+fn instrs(alloc: Global, words: &mut SplitWhitespace<'_>) -> Result<Instrs, NoMemory> {
+    let mut instrs = Instrs::new(alloc);
+    instrs.push(sent_to(alloc, words)?)?;
+    if let Some(next) = number(words) {
+        instrs.push(Instr::Goto(u8::try_from(next).unwrap_or(0)))?;
+    }
+    Ok(instrs)
+}
+
+fn entry(alloc: Global, words: &mut SplitWhitespace<'_>) -> Result<Entry, NoMemory> {
+    let key = key(alloc, words)?;
+    let instrs = instrs(alloc, words)?;
+    Ok(Entry { key, instrs })
+}
+
+/// Clears the tables, adds an entry, or deletes one by its key: a table, a priority, fields, and of an added
+/// one a port that it sends to and maybe a table that it goes on to.
+pub fn change(
     alloc: Global,
     tables: &mut Tables,
     kind: &str,
     words: &mut SplitWhitespace<'_>,
 ) -> Result<(), NoMemory> {
-    let table = number(words)
-        .and_then(|n| u8::try_from(n).ok())
-        .unwrap_or(0);
-    let priority = number(words)
-        .and_then(|n| u16::try_from(n).ok())
-        .unwrap_or(0);
-    let fields = fields(alloc, words)?;
-    let key = Key {
-        table,
-        priority,
-        fields,
+    let command = match kind {
+        "clear" => Command::DeleteAll,
+        "delete" => Command::DeleteStrict(key(alloc, words)?),
+        _ => Command::Add(entry(alloc, words)?),
     };
-    if kind == "delete" {
-        return apply(alloc, tables, &Command::DeleteStrict(key));
-    }
-    let output = Action::Output {
-        port: number(words)
-            .and_then(|n| u32::try_from(n).ok())
-            .unwrap_or(0),
-        max_len: 0,
-    };
-    let mut instrs = Instrs::new(alloc);
-    instrs.push(Instr::Apply(Actions::from_slice(alloc, &[output])?))?;
-    if let Some(next) = number(words).and_then(|n| u8::try_from(n).ok()) {
-        instrs.push(Instr::Goto(next))?;
-    }
-    apply(alloc, tables, &Command::Add(Entry { key, instrs }))
+    apply(alloc, tables, &command)
 }
 
 /// Writes how many entries the copy of tables has, and these in their order.

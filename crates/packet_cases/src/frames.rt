@@ -35,22 +35,30 @@ fn write_reply(out: &mut String, alloc: Global, frame: &[u8]) -> Result<(), NoMe
     }
 }
 
+/// Writes the request for an address.
+fn write_request(out: &mut String, alloc: Global) -> Result<(), NoMemory> {
+    let request = arp_request(alloc, ROUTER, Ip4(0x0a00_64fe), Ip4(0x0a00_6401))?;
+    out.push_str(hex::encode(alloc, request.as_slice())?.as_str())
+}
+
+fn write_packet(out: &mut String, alloc: Global, frame: &[u8]) -> Result<(), NoMemory> {
+    write!(out, "{:?}", packet_of(alloc, frame)?)
+}
+
 /// Writes what a frame is.
 pub fn write_frame(
     out: &mut String,
     alloc: Global,
     kind: &str,
-    frame: &[u8],
+    frame: &Bytes,
 ) -> Result<(), NoMemory> {
+    let frame = frame.as_slice();
     match kind {
-        "packet" => write!(out, "{:?}", packet_of(alloc, frame)?),
+        "packet" => write_packet(out, alloc, frame),
         "view" => write!(out, "{:?}", view(frame)),
         "reply" => write_reply(out, alloc, frame),
         "checksum" => write!(out, "{:#06x}", checksum(frame)),
-        "request" => {
-            let request = arp_request(alloc, ROUTER, Ip4(0x0a00_64fe), Ip4(0x0a00_6401))?;
-            out.push_str(hex::encode(alloc, request.as_slice())?.as_str())
-        }
+        "request" => write_request(out, alloc),
         _ => out.push_str("no such kind"),
     }
 }

@@ -6,63 +6,61 @@
 mod flows;
 mod frames;
 
-use case_lines::write_repeated;
-use flows::{add, write_act, write_hits, write_run, write_tables};
+use case_lines::{Answers, answered, bytes_of};
+use flows::{change, write_act, write_hits, write_run, write_tables};
 use frames::write_frame;
-use net_base::{Bytes, NoMemory};
-use of_match::{Command, Tables, apply};
+use net_base::NoMemory;
+use of_match::Tables;
 use std::alloc::Global;
 use std::io;
 
-/// The bytes of hexadecimal digits, in words; of a word that is none nothing.
-pub fn bytes_of(alloc: Global, text: &str) -> Result<Bytes, NoMemory> {
-    let mut whole = String::new(alloc);
-    write_repeated(&mut whole, text)?;
-    let mut bytes = Bytes::new(alloc);
-    for word in whole.split_whitespace() {
-        if let Ok(piece) = hex::decode(alloc, word) {
-            bytes.append(piece.as_slice())?;
-        }
-    }
-    Ok(bytes)
+/// The flow tables of the lines before.
+#[derive(Drop)]
+struct Bench {
+    tables: Tables,
 }
 
-/// Writes what is said of a case: the tables are those of the lines before.
-fn write_answer(
+/// Writes what becomes of the flow tables, or of a packet in them; `false` where the kind is none of these.
+fn write_flows(
     out: &mut String,
     alloc: Global,
     tables: &mut Tables,
     kind: &str,
     text: &str,
-) -> Result<(), NoMemory> {
+) -> Result<bool, NoMemory> {
     let mut words = text.split_whitespace();
     match kind {
-        "hits" => write_hits(out, alloc, &mut words),
-        "act" => write_act(out, alloc, &mut words),
-        "run" => write_run(out, alloc, tables, &mut words),
-        "add" | "delete" => {
-            add(alloc, tables, kind, &mut words)?;
-            write_tables(out, alloc, tables)
+        "hits" => write_hits(out, alloc, &mut words)?,
+        "act" => write_act(out, alloc, &mut words)?,
+        "run" => write_run(out, alloc, tables, &mut words)?,
+        "add" | "delete" | "clear" => {
+            change(alloc, tables, kind, &mut words)?;
+            write_tables(out, alloc, tables)?;
         }
-        "clear" => {
-            apply(alloc, tables, &Command::DeleteAll)?;
-            write_tables(out, alloc, tables)
+        _ => return Ok(false),
+    }
+    Ok(true)
+}
+
+impl Answers for Bench {
+    fn answer(&mut self, alloc: Global, line: &str) -> Result<String, NoMemory> {
+        let (kind, text) = line.split_once(' ').unwrap_or((line, ""));
+        let mut out = String::from_str(alloc, " => ")?;
+        if !write_flows(&mut out, alloc, &mut self.tables, kind, text)? {
+            write_frame(&mut out, alloc, kind, &bytes_of(alloc, text)?)?;
         }
-        _ => write_frame(out, alloc, kind, bytes_of(alloc, text)?.as_slice()),
+        Ok(out)
     }
 }
 
 fn main(rt: HostRuntime) -> io::Result<()> {
-    let mut tables = Tables::new(rt.alloc());
-    for line in rt.lines(rt.alloc()) {
-        let line = line?;
-        let mut out = format!(in rt.alloc(); "{line}")?;
-        let (kind, text) = line.as_str().split_once(' ').unwrap_or((line.as_str(), ""));
-        if !kind.is_empty() && kind != "#" {
-            out.push_str(" => ")?;
-            write_answer(&mut out, rt.alloc(), &mut tables, kind, text)?;
-        }
-        println!(rt; "{out}")?;
-    }
-    Ok(())
+    let table = io::read_to_string(rt.alloc(), rt.stdin())?;
+    let text = answered(
+        rt.alloc(),
+        &mut Bench {
+            tables: Tables::new(rt.alloc()),
+        },
+        table.as_str(),
+    )?;
+    print!(rt; "{text}")
 }

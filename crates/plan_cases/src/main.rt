@@ -3,6 +3,7 @@
 //! asks for one; an empty line, and one that begins with `#`, is printed as it is.
 #![tactic(auto)]
 
+use case_lines::{Answers, answered};
 use conf_check::conf_of_bytes;
 use conf_types::Conf;
 use net_base::{Moment, NoMemory};
@@ -97,35 +98,39 @@ fn answer(
     Ok(Some(text))
 }
 
-/// What is printed for a line.
-fn printed(alloc: Global, bench: &mut Bench, line: &str) -> Result<String, NoMemory> {
-    if line.is_empty() || line.starts_with('#') {
-        return format!(in alloc; "{line}");
+/// Takes what a line tells of the state, if it tells something.
+fn take_told(
+    alloc: Global,
+    bench: &mut Bench,
+    name: &str,
+    words: &mut SplitWhitespace<'_>,
+) -> Result<bool, NoMemory> {
+    match name {
+        "state" => take_state(alloc, bench, words),
+        _ => state::tell(alloc, &mut bench.now, name, words),
     }
-    if let Some(text) = line.strip_prefix("conf ") {
-        let answer = take_conf(alloc, bench, text)?;
-        return format!(in alloc; "{line} => {answer}");
-    }
-    let mut words = line.split_whitespace();
-    let name = words.next().unwrap_or("");
-    let is_told = match name {
-        "state" => take_state(alloc, bench, &mut words)?,
-        _ => state::tell(alloc, &mut bench.now, name, &mut words)?,
-    };
-    if is_told {
-        return format!(in alloc; "{line}");
-    }
-    match answer(alloc, bench, name, &mut words)? {
-        Some(answer) => format!(in alloc; "{line} => {answer}"),
-        None => format!(in alloc; "{line} => no case"),
+}
+
+impl Answers for Bench {
+    fn answer(&mut self, alloc: Global, line: &str) -> Result<String, NoMemory> {
+        if let Some(text) = line.strip_prefix("conf ") {
+            let answer = take_conf(alloc, self, text)?;
+            return format!(in alloc; " => {answer}");
+        }
+        let mut words = line.split_whitespace();
+        let name = words.next().unwrap_or("");
+        if take_told(alloc, self, name, &mut words)? {
+            return Ok(String::new(alloc));
+        }
+        match answer(alloc, self, name, &mut words)? {
+            Some(answer) => format!(in alloc; " => {answer}"),
+            None => String::from_str(alloc, " => no case"),
+        }
     }
 }
 
 fn main(rt: HostRuntime) -> io::Result<()> {
-    let mut bench = open(rt.alloc())?;
-    for line in rt.lines(rt.alloc()) {
-        let text = printed(rt.alloc(), &mut bench, line?.as_str())?;
-        println!(rt; "{text}")?;
-    }
-    Ok(())
+    let table = io::read_to_string(rt.alloc(), rt.stdin())?;
+    let text = answered(rt.alloc(), &mut open(rt.alloc())?, table.as_str())?;
+    print!(rt; "{text}")
 }

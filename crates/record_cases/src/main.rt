@@ -5,38 +5,41 @@
 
 mod turns;
 
+use case_lines::{Answers, answered, bytes_of};
 use net_base::{Bytes, NoMemory};
 use std::alloc::Global;
 use std::io;
 use turns::write_turns;
 
-/// Adds the bytes of words of hexadecimal digits; of a word that is none nothing.
-fn put_bytes(bytes: &mut Bytes, alloc: Global, text: &str) -> Result<(), NoMemory> {
-    for word in text.split_whitespace() {
-        if let Ok(piece) = hex::decode(alloc, word) {
-            bytes.append(piece.as_slice())?;
-        }
-    }
-    Ok(())
+/// The bytes of the recording that the lines speak of.
+#[derive(Drop)]
+struct Bench {
+    records: Bytes,
 }
 
-fn main(rt: HostRuntime) -> io::Result<()> {
-    let mut records = Bytes::new(rt.alloc());
-    for line in rt.lines(rt.alloc()) {
-        let line = line?;
-        let mut answer = String::new(rt.alloc());
-        match line.as_str().split_once(' ').unwrap_or(("", "")) {
-            ("records", text) => {
-                records.truncate(0);
-                put_bytes(&mut records, rt.alloc(), text)?;
-            }
+impl Answers for Bench {
+    fn answer(&mut self, alloc: Global, line: &str) -> Result<String, NoMemory> {
+        let mut out = String::new(alloc);
+        match line.split_once(' ').unwrap_or(("", "")) {
+            ("records", text) => self.records = bytes_of(alloc, text)?,
             ("turns", text) => {
-                answer.push_str(" => ")?;
-                write_turns(&mut answer, rt.alloc(), records.as_slice(), text)?;
+                out.push_str(" => ")?;
+                write_turns(&mut out, alloc, self.records.as_slice(), text)?;
             }
             _ => {}
         }
-        println!(rt; "{line}{answer}")?;
+        Ok(out)
     }
-    Ok(())
+}
+
+fn main(rt: HostRuntime) -> io::Result<()> {
+    let table = io::read_to_string(rt.alloc(), rt.stdin())?;
+    let text = answered(
+        rt.alloc(),
+        &mut Bench {
+            records: Bytes::new(rt.alloc()),
+        },
+        table.as_str(),
+    )?;
+    print!(rt; "{text}")
 }

@@ -2,7 +2,7 @@
 
 use crate::happening::happening;
 use crate::units::Uncounted;
-use case_lines::write_escaped;
+use case_lines::{Answers, write_escaped};
 use conf_check::conf_of_bytes;
 use ctl_core::{Controller, Saying};
 use fg_outside::Happening;
@@ -55,9 +55,10 @@ impl Bench {
             Err(_) => String::from_str(alloc, " => refused"),
         }
     }
+}
 
-    /// What stands behind a line: what was said.
-    pub fn answer(&mut self, alloc: Global, line: &str) -> Result<String, NoMemory> {
+impl Answers for Bench {
+    fn answer(&mut self, alloc: Global, line: &str) -> Result<String, NoMemory> {
         let (name, rest) = line.split_once(' ').unwrap_or((line, ""));
         if name == "conf" {
             return self.take_conf(alloc, rest);

@@ -7,14 +7,11 @@ mod happening;
 mod units;
 
 use bench::Bench;
+use case_lines::answered;
 use std::io;
 
 fn main(rt: HostRuntime) -> io::Result<()> {
-    let mut bench = Bench::new();
-    for line in rt.lines(rt.alloc()) {
-        let line = line?;
-        let answer = bench.answer(rt.alloc(), line.as_str())?;
-        println!(rt; "{line}{answer}")?;
-    }
-    Ok(())
+    let table = io::read_to_string(rt.alloc(), rt.stdin())?;
+    let text = answered(rt.alloc(), &mut Bench::new(), table.as_str())?;
+    print!(rt; "{text}")
 }

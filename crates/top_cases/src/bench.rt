@@ -1,9 +1,9 @@
 //! The files that the runs see, and what fails in them.
 
 use crate::runs::{refuse, run};
-use case_lines::{unescaped, write_repeated};
+use case_lines::{Answers, bytes_of, unescaped, write_repeated};
 use fg_outside::{CallNos, Folder, Folders, HeldFile, HeldFiles, MemFiles};
-use net_base::{Bytes, NoMemory, Text, TryCopy};
+use net_base::{NoMemory, Text, TryCopy};
 use std::alloc::Global;
 
 /// Which calls of a run fail, numbered from 1 on, and how many bytes standard output holds.
@@ -45,15 +45,9 @@ fn file(alloc: Global, line: &str) -> Result<HeldFile, NoMemory> {
 /// nothing.
 fn bytes_file(alloc: Global, line: &str) -> Result<HeldFile, NoMemory> {
     let (name, digits) = line.split_once(' ').unwrap_or((line, ""));
-    let mut bytes = Bytes::new(alloc);
-    for word in digits.split_whitespace() {
-        if let Ok(piece) = hex::decode(alloc, word) {
-            bytes.append(piece.as_slice())?;
-        }
-    }
     Ok(HeldFile {
         name: Text::from_str(alloc, name)?,
-        bytes,
+        bytes: bytes_of(alloc, digits)?,
     })
 }
 
@@ -92,9 +86,11 @@ impl Bench {
         self.outside = SURE;
         outside
     }
+}
 
-    /// What stands behind a line: of a run its status and what it wrote.
-    pub fn answer(&mut self, alloc: Global, line: &str) -> Result<String, NoMemory> {
+impl Answers for Bench {
+    /// Of a run its status and what it wrote.
+    fn answer(&mut self, alloc: Global, line: &str) -> Result<String, NoMemory> {
         match line.split_once(' ').unwrap_or((line, "")) {
             ("file", file_line) => self.held.push(file(alloc, file_line)?)?,
             ("hex", file_line) => self.held.push(bytes_file(alloc, file_line)?)?,

@@ -6,14 +6,11 @@ mod bench;
 mod runs;
 
 use bench::Bench;
+use case_lines::answered;
 use std::io;
 
 fn main(rt: HostRuntime) -> io::Result<()> {
-    let lines = io::read_to_string(rt.alloc(), rt.stdin())?;
-    let mut bench = Bench::new(rt.alloc());
-    for line in lines.lines() {
-        let answer = bench.answer(rt.alloc(), line)?;
-        println!(rt; "{line}{answer}")?;
-    }
-    Ok(())
+    let table = io::read_to_string(rt.alloc(), rt.stdin())?;
+    let text = answered(rt.alloc(), &mut Bench::new(rt.alloc()), table.as_str())?;
+    print!(rt; "{text}")
 }

@@ -8,23 +8,14 @@ mod parts;
 mod sessions;
 mod worked;
 
-use case_lines::write_repeated;
-use net_base::{Bytes, NoMemory};
+use case_lines::{Answers, answered, bytes_of};
+use net_base::NoMemory;
 use std::alloc::Global;
 use std::io;
 
-/// The bytes of words of hexadecimal digits; of a word that is none nothing.
-fn bytes_of(alloc: Global, text: &str) -> Result<Bytes, NoMemory> {
-    let mut whole = String::new(alloc);
-    write_repeated(&mut whole, text)?;
-    let mut bytes = Bytes::new(alloc);
-    for word in whole.split_whitespace() {
-        if let Ok(piece) = hex::decode(alloc, word) {
-            bytes.append(piece.as_slice())?;
-        }
-    }
-    Ok(bytes)
-}
+/// Each case stands alone.
+#[derive(Drop)]
+struct Alone;
 
 /// Writes what is said of a case.
 fn write_answer(out: &mut String, alloc: Global, kind: &str, text: &str) -> Result<(), NoMemory> {
@@ -41,16 +32,17 @@ fn write_answer(out: &mut String, alloc: Global, kind: &str, text: &str) -> Resu
     }
 }
 
-fn main(rt: HostRuntime) -> io::Result<()> {
-    for line in rt.lines(rt.alloc()) {
-        let line = line?;
-        let mut out = format!(in rt.alloc(); "{line}")?;
-        let (kind, text) = line.as_str().split_once(' ').unwrap_or((line.as_str(), ""));
-        if !kind.is_empty() && kind != "#" {
-            out.push_str(" => ")?;
-            write_answer(&mut out, rt.alloc(), kind, text)?;
-        }
-        println!(rt; "{out}")?;
+impl Answers for Alone {
+    fn answer(&mut self, alloc: Global, line: &str) -> Result<String, NoMemory> {
+        let (kind, text) = line.split_once(' ').unwrap_or((line, ""));
+        let mut out = String::from_str(alloc, " => ")?;
+        write_answer(&mut out, alloc, kind, text)?;
+        Ok(out)
     }
-    Ok(())
+}
+
+fn main(rt: HostRuntime) -> io::Result<()> {
+    let table = io::read_to_string(rt.alloc(), rt.stdin())?;
+    let text = answered(rt.alloc(), &mut Alone, table.as_str())?;
+    print!(rt; "{text}")
 }
