@@ -207,3 +207,22 @@ fn what_is_no_stack(rt: HostRuntime) -> Result<(), Fail> {
     }
     Ok(())
 }
+
+/// A stack has at most 64 datapaths.
+#[test]
+fn at_most_64_datapaths(rt: HostRuntime) -> Result<(), Fail> {
+    let mut nodes = Vec::new(rt.alloc());
+    for number in 1..=64 {
+        nodes.push(Node {
+            id: DpId(number),
+            priority: None,
+        })?;
+    }
+    assert!(rt; is_stack(nodes.as_slice(), &[]));
+    nodes.push(Node {
+        id: DpId(65),
+        priority: None,
+    })?;
+    assert!(rt; !is_stack(nodes.as_slice(), &[]));
+    Ok(())
+}
