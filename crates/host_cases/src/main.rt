@@ -5,6 +5,7 @@
 mod beside;
 mod plain;
 mod table;
+mod worked;
 
 use case_lines::{Answers, answered};
 use conf_check::conf_of_bytes;

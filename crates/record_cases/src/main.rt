@@ -4,6 +4,7 @@
 #![tactic(auto)]
 
 mod turns;
+mod worked;
 
 use case_lines::{Answers, answered, bytes_of};
 use net_base::{Bytes, NoMemory};
