@@ -5,6 +5,7 @@
 mod bench;
 mod happening;
 mod units;
+mod worked;
 
 use bench::Bench;
 use case_lines::answered;
