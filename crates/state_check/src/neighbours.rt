@@ -1,6 +1,6 @@
 //! What holds of the neighbours of a valid state.
 
-ghost use Rattle.std.specs.Prelude.{◌≡◌, ◌==◌, true};
+ghost use Rattle.std.specs.Prelude.{◌≡◌, ◌↔◌, ◌==◌, true};
 ghost use Rattle.std.specs.List.{AllByRecursion, list_any};
 ghost use Rattle.conf_types.specs.Groups.{group_of};
 ghost use Rattle.conf_types.specs.Lists.{EachBefore};
@@ -30,13 +30,13 @@ fn has_running(conf: &Conf, running: &[DpId], group: DpId) -> bool
 }
 
 fn is_neighbour(conf: &Conf, now: &Now, neighbour: &NeighRec) -> bool
-    ensures { result ≡ true → IsNeighbour conf.now (state_of now.now) neighbour.now }
+    ensures { (result ≡ true) ↔ IsNeighbour conf.now (state_of now.now) neighbour.now }
 {
     has_address(conf, neighbour) && has_running(conf, now.running.as_slice(), neighbour.group)
 }
 
 pub(crate) fn are_neighbours(conf: &Conf, now: &Now, neighbours: &[NeighRec]) -> bool
-    ensures { result ≡ true → AllByRecursion (IsNeighbour conf.now (state_of now.now)) neighbours.now }
+    ensures { (result ≡ true) ↔ AllByRecursion (IsNeighbour conf.now (state_of now.now)) neighbours.now }
 {
     match neighbours {
         [] => true,
@@ -48,14 +48,14 @@ pub(crate) fn are_neighbours(conf: &Conf, now: &Now, neighbours: &[NeighRec]) ->
 
 /// Whether two neighbours have one key.
 fn is_same_neighbour(a: &NeighRec, b: &NeighRec) -> bool
-    ensures { IsSameNeighbour a.now b.now → result ≡ true }
+    ensures { (result ≡ true) ↔ IsSameNeighbour a.now b.now }
 {
     a.group.0 == b.group.0 && a.vid.get() == b.vid.get() && a.ip.0 == b.ip.0
 }
 
 /// Whether no other neighbour has the key of this one.
 fn has_own_key(neighbour: &NeighRec, others: &[NeighRec]) -> bool
-    ensures { result ≡ true → AllByRecursion (λ other. IsSameNeighbour neighbour.now other → ⊥) others.now }
+    ensures { (result ≡ true) ↔ AllByRecursion (λ other. IsSameNeighbour neighbour.now other → ⊥) others.now }
 {
     match others {
         [] => true,
@@ -65,7 +65,7 @@ fn has_own_key(neighbour: &NeighRec, others: &[NeighRec]) -> bool
 
 /// Whether no two neighbours have one key.
 pub(crate) fn have_own_keys(neighbours: &[NeighRec]) -> bool
-    ensures { result ≡ true → EachBefore (λ a b. IsSameNeighbour a b → ⊥) neighbours.now }
+    ensures { (result ≡ true) ↔ EachBefore (λ a b. IsSameNeighbour a b → ⊥) neighbours.now }
 {
     match neighbours {
         [] => true,

@@ -1,6 +1,6 @@
 //! All that holds of a valid state.
 
-ghost use Rattle.std.specs.Prelude.{◌≡◌, true, IsTrue, is_some};
+ghost use Rattle.std.specs.Prelude.{◌≡◌, ◌↔◌, true, IsTrue, is_some};
 ghost use Rattle.std.specs.List.{AllByRecursion};
 ghost use Rattle.conf_types.specs.Configuration.{port_at};
 ghost use Rattle.conf_types.specs.Groups.{IsDp};
@@ -16,20 +16,20 @@ use packet_way::Now;
 const MOST_NEIGHBOURS: usize = 2048;
 
 fn are_dps(conf: &Conf, running: &[DpId]) -> bool
-    ensures { result ≡ true → AllByRecursion (IsDp conf.now) running.now }
+    ensures { (result ≡ true) ↔ AllByRecursion (IsDp conf.now) running.now }
 {
     running.iter().all(|dp| conf.group(*dp).is_some())
 }
 
 fn are_ports(conf: &Conf, ups: &[UpRec]) -> bool
-    ensures { result ≡ true → AllByRecursion (λ up. IsTrue (is_some (port_at conf.now up.dp up.port))) ups.now }
+    ensures { (result ≡ true) ↔ AllByRecursion (λ up. IsTrue (is_some (port_at conf.now up.dp up.port))) ups.now }
 {
     ups.iter().all(|up| conf.port(up.dp, up.port).is_some())
 }
 
-/// Whether the state is valid for the configuration: where it says so, it is.
+/// Whether the state is valid for the configuration.
 pub fn is_valid(conf: &Conf, now: &Now) -> bool
-    ensures { result ≡ true → IsValidState conf.now (state_of now.now) }
+    ensures { (result ≡ true) ↔ IsValidState conf.now (state_of now.now) }
 {
     let all = now.hosts.as_slice();
     let known = now.neighbours.as_slice();
