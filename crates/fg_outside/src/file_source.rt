@@ -67,6 +67,7 @@ impl<F: Files> FileSource<F> {
         ensures failed { OnErr result (Rose (faults_of F.faults self.old) (faults_of F.faults self.new)) }
         ensures no_fault { OnOk result (faults_of F.faults self.new ≡ faults_of F.faults self.old) }
         ensures faults { faults_of F.faults self.old ≤ faults_of F.faults self.new }
+        ensures no_absence { OnOk result (F.absences (files_of self.new) ≡ F.absences (files_of self.old)) }
 
         ensures cause { OnErr result (Rose (F.faults (files_of self.old)) (F.faults (files_of self.new))
             ⊎ Rose (F.absences (files_of self.old)) (F.absences (files_of self.new))) }
@@ -130,6 +131,7 @@ impl<F: Files> Source for FileSource<F> {
         ensures no_fault { OnOk result (faults_of F.faults self.new ≡ faults_of F.faults self.old) }
         ensures faults { faults_of F.faults self.old ≤ faults_of F.faults self.new }
         ensures step { KeepsFiles F.contents F.faults F.absences self.old self.new }
+        ensures no_absence { OnOk result (F.absences (files_of self.new) ≡ F.absences (files_of self.old)) }
 
         ensures cause { OnErr result (Rose (F.faults (files_of self.old)) (F.faults (files_of self.new))
             ⊎ Rose (F.absences (files_of self.old)) (F.absences (files_of self.new))) }
