@@ -1,8 +1,9 @@
 -- A configuration file with all that it includes, as one tree.
-use Rattle.std.specs.Prelude.{ℕ, zero, suc, Bool, if◌then◌else◌, List, [], ◌∷◌, ◌++◌, codes, Option, Some, None, Result, Ok, Err}
+use Rattle.std.specs.Prelude.{◌≡◌, IsErrOf, ℕ, zero, suc, Bool, if◌then◌else◌, List, [], ◌∷◌, ◌++◌, codes, Option, Some, None, Result, Ok, Err}
 use Rattle.std.specs.Option.{option_or}
 use Rattle.std.specs.List.{list_any}
 use Rattle.std.specs.Str.{bytes_eq}
+use Rattle.fg_outside.specs.Contents.{Contents}
 use Rattle.fg_outside.specs.declared.files.ReadRefused.{ReadRefused}
 use Rattle.fg_outside.specs.declared.files.ReadRefused.TheVariants as reads
 use Rattle.yaml_subset.specs.declared.fault.YamlFault.{YamlFault}
@@ -39,6 +40,22 @@ text_tree name (Err fault) = Err (Yaml name fault)
 abbrev pub tree_of : Include → Option (List ℕ) → Result (Option Tree) LoadRefused
 tree_of i None = if is_optional i.role then Ok None else Err (Absent i.name)
 tree_of i (Some text) = text_tree i.name (read_of text)
+
+-- how the tree of a file is found
+abbrev pub Finds : Type 0
+Finds = Include → Result (Option Tree) LoadRefused
+
+-- by what these files hold
+abbrev pub held_by : Held → Finds
+held_by held i = tree_of i (held i.name)
+
+-- the same, where each read of the file of this name fails
+abbrev pub unread_at : (file : List ℕ) → Held → Finds
+unread_at file held i = if bytes_eq i.name file then Err (Read file) else held_by held i
+
+-- `Read` names a file such that the definition gives just that where each read of this file fails
+abbrev pub NamesUnread : {Y : Type 0} → Option Contents → Result Y LoadRefused → (Finds → Result Y LoadRefused) → Type 0
+NamesUnread contents answer given = (held : Contents) (file : List ℕ) → contents ≡ Some held → IsErrOf answer (Read file) → given (unread_at file (held 0)) ≡ Err (Read file)
 
 -- why a file has no text
 abbrev pub unread : Include → ReadRefused → Result (Option Tree) LoadRefused
@@ -85,11 +102,11 @@ with_includes one i g None = Ok g
 with_includes one i g (Some t) = taken i g t >>= each one (includes_of i.name (entries_of t))
 
 -- a file and its includes, depth first, behind what was gathered before, with at most so many levels of files
-unfoldable pub gather : Held → (levels : ℕ) → Include → Gathered → Result Gathered LoadRefused
-gather held zero i g = if was_reached i.name g.reached then Err (IncludeTwice i.name) else Err (IncludeDepth i.name)
-gather held (suc n) i g =
+unfoldable pub gather : Finds → (levels : ℕ) → Include → Gathered → Result Gathered LoadRefused
+gather finds zero i g = if was_reached i.name g.reached then Err (IncludeTwice i.name) else Err (IncludeDepth i.name)
+gather finds (suc n) i g =
     if was_reached i.name g.reached then Err (IncludeTwice i.name)
-    else (tree_of i (held i.name) >>= with_includes (gather held n) i g)
+    else (finds i >>= with_includes (gather finds n) i g)
 
 -- ---- the whole
 
@@ -103,5 +120,8 @@ abbrev pub tree_with : Gathered → Result Tree LoadRefused
 tree_with g = Ok (tree.Map g.pairs)
 
 -- the tree of the main file with its includes, which lie at most 8 deep
+abbrev pub gathered_by : Finds → (name : List ℕ) → Result Tree LoadRefused
+gathered_by finds name = gather finds 9 (main_file name) nothing >>= tree_with
+
 abbrev pub gathered : Held → (name : List ℕ) → Result Tree LoadRefused
-gathered held name = gather held 9 (main_file name) nothing >>= tree_with
+gathered held name = gathered_by (held_by held) name

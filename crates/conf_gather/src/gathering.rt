@@ -2,7 +2,7 @@ ghost use Rattle.std.specs.Prelude.{◌≡◌, ◌≤◌, ℕ, List, Some, OnOk,
 ghost use Rattle.fg_outside.specs.Contents.{Contents};
 ghost use Rattle.fg_outside.specs.Counts.{Rose};
 ghost use Rattle.conf_gather.specs.Gives.{Gives, GivesTold, FaultsTell, AbsencesTell};
-ghost use Rattle.conf_gather.specs.Gathered.{each, gather, gathered};
+ghost use Rattle.conf_gather.specs.Gathered.{held_by, NamesUnread, each, gather, gathered, gathered_by};
 
 use crate::include::{Include, Role, includes_of};
 use crate::keys::entries_of;
@@ -25,7 +25,8 @@ fn gather_file<F: Files>(
     include: &Include,
     so_far: Gathered,
 ) -> Result<Gathered, LoadRefused>
-    ensures told { GivesTold (F.contents files.old) result (λ held. gather held levels include.now so_far) }
+    ensures told { GivesTold (F.contents files.old) result (λ held. gather (held_by held) levels include.now so_far) }
+    ensures unread { NamesUnread (F.contents files.old) result (λ finds. gather finds levels include.now so_far) }
     ensures contents { F.contents files.new ≡ F.contents files.old }
     ensures faults { IfErr result (λ e. FaultsTell e (F.faults files.old) (F.faults files.new)) }
     ensures no_fault { OnOk result (F.faults files.new ≡ F.faults files.old) }
@@ -58,7 +59,8 @@ fn gather_all<F: Files>(
     includes: &[Include],
     so_far: Gathered,
 ) -> Result<Gathered, LoadRefused>
-    ensures told { GivesTold (F.contents files.old) result (λ held. each (gather held levels) includes.now so_far) }
+    ensures told { GivesTold (F.contents files.old) result (λ held. each (gather (held_by held) levels) includes.now so_far) }
+    ensures unread { NamesUnread (F.contents files.old) result (λ finds. each (gather finds levels) includes.now so_far) }
     ensures contents { F.contents files.new ≡ F.contents files.old }
     ensures faults { IfErr result (λ e. FaultsTell e (F.faults files.old) (F.faults files.new)) }
     ensures no_fault { OnOk result (F.faults files.new ≡ F.faults files.old) }
@@ -84,6 +86,7 @@ fn gather_all<F: Files>(
 /// met decides.
 pub fn gather<F: Files>(alloc: Global, files: &mut F, name: &str) -> Result<Tree, LoadRefused>
     ensures told { (held : Contents) → F.contents files.old ≡ Some held → Gives result (gathered (held 0) name.now) }
+    ensures unread { NamesUnread (F.contents files.old) result (λ finds. gathered_by finds name.now) }
     ensures read { (file : List ℕ) → IsErrOf result (LoadRefused.Read file)
         → Rose (F.faults files.old) (F.faults files.new) }
     ensures no_fault { ((file : List ℕ) → IsErrOf result (LoadRefused.Read file) → ⊥)

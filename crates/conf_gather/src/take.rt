@@ -1,6 +1,6 @@
 //! The tree of one file, and what it adds to those gathered before.
 
-ghost use Rattle.std.specs.Prelude.{◌≡◌, ◌≤◌, IfOk, OnOk, IfErr};
+ghost use Rattle.std.specs.Prelude.{◌≡◌, ◌≤◌, ℕ, List, IfOk, OnOk, IfErr, IsErrOf};
 ghost use Rattle.yaml_subset.specs.Reading.{read_of};
 ghost use Rattle.conf_shape.specs.Reads.{entries_of};
 ghost use Rattle.conf_gather.specs.Gives.{Gives, GivesTold, FaultsTell, AbsencesTell, IsWithin};
@@ -71,6 +71,7 @@ pub fn read_tree<F: Files>(
     include: &Include,
 ) -> Result<Option<Tree>, LoadRefused>
     ensures told { GivesTold (F.contents files.old) result (λ held. tree_of include.now (held include.now.name)) }
+    ensures named { (file : List ℕ) → IsErrOf result (LoadRefused.Read file) → file ≡ include.now.name }
     ensures contents { F.contents files.new ≡ F.contents files.old }
     ensures faults { IfErr result (λ e. FaultsTell e (F.faults files.old) (F.faults files.new)) }
     ensures no_fault { OnOk result (F.faults files.new ≡ F.faults files.old) }

@@ -1,12 +1,14 @@
-use Rattle.std.proofs.Common.{◌≡◌, ◌+◌, ◌*◌, ◌≤◌, Some, drop}
+use Rattle.std.proofs.Common.{◌≡◌, ◌+◌, ◌*◌, ◌≤◌, Some, drop, ℕ, List}
 use Rattle.fg_outside.specs.Contents.{Contents}
-use Rattle.conf_gather.specs.Gathered.{each, gather}
+use Rattle.conf_gather.specs.Gathered.{held_by, each, gather}
+use Rattle.conf_gather.proofs.GatherLemmas.{Left}
 use Rattle.conf_gather.proofs.gathering.+walk.Given as goal
 
 -- what is left gives what all give, and the files are as they were
 abbrev pub invariant-gather_all-loop-include : goal.invariant-gather_all-loop-include
 invariant-gather_all-loop-include g l = record {
-  told : (held : Contents) → g.F.Files.contents l.initial.files ≡ Some held → each (gather (held 0) l.levels) (drop l.include-index l.includes) l.all ≡ each (gather (held 0) l.levels) l.includes l.initial.all;
+  told : (held : Contents) → g.F.Files.contents l.initial.files ≡ Some held → each (gather (held_by (held 0)) l.levels) (drop l.include-index l.includes) l.all ≡ each (gather (held_by (held 0)) l.levels) l.includes l.initial.all;
+  unread : (held : Contents) (file : List ℕ) → g.F.Files.contents l.initial.files ≡ Some held → Left file (held 0) l.levels l.include-index l.includes l.initial.all l.all;
   contents : g.F.Files.contents l.files ≡ g.F.Files.contents l.initial.files;
   faults : g.F.Files.faults l.files ≡ g.F.Files.faults l.initial.files;
   absences : g.F.Files.absences l.initial.files ≤ g.F.Files.absences l.files;
