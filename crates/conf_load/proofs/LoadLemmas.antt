@@ -7,7 +7,8 @@ use Rattle.conf_shape.specs.declared.refused.ConfFault.{ConfFault}
 use Rattle.conf_check.specs.Accepted.{conf_of}
 use Rattle.conf_gather.specs.declared.refused.LoadRefused.{LoadRefused}
 use Rattle.conf_gather.specs.declared.refused.LoadRefused.TheVariants.{Read, Yaml, Conf, IncludeTwice, IncludeDepth, Absent, Memory}
-use Rattle.conf_gather.specs.Gives.{◌>>=◌, Fails, Gives}
+use Rattle.std.specs.Prelude.{IfErr, IsErrOf}
+use Rattle.conf_gather.specs.Gives.{◌>>=◌, Fails, Gives, IsWithin}
 use Rattle.conf_gather.specs.Gathered.{Held, gathered}
 use Rattle.conf_load.specs.Loaded.{unless_fault, checked, loaded}
 
@@ -27,6 +28,17 @@ refused_first Memory given fails = tt
 -- a gathered tree is checked
 pub gathered_first : (made : Loads) (t : Tree) (given : Result Tree LoadRefused) → given ≡ Ok t → Gives made (checked t) → Gives made (given >>= checked)
 gathered_first made t given is gives = subst (λ (r : Result Tree LoadRefused). Gives made (r >>= checked)) (sym is) gives
+
+-- a tree that is checked is refused for no read
+pub never_unread : (made : Loads) (file : List ℕ) → IfErr made IsWithin → IsErrOf made (Read file) → ⊥
+never_unread (Ok conf) file within err = cc
+never_unread (Err (Read name)) file within err = within
+never_unread (Err (Yaml name fault)) file within err = cc
+never_unread (Err (Conf fault)) file within err = cc
+never_unread (Err (IncludeTwice name)) file within err = cc
+never_unread (Err (IncludeDepth name)) file within err = cc
+never_unread (Err (Absent name)) file within err = cc
+never_unread (Err Memory) file within err = cc
 
 -- ---- what is loaded is valid
 

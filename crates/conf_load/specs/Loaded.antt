@@ -7,7 +7,7 @@ use Rattle.conf_check.specs.Accepted.{conf_of}
 use Rattle.conf_gather.specs.declared.refused.LoadRefused.{LoadRefused}
 use Rattle.conf_gather.specs.declared.refused.LoadRefused.TheVariants.{Conf}
 use Rattle.conf_gather.specs.Gives.{◌>>=◌}
-use Rattle.conf_gather.specs.Gathered.{Held, gathered}
+use Rattle.conf_gather.specs.Gathered.{Held, Finds, held_by, gathered_by}
 
 abbrev pub unless_fault : Result Configuration ConfFault → Result Configuration LoadRefused
 unless_fault (Ok conf) = Ok conf
@@ -17,6 +17,10 @@ unless_fault (Err fault) = Err (Conf fault)
 abbrev pub checked : Tree → Result Configuration LoadRefused
 checked t = unless_fault (conf_of t)
 
--- the configuration of the file of this name, or why there is none, where these files are held
+-- the configuration of the file of this name, or why there is none, where trees are found so
+abbrev pub loaded_by : Finds → (name : List ℕ) → Result Configuration LoadRefused
+loaded_by finds name = gathered_by finds name >>= checked
+
+-- the same, where these files are held
 abbrev pub loaded : Held → (name : List ℕ) → Result Configuration LoadRefused
-loaded held name = gathered held name >>= checked
+loaded held name = loaded_by (held_by held) name

@@ -4,7 +4,8 @@ ghost use Rattle.fg_outside.specs.Counts.{Rose};
 ghost use Rattle.yaml_subset.specs.declared.tree.Tree.{Tree};
 ghost use Rattle.conf_check.specs.Accepted.{IsRefused};
 ghost use Rattle.conf_gather.specs.Gives.{Fails, Gives, IsWithin};
-ghost use Rattle.conf_load.specs.Loaded.{checked, loaded};
+ghost use Rattle.conf_gather.specs.Gathered.{NamesUnread};
+ghost use Rattle.conf_load.specs.Loaded.{checked, loaded, loaded_by};
 
 use conf_check::conf_of_tree;
 use conf_gather::{LoadRefused, gather};
@@ -40,6 +41,7 @@ fn check_tree(alloc: Global, tree: &Tree) -> Result<Conf, LoadRefused>
 /// shape, or else the first rule that is broken.
 pub fn load<F: Files>(alloc: Global, files: &mut F, name: &str) -> Result<Conf, LoadRefused>
     ensures told { (held : Contents) → F.contents files.old ≡ Some held → Gives result (loaded (held 0) name.now) }
+    ensures unread { NamesUnread (F.contents files.old) result (λ finds. loaded_by finds name.now) }
     ensures read { (file : List ℕ) → IsErrOf result (LoadRefused.Read file)
         → Rose (F.faults files.old) (F.faults files.new) }
     ensures no_fault { ((file : List ℕ) → IsErrOf result (LoadRefused.Read file) → ⊥)

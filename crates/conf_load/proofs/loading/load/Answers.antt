@@ -1,7 +1,13 @@
-use Rattle.std.proofs.Common.{◌≡◌, Err, arith}
+use Rattle.std.proofs.Common.{◌≡◌, Result, Err, ap, arith}
+use Rattle.yaml_subset.specs.declared.tree.Tree.{Tree}
+use Rattle.conf_gather.specs.declared.refused.LoadRefused.{LoadRefused}
+use Rattle.conf_gather.specs.declared.refused.LoadRefused.TheVariants.{Read}
+use Rattle.conf_gather.specs.Gives.{◌>>=◌}
+use Rattle.conf_gather.proofs.GatherLemmas.{other_err}
+use Rattle.conf_load.specs.Loaded.{checked}
 use Rattle.std.proofs.lemmas.Grind.{common_steps}
 use Rattle.conf_gather.specs.Gathered.{gathered}
-use Rattle.conf_load.proofs.LoadLemmas.{refused_first, gathered_first}
+use Rattle.conf_load.proofs.LoadLemmas.{refused_first, gathered_first, never_unread}
 use Rattle.conf_load.proofs.loading.load.Goals as goal
 
 pub returns-in_err-tree-clause-told : goal.returns-in_err-tree-clause-told
@@ -12,3 +18,11 @@ returns-in_err-tree-clause-told g c = λ held told.
 pub returns-clause-told : goal.returns-clause-told
 returns-clause-told g c = λ held told.
     gathered_first c.check_tree.result c.in_ok-tree.tree (gathered (held 0) c.args.name.now) (c.in_ok-tree.ensures.told held told) c.check_tree.ensures.told
+
+pub returns-in_err-tree-clause-unread : goal.returns-in_err-tree-clause-unread
+returns-in_err-tree-clause-unread g c = λ held file told err.
+    let result : c.from_residual.result ≡ Err c.in_err-tree.field-0.0 = grind (arith, common_steps) in
+    ap (λ (r : Result Tree LoadRefused). r >>= checked) (c.in_err-tree.ensures.unread held file told (other_err c.in_err-tree.field-0.0 (Read file) (rw result at err)))
+
+pub returns-clause-unread : goal.returns-clause-unread
+returns-clause-unread g c = λ held file told err. absurd (never_unread c.check_tree.result file c.check_tree.ensures.within err)
