@@ -81,7 +81,7 @@ fn forget_ports(hosts: &mut HostTable, ports: &[UpRec])
     }
 }
 
-/// Forgets the hosts that don't stand where they may. After `NoMemory` nothing changed.
+/// Forgets the hosts that don't stand where they may.
 fn forget_hosts(
     alloc: Global,
     hosts: &mut HostTable,
@@ -148,7 +148,8 @@ fn make_line(alloc: Global, conn: u32, cause: Closing) -> Result<Said, NoMemory>
 
 impl World {
     /// Forgets the hosts of interfaces that aren't up and of datapaths that don't run, and the neighbours
-    /// of groups of which no datapath runs. After `NoMemory` nothing changed.
+    /// of groups of which no datapath runs. After `NoMemory` nothing is known of what is
+    /// left.
     pub fn forget_lost(&mut self, alloc: Global) -> Result<(), NoMemory>
         ensures { OnOk result (self.new ≡ forget_lost self.old) }
     {

@@ -3,14 +3,11 @@ ghost use Rattle.ctl_world.specs.World.{first};
 
 use crate::conns::Conns;
 use crate::said::Saids;
-use conf_types::Conf;
+use conf_types::{Conf, MOST_HOSTS};
 use host_learn::HostTable;
 use neighbour_resolve::Neighbours;
 use net_base::{Moment, NoMemory};
 use std::alloc::Global;
-
-/// As many hosts are learned at most.
-const MOST_HOSTS: u32 = 16384;
 
 /// As many neighbours are wanted and known at most.
 const MOST_NEIGHBOURS: u32 = 2048;
@@ -33,7 +30,7 @@ impl World {
     pub fn new(alloc: Global, conf: Conf) -> Result<World, NoMemory>
         ensures { IfOk result (λ w. w ≡ first conf) }
     {
-        let hosts = HostTable::new(alloc, MOST_HOSTS)?;
+        let hosts = HostTable::new(alloc, MOST_HOSTS as u32)?;
         let neighbours = Neighbours::new(alloc, MOST_NEIGHBOURS)?;
         Ok(World {
             conf,
