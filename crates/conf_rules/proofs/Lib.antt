@@ -9,6 +9,7 @@ pub mod Gateways
 pub mod Groups
 pub mod MetRoutes
 pub mod MetVips
+pub mod Mirrors
 pub mod Numbers
 pub mod SeenNames
 pub mod SeenTagged

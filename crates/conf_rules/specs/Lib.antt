@@ -1,6 +1,7 @@
 pub mod Limits
 pub mod MetRoutes
 pub mod MetVips
+pub mod Mirrors
 pub mod Names
 pub mod Places
 pub mod Ports

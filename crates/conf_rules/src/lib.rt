@@ -6,6 +6,7 @@ mod limits;
 mod members;
 mod met_routes;
 mod met_vips;
+mod mirrored;
 mod names;
 mod numbered;
 mod places;

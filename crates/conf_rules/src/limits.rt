@@ -6,13 +6,14 @@ ghost use Rattle.conf_types.specs.Attached.{rules_of};
 ghost use Rattle.conf_types.specs.declared.datapath.Dp.{Dp};
 ghost use Rattle.conf_types.specs.Groups.{group_of, of_dps};
 ghost use Rattle.conf_types.specs.Lists.{EachBefore};
-ghost use Rattle.conf_types.specs.Membership.{has_edge_member, is_mirror_of, is_mirrored};
+ghost use Rattle.conf_types.specs.Membership.{has_edge_member};
 ghost use Rattle.conf_types.specs.Valid.{is_special, route_items};
 ghost use Rattle.conf_shape.specs.declared.refused.ConfCause.TheVariants.{TooMany};
 ghost use Rattle.conf_shape.specs.declared.refused.LimitName.TheVariants.{Routes, Gateways, RouteItems};
 ghost use Rattle.conf_rules.specs.Limits.{size_of, most_of, at_dp, at_dps, routes, many_mirrors, too_many_mirrors, is_attached_somewhere, many_rules_on_vlan, many_rules_on_port, too_many_rules, many_vips, many_router_vlans, too_many_router_vlans, part_limits, acl_limits, above, whole_vlans, gateways, routing_limits, passed_limits};
 ghost use Rattle.conf_rules.specs.Places.{first, fault_if, vlans_of, interfaces, interfaces_of};
 
+use crate::mirrored::Mirrored;
 use crate::places::{Found, broken, dp_site, port_site, router_site, under};
 use crate::sizes::{
     acl_entries, acl_outputs, all_gateways, all_route_items, members, routes, rules_len,
@@ -33,46 +34,49 @@ fn whole(alloc: Global, is_above: bool, limit: LimitName, section: &str) -> Foun
     Ok(None)
 }
 
-fn is_mirrored(dp: &Dp, no: PortNo) -> bool
-    ensures { result ≡ is_mirrored dp.now no }
-{
-    dp.ports.as_slice().iter().any(|port| port.is_mirror_of(no))
-}
-
-fn is_special(dp: &Dp, port: &Port) -> bool
+fn is_special(dp: &Dp, mirrored: &Mirrored, port: &Port) -> bool
+    requires { mirrored.now.dp.now ≡ dp.now }
     ensures { result ≡ is_special dp.now port.now }
 {
-    port.is_edge() && (port.hairpin || is_mirrored(dp, port.no))
+    port.is_edge() && (port.hairpin || mirrored.is_mirrored(port.no))
 }
 
-fn specials(dp: &Dp) -> usize
+fn specials_among(dp: &Dp, mirrored: &Mirrored) -> usize
+    requires { mirrored.now.dp.now ≡ dp.now }
     ensures { result ≡ count_by (is_special dp.now) dp.now.ports }
 {
     dp.ports
         .as_slice()
         .iter()
-        .filter(|port| is_special(dp, port))
+        .filter(|port| is_special(dp, mirrored, port))
         .count()
+}
+
+fn specials(alloc: Global, dp: &Dp) -> Result<usize, NoMemory>
+    ensures { IfOk result (λ count. count ≡ count_by (is_special dp.now) dp.now.ports) }
+{
+    let mirrored = Mirrored::of(alloc, dp)?;
+    Ok(specials_among(dp, &mirrored))
 }
 
 /// Whether a datapath passes a limit on datapaths.
 #[tactic(auto, using(crate::proofs::Capped::above_rules))]
-fn is_above(conf: &Resolved, limit: LimitName, dp: &Dp) -> bool
-    ensures { result ≡ nat_lt (most_of limit) (size_of conf.now limit dp.now) }
+fn is_above(alloc: Global, conf: &Resolved, limit: LimitName, dp: &Dp) -> Result<bool, NoMemory>
+    ensures { IfOk result (λ is_above. is_above ≡ nat_lt (most_of limit) (size_of conf.now limit dp.now)) }
 {
     match limit {
-        LimitName::Ports => dp.ports.len() > 256,
-        LimitName::Special => specials(dp) > 16,
-        LimitName::AclEntries => acl_entries(conf, 20_001, dp) > 20_000,
-        LimitName::AclOutputs => acl_outputs(conf, 65_537, dp) > 65_536,
-        _ => members(conf, 8193, dp) > 8192,
+        LimitName::Ports => Ok(dp.ports.len() > 256),
+        LimitName::Special => Ok(specials(alloc, dp)? > 16),
+        LimitName::AclEntries => Ok(acl_entries(conf, 20_001, dp) > 20_000),
+        LimitName::AclOutputs => Ok(acl_outputs(conf, 65_537, dp) > 65_536),
+        _ => Ok(members(conf, 8193, dp) > 8192),
     }
 }
 
 fn at_dp(alloc: Global, conf: &Resolved, limit: LimitName, raw_dp: &RawDp, dp: &Dp) -> Found
     ensures { IfOk result (λ found. found ≡ first (at_dp conf.now limit (raw_dp.now, dp.now))) }
 {
-    if is_above(conf, limit, dp) {
+    if is_above(alloc, conf, limit, dp)? {
         return broken(alloc, ConfCause::TooMany(limit), dp_site(alloc, raw_dp)?);
     }
     Ok(None)
@@ -94,20 +98,18 @@ fn at_dps(alloc: Global, ordered: &OrderedConf, conf: &Resolved, limit: LimitNam
     Ok(None)
 }
 
-fn mirrors(dp: &Dp, no: PortNo) -> usize
-    ensures { result ≡ count_by (λ m. is_mirror_of m no) dp.now.ports }
-{
-    dp.ports
-        .as_slice()
-        .iter()
-        .filter(|port| port.is_mirror_of(no))
-        .count()
-}
-
-fn many_mirrors(alloc: Global, raw_dp: &RawDp, dp: &Dp, raw: &RawPort, port: &Port) -> Found
+fn many_mirrors(
+    alloc: Global,
+    raw_dp: &RawDp,
+    dp: &Dp,
+    mirrored: &Mirrored,
+    raw: &RawPort,
+    port: &Port,
+) -> Found
+    requires { mirrored.now.dp.now ≡ dp.now }
     ensures { IfOk result (λ found. found ≡ first (many_mirrors (record { raw_dp = raw_dp.now; dp = dp.now; raw = raw.now; port = port.now }))) }
 {
-    if mirrors(dp, port.no) > 4 {
+    if mirrored.mirrors(port.no) > 4 {
         let site = port_site(alloc, raw_dp, raw)?;
         return broken(alloc, ConfCause::TooMany(LimitName::Mirrors), site);
     }
@@ -118,12 +120,13 @@ fn many_mirrors(alloc: Global, raw_dp: &RawDp, dp: &Dp, raw: &RawPort, port: &Po
 fn many_mirrors_of(alloc: Global, raw_dp: &RawDp, dp: &Dp) -> Found
     ensures { IfOk result (λ found. found ≡ first (flat_map many_mirrors (interfaces_of (raw_dp.now, dp.now)))) }
 {
+    let mirrored = Mirrored::of(alloc, dp)?;
     let ports = dp.ports.as_slice();
     for (i, raw) in raw_dp.ports.as_slice().iter().enumerate() {
         let Some(port) = ports.get(i) else {
             return Ok(None);
         };
-        if let Some(found) = many_mirrors(alloc, raw_dp, dp, raw, port)? {
+        if let Some(found) = many_mirrors(alloc, raw_dp, dp, &mirrored, raw, port)? {
             return Ok(Some(found));
         }
     }
