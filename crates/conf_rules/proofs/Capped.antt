@@ -1,7 +1,7 @@
 -- Sums as far as a cap.
-use Rattle.std.proofs.Common.{◌≡◌, ℕ, ◌+◌, Bool, true, false, cond, not, ltb, List, [], ◌∷◌, ◌++◌, length, map, min, refl, sym, ap, ◌∙◌, arith}
+use Rattle.std.proofs.Common.{◌≡◌, ℕ, ◌+◌, ◌<◌, Bool, true, false, cond, not, ltb, List, [], ◌∷◌, ◌++◌, take, length, get_or, map, min, refl, sym, ap, subst, ◌∙◌, arith}
 use Rattle.std.specs.Prelude.{sum_by, filter, fold, ◌==◌}
-use Rattle.std.proofs.lemmas.List.Sums.{sum_by-cons, sum_by-append}
+use Rattle.std.proofs.lemmas.List.Sums.{sum_by-cons, sum_by-append, sum_by_more}
 use Rattle.std.proofs.lemmas.Bool.{ltb-true, ltb-false, lt-ltb, le-ltb}
 use Rattle.std.specs.List.{flat_map}
 use Rattle.conf_types.specs.declared.acl.Rule.{Rule}
@@ -103,5 +103,13 @@ attached-sum size conf d =
     ∙ ap (λ n. n + sum_by (cost size conf) vlans) (sum-mapped (cost size conf) acls_of d.ports)
     ∙ ap (λ n. sum_by (λ (p : Port). cost size conf p.acls) d.ports + n)
     (sum-mapped (cost size conf) acls_in (filter here conf.vlans) ∙ sum-filtered (λ (v : Vlan). cost size conf v.acls) here conf.vlans)
+
+-- a sum so far, and one term more
+pub added_more : {A : Type 0} (cap : ℕ) (f : A → ℕ) (xs ys : List A) (i : ℕ) (x : A) (t u g : ℕ) → ys ≡ xs → i < length ys → x ≡ get_or ys i x
+    → t ≡ min cap (sum_by f (take i xs)) → g ≡ min cap (f x) → u ≡ min cap (t + g) → u ≡ min cap (sum_by f (take (i + 1) xs))
+added_more {A} cap f xs ys i x t u g e lt is so_far here further =
+    let more : sum_by f (take (i + 1) xs) ≡ sum_by f (take i xs) + f x =
+    subst (λ (zs : List A). sum_by f (take (i + 1) zs) ≡ sum_by f (take i zs) + f x) e (sum_by_more f ys i x lt ∙ ap (λ y. sum_by f (take i ys) + f y) (sym is)) in
+    omega arith
 
 pub ruleset above_rules = (above-capped)

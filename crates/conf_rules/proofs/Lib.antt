@@ -11,6 +11,7 @@ pub mod MetRoutes
 pub mod MetVips
 pub mod Mirrors
 pub mod Numbers
+pub mod SeenGateways
 pub mod SeenNames
 pub mod SeenTagged
 pub mod SeenVids

@@ -378,13 +378,14 @@ fn groups(dps: &[Dp]) -> usize
 }
 
 #[tactic(auto, using(crate::proofs::Gateways::product_rules))]
-fn are_many_gateways(conf: &Resolved) -> bool
+fn are_many_gateways(alloc: Global, conf: &Resolved) -> Result<bool, NoMemory>
     requires few { length conf.now.dps ≤ 64 }
     requires distinct { EachBefore (λ d e. d.id.0 ≡ e.id.0 → ⊥) conf.now.dps }
-    ensures { result ≡ nat_lt 1024 (gateways conf.now) }
+    ensures { IfOk result (λ are_many. are_many ≡ nat_lt 1024 (gateways conf.now)) }
 {
-    let asked = groups(conf.dps().as_slice()) * all_gateways(conf, 1025);
-    asked > 1024
+    let each = all_gateways(alloc, conf, 1025)?;
+    let asked = groups(conf.dps().as_slice()) * each;
+    Ok(asked > 1024)
 }
 
 #[tactic(auto, using(crate::proofs::First::first_rules))]
@@ -396,7 +397,8 @@ fn whole_limits(alloc: Global, conf: &Resolved) -> Found
     if let Some(found) = whole(alloc, are_many_routes(conf), LimitName::Routes, "vlans")? {
         return Ok(Some(found));
     }
-    if let Some(found) = whole(alloc, are_many_gateways(conf), LimitName::Gateways, "vlans")? {
+    let are_many = are_many_gateways(alloc, conf)?;
+    if let Some(found) = whole(alloc, are_many, LimitName::Gateways, "vlans")? {
         return Ok(Some(found));
     }
     whole(

@@ -1,9 +1,8 @@
 //! How much there is of what limits bound, each count as far as a cap.
 
-ghost use Rattle.std.specs.Prelude.{◌≡◌, ◌==◌, ◌+◌, ◌++◌, length, count_by, map, min, sum_by};
+ghost use Rattle.std.specs.Prelude.{◌≡◌, ◌+◌, ◌++◌, IfOk, length, count_by, min, sum_by, if◌then◌else◌};
 ghost use Rattle.std.specs.List.{list_any};
 ghost use Rattle.conf_types.specs.Attached.{rules_of, names_in, is_named};
-ghost use Rattle.conf_types.specs.Lists.{is_among, different};
 ghost use Rattle.conf_types.specs.Routing.{vips_of, vips_in, routes_of, routes_in};
 ghost use Rattle.conf_types.specs.Valid.{ports_named, route_items};
 ghost use Rattle.conf_rules.specs.Limits.{capped, acl_entries, acl_outputs, members, routes, gateways_of};
@@ -13,10 +12,13 @@ use crate::edges::Edges;
 use crate::members::Counted;
 use crate::numbered::Numbered;
 use crate::routing::find_router;
+use crate::seen::see_number;
 use crate::unknown::find_acl;
 use conf_resolve::Resolved;
-use conf_types::{Dp, Port, PortRef, Route, Rule, Vlan};
-use net_base::{Ip4, Text, Vid};
+use conf_types::{Dp, Port, PortRef, Rule, Vlan};
+use net_base::{NoMemory, Text, Vid};
+use std::alloc::Global;
+use std::collections::BTreeSet;
 
 /// A sum, as far as the cap.
 pub(crate) fn add(cap: usize, a: usize, b: usize) -> usize
@@ -330,44 +332,35 @@ pub(crate) fn all_route_items(conf: &Resolved, cap: usize) -> usize
     add_route_items(conf, &numbered, cap)
 }
 
-fn has_gateway(routes: &[Route], ip: Ip4) -> bool
-    ensures { result ≡ list_any (λ r. r.gw.0 == ip.0) routes.now }
+/// One more, as far as the cap, for what wasn't seen.
+fn count_unseen(cap: usize, count: usize, was: bool) -> usize
+    ensures { result ≡ (if was then count else min cap (count + 1)) }
 {
-    routes.iter().any(|route| route.gw.0 == ip.0)
-}
-
-fn is_among(routes: &[Route], ip: Ip4) -> bool
-    ensures { result ≡ is_among (map (λ r. r.gw.0) routes.now) ip.0 }
-{
-    has_gateway(routes, ip)
+    if was { count } else { add(cap, count, 1) }
 }
 
 /// How many gateways a VLAN's routes have.
-fn gateways_of(cap: usize, vlan: &Vlan) -> usize
-    ensures { result ≡ min cap (gateways_of vlan.now) }
+fn gateways_of(alloc: Global, cap: usize, vlan: &Vlan) -> Result<usize, NoMemory>
+    ensures { IfOk result (λ count. count ≡ min cap (gateways_of vlan.now)) }
 {
     let routes = vlan.routes.as_slice();
+    let mut seen = BTreeSet::new(alloc);
     let mut count = 0;
-    for (i, route) in routes.iter().enumerate() {
-        if !is_among(&routes[i + 1..], route.gw) {
-            count = add(cap, count, 1);
-        }
+    for i in (0..routes.len()).rev() {
+        let was = see_number(&mut seen, u64::from(routes[i].gw.0))?;
+        count = count_unseen(cap, count, was);
     }
-    count
-}
-
-fn add_gateways(conf: &Resolved, cap: usize) -> usize
-    ensures { result ≡ capped cap (λ v. min cap (gateways_of v)) conf.now.vlans }
-{
-    conf.vlans()
-        .as_slice()
-        .iter()
-        .fold(0, |sum, vlan| add(cap, sum, gateways_of(cap, vlan)))
+    Ok(count)
 }
 
 /// The gateways of each VLAN's routes, VLAN by VLAN.
-pub(crate) fn all_gateways(conf: &Resolved, cap: usize) -> usize
-    ensures { result ≡ min cap (sum_by gateways_of conf.now.vlans) }
+pub(crate) fn all_gateways(alloc: Global, conf: &Resolved, cap: usize) -> Result<usize, NoMemory>
+    ensures { IfOk result (λ sum. sum ≡ min cap (sum_by gateways_of conf.now.vlans)) }
 {
-    add_gateways(conf, cap)
+    let mut sum = 0;
+    for vlan in conf.vlans().as_slice() {
+        let gateways = gateways_of(alloc, cap, vlan)?;
+        sum = add(cap, sum, gateways);
+    }
+    Ok(sum)
 }

@@ -12,6 +12,6 @@ returns c =
     let conf = c.args.conf.now in
     let number : c.groups.result ≡ group_count conf =
     c.groups.ensures.value ∙ ap (λ (xs : List Dp). count_by (λ d. (group_of (of_dps xs) d.id).0 == d.id.0) xs) (c.as_slice.ensures ∙ c.dps.ensures) ∙ groups-count conf in
-    ap (λ (n : ℕ). ltb 1024 (n * c.all_gateways.result)) number
-    ∙ ap (λ (n : ℕ). ltb 1024 (group_count conf * n)) c.all_gateways.ensures
+    ap (λ (n : ℕ). ltb 1024 (n * c.in_ok-each.each)) number
+    ∙ ap (λ (n : ℕ). ltb 1024 (group_count conf * n)) c.in_ok-each.ensures
     ∙ product-capped (group_count conf) (sum_by gateways_of conf.vlans)
