@@ -4,6 +4,7 @@ pub mod Distinct
 pub mod Earlier
 pub mod Exchanged
 pub mod First
+pub mod FirstRouters
 pub mod FirstVlans
 pub mod Gateways
 pub mod Groups

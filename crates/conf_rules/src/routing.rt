@@ -2,10 +2,9 @@
 
 ghost use Rattle.std.specs.Prelude.{◌≡◌, ◌<◌, ◌∷◌, ℕ, IfOk, None, codes, false, slice_index_or};
 ghost use Rattle.std.specs.List.{flat_map, list_any};
-ghost use Rattle.std.specs.Option.{option_copied};
 ghost use Rattle.conf_types.specs.Lists.{is_among};
 ghost use Rattle.conf_types.specs.Networks.{is_held};
-ghost use Rattle.conf_types.specs.Routing.{router_with, vips_of};
+ghost use Rattle.conf_types.specs.Routing.{vips_of};
 ghost use Rattle.conf_rules.specs.MetRoutes.{HasRoutes, has_same_route, has_same_route_so_far};
 ghost use Rattle.conf_rules.specs.MetVips.{HasVips, met_vips};
 ghost use Rattle.conf_rules.specs.Places.{first, nth, under};
@@ -194,24 +193,18 @@ fn lies_in_some(dst: &Net4, vips: &[Net4]) -> bool
     vips.iter().any(|vip| lies_in(dst, vip))
 }
 
-pub(crate) fn find_router(routers: &[Router], vid: Vid) -> Option<&Router>
-    ensures { option_copied result ≡ router_with routers.now vid }
-{
-    routers.iter().find(|router| router.has(vid))
-}
-
 fn leads_into(conf: &Resolved, numbered: &Numbered, vid: Vid, dst: &Net4) -> bool
-    requires { numbered.now.vlans.now ≡ conf.now.vlans }
+    requires { numbered.now.conf.now ≡ conf.now }
     ensures { result ≡ list_any (lies_in dst.now) (vips_of conf.now vid) }
 {
-    match numbered.find(vid) {
+    match numbered.vlan(vid) {
         Some(vlan) => lies_in_some(dst, vlan.vips.as_slice()),
         None => false,
     }
 }
 
 fn leads_into_some(conf: &Resolved, numbered: &Numbered, vids: &[Vid], dst: &Net4) -> bool
-    requires { numbered.now.vlans.now ≡ conf.now.vlans }
+    requires { numbered.now.conf.now ≡ conf.now }
     ensures { result ≡ list_any (λ vid. list_any (lies_in dst.now) (vips_of conf.now vid)) vids.now }
 {
     vids.iter().any(|vid| leads_into(conf, numbered, *vid, dst))
@@ -220,10 +213,10 @@ fn leads_into_some(conf: &Resolved, numbered: &Numbered, vids: &[Vid], dst: &Net
 /// Whether a route leads into a VIP network that packets of the VLAN are routed to.
 #[tactic(auto, using(crate::proofs::First::any_rules))]
 fn leads_inside(conf: &Resolved, numbered: &Numbered, vid: Vid, dst: &Net4) -> bool
-    requires { numbered.now.vlans.now ≡ conf.now.vlans }
+    requires { numbered.now.conf.now ≡ conf.now }
     ensures { result ≡ leads_inside conf.now vid dst.now }
 {
-    match find_router(conf.routers().as_slice(), vid) {
+    match numbered.router(vid) {
         Some(router) => leads_into_some(conf, numbered, router.vlans.as_slice(), dst),
         None => leads_into_some(conf, numbered, &[vid], dst),
     }
@@ -247,7 +240,7 @@ fn wrong_route(
     at: usize,
     route: &Route,
 ) -> Found
-    requires { numbered.now.vlans.now ≡ conf.now.vlans }
+    requires { numbered.now.conf.now ≡ conf.now }
     ensures { IfOk result (λ found. found ≡ first (wrong_route conf.now vlan.now (nth (under placed.now.site (codes "routes")) at, route.now))) }
 {
     if leads_inside(conf, numbered, vlan.vid, &route.dst) {
@@ -269,7 +262,7 @@ fn wrong_routes_of(
     placed: &PlacedVlan,
     vlan: &Vlan,
 ) -> Found
-    requires { numbered.now.vlans.now ≡ conf.now.vlans }
+    requires { numbered.now.conf.now ≡ conf.now }
     ensures { IfOk result (λ found. found ≡ first (wrong_routes_of conf.now (placed.now, vlan.now))) }
 {
     for (i, route) in vlan.routes.as_slice().iter().enumerate() {
@@ -287,7 +280,7 @@ pub(crate) fn wrong_routes(alloc: Global, ordered: &OrderedConf, conf: &Resolved
     ensures { IfOk result (λ found. found ≡ first (wrong_routes ordered.now conf.now)) }
 {
     let vlans = conf.vlans().as_slice();
-    let numbered = Numbered::of(vlans);
+    let numbered = Numbered::of(conf);
     for (i, placed) in ordered.vlans.as_slice().iter().enumerate() {
         let Some(vlan) = vlans.get(i) else {
             return Ok(None);

@@ -11,7 +11,6 @@ ghost use Rattle.conf_rules.specs.Sizes.{named_rules, cost, vlan_cost, members_a
 use crate::edges::Edges;
 use crate::members::Counted;
 use crate::numbered::Numbered;
-use crate::routing::find_router;
 use crate::seen::see_number;
 use crate::unknown::find_acl;
 use conf_resolve::Resolved;
@@ -255,27 +254,27 @@ fn add_routes(conf: &Resolved, cap: usize) -> usize
 }
 
 fn vips_of(conf: &Resolved, numbered: &Numbered, vid: Vid) -> usize
-    requires { numbered.now.vlans.now ≡ conf.now.vlans }
+    requires { numbered.now.conf.now ≡ conf.now }
     ensures { result ≡ length (vips_of conf.now vid) }
 {
-    match numbered.find(vid) {
+    match numbered.vlan(vid) {
         Some(vlan) => vlan.vips.len(),
         None => 0,
     }
 }
 
 fn routes_of(conf: &Resolved, numbered: &Numbered, vid: Vid) -> usize
-    requires { numbered.now.vlans.now ≡ conf.now.vlans }
+    requires { numbered.now.conf.now ≡ conf.now }
     ensures { result ≡ length (routes_of conf.now vid) }
 {
-    match numbered.find(vid) {
+    match numbered.vlan(vid) {
         Some(vlan) => vlan.routes.len(),
         None => 0,
     }
 }
 
 fn add_vips(conf: &Resolved, numbered: &Numbered, cap: usize, vids: &[Vid]) -> usize
-    requires { numbered.now.vlans.now ≡ conf.now.vlans }
+    requires { numbered.now.conf.now ≡ conf.now }
     ensures { result ≡ capped cap (λ vid. length (vips_of conf.now vid)) vids.now }
 {
     vids.iter()
@@ -283,14 +282,14 @@ fn add_vips(conf: &Resolved, numbered: &Numbered, cap: usize, vids: &[Vid]) -> u
 }
 
 fn add_routes_of(conf: &Resolved, numbered: &Numbered, cap: usize, vids: &[Vid]) -> usize
-    requires { numbered.now.vlans.now ≡ conf.now.vlans }
+    requires { numbered.now.conf.now ≡ conf.now }
     ensures { result ≡ capped cap (λ vid. length (routes_of conf.now vid)) vids.now }
 {
     vids.iter().fold(0, |sum, vid| add(cap, sum, routes_of(conf, numbered, *vid)))
 }
 
 fn items_of(conf: &Resolved, numbered: &Numbered, cap: usize, vids: &[Vid]) -> usize
-    requires { numbered.now.vlans.now ≡ conf.now.vlans }
+    requires { numbered.now.conf.now ≡ conf.now }
     ensures { result ≡ min cap (length (vips_in conf.now vids.now) + length (routes_in conf.now vids.now)) }
 {
     add(
@@ -302,20 +301,20 @@ fn items_of(conf: &Resolved, numbered: &Numbered, cap: usize, vids: &[Vid]) -> u
 
 /// The VIPs and routes that packets of a VLAN may take.
 fn route_items(conf: &Resolved, numbered: &Numbered, cap: usize, vlan: &Vlan) -> usize
-    requires { numbered.now.vlans.now ≡ conf.now.vlans }
+    requires { numbered.now.conf.now ≡ conf.now }
     ensures { result ≡ min cap (route_items conf.now vlan.now) }
 {
     if vlan.vips.is_empty() {
         return 0;
     }
-    match find_router(conf.routers().as_slice(), vlan.vid) {
+    match numbered.router(vlan.vid) {
         Some(router) => items_of(conf, numbered, cap, router.vlans.as_slice()),
         None => items_of(conf, numbered, cap, &[vlan.vid]),
     }
 }
 
 fn add_route_items(conf: &Resolved, numbered: &Numbered, cap: usize) -> usize
-    requires { numbered.now.vlans.now ≡ conf.now.vlans }
+    requires { numbered.now.conf.now ≡ conf.now }
     ensures { result ≡ capped cap (λ v. min cap (route_items conf.now v)) conf.now.vlans }
 {
     conf.vlans().as_slice().iter().fold(
@@ -328,7 +327,7 @@ fn add_route_items(conf: &Resolved, numbered: &Numbered, cap: usize) -> usize
 pub(crate) fn all_route_items(conf: &Resolved, cap: usize) -> usize
     ensures { result ≡ min cap (sum_by (route_items conf.now) conf.now.vlans) }
 {
-    let numbered = Numbered::of(conf.vlans().as_slice());
+    let numbered = Numbered::of(conf);
     add_route_items(conf, &numbered, cap)
 }
 
