@@ -19,13 +19,12 @@ use Rattle.conf_resolve.specs.Resolved.{to_list, vid_of}
 use Rattle.conf_rules.specs.Names.{routed_at}
 use Rattle.conf_rules.specs.Places.{fault_if, under, each_at, vlans_of, with_earlier, is_repeat}
 
--- packets are routed between the two VLANs, or they are one
-abbrev pub are_routed : Configuration → ℕ → ℕ → Bool
-are_routed conf v w = v == w || list_any (λ r. is_among r.vlans v && is_among r.vlans w) conf.routers
-
--- the same, by routers alone
+-- packets are routed between the two VLANs by these routers, or they are one
 abbrev pub are_joined : List Router → ℕ → ℕ → Bool
 are_joined routers v w = v == w || list_any (λ r. is_among r.vlans v && is_among r.vlans w) routers
+
+abbrev pub are_routed : Configuration → ℕ → ℕ → Bool
+are_routed conf v w = are_joined conf.routers v w
 
 -- the VLANs, each with its place and with those before it
 abbrev pub vlans_behind : OrderedConf → Configuration → List (PlacedVlan × (List Vlan × Vlan))
