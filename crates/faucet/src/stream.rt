@@ -1,4 +1,6 @@
-ghost use Rattle.std.specs.Prelude.{◌≡◌, None};
+ghost use Rattle.std.specs.Prelude.{◌≡◌, ◌≤◌, ◌<◌, None, length, take, IfOk, OnOk, OnErr};
+ghost use Rattle.std.specs.Io.KnownBytes.{Appends};
+ghost use Rattle.fg_outside.specs.Counts.{Rose};
 
 use fg_outside::{Failed, Sink};
 use std::io::Write;
@@ -13,7 +15,8 @@ pub struct Stream<W> {
 impl<W: Write> Stream<W> {
     /// No write has failed yet.
     pub fn new(writer: W) -> Stream<W>
-        ensures { ⟦<Stream<W> as Sink>⟧.faults result ≡ 0 }
+        ensures writer { result.writer ≡ writer }
+        ensures faults { ⟦<Stream<W> as Sink>⟧.faults result ≡ 0 }
     {
         Stream { writer, faults: 0 }
     }
@@ -24,7 +27,16 @@ impl<W: Write> Sink for Stream<W> {
 
     ghost faults = { λ s. s.faults };
 
-    fn write(&mut self, piece: &[u8]) -> Result<usize, Failed> {
+    /// Hands the piece to the writer once, and says how many bytes that took from its front.
+    fn write(&mut self, piece: &[u8]) -> Result<usize, Failed>
+        ensures some { 0 < length piece.now → IfOk result (λ n. 0 < n) }
+        ensures within { IfOk result (λ n. n ≤ length piece.now) }
+        ensures failed { OnErr result (Rose self.old.faults self.new.faults) }
+        ensures no_fault { OnOk result (self.new.faults ≡ self.old.faults) }
+        ensures faults { self.old.faults ≤ self.new.faults }
+
+        ensures handed { IfOk result (λ n. Appends (W.contents self.old.writer) (W.contents self.new.writer) (take n piece.now)) }
+    {
         match self.writer.write(piece) {
             Ok(n) if 0 < n || piece.is_empty() => Ok(n),
             _ => {
