@@ -1,4 +1,4 @@
-ghost use Rattle.std.specs.Prelude.{◌≤◌, ◌≡◌, length, None, IfOk};
+ghost use Rattle.std.specs.Prelude.{◌≤◌, ◌≡◌, ◌+◌, ◌-◌, ◌^◌, min, length, None, IfOk, IfSome};
 
 use fg_outside::{Failed, Files};
 use net_base::Text;
@@ -18,7 +18,7 @@ struct OpenAt<F> {
 #[derive(Drop)]
 pub struct RealFiles<'a, R: rt::Files> {
     rt: &'a R,
-    open: Option<OpenAt<R::File>>,
+    last: Option<OpenAt<R::File>>,
     faults: u64,
     absences: u64,
 }
@@ -31,7 +31,7 @@ impl<'a, R: rt::Files + AllocGlobal> RealFiles<'a, R> {
     {
         RealFiles {
             rt,
-            open: None,
+            last: None,
             faults: 0,
             absences: 0,
         }
@@ -41,13 +41,16 @@ impl<'a, R: rt::Files + AllocGlobal> RealFiles<'a, R> {
 /// The named file, open at a place: the one that is open where it stands there, else opened anew.
 fn open_at<R: rt::Files + AllocGlobal>(
     rt: &R,
-    open: Option<OpenAt<R::File>>,
+    last: Option<OpenAt<R::File>>,
     name: &str,
     from: u64,
-) -> io::Result<OpenAt<R::File>> {
-    if let Some(open) = open {
-        if open.at == from && open.name.as_str() == name {
-            return Ok(open);
+) -> io::Result<OpenAt<R::File>>
+    ensures name { IfOk result (λ file. file.name ≡ name.now) }
+    ensures place { IfOk result (λ file. file.at ≡ from) }
+{
+    if let Some(last) = last {
+        if last.at == from && last.name.as_str() == name {
+            return Ok(last);
         }
     }
     let mut file = fs::open(rt, name)?;
@@ -66,13 +69,15 @@ impl<R: rt::Files + AllocGlobal> RealFiles<'_, R> {
     fn read_from(&mut self, name: &str, from: u64, buf: &mut [u8]) -> io::Result<usize>
         ensures count { IfOk result (λ n. n ≤ length buf.old) }
         ensures length { length buf.new ≡ length buf.old }
+        ensures name { IfOk result (λ n. IfSome self.new.last (λ file. file.name ≡ name.now)) }
+        ensures place { IfOk result (λ n. IfSome self.new.last (λ file. file.at ≡ min (from + n) (2 ^ 64 - 1))) }
         ensures faults { self.new.faults ≡ self.old.faults }
         ensures absences { self.new.absences ≡ self.old.absences }
     {
-        let mut open = open_at(self.rt, self.open.take(), name, from)?;
+        let mut open = open_at(self.rt, self.last.take(), name, from)?;
         let n = open.file.read(buf)?;
         open.at = open.at.saturating_add(n as u64);
-        self.open = Some(open);
+        self.last = Some(open);
         Ok(n)
     }
 }
@@ -98,7 +103,11 @@ impl<R: rt::Files + AllocGlobal> Files for RealFiles<'_, R> {
         }
     }
 
-    fn refresh(&mut self) {
-        self.open = None;
+    fn refresh(&mut self)
+        ensures closed { self.new.last ≡ None }
+        ensures faults { self.new.faults ≡ self.old.faults }
+        ensures absences { self.new.absences ≡ self.old.absences }
+    {
+        self.last = None;
     }
 }
