@@ -1,0 +1,2 @@
+-- What the clauses cite.
+pub mod Opened

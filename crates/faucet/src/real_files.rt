@@ -1,17 +1,14 @@
-ghost use Rattle.std.specs.Prelude.{◌≤◌, ◌≡◌, ◌+◌, ◌-◌, ◌^◌, min, length, None, IfOk, IfSome};
+ghost use Rattle.std.specs.Prelude.{◌≤◌, ◌<◌, ◌≡◌, ◌≢◌, ◌+◌, ◌-◌, ◌^◌, ℕ, List, min, length, None, Some, Ok, IfOk, IfSome, IfNone, OnSome, OnOk, OnErr, IsSomeAnd, IsErrAnd, MatchResult};
+ghost use Rattle.std.specs.IoError.{error_kind};
+ghost use Rattle.fg_outside.specs.Contents.{Tells, ReadsAt};
+ghost use Rattle.fg_outside.specs.Counts.{Rose, counted};
+ghost use Rattle.faucet.specs.Opened.{name_of, place_of, WentOn};
 
+use crate::opened::OpenAt;
 use fg_outside::{Failed, Files};
 use net_base::Text;
-use std::io::{self, Read, Seek, SeekFrom};
+use std::io::{self, ErrorKind};
 use std::{fs, rt};
-
-/// A file that is open at a place.
-#[derive(Drop)]
-struct OpenAt<F> {
-    name: Text,
-    file: F,
-    at: u64,
-}
 
 /// The files of the system. They tell nothing of what they hold, and count their faults and absences.
 /// The file that was read last stays open, so that a pipe can be read to its end.
@@ -45,40 +42,68 @@ fn open_at<R: rt::Files + AllocGlobal>(
     name: &str,
     from: u64,
 ) -> io::Result<OpenAt<R::File>>
-    ensures name { IfOk result (λ file. file.name ≡ name.now) }
-    ensures place { IfOk result (λ file. file.at ≡ from) }
+    ensures name { IfOk result (λ opened. name_of opened ≡ name.now) }
+    ensures place { IfOk result (λ opened. place_of opened ≡ from) }
+    ensures kept { IfSome last (λ opened. name_of opened ≡ name.now → place_of opened ≡ from → result ≡ Ok opened) }
 {
     if let Some(last) = last {
-        if last.at == from && last.name.as_str() == name {
+        if last.stands_at(name, from) {
             return Ok(last);
         }
     }
-    let mut file = fs::open(rt, name)?;
-    if from > 0 {
-        file.seek(SeekFrom::Start(from))?;
+    let file = fs::open(rt, name)?;
+    OpenAt::new(Text::from_str(rt.alloc(), name)?, file, from)
+}
+
+/// What a read from a place comes to: its bytes where the place behind them can be counted, no file
+/// exactly where it said that there is none, else a fault.
+fn outcome(read: io::Result<usize>, from: u64) -> Result<Option<usize>, Failed>
+    ensures some { IfOk result (λ got. IfSome got (λ n. (read ≡ Ok n) × (from + n ≤ 2 ^ 64 - 1))) }
+    ensures none { IfOk result (λ got. IfNone got (IsErrAnd read (λ e. error_kind e ≡ ErrorKind.NotFound))) }
+    ensures failed { OnErr result (MatchResult read (λ n. 2 ^ 64 - 1 < from + n) (λ e. error_kind e ≢ ErrorKind.NotFound)) }
+{
+    match read {
+        Ok(n) if (n as u64) <= u64::MAX - from => Ok(Some(n)),
+        Err(e) if e.kind() == ErrorKind::NotFound => Ok(None),
+        _ => Err(Failed),
     }
-    let name = Text::from_str(rt.alloc(), name)?;
-    Ok(OpenAt {
-        name,
-        file,
-        at: from,
-    })
 }
 
 impl<R: rt::Files + AllocGlobal> RealFiles<'_, R> {
     fn read_from(&mut self, name: &str, from: u64, buf: &mut [u8]) -> io::Result<usize>
         ensures count { IfOk result (λ n. n ≤ length buf.old) }
         ensures length { length buf.new ≡ length buf.old }
-        ensures name { IfOk result (λ n. IfSome self.new.last (λ file. file.name ≡ name.now)) }
-        ensures place { IfOk result (λ n. IfSome self.new.last (λ file. file.at ≡ min (from + n) (2 ^ 64 - 1))) }
+        ensures name { IfOk result (λ n. IsSomeAnd self.new.last (λ opened. name_of opened ≡ name.now)) }
+        ensures place { IfOk result (λ n. IsSomeAnd self.new.last (λ opened. place_of opened ≡ min (from + n) (2 ^ 64 - 1))) }
+        ensures bytes { IfSome self.old.last (λ before. name_of before ≡ name.now → place_of before ≡ from
+            → IfOk result (λ n. IsSomeAnd self.new.last (λ after. WentOn R.File.remaining before after n buf.new))) }
+        ensures closed { OnErr result (self.new.last ≡ None) }
         ensures faults { self.new.faults ≡ self.old.faults }
         ensures absences { self.new.absences ≡ self.old.absences }
     {
         let mut open = open_at(self.rt, self.last.take(), name, from)?;
-        let n = open.file.read(buf)?;
-        open.at = open.at.saturating_add(n as u64);
+        let n = open.read(buf)?;
         self.last = Some(open);
         Ok(n)
+    }
+
+    /// Counts an answer, and hands it on.
+    fn count(&mut self, answer: Result<Option<usize>, Failed>) -> Result<Option<usize>, Failed>
+        ensures answer { result ≡ answer }
+        ensures failed { OnErr answer (self.new.faults ≡ counted self.old.faults) }
+        ensures no_fault { OnOk answer (self.new.faults ≡ self.old.faults) }
+        ensures absent { answer ≡ Ok None → self.new.absences ≡ counted self.old.absences }
+        ensures found { answer ≢ Ok None → self.new.absences ≡ self.old.absences }
+        ensures faults { self.old.faults ≤ self.new.faults }
+        ensures absences { self.old.absences ≤ self.new.absences }
+        ensures last { self.new.last ≡ self.old.last }
+    {
+        match answer {
+            Ok(Some(_)) => {}
+            Ok(None) => self.absences = self.absences.saturating_add(1),
+            Err(Failed) => self.faults = self.faults.saturating_add(1),
+        }
+        answer
     }
 }
 
@@ -89,18 +114,30 @@ impl<R: rt::Files + AllocGlobal> Files for RealFiles<'_, R> {
 
     ghost absences = { λ f. f.absences };
 
-    fn read_at(&mut self, name: &str, from: u64, buf: &mut [u8]) -> Result<Option<usize>, Failed> {
-        match self.read_from(name, from, buf) {
-            Ok(n) if (n as u64) <= u64::MAX - from => Ok(Some(n)),
-            Err(e) if e.kind() == io::ErrorKind::NotFound => {
-                self.absences = self.absences.saturating_add(1);
-                Ok(None)
-            }
-            _ => {
-                self.faults = self.faults.saturating_add(1);
-                Err(Failed)
-            }
-        }
+    /// These files tell nothing of what they hold, so the first two clauses, which are the trait's, bind
+    /// nothing here.
+    fn read_at(&mut self, name: &str, from: u64, buf: &mut [u8]) -> Result<Option<usize>, Failed>
+        ensures present { (file : List ℕ) → Tells None name.now (Some file)
+            → IfOk result (λ got. (n : ℕ) × (got ≡ Some n) × ReadsAt file from buf.new n) }
+        ensures missing { Tells None name.now None → IfOk result (λ got. got ≡ None) }
+        ensures count { IfOk result (λ got. IfSome got (λ n. n ≤ length buf.old)) }
+        ensures end { IfOk result (λ got. IfSome got (λ n. from + n ≤ 2 ^ 64 - 1)) }
+        ensures absent { IfOk result (λ got. IfNone got (Rose self.old.absences self.new.absences)) }
+        ensures found { IfOk result (λ got. OnSome got (self.new.absences ≡ self.old.absences)) }
+        ensures untouched { OnErr result (self.new.absences ≡ self.old.absences) }
+        ensures failed { OnErr result (Rose self.old.faults self.new.faults) }
+        ensures no_fault { OnOk result (self.new.faults ≡ self.old.faults) }
+        ensures faults { self.old.faults ≤ self.new.faults }
+        ensures absences { self.old.absences ≤ self.new.absences }
+
+        ensures name { IfOk result (λ got. OnSome got (IsSomeAnd self.new.last (λ opened. name_of opened ≡ name.now))) }
+        ensures place { IfOk result (λ got. IfSome got (λ n. IsSomeAnd self.new.last (λ opened. place_of opened ≡ from + n))) }
+        ensures bytes { IfSome self.old.last (λ before. name_of before ≡ name.now → place_of before ≡ from
+            → IfOk result (λ got. IfSome got (λ n. IsSomeAnd self.new.last
+            (λ after. WentOn R.File.remaining before after n buf.new)))) }
+    {
+        let read = self.read_from(name, from, buf);
+        self.count(outcome(read, from))
     }
 
     fn refresh(&mut self)
