@@ -1,5 +1,5 @@
 -- The replay of a recording, from what the hub that reads it gave and was told.
-use Rattle.std.proofs.Common.{◌≡◌, ◌≤◌, ◌⊎◌, inl, inr, ℕ, ◌-◌, ◌^◌, Bool, true, false, List, [], ◌∷◌, ◌++◌, length, Option, Some, None, Result, Ok, Err, IfOk, OnErr, refl, sym, ap, subst, ◌∙◌}
+use Rattle.std.proofs.Common.{◌≡◌, ◌≤◌, ◌<◌, ◌⊎◌, inl, inr, ℕ, ◌+◌, ◌-◌, ◌^◌, min, arith, Bool, true, false, List, [], ◌∷◌, ◌++◌, length, Option, Some, None, Result, Ok, Err, IfOk, OnOk, OnErr, refl, sym, ap, subst, ◌∙◌}
 use Rattle.std.specs.Result.{result_unwrap_or}
 use Rattle.fg_outside.specs.declared.file_source.FileSource.{FileSource}
 use Rattle.fg_outside.specs.declared.hub.Happening.{Happening}
@@ -73,6 +73,19 @@ failed_write drove.Memory refused h = cc
 
 pub no_failed_write : (how : Drove) (refused : Option RecordRefused) → (replayed_by how refused ≡ replayed.WriteFault → ⊥) → how ≡ drove.WriteFault → ⊥
 no_failed_write how refused other is = other (ap (λ (d : Drove). replayed_by d refused) is)
+
+pub no_failed_read : (how : Drove) (refused : Option RecordRefused) → (replayed_by how refused ≡ replayed.Unread → ⊥) → how ≡ drove.HubFault → ⊥
+no_failed_read how refused other is = other (ap (λ (d : Drove). replayed_by d refused) is)
+
+-- a file that is there was read
+pub was_read : {E : Type 0} (there : Result Bool E) (kept : Type 0) → OnOk there kept → result_unwrap_or there false ≡ true → kept
+was_read (Ok b) kept read h = read
+was_read (Err e) kept read h = cc
+
+-- counts that together stay, of which none fell, stay each, unless they stand at their last value
+none_rose : (faults old now : ℕ) (missed missed_now : ℕ) → missed ≡ 0 → old ≡ faults → old ≤ now
+    → min (now + missed_now) (2 ^ 64 - 1) ≡ min (old + missed) (2 ^ 64 - 1) → faults < 2 ^ 64 - 1 → now ≡ faults
+none_rose faults old now missed missed_now none so_far grown same below = omega (arith, none, so_far, grown, same, below)
 
 -- ---- what was read
 
@@ -172,6 +185,11 @@ module _ {F : Type 0} (held : F → Option Contents) (faults absences : F → �
         | inl risen ↦ inr (Rose-since (faults files) (faults (files_of old)) (faults (files_of new)) faults_so_far risen)
         | inr risen ↦ inl (Rose-since (absences files) (absences (files_of old)) (absences (files_of new)) absences_so_far risen)
       ]
+
+  -- where the faults of the hub stay, those of its files do
+  pub none_of_files : (files : F) (old new : FileSource F) → missing_of old ≡ 0 → faults (files_of old) ≡ faults files → KeepsFiles held faults absences old new → faults_of faults new ≡ faults_of faults old → faults files < 2 ^ 64 - 1 → faults (files_of new) ≡ faults files
+  none_of_files files old new none so_far keeps same below =
+      none_rose (faults files) (faults (files_of old)) (faults (files_of new)) (missing_of old) (missing_of new) none so_far keeps.files_faults same below
 
   -- ---- a run over the file
 

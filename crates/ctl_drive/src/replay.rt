@@ -1,4 +1,4 @@
-ghost use Rattle.std.specs.Prelude.{◌≡◌, ◌≢◌, ◌≤◌, ◌⊎◌, ℕ, List, Some, None, true, false, IfOk, OnErr};
+ghost use Rattle.std.specs.Prelude.{◌≡◌, ◌≢◌, ◌≤◌, ◌<◌, ◌-◌, ◌^◌, ◌⊎◌, ℕ, List, Some, None, true, false, IfOk, OnOk, OnErr};
 ghost use Rattle.fg_outside.specs.Contents.{Tells};
 ghost use Rattle.fg_outside.specs.Counts.{Rose};
 ghost use Rattle.ctl_world.specs.World.{World};
@@ -46,6 +46,7 @@ fn is_there<F: Files>(files: &mut F, name: &str) -> Result<bool, Failed>
     ensures there { (bytes : List ℕ) → Tells (F.contents files.old) name.now (Some bytes) → IfOk result (λ there. there ≡ true) }
     ensures absent { IfOk result (λ there. there ≡ false → Rose (F.absences files.old) (F.absences files.new)) }
     ensures failed { OnErr result (Rose (F.faults files.old) (F.faults files.new)) }
+    ensures no_fault { OnOk result (F.faults files.new ≡ F.faults files.old) }
     ensures contents { F.contents files.new ≡ F.contents files.old }
     ensures faults { F.faults files.old ≤ F.faults files.new }
     ensures absences { F.absences files.old ≤ F.absences files.new }
@@ -66,6 +67,7 @@ fn run_source<S: Source, O: Sink, E: Sink, T: Tally>(
         (O.wrote out.old) (O.wrote out.new) (E.wrote err.old) (E.wrote err.new) result.0 result.1 result.2 }
 
     ensures fault { result.0 ≡ Drove.HubFault → Rose (S.faults source) (S.faults result.2) }
+    ensures no_fault { result.0 ≢ Drove.HubFault → S.faults result.2 ≡ S.faults source }
     ensures write_fault { result.0 ≡ Drove.WriteFault → Rose (O.faults out.old) (O.faults out.new) ⊎ Rose (E.faults err.old) (E.faults err.new) }
     ensures no_write_fault { result.0 ≢ Drove.WriteFault → (O.faults out.new ≡ O.faults out.old) × (E.faults err.new ≡ E.faults err.old) }
     ensures out_faults { O.faults out.old ≤ O.faults out.new }
@@ -106,6 +108,9 @@ pub fn replay<F: Files, O: Sink, E: Sink, T: Tally>(
     // A recording that isn't there is told as such, and one that is there only where a read failed.
     ensures missing { Tells (F.contents files) name None → result.0 ≡ Replayed.Unread }
     ensures there { (bytes : List ℕ) → Tells (F.contents files) name (Some bytes) → result.0 ≡ Replayed.Unread → Rose (F.faults files) (F.faults result.1) }
+
+    // No read that failed is passed over, or tried again in silence.
+    ensures no_fault { result.0 ≢ Replayed.Unread → F.faults files < 2 ^ 64 - 1 → F.faults result.1 ≡ F.faults files }
 
     ensures write_fault { result.0 ≡ Replayed.WriteFault → Rose (O.faults out.old) (O.faults out.new) ⊎ Rose (E.faults err.old) (E.faults err.new) }
     ensures no_write_fault { result.0 ≢ Replayed.WriteFault → (O.faults out.new ≡ O.faults out.old) × (E.faults err.new ≡ E.faults err.old) }

@@ -5,7 +5,7 @@ use Rattle.fg_outside.specs.FileSource.{files_of}
 use Rattle.fg_outside.specs.Counts.{Rose}
 use Rattle.ctl_world.specs.World.{first}
 use Rattle.ctl_drive.specs.declared.drive.Drove.TheVariants as drove
-use Rattle.ctl_drive.proofs.Replaying.{failed_write, fault_of_files, fault_of_told, never_begun, never_read, no_failed_write, run_keeps, run_replays, unread_fault, was_there, why_unread}
+use Rattle.ctl_drive.proofs.Replaying.{failed_write, fault_of_files, fault_of_told, never_begun, never_read, no_failed_read, no_failed_write, none_of_files, run_keeps, run_replays, unread_fault, was_read, was_there, why_unread}
 use Rattle.ctl_drive.proofs.replay.replay.Goals as goal
 
 pub returns-then-not-unwrap_or-clause-replayed : goal.returns-then-not-unwrap_or-clause-replayed
@@ -42,6 +42,20 @@ returns-clause-there g c = λ bytes tells unread.
     (rw (c.new-source.ensures.files, c.new-source.ensures.name, c.is_there.ensures.contents) tells)
     (rw c.new-source.ensures.files c.is_there.ensures.faults) keeps
     (c.run_source-drove.ensures.fault (unread_fault _ _ (sym c.replayed_by.ensures ∙ unread))))
+
+pub returns-in_default-clause-no_fault : goal.returns-in_default-clause-no_fault
+returns-in_default-clause-no_fault g c = λ other below.
+    let is : result_unwrap_or c.is_there.result false ≡ true = grind (arith, common_steps) in
+    was_read c.is_there.result _ c.is_there.ensures.no_fault is
+
+pub returns-clause-no_fault : goal.returns-clause-no_fault
+returns-clause-no_fault g c = λ other below.
+    let runs = c.run_source-drove.ensures.runs (first c.args.conf) c.in-Ok.ensures in
+    let keeps = run_keeps g.F.Files.contents g.F.Files.faults g.F.Files.absences (g.F.Files.contents c.args.files) c.args.name c.args.conf c.new-source.result _ _ _ _ _ _ _ runs in
+    let is : result_unwrap_or c.is_there.result false ≡ true = grind (arith, common_steps) in
+    rw c.into_files.ensures (none_of_files g.F.Files.contents g.F.Files.faults g.F.Files.absences c.args.files c.new-source.result _ c.new-source.ensures.missing
+    (rw c.new-source.ensures.files (was_read c.is_there.result _ c.is_there.ensures.no_fault is)) keeps
+    (c.run_source-drove.ensures.no_fault (no_failed_read _ _ (λ unread. other (c.replayed_by.ensures ∙ unread)))) below)
 
 pub returns-clause-write_fault : goal.returns-clause-write_fault
 returns-clause-write_fault g c = λ failed. c.run_source-drove.ensures.write_fault (failed_write _ _ (sym c.replayed_by.ensures ∙ failed))
