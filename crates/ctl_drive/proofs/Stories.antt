@@ -7,7 +7,7 @@ use Rattle.fg_outside.specs.declared.hub.Happening.{Happening}
 use Rattle.fg_outside.specs.declared.hub.Turn.TheVariants.{Happened, Done, Failed, Memory}
 use Rattle.fg_outside.specs.HubStep.{HubStep, happenings, start, story, turned}
 use Rattle.fg_outside.specs.Wrote.{appended, AppendsFront}
-use Rattle.fg_outside.proofs.SinkLemmas.{appended-append, appended-nil, AppendsFront-whole, AppendsFront-second}
+use Rattle.fg_outside.proofs.SinkLemmas.{appended-append, appended-nil, AppendsFront-none, AppendsFront-whole, AppendsFront-second}
 use Rattle.recording.specs.Written.{WrittenRecord, written, written_records}
 use Rattle.ctl_world.specs.World.{World}
 use Rattle.ctl_core.specs.declared.controller.Saying.{Saying}
@@ -18,7 +18,7 @@ use Rattle.ctl_drive.specs.declared.sayings.Outlet.TheVariants.{Records, Hub}
 use Rattle.ctl_drive.specs.Driving.{Deed, gave, IsFront, deeds, deeds_by, deeds_of, lines_of, out_of, record_by, records_of, sayings_of, turn_deeds, turn_lines, turn_records, written_by, written_on}
 use Rattle.ctl_drive.specs.declared.turn.Stopped.{Stopped}
 use Rattle.ctl_drive.specs.declared.turn.Stopped.TheVariants as stopped
-use Rattle.ctl_drive.specs.Driven.{Tells, TellsPart, Answers, AnswersPart, AnswersAll, AnswersFront, Drives, drove_by}
+use Rattle.ctl_drive.specs.Driven.{Tells, TellsPart, Answers, AnswersPart, AnswersAll, AnswersFront, Drives, WholeButLast, drove_by}
 use Rattle.ctl_drive.proofs.Deeds.{happened_in, happened-append, happened-deeds, happenings_are, none_happened_before, whole_happened}
 use Rattle.ctl_drive.proofs.Pieces.{flat_map-flat_map}
 use Rattle.ctl_drive.proofs.Telling.{Tells-one, Tells-same, Tells-then, TellsPart-same, TellsPart-second, TellsPart-whole, deeds-story}
@@ -74,6 +74,37 @@ pub front-whole : (old new : Option (List ℕ)) (piece : List ℕ) → new ≡ a
 front-whole old new piece is =
     subst (λ (o : Option (List ℕ)). AppendsFront old o piece) (sym is)
     (front-same old (appended old piece) (piece ++ []) piece (append-nil piece) (AppendsFront-whole old piece []))
+
+-- of a last turn a front of the answer was written
+pub begun_last : (outlet : Outlet) (w : World) (hs : List Happening) (h : Happening) (out_one out_two out_three err_one err_two err_three : Option (List ℕ)) → out_two ≡ appended out_one (out_of outlet w hs) → err_two ≡ appended err_one (lines_of w hs)
+    → AppendsFront out_two out_three (turn_out outlet h (behind w hs)) → AppendsFront err_two err_three (turn_lines h (behind w hs)) → WholeButLast outlet w (hs ++ h ∷ []) out_one out_three err_one err_three
+begun_last outlet w hs h out_one out_two out_three err_one err_two err_three wrote lined out err =
+    let v : World = behind w hs in
+    record {
+      before = hs;
+      last = h ∷ [];
+      parts = refl;
+      one = omega arith;
+      out =
+          front-same (appended out_one (out_of outlet w hs)) out_three (turn_out outlet h v) (out_of outlet v (h ∷ []))
+          (sym (out-push outlet v [] h ∙ ap (λ (l : List ℕ). l ++ turn_out outlet h v) (out-none outlet v)))
+          (subst (λ (o : Option (List ℕ)). AppendsFront o out_three (turn_out outlet h v)) wrote out);
+      err =
+          front-same (appended err_one (lines_of w hs)) err_three (turn_lines h v) (lines_of v (h ∷ []))
+          (sym (lines-push v [] h))
+          (subst (λ (o : Option (List ℕ)). AppendsFront o err_three (turn_lines h v)) lined err);
+    }
+
+-- behind the last turn nothing more was written
+pub none_begun : (outlet : Outlet) (w : World) (hs : List Happening) (out_one out_two err_one err_two : Option (List ℕ)) → out_two ≡ appended out_one (out_of outlet w hs) → err_two ≡ appended err_one (lines_of w hs) → WholeButLast outlet w hs out_one out_two err_one err_two
+none_begun outlet w hs out_one out_two err_one err_two wrote lined = record {
+  before = hs;
+  last = [];
+  parts = sym (append-nil hs);
+  one = omega arith;
+  out = subst (λ (o : Option (List ℕ)). AppendsFront (appended out_one (out_of outlet w hs)) o (out_of outlet (behind w hs) [])) (sym wrote) (AppendsFront-none (appended out_one (out_of outlet w hs)) (out_of outlet (behind w hs) []));
+  err = subst (λ (o : Option (List ℕ)). AppendsFront (appended err_one (lines_of w hs)) o (lines_of (behind w hs) [])) (sym lined) (AppendsFront-none (appended err_one (lines_of w hs)) (lines_of (behind w hs) []));
+}
 
 module _ {H : Type 0} (may : H → HubStep → H → Type 0) (outlet : Outlet) where
   -- nothing happened
@@ -137,6 +168,7 @@ module _ {H : Type 0} (may : H → HubStep → H → Type 0) (outlet : Outlet) w
         err =
             front-same err_one err_three (lines_of w hs ++ turn_lines h v) (lines_of w (hs ++ h ∷ [])) (sym (lines-push w hs h))
             (AppendsFront-second err_one err_two err_three (lines_of w hs) (turn_lines h v) all.err part.err);
+        but_last = begun_last outlet w hs h out_one out_two out_three err_one err_two err_three all.out all.err part.out part.err;
       }
 
   -- all, and a turn that gave nothing
@@ -151,6 +183,7 @@ module _ {H : Type 0} (may : H → HubStep → H → Type 0) (outlet : Outlet) w
         happened = whole_happened outlet w hs (story whole.steps) whole.deeds;
         out = front-whole out_one out_two (out_of outlet w hs) all.out;
         err = front-whole err_one err_two (lines_of w hs) all.err;
+        but_last = none_begun outlet w hs out_one out_two err_one err_two all.out all.err;
       }
 
   -- driving that stopped inside a turn

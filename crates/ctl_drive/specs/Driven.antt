@@ -56,13 +56,23 @@ pub record AnswersAll {H : Type 0} (may : H → HubStep → H → Type 0) (outle
   pub out : out_new ≡ appended out_old (out_of outlet w hs)
   pub err : err_new ≡ appended err_old (lines_of w hs)
 
--- of the answer to all that happened a front is given
+-- what stands on the streams is the whole answer to all that happened but the last, and a front of the answer to that
+pub record WholeButLast (outlet : Outlet) (w : World) (hs : List Happening) (out_old out_new err_old err_new : Option (List ℕ)) : Type 0 where
+  pub before : List Happening
+  pub last : List Happening
+  pub parts : hs ≡ before ++ last
+  pub one : length last ≤ 1
+  pub out : AppendsFront (appended out_old (out_of outlet w before)) out_new (out_of outlet (behind w before) last)
+  pub err : AppendsFront (appended err_old (lines_of w before)) err_new (lines_of (behind w before) last)
+
+-- of the answer to all that happened a front is given, which ends in the last turn
 pub record AnswersFront {H : Type 0} (may : H → HubStep → H → Type 0) (outlet : Outlet) (w : World) (hs : List Happening)
     (hub_old hub_new : H) (out_old out_new err_old err_new : Option (List ℕ)) : Type 0 where
   pub told : TellsPart may hub_old (deeds_of outlet w hs) hub_new
   pub happened : happenings (story told.steps) ≡ hs
   pub out : AppendsFront out_old out_new (out_of outlet w hs)
   pub err : AppendsFront err_old err_new (lines_of w hs)
+  pub but_last : WholeButLast outlet w hs out_old out_new err_old err_new
 
 -- by how driving ended
 abbrev pub Drives : {H : Type 0} → (H → HubStep → H → Type 0) → Outlet → (most : ℕ) → World → (core : Option World) → (hub_old hub_new : H) → (out_old out_new err_old err_new : Option (List ℕ)) → Drove → Type 0
