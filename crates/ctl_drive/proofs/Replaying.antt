@@ -29,6 +29,7 @@ use Rattle.ctl_drive.specs.Driving.{Deed, IsFront, closings_of, deeds, deeds_of,
 use Rattle.ctl_drive.specs.Driven.{AnswersAll, AnswersFront, Drives}
 use Rattle.ctl_drive.specs.Replay.{IsStoryOf, IsStorySoFar, Replays, RunsSource, TellsSoFar, WritesAll, WritesFront, closed_in, replayed_by}
 use Rattle.ctl_drive.proofs.Deeds.{front_closed, whole_closed, whole_happened}
+use Rattle.ctl_drive.proofs.Stories.{none_begun}
 use Rattle.ctl_drive.proofs.Telling.{IsFront-same}
 
 -- ---- nothing was read
@@ -51,7 +52,11 @@ never_read contents name absence fault conf out err why = (
 pub never_begun : (contents : Option Contents) (name : List ℕ) (absence fault : Type 0) (conf : Configuration) (out err : Option (List ℕ)) → Replays contents name absence fault conf out out err err replayed.Memory
 never_begun contents name absence fault conf out err = (
   [],
-  record { out = AppendsFront-none out []; err = AppendsFront-none err [] },
+  record {
+    out = AppendsFront-none out [];
+    err = AppendsFront-none err [];
+    but_last = none_begun Records (first conf) [] out out err err (sym (appended-nil out)) (sym (appended-nil err));
+  },
   nothing_told contents name conf,
 )
 
@@ -154,12 +159,12 @@ module _ {F : Type 0} (held : F → Option Contents) (faults absences : F → �
     )
     replays absence fault core after out_old out_new err_old err_new refused is drove.WriteFault (hs, few, front) why = (
       hs,
-      record { out = front.out; err = front.err },
+      record { out = front.out; err = front.err; but_last = front.but_last },
       so_far hs front.told.steps after front.told.leads front.told.front front.happened,
     )
     replays absence fault core after out_old out_new err_old err_new refused is drove.Memory (hs, few, front) why = (
       hs,
-      record { out = front.out; err = front.err },
+      record { out = front.out; err = front.err; but_last = front.but_last },
       so_far hs front.told.steps after front.told.leads front.told.front front.happened,
     )
 

@@ -33,17 +33,23 @@ deeds-push outlet w (g ∷ hs) h =
     ap (λ (l : List Deed). turn_deeds outlet g w ++ l) (deeds-push outlet (turn g w) hs h)
     ∙ sym (append_assoc (turn_deeds outlet g w) (deeds_of outlet (turn g w) hs) (turn_deeds outlet h (behind (turn g w) hs)))
 
+lines-append : (w : World) (hs more : List Happening) → lines_of w (hs ++ more) ≡ lines_of w hs ++ lines_of (behind w hs) more
+lines-append w [] more = refl
+lines-append w (g ∷ hs) more =
+    ap (λ (l : List ℕ). turn_lines g w ++ l) (lines-append (turn g w) hs more)
+    ∙ sym (append_assoc (turn_lines g w) (lines_of (turn g w) hs) (lines_of (behind (turn g w) hs) more))
+
 pub lines-push : (w : World) (hs : List Happening) (h : Happening) → lines_of w (hs ++ h ∷ []) ≡ lines_of w hs ++ turn_lines h (behind w hs)
-lines-push w [] h = append-nil (turn_lines h w)
-lines-push w (g ∷ hs) h =
-    ap (λ (l : List ℕ). turn_lines g w ++ l) (lines-push (turn g w) hs h)
-    ∙ sym (append_assoc (turn_lines g w) (lines_of (turn g w) hs) (turn_lines h (behind (turn g w) hs)))
+lines-push w hs h = lines-append w hs (h ∷ []) ∙ ap (λ (l : List ℕ). lines_of w hs ++ l) (append-nil (turn_lines h (behind w hs)))
+
+records-append : (w : World) (hs more : List Happening) → records_of w (hs ++ more) ≡ records_of w hs ++ records_of (behind w hs) more
+records-append w [] more = refl
+records-append w (g ∷ hs) more =
+    ap (λ (l : List WrittenRecord). turn_records g w ++ l) (records-append (turn g w) hs more)
+    ∙ sym (append_assoc (turn_records g w) (records_of (turn g w) hs) (records_of (behind (turn g w) hs) more))
 
 records-push : (w : World) (hs : List Happening) (h : Happening) → records_of w (hs ++ h ∷ []) ≡ records_of w hs ++ turn_records h (behind w hs)
-records-push w [] h = append-nil (turn_records h w)
-records-push w (g ∷ hs) h =
-    ap (λ (l : List WrittenRecord). turn_records g w ++ l) (records-push (turn g w) hs h)
-    ∙ sym (append_assoc (turn_records g w) (records_of (turn g w) hs) (turn_records h (behind (turn g w) hs)))
+records-push w hs h = records-append w hs (h ∷ []) ∙ ap (λ (l : List WrittenRecord). records_of w hs ++ l) (append-nil (turn_records h (behind w hs)))
 
 records_written : (moment : ℕ) (sayings : List Saying) → written_records (flat_map (record_by moment) sayings) ≡ flat_map (written_by moment) sayings
 records_written moment sayings = flat_map-flat_map written (record_by moment) sayings
@@ -59,6 +65,12 @@ out-push Records w hs h =
     ∙ flat_map-append written (records_of w hs) (turn_records h v)
     ∙ ap (λ (l : List ℕ). written_records (records_of w hs) ++ l) (records_written (turn h v).moment.0 (sayings_of h v))
 out-push Hub w hs h = refl
+
+out-append : (outlet : Outlet) (w : World) (hs more : List Happening) → out_of outlet w (hs ++ more) ≡ out_of outlet w hs ++ out_of outlet (behind w hs) more
+out-append Records w hs more =
+    ap (λ (l : List WrittenRecord). written_records l) (records-append w hs more)
+    ∙ flat_map-append written (records_of w hs) (records_of (behind w hs) more)
+out-append Hub w hs more = refl
 
 pub out-none : (outlet : Outlet) (w : World) → out_of outlet w [] ≡ []
 out-none Records w = refl
@@ -105,6 +117,20 @@ none_begun outlet w hs out_one out_two err_one err_two wrote lined = record {
   out = subst (λ (o : Option (List ℕ)). AppendsFront (appended out_one (out_of outlet w hs)) o (out_of outlet (behind w hs) [])) (sym wrote) (AppendsFront-none (appended out_one (out_of outlet w hs)) (out_of outlet (behind w hs) []));
   err = subst (λ (o : Option (List ℕ)). AppendsFront (appended err_one (lines_of w hs)) o (lines_of (behind w hs) [])) (sym lined) (AppendsFront-none (appended err_one (lines_of w hs)) (lines_of (behind w hs) []));
 }
+
+-- what was written so is a front of the answer to all that happened
+pub fronts_but_last : (outlet : Outlet) (w : World) (hs : List Happening) (out_old out_new err_old err_new : Option (List ℕ)) → WholeButLast outlet w hs out_old out_new err_old err_new → AppendsFront out_old out_new (out_of outlet w hs) × AppendsFront err_old err_new (lines_of w hs)
+fronts_but_last outlet w hs out_old out_new err_old err_new but_last =
+    let before = but_last.before in
+    let last = but_last.last in
+    let v : World = behind w before in (
+      front-same out_old out_new (out_of outlet w before ++ out_of outlet v last) (out_of outlet w hs)
+          (sym (ap (λ (l : List Happening). out_of outlet w l) but_last.parts ∙ out-append outlet w before last))
+          (AppendsFront-second out_old (appended out_old (out_of outlet w before)) out_new (out_of outlet w before) (out_of outlet v last) refl but_last.out),
+      front-same err_old err_new (lines_of w before ++ lines_of v last) (lines_of w hs)
+          (sym (ap (λ (l : List Happening). lines_of w l) but_last.parts ∙ lines-append w before last))
+          (AppendsFront-second err_old (appended err_old (lines_of w before)) err_new (lines_of w before) (lines_of v last) refl but_last.err),
+    )
 
 module _ {H : Type 0} (may : H → HubStep → H → Type 0) (outlet : Outlet) where
   -- nothing happened

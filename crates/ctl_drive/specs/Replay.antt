@@ -18,7 +18,7 @@ use Rattle.ctl_drive.specs.declared.drive.Drove.TheVariants as drove
 use Rattle.ctl_drive.specs.declared.replay.Replayed.{Replayed}
 use Rattle.ctl_drive.specs.declared.replay.Replayed.TheVariants.{Read, Unread, Spent, WriteFault, Memory}
 use Rattle.ctl_drive.specs.declared.sayings.Outlet.TheVariants as outlets
-use Rattle.ctl_drive.specs.Driven.{Drives}
+use Rattle.ctl_drive.specs.Driven.{Drives, WholeButLast}
 use Rattle.ctl_drive.specs.Driving.{IsFront, closings_of, lines_of, records_of}
 
 -- ---- which story a recording tells
@@ -54,10 +54,11 @@ pub record WritesAll (conf : Configuration) (story : List Happening) (out_old ou
   pub out : out_new ≡ appended out_old (written_records (records_of (first conf) story))
   pub err : err_new ≡ appended err_old (lines_of (first conf) story)
 
--- fronts of these
+-- fronts of these, which end in the last turn
 pub record WritesFront (conf : Configuration) (story : List Happening) (out_old out_new err_old err_new : Option (List ℕ)) : Type 0 where
   pub out : AppendsFront out_old out_new (written_records (records_of (first conf) story))
   pub err : AppendsFront err_old err_new (lines_of (first conf) story)
+  pub but_last : WholeButLast outlets.Records (first conf) story out_old out_new err_old err_new
 
 -- where the files tell the recording, so much of its story was taken in
 abbrev pub TellsSoFar : Option Contents → (name : List ℕ) → Configuration → List Happening → Type 0

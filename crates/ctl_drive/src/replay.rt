@@ -40,7 +40,8 @@ fn replayed_by(drove: Drove, refused: Option<RecordRefused>) -> Replayed
     }
 }
 
-/// Whether there is a file of this name.
+/// Whether there is a file of this name. The buffer has no room, so that nothing of the file is taken, which may
+/// be a pipe.
 fn is_there<F: Files>(files: &mut F, name: &str) -> Result<bool, Failed>
     ensures missing { Tells (F.contents files.old) name.now None → IfOk result (λ there. there ≡ false) }
     ensures there { (bytes : List ℕ) → Tells (F.contents files.old) name.now (Some bytes) → IfOk result (λ there. there ≡ true) }
@@ -51,7 +52,7 @@ fn is_there<F: Files>(files: &mut F, name: &str) -> Result<bool, Failed>
     ensures faults { F.faults files.old ≤ F.faults files.new }
     ensures absences { F.absences files.old ≤ F.absences files.new }
 {
-    Ok(files.read_at(name, 0, &mut [0; 1])?.is_some())
+    Ok(files.read_at(name, 0, &mut [])?.is_some())
 }
 
 /// Runs a controller on the recording that a source gives, and gives the source back.
