@@ -3,3 +3,6 @@ pub mod Acls
 pub mod Vlans
 pub mod Routes
 pub mod Plan
+pub mod DoableParts
+pub mod DoableRows
+pub mod DoablePlan
