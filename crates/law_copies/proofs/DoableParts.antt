@@ -2,7 +2,7 @@
 use Rattle.std.specs.Prelude.{◌≡◌, ℕ, ◌+◌, ◌/◌, ◌%◌, ◌<◌, ◌≤◌, Bool, true, false, ◌||◌, List, [], ◌∷◌, ◌++◌, map, Option, Some, None, option_to_list, if◌then◌else◌}
 use Rattle.std.specs.List.{AllByRecursion, list_any}
 use Rattle.std.specs.Option.{option_map}
-use Rattle.std.proofs.Common.{sym, ap, subst, arith, eq-eqb}
+use Rattle.std.proofs.Common.{refl, sym, ap, subst, arith, eq-eqb}
 use Rattle.net_base.specs.declared.field.Field.{Field}
 use Rattle.net_base.specs.Numbers.{IsVid}
 use Rattle.of_match.specs.declared.action.Action.{Action}
@@ -18,7 +18,7 @@ use Rattle.plan_base.specs.Entries.{table_number, leads_to, entry}
 use Rattle.plan_base.specs.Fields.{vid_field}
 use Rattle.plan_base.specs.Sending.{outs, copied, sent}
 use Rattle.flow_runs.specs.Members.{all_mapped, all_by}
-use Rattle.law_copies.specs.Doable.{LeadsOn, asks_for_tag, tags_asked, AreDoable, DoesDoable, CanBeDone}
+use Rattle.law_copies.specs.Doable.{LeadsOn, has_present, asks_for_tag, tags_asked, AreDoable, DoesDoable, CanBeDone}
 
 -- ---- tables
 
@@ -61,18 +61,19 @@ pub tagged : (t : Table) (priority : ℕ) (fields : List Field) (actions : List 
 tagged t priority fields actions next later asks all =
     made t priority fields actions next later (subst (λ (n : ℕ). AreDoable fields n actions) (sym (ap (λ (b : Bool). if b then 1 else 0) asks)) all)
 
-pub asks : (vid : ℕ) → IsVid vid → asks_for_tag (vid_field vid) ≡ true
-asks vid is = let most = is.most in let bit : (0x1000 + vid) / 0x1000 % 2 ≡ 1 = omega (arith, most) in eq-eqb ((0x1000 + vid) / 0x1000 % 2) 1 bit
+-- a VLAN's identifier leaves the bit beside it
+pub present : (vid : ℕ) → IsVid vid → has_present (0x1000 + vid) ≡ true
+present vid is = let most = is.most in let bit : (0x1000 + vid) / 0x1000 % 2 ≡ 1 = omega (arith, most) in eq-eqb ((0x1000 + vid) / 0x1000 % 2) 1 bit
 
 pub asks_among : (vid : ℕ) → IsVid vid → (more : List Field) → list_any asks_for_tag (vid_field vid ∷ more) ≡ true
-asks_among vid is more = ap (λ (b : Bool). b || list_any asks_for_tag more) (asks vid is)
+asks_among vid is more = ap (λ (b : Bool). b || list_any asks_for_tag more) (present vid is)
 
 pub each : {A : Type 0} (f : A → Entry) → ((x : A) → CanBeDone (f x)) → (xs : List A) → AllByRecursion CanBeDone (map f xs)
 each f h xs = all_mapped CanBeDone f xs (all_by (λ x. CanBeDone (f x)) xs (λ x c. h x))
 
-pub of_option : {A : Type 0} (f : A → Entry) → ((x : A) → CanBeDone (f x)) → (o : Option A) → AllByRecursion CanBeDone (option_to_list (option_map f o))
-of_option f h None = tt
-of_option f h (Some x) = (h x, tt)
+pub of_option : {A : Type 0} (f : A → Entry) (o : Option A) → ((x : A) → o ≡ Some x → CanBeDone (f x)) → AllByRecursion CanBeDone (option_to_list (option_map f o))
+of_option f None h = tt
+of_option f (Some x) h = (h x refl, tt)
 
 -- ---- actions
 
@@ -86,7 +87,7 @@ IsOutput (Set f) = ⊥
 module _ (fields : List Field) where
   -- an output asks for nothing, and leaves the tags
   output_first : (tags : ℕ) (a : Action) (more : List Action) → IsOutput a → AreDoable fields tags more → AreDoable fields tags (a ∷ more)
-  output_first tags (Output port max_len) more is all = (record { pushes = tt; sets = tt; lowers = tt; pops = tt }, all)
+  output_first tags (Output port max_len) more is all = (record { pushes = tt; sets = tt; values = tt; lowers = tt; pops = tt }, all)
   output_first tags (PushVlan eth_type) more is all = absurd is
   output_first tags PopVlan more is all = absurd is
   output_first tags DecTtl more is all = absurd is
@@ -101,7 +102,7 @@ module _ (fields : List Field) where
   outputs tags (x ∷ xs) are = output_first tags x xs are.0 (outputs tags xs are.1)
 
   pub popped_first : (xs : List Action) → AllByRecursion IsOutput xs → AreDoable fields 1 (pop_tag ∷ xs)
-  popped_first xs are = (record { pushes = tt; sets = tt; lowers = tt; pops = omega arith }, outputs 0 xs are)
+  popped_first xs are = (record { pushes = tt; sets = tt; values = tt; lowers = tt; pops = omega arith }, outputs 0 xs are)
 
   pub sent_done : (d : Dp) (vid : ℕ) (q : Port) (by : Action) → AllByRecursion IsOutput (copied d q.no by) → AreDoable fields 1 (sent d vid q by)
   sent_done d vid q by are = one (is_native_in q vid)

@@ -37,7 +37,7 @@ module _ (conf : Configuration) (now : State) (d : Dp) (setting : IsSetting conf
   port_done : (i : Port) → AllByRecursion CanBeDone (of_port conf now d i)
   port_done i =
       all_joined CanBeDone (port_acl conf d i) _ (port_acl_done conf d i)
-      (all_joined CanBeDone (admissions conf d i) _ (admissions_done conf d i) (misses_done conf d i now.hosts))
+      (all_joined CanBeDone (admissions conf d i) _ (admissions_done conf d i setting.valid) (misses_done conf d i now.hosts))
 
   vlan_done : (v : Vlan) → IsVid v.vid → AllByRecursion CanBeDone (of_vlan conf now d v)
   vlan_done v is =
@@ -56,7 +56,7 @@ module _ (conf : Configuration) (now : State) (d : Dp) (setting : IsSetting conf
       (all_flat CanBeDone (of_vlan conf now d) conf.vlans (all_by (λ v. AllByRecursion CanBeDone (of_vlan conf now d v)) conf.vlans (λ v c. vlan_done v (is_vlan v c))))
       (all_joined CanBeDone (flat_map (of_host conf now d) (hosts_of conf now d)) _
       (all_flat CanBeDone (of_host conf now d) (hosts_of conf now d) (all_by (λ h. AllByRecursion CanBeDone (of_host conf now d h)) (hosts_of conf now d) (λ h c. host_done h (is_in_vlan h c))))
-      (all_flat CanBeDone (of_routes conf now d) conf.vlans (all_by (λ v. AllByRecursion CanBeDone (of_routes conf now d v)) conf.vlans (λ v c. fib_done v (is_vlan v c) conf now.neighbours d))))))
+      (all_flat CanBeDone (of_routes conf now d) conf.vlans (all_by (λ v. AllByRecursion CanBeDone (of_routes conf now d v)) conf.vlans (λ v c. fib_done v (is_vlan v c) conf setting.valid now.neighbours d))))))
 
   -- a cold start has no other entries
   pub cold_done : AllByRecursion CanBeDone (cold conf now d)

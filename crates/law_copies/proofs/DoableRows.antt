@@ -2,8 +2,12 @@
 use Rattle.std.specs.Prelude.{◌≡◌, ℕ, ◌+◌, ◌<◌, ◌==◌, ◌&&◌, ◌||◌, not, Bool, true, false, List, [], ◌∷◌, ◌++◌, map, filter, length, Option, Some, None, option_to_list, if◌then◌else◌}
 use Rattle.std.specs.List.{AllByRecursion, filter_map, cons_option, enumerate_from, list_any}
 use Rattle.std.specs.Option.{option_map, option_map_or}
-use Rattle.std.proofs.Common.{refl, arith}
+use Rattle.std.proofs.Common.{refl, arith, subst}
+use Rattle.std.proofs.lemmas.Option.{none-some, same_Some}
+use Rattle.net_base.specs.declared.address.Ip4.{Ip4}
+use Rattle.net_base.specs.declared.address.Mac.{Mac}
 use Rattle.net_base.specs.declared.field.Field.{Field}
+use Rattle.net_base.specs.declared.numbers.DpId.{DpId}
 use Rattle.net_base.specs.Numbers.{IsVid}
 use Rattle.of_match.specs.declared.action.Action.{Action}
 use Rattle.of_match.specs.declared.entry.Entry.{Entry}
@@ -16,20 +20,23 @@ use Rattle.conf_types.specs.declared.state.HostRec.{HostRec}
 use Rattle.conf_types.specs.declared.state.NeighRec.{NeighRec}
 use Rattle.conf_types.specs.declared.vlan.Vlan.{Vlan}
 use Rattle.conf_types.specs.Attached.{rules_of}
-use Rattle.conf_types.specs.Configuration.{Configuration, port_with}
+use Rattle.conf_types.specs.Configuration.{Configuration, port_with, vlan_with}
 use Rattle.conf_types.specs.Groups.{group_of}
 use Rattle.conf_types.specs.Membership.{is_accepting, is_stack, is_native_in, has_edge_member, mirrors_of}
+use Rattle.conf_types.specs.Routing.{routing_set}
 use Rattle.conf_types.specs.State.{is_permanent, is_stale}
+use Rattle.conf_types.specs.Valid.{IsValid}
 use Rattle.packet_way.specs.declared.routes.RouteItem.{RouteItem}
 use Rattle.packet_way.specs.declared.routes.Target.{Target}
 use Rattle.packet_way.specs.declared.routes.Target.TheVariants.{Gateway, Hop, Network}
-use Rattle.packet_way.specs.Routes.{route_list}
+use Rattle.packet_way.specs.Routes.{mac_of_neighbour, vip_item, resolved, hop_item, neighbour_item, network_item, route_item, items_of, route_list}
 use Rattle.plan_base.specs.declared.table.Table.{Table}
 use Rattle.plan_base.specs.declared.table.Table.TheVariants as table
 use Rattle.plan_base.specs.Actions.{out, to_controller, to_ingress, push_tag, set_vid, set_eth_src, set_eth_dst, dec_ttl}
 use Rattle.plan_base.specs.Entries.{table_number, leads_to, entry}
 use Rattle.plan_base.specs.Fields.{in_port, eth_src, eth_dst, vid_field, untagged, group_src, ipv4_dst}
 use Rattle.plan_base.specs.Sending.{mirrored, copied, sent}
+use Rattle.plan_base.proofs.Each.{all_from, all_filter_map}
 use Rattle.acl_compile.specs.declared.place.Place.{Place}
 use Rattle.acl_compile.specs.declared.place.Place.TheVariants.{AtPort, AtVlan}
 use Rattle.acl_compile.specs.Places.{table_at, next_at, field_at}
@@ -46,14 +53,15 @@ use Rattle.vlan_compile.specs.Floods.{floods, floods_to, flood_entry, flood_acti
 use Rattle.vlan_compile.specs.Misses.{misses, miss, has_host, is_full}
 use Rattle.vlan_compile.specs.Sources.{sources, at_its_port, elsewhere, heard_copies}
 use Rattle.vlan_compile.specs.Vlans.{native_vlan, tagged_vlans, vlans_of}
+use Rattle.vlan_compile.proofs.Valid.{native_numbered, vlan_numbered}
 use Rattle.route_compile.specs.Gateways.{has_gateway}
 use Rattle.route_compile.specs.Routes.{ipv4_for, item_fields, fib, item_entry, led_to, no_route}
 use Rattle.route_compile.specs.Vips.{vip_slice, arp_entry, echo_entry, heard_entry, end_entry}
-use Rattle.flow_runs.specs.Members.{all_joined, all_flat, all_by}
+use Rattle.flow_runs.specs.Members.{all_joined, all_mapped, all_flat, all_by}
 use Rattle.plan_units.specs.Fixed.{drops, bridge_drops, lldp_drops, broadcast_drops, drop, gateways, from_group, passes, fixed}
 use Rattle.law_copies.specs.Doable.{tags_asked, asks_for_tag, AreDoable, CanBeDone}
 use Rattle.law_copies.proofs.Parts.{all_when}
-use Rattle.law_copies.proofs.DoableParts.{IsLater, IsOutput, made, tagged, asks_among, each, of_option, outputs_first, outputs, popped_first, sent_done, outs_are, numbers_are, copied_are}
+use Rattle.law_copies.proofs.DoableParts.{IsLater, IsOutput, made, tagged, present, asks_among, each, of_option, outputs_first, outputs, popped_first, sent_done, outs_are, numbers_are, copied_are}
 
 -- an entry that ends
 ends : (t : Table) (priority : ℕ) (fields : List Field) → CanBeDone (entry t priority fields [])
@@ -119,26 +127,26 @@ module _ (conf : Configuration) (d : Dp) where
     copies_are = outs_are (mirrors_of d i.no)
 
     -- the tag is pushed before its VLAN is set
-    without_tag_done : (v : Vlan) → CanBeDone (without_tag d i v)
-    without_tag_done v =
+    without_tag_done : (v : Vlan) → IsVid v.vid → CanBeDone (without_tag d i v)
+    without_tag_done v is =
         let fields = in_port i.no ∷ untagged ∷ [] in
         made table.Admission 20 fields (mirrored d i.no ++ push_tag ∷ set_vid v.vid ∷ []) (Some (next_in v)) (later_in v)
         (outputs_first fields (tags_asked fields) (mirrored d i.no) (push_tag ∷ set_vid v.vid ∷ []) copies_are
-        (record { pushes = refl; sets = tt; lowers = tt; pops = tt }, (record { pushes = tt; sets = omega arith; lowers = tt; pops = tt }, tt)))
+        (record { pushes = refl; sets = tt; values = tt; lowers = tt; pops = tt }, (record { pushes = tt; sets = omega arith; values = present v.vid is; lowers = tt; pops = tt }, tt)))
 
     with_tag_done : (v : Vlan) → CanBeDone (with_tag d i v)
     with_tag_done v =
         let fields = in_port i.no ∷ vid_field v.vid ∷ [] in
         made table.Admission 20 fields (mirrored d i.no) (Some (next_in v)) (later_in v) (outputs fields (tags_asked fields) (mirrored d i.no) copies_are)
 
-    pub admissions_done : AllByRecursion CanBeDone (admissions conf d i)
-    admissions_done =
+    pub admissions_done : IsValid conf → AllByRecursion CanBeDone (admissions conf d i)
+    admissions_done valid =
         all_joined CanBeDone (from_stacks conf i) (from_edges conf d i)
         (all_when CanBeDone (is_stack i) (map (from_stack i) conf.vlans)
         (each (from_stack i) (λ v. passes_on table.Admission 40 (in_port i.no ∷ vid_field v.vid ∷ []) table.Destination (omega arith)) conf.vlans))
         (all_when CanBeDone (is_accepting i) (option_to_list (option_map (without_tag d i) (native_vlan conf i)) ++ map (with_tag d i) (tagged_vlans conf i))
         (all_joined CanBeDone (option_to_list (option_map (without_tag d i) (native_vlan conf i))) (map (with_tag d i) (tagged_vlans conf i))
-        (of_option (without_tag d i) without_tag_done (native_vlan conf i)) (each (with_tag d i) with_tag_done (tagged_vlans conf i))))
+        (of_option (without_tag d i) (native_vlan conf i) (λ v e. without_tag_done v (native_numbered conf valid i v e))) (each (with_tag d i) with_tag_done (tagged_vlans conf i))))
 
     -- ---- table 3
 
@@ -189,7 +197,7 @@ module _ (conf : Configuration) (d : Dp) where
 
       by : (b : Bool) → AllByRecursion CanBeDone (if b then option_map_or (at_port d h) (port_with d.ports h.port) [] else option_to_list (option_map (over_stack h) (hop_of stack d.id h.dp)))
       by true = here (port_with d.ports h.port)
-      by false = of_option (over_stack h) (λ hop. made table.Destination 10 fields (out hop ∷ []) None tt (outputs fields (tags_asked fields) (out hop ∷ []) (tt, tt))) (hop_of stack d.id h.dp)
+      by false = of_option (over_stack h) (hop_of stack d.id h.dp) (λ hop e. made table.Destination 10 fields (out hop ∷ []) None tt (outputs fields (tags_asked fields) (out hop ∷ []) (tt, tt)))
 
   -- ---- table 8
 
@@ -244,27 +252,66 @@ module _ (conf : Configuration) (d : Dp) where
 
 -- ---- table 4
 
+abbrev InVlan : Target → Type 0
+InVlan Gateway = Unit {0}
+InVlan (Hop vid gateway mac) = IsVid vid
+InVlan Network = Unit {0}
+
+-- a packet goes on in a VLAN of the configuration
+abbrev GoesInVlan : RouteItem → Type 0
+GoesInVlan item = InVlan item.to
+
+module _ (neighbours : List NeighRec) (group : DpId) where
+  hop : (w : Vlan) → IsVid w.vid → (ip : Ip4) (len : ℕ) (o : Option Mac) (item : RouteItem) → option_map (hop_item w ip len) o ≡ Some item → GoesInVlan item
+  hop w is ip len None item e = absurd (none-some item e)
+  hop w is ip len (Some mac) item e = subst GoesInVlan (same_Some (hop_item w ip len mac) item e) is
+
+  in_vlans : (w : Vlan) → IsVid w.vid → AllByRecursion GoesInVlan (items_of neighbours group w)
+  in_vlans w is =
+      all_joined GoesInVlan _ _ (all_joined GoesInVlan _ _ (all_joined GoesInVlan _ _
+      (all_mapped GoesInVlan vip_item w.vips (all_by (λ vip. GoesInVlan (vip_item vip)) w.vips (λ vip c. tt)))
+      (all_filter_map (neighbour_item group w) GoesInVlan neighbours
+      (all_by (λ n. (item : RouteItem) → neighbour_item group w n ≡ Some item → GoesInVlan item) neighbours (λ n c item e. hop w is n.ip 32 (resolved group w n) item e))))
+      (all_mapped GoesInVlan network_item w.vips (all_by (λ vip. GoesInVlan (network_item vip)) w.vips (λ vip c. tt))))
+      (all_filter_map (route_item neighbours group w) GoesInVlan w.routes
+      (all_by (λ r. (item : RouteItem) → route_item neighbours group w r ≡ Some item → GoesInVlan item) w.routes (λ r c item e. hop w is r.dst.ip r.dst.len (mac_of_neighbour neighbours group w.vid r.gw.0) item e)))
+
+  items_in_vlans : (conf : Configuration) → IsValid conf → (vid : ℕ) → AllByRecursion GoesInVlan (route_list conf neighbours group vid)
+  unfolding route_list
+  items_in_vlans conf valid vid =
+      all_flat GoesInVlan (λ u. option_map_or (items_of neighbours group) (vlan_with conf.vlans u) []) (routing_set conf vid)
+      (all_by (λ u. AllByRecursion GoesInVlan (option_map_or (items_of neighbours group) (vlan_with conf.vlans u) [])) (routing_set conf vid) (λ u c. one u (vlan_with conf.vlans u) refl))
+    where
+      one : (u : ℕ) (o : Option Vlan) → vlan_with conf.vlans u ≡ o → AllByRecursion GoesInVlan (option_map_or (items_of neighbours group) o [])
+      one u None e = tt
+      one u (Some w) e = in_vlans w (vlan_numbered conf valid u w e)
+
 module _ (v : Vlan) (is : IsVid v.vid) where
-  item_done : (item : RouteItem) → CanBeDone (item_entry v item)
+  item_done : (item : RouteItem) → GoesInVlan item → CanBeDone (item_entry v item)
   item_done item = by item.to
     where
       fields : List Field
       fields = item_fields v item
 
-      by : (to : Target) → CanBeDone (entry table.Ipv4Route (10 + item.len) fields (led_to to))
-      by Gateway = passes_on table.Ipv4Route (10 + item.len) fields table.Vip (omega arith)
-      by (Hop vid gateway mac) =
+      by : (to : Target) → InVlan to → CanBeDone (entry table.Ipv4Route (10 + item.len) fields (led_to to))
+      by Gateway there = passes_on table.Ipv4Route (10 + item.len) fields table.Vip (omega arith)
+      by (Hop vid gateway mac) there =
           tagged table.Ipv4Route (10 + item.len) fields (set_eth_src gateway ∷ set_eth_dst mac ∷ set_vid vid ∷ dec_ttl ∷ []) (Some table.Destination) (omega arith) (asks_among v.vid is (cons_option (ipv4_dst item.ip.0 item.len) [])) (
-            record { pushes = tt; sets = tt; lowers = tt; pops = tt },
-            (record { pushes = tt; sets = tt; lowers = tt; pops = tt }, (record { pushes = tt; sets = omega arith; lowers = tt; pops = tt }, (record { pushes = tt; sets = tt; lowers = refl; pops = tt }, tt))),
+            record { pushes = tt; sets = tt; values = tt; lowers = tt; pops = tt },
+            (
+              record { pushes = tt; sets = tt; values = tt; lowers = tt; pops = tt },
+              (record { pushes = tt; sets = omega arith; values = present vid there; lowers = tt; pops = tt }, (record { pushes = tt; sets = tt; values = tt; lowers = refl; pops = tt }, tt)),
+            ),
           )
-      by Network = handed table.Ipv4Route (10 + item.len) fields
+      by Network there = handed table.Ipv4Route (10 + item.len) fields
 
-  pub fib_done : (conf : Configuration) (neighbours : List NeighRec) (d : Dp) → AllByRecursion CanBeDone (fib conf neighbours d v)
-  fib_done conf neighbours d =
+  pub fib_done : (conf : Configuration) → IsValid conf → (neighbours : List NeighRec) (d : Dp) → AllByRecursion CanBeDone (fib conf neighbours d v)
+  fib_done conf valid neighbours d =
       let items = route_list conf neighbours (group_of conf d.id) v.vid in
       all_when CanBeDone (has_gateway d v) (map (item_entry v) items ++ no_route v ∷ [])
-      (all_joined CanBeDone (map (item_entry v) items) (no_route v ∷ []) (each (item_entry v) item_done items) (ends table.Ipv4Route 9 (ipv4_for v), tt))
+      (all_joined CanBeDone (map (item_entry v) items) (no_route v ∷ [])
+      (all_mapped CanBeDone (item_entry v) items (all_from {P = GoesInVlan} {Q = λ (item : RouteItem). CanBeDone (item_entry v item)} (λ item there. item_done item there) items (items_in_vlans neighbours (group_of conf d.id) conf valid v.vid)))
+      (ends table.Ipv4Route 9 (ipv4_for v), tt))
 
 -- ---- table 6
 

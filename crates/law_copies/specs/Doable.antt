@@ -61,6 +61,18 @@ SetsWhatIsThere tags PopVlan = Unit {0}
 SetsWhatIsThere tags DecTtl = Unit {0}
 SetsWhatIsThere tags (Set f) = HasField tags f.id
 
+-- the new VLAN identifier says that a tag is there
+abbrev pub IsValue : FieldId → ℕ → Type 0
+IsValue VlanVid value = IsTrue (has_present value)
+IsValue id value = Unit {0}
+
+abbrev pub SetsToValue : Action → Type 0
+SetsToValue (Output port max_len) = Unit {0}
+SetsToValue (PushVlan eth_type) = Unit {0}
+SetsToValue PopVlan = Unit {0}
+SetsToValue DecTtl = Unit {0}
+SetsToValue (Set f) = IsValue f.id f.value
+
 -- the TTL of a packet of which the match asks that it is of IPv4
 abbrev pub LowersOfIpv4 : List Field → Action → Type 0
 LowersOfIpv4 fields (Output port max_len) = Unit {0}
@@ -89,6 +101,7 @@ tags_behind (Set f) tags = tags
 pub record IsDoable (fields : List Field) (tags : ℕ) (a : Action) : Type 0 where
   pub pushes : PushesTag a
   pub sets : SetsWhatIsThere tags a
+  pub values : SetsToValue a
   pub lowers : LowersOfIpv4 fields a
   pub pops : PopsWhatIsThere tags a
 
