@@ -79,10 +79,7 @@ of_option f (Some x) h = (h x refl, tt)
 
 abbrev pub IsOutput : Action → Type 0
 IsOutput (Output port max_len) = Unit {0}
-IsOutput (PushVlan eth_type) = ⊥
-IsOutput PopVlan = ⊥
-IsOutput DecTtl = ⊥
-IsOutput (Set f) = ⊥
+IsOutput a = ⊥
 
 module _ (fields : List Field) where
   -- an output asks for nothing, and leaves the tags

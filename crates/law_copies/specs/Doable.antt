@@ -1,4 +1,4 @@
--- What a switch asks of what a flow entry does, beside that each number fits (OpenFlow 1.3, 5.1.1, 7.2.4
+-- What a switch asks of what a flow entry does, beside that each number fits (OpenFlow 1.3, 5.1, 7.2.4
 -- and 7.2.5): where it leads on, and in which order it pushes, pops and sets.
 use Rattle.std.specs.Prelude.{◌≡◌, ℕ, ◌+◌, ◌-◌, ◌/◌, ◌%◌, ◌<◌, ◌≤◌, Bool, ◌==◌, ◌&&◌, List, [], ◌∷◌, IsTrue, if◌then◌else◌}
 use Rattle.std.specs.List.{AllByRecursion, list_any}
@@ -8,14 +8,14 @@ use Rattle.net_base.specs.declared.field.FieldId.TheVariants.{EthDst, EthSrc, Et
 use Rattle.net_base.specs.FieldId.{number_of}
 use Rattle.net_base.specs.WellFormed.{is_whole}
 use Rattle.of_match.specs.declared.action.Action.{Action}
-use Rattle.of_match.specs.declared.action.Action.TheVariants.{Output, PushVlan, PopVlan, DecTtl, Set}
+use Rattle.of_match.specs.declared.action.Action.TheVariants.{PushVlan, PopVlan, DecTtl, Set}
 use Rattle.of_match.specs.declared.action.Instr.{Instr}
 use Rattle.of_match.specs.declared.action.Instr.TheVariants.{Goto, Apply}
 use Rattle.of_match.specs.declared.entry.Entry.{Entry}
 
 -- ---- where an entry leads
 
--- from table t to a later one, of the nine (5.1.1 and 7.2.4)
+-- from table t to a later one, of the nine (5.1 and 7.2.4)
 abbrev pub LeadsOn : ℕ → Instr → Type 0
 LeadsOn t (Goto u) = (t < u) × (u ≤ 8)
 LeadsOn t (Apply actions) = Unit {0}
@@ -30,7 +30,7 @@ has_present n = n / 0x1000 % 2 == 1
 abbrev pub asks_for_tag : Field → Bool
 asks_for_tag f = number_of f.id == number_of VlanVid && (has_present f.mask && has_present f.value)
 
--- how many tags a packet has at least
+-- how many tags a packet has at least, by the match
 abbrev pub tags_asked : List Field → ℕ
 tags_asked fields = if list_any asks_for_tag fields then 1 else 0
 
@@ -41,11 +41,8 @@ asks_for_ipv4 f = is_whole EthType f && f.value == 0x0800
 
 -- a tag of the type 0x8100, which is one of the two that a switch takes
 abbrev pub PushesTag : Action → Type 0
-PushesTag (Output port max_len) = Unit {0}
 PushesTag (PushVlan eth_type) = eth_type ≡ 0x8100
-PushesTag PopVlan = Unit {0}
-PushesTag DecTtl = Unit {0}
-PushesTag (Set f) = Unit {0}
+PushesTag a = Unit {0}
 
 -- a packet has Ethernet addresses, and a VLAN identifier where it has a tag; no other field is set
 abbrev pub HasField : ℕ → FieldId → Type 0
@@ -55,11 +52,8 @@ HasField tags VlanVid = 0 < tags
 HasField tags id = ⊥
 
 abbrev pub SetsWhatIsThere : ℕ → Action → Type 0
-SetsWhatIsThere tags (Output port max_len) = Unit {0}
-SetsWhatIsThere tags (PushVlan eth_type) = Unit {0}
-SetsWhatIsThere tags PopVlan = Unit {0}
-SetsWhatIsThere tags DecTtl = Unit {0}
 SetsWhatIsThere tags (Set f) = HasField tags f.id
+SetsWhatIsThere tags a = Unit {0}
 
 -- the new VLAN identifier says that a tag is there
 abbrev pub IsValue : FieldId → ℕ → Type 0
@@ -67,36 +61,25 @@ IsValue VlanVid value = IsTrue (has_present value)
 IsValue id value = Unit {0}
 
 abbrev pub SetsToValue : Action → Type 0
-SetsToValue (Output port max_len) = Unit {0}
-SetsToValue (PushVlan eth_type) = Unit {0}
-SetsToValue PopVlan = Unit {0}
-SetsToValue DecTtl = Unit {0}
 SetsToValue (Set f) = IsValue f.id f.value
+SetsToValue a = Unit {0}
 
 -- the TTL of a packet of which the match asks that it is of IPv4
 abbrev pub LowersOfIpv4 : List Field → Action → Type 0
-LowersOfIpv4 fields (Output port max_len) = Unit {0}
-LowersOfIpv4 fields (PushVlan eth_type) = Unit {0}
-LowersOfIpv4 fields PopVlan = Unit {0}
 LowersOfIpv4 fields DecTtl = IsTrue (list_any asks_for_ipv4 fields)
-LowersOfIpv4 fields (Set f) = Unit {0}
+LowersOfIpv4 fields a = Unit {0}
 
 abbrev pub PopsWhatIsThere : ℕ → Action → Type 0
-PopsWhatIsThere tags (Output port max_len) = Unit {0}
-PopsWhatIsThere tags (PushVlan eth_type) = Unit {0}
 PopsWhatIsThere tags PopVlan = 0 < tags
-PopsWhatIsThere tags DecTtl = Unit {0}
-PopsWhatIsThere tags (Set f) = Unit {0}
+PopsWhatIsThere tags a = Unit {0}
 
 -- ---- of a whole entry
 
 -- how many tags a packet has at least, behind an action
 abbrev pub tags_behind : Action → ℕ → ℕ
-tags_behind (Output port max_len) tags = tags
 tags_behind (PushVlan eth_type) tags = tags + 1
 tags_behind PopVlan tags = tags - 1
-tags_behind DecTtl tags = tags
-tags_behind (Set f) tags = tags
+tags_behind a tags = tags
 
 pub record IsDoable (fields : List Field) (tags : ℕ) (a : Action) : Type 0 where
   pub pushes : PushesTag a

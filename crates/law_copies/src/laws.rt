@@ -20,7 +20,7 @@ pub fn the_controller_gets_whole_packets()
         → AllByRecursion SendsWhole (cold conf now d) }
 {}
 
-/// Of a valid configuration and state, a switch can do what each entry of a datapath says (OpenFlow 1.3, 5.1.1,
+/// Of a valid configuration and state, each entry of a datapath can be done where it stands (OpenFlow 1.3, 5.1,
 /// 7.2.4 and 7.2.5): it leads on to a later of the nine tables alone (`onward`), pushes tags of the type 0x8100
 /// alone (`pushes`), sets nothing but Ethernet addresses and, where a tag is there, its VLAN (`sets`), to a value
 /// with the bit OFPVID_PRESENT (`values`), lowers the TTL only where the match asks for IPv4 (`lowers`), and pops

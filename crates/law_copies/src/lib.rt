@@ -1,4 +1,4 @@
-//! That the controller gets whole packets, and that a switch can do what each entry says.
+//! That the controller gets whole packets, and that each entry can be done where it stands.
 #![tactic(auto)]
 
 pub mod laws;
