@@ -1,4 +1,5 @@
 pub mod CheckLemmas
+pub mod ReadLemmas
 pub mod RefusalLemmas
 pub mod ReplayLemmas
 pub mod ReplyLemmas

@@ -11,11 +11,15 @@ use Rattle.conf_types.specs.Configuration.{Configuration}
 use Rattle.conf_gather.specs.declared.refused.LoadRefused.{LoadRefused}
 use Rattle.command_line.specs.declared.meaning.Job.TheVariants.{Replay}
 use Rattle.recording.specs.Written.{written_records}
-use Rattle.ctl_world.specs.World.{first}
+use Rattle.ctl_world.specs.World.{World, first}
+use Rattle.ctl_core.specs.Story.{behind as story_behind}
 use Rattle.ctl_drive.specs.declared.replay.Replayed.{Replayed}
 use Rattle.ctl_drive.specs.declared.replay.Replayed.TheVariants as replayed
 use Rattle.ctl_drive.specs.Driving.{lines_of, records_of}
-use Rattle.ctl_drive.specs.Replay.{Replays}
+use Rattle.ctl_drive.specs.declared.sayings.Outlet.TheVariants as outlets
+use Rattle.ctl_drive.specs.Driven.{WholeButLast}
+use Rattle.ctl_drive.specs.Replay.{Replays, WritesFront}
+use Rattle.ctl_drive.proofs.Stories.{fronts_but_last, none_begun}
 use Rattle.faucet_top.specs.declared.deliver.Status.{Status}
 use Rattle.faucet_top.specs.declared.deliver.Status.TheVariants as statuses
 use Rattle.faucet_top.specs.Answer.{out_of_memory, refusal, last_line}
@@ -50,20 +54,30 @@ module _ (contents : Option Contents) (name : List ℕ) (absence fault : Type 0)
   wrote_that replayed.Spent unfailed (story, writes, so_far, most) =
       (written_records (records_of (first conf) story), lines_of (first conf) story, (story, record { out = refl; err = refl }, so_far, most), writes.out, writes.err)
   wrote_that replayed.WriteFault unfailed replays = absurd (unfailed refl)
-  wrote_that replayed.Memory unfailed (story, writes, so_far) = (
-    take writes.out.count (written_records (records_of (first conf) story)),
-    take writes.err.count (lines_of (first conf) story),
-    (
-      story,
-      record {
-        out = record { count = writes.out.count; within = writes.out.within; front = refl };
-        err = record { count = writes.err.count; within = writes.err.within; front = refl };
-      },
-      so_far,
-    ),
-    writes.out.front,
-    writes.err.front,
-  )
+  wrote_that replayed.Memory unfailed (story, writes, so_far) =
+      -- the whole of all turns but the last, and of that the front that was written
+      let part = writes.but_last in
+      let before = part.before in
+      let v : World = story_behind (first conf) before in
+      let records = written_records (records_of (first conf) before) in
+      let said = lines_of (first conf) before in
+      let more = take part.out.count (written_records (records_of v part.last)) in
+      let more_said = take part.err.count (lines_of v part.last) in
+      let but_last : WholeButLast outlets.Records (first conf) story (Some []) (Some (records ++ more)) (Some []) (Some (said ++ more_said)) = record {
+        before = before;
+        last = part.last;
+        parts = part.parts;
+        one = part.one;
+        out = record { count = part.out.count; within = part.out.within; front = refl };
+        err = record { count = part.err.count; within = part.err.within; front = refl };
+      } in
+      let fronts = fronts_but_last outlets.Records (first conf) story (Some []) (Some (records ++ more)) (Some []) (Some (said ++ more_said)) but_last in (
+        records ++ more,
+        said ++ more_said,
+        (story, record { out = fronts.0; err = fronts.1; but_last = but_last }, so_far),
+        part.out.front ∙ appended-append o0 records more,
+        part.err.front ∙ appended-append e0 said more_said,
+      )
 
   abbrev WritesFrontOfThat : Type 0
   WritesFrontOfThat = (out : List ℕ) × (lines : List ℕ) × Writes out lines replayed.Memory × AppendsFront o0 o1 out × AppendsFront e0 e1 lines
@@ -73,7 +87,12 @@ module _ (contents : Option Contents) (name : List ℕ) (absence fault : Type 0)
   wrote_front (story, writes, so_far) =
       let out = written_records (records_of (first conf) story) in
       let lines = lines_of (first conf) story in
-      (out, lines, (story, record { out = AppendsFront-all (Some []) out; err = AppendsFront-all (Some []) lines }, so_far), writes.out, writes.err)
+      let whole : WritesFront conf story (Some []) (Some out) (Some []) (Some lines) = record {
+        out = AppendsFront-all (Some []) out;
+        err = AppendsFront-all (Some []) lines;
+        but_last = none_begun outlets.Records (first conf) story (Some []) (Some out) (Some []) (Some lines) refl refl;
+      } in
+      (out, lines, (story, whole, so_far), writes.out, writes.err)
 
 -- ---- with the line behind
 

@@ -1,4 +1,4 @@
-ghost use Rattle.std.specs.Prelude.{◌≡◌, ◌≤◌, IfOk};
+ghost use Rattle.std.specs.Prelude.{◌≡◌, ◌≢◌, ◌≤◌, Some, IfOk};
 ghost use Rattle.fg_outside.specs.Counts.{Rose};
 ghost use Rattle.faucet_top.specs.Answer.{Load, json_line};
 ghost use Rattle.faucet_top.specs.Given.{Checks, GoesOn, Loads};
@@ -34,6 +34,7 @@ fn check_file<F: Files, O: Sink, E: Sink>(
         × Loads (F.contents files.old) (Rose (F.absences files.old) (F.absences files.new)) (Rose (F.faults files.old) (F.faults files.new)) name.now made
         × GoesOn name.now made result (O.wrote out.old) (O.wrote out.new) (E.wrote err.old) (E.wrote err.new)
         (O.faults out.old) (O.faults out.new) (E.faults err.old) (E.faults err.new) }
+    ensures no_read_fault { result ≢ Some Status.Unread → result ≢ Some Status.WriteFault → F.faults files.new ≡ F.faults files.old }
 
     ensures contents { F.contents files.new ≡ F.contents files.old }
     ensures faults { F.faults files.old ≤ F.faults files.new }
@@ -66,6 +67,7 @@ pub fn check_files<F: Files, O: Sink, E: Sink>(
     ensures checked { Checks (F.contents files.old) (Rose (F.absences files.old) (F.absences files.new)) (Rose (F.faults files.old) (F.faults files.new)) names.now
         (number_of_status result) (O.wrote out.old) (O.wrote out.new) (E.wrote err.old) (E.wrote err.new)
         (O.faults out.old) (O.faults out.new) (E.faults err.old) (E.faults err.new) }
+    ensures no_read_fault { result ≢ Status.Unread → result ≢ Status.WriteFault → F.faults files.new ≡ F.faults files.old }
 
     ensures contents { F.contents files.new ≡ F.contents files.old }
     ensures faults { F.faults files.old ≤ F.faults files.new }

@@ -1,4 +1,4 @@
-ghost use Rattle.std.specs.Prelude.{◌≡◌, ◌≤◌};
+ghost use Rattle.std.specs.Prelude.{◌≡◌, ◌≤◌, ℕ, List, IsErrOf};
 ghost use Rattle.fg_outside.specs.Counts.{Rose};
 ghost use Rattle.faucet_top.specs.Answer.{Load, planned};
 ghost use Rattle.faucet_top.specs.Given.{Loads};
@@ -22,6 +22,7 @@ pub fn make_plan<F: Files>(
     ensures made { (made : Load)
         × Loads (F.contents files.old) (Rose (F.absences files.old) (F.absences files.new)) (Rose (F.faults files.old) (F.faults files.new)) config.now made
         × (result ≡ planned dp.now made) }
+    ensures no_read_fault { ((file : List ℕ) → IsErrOf result (LoadRefused.Read file) → ⊥) → F.faults files.new ≡ F.faults files.old }
 
     ensures contents { F.contents files.new ≡ F.contents files.old }
     ensures faults { F.faults files.old ≤ F.faults files.new }

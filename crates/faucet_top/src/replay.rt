@@ -1,4 +1,4 @@
-ghost use Rattle.std.specs.Prelude.{◌≡◌, ◌≤◌, Some};
+ghost use Rattle.std.specs.Prelude.{◌≡◌, ◌≢◌, ◌-◌, ◌^◌, ◌<◌, ◌≤◌, Some};
 ghost use Rattle.fg_outside.specs.Counts.{Rose};
 ghost use Rattle.command_line.specs.declared.meaning.Job.TheVariants.{Replay};
 ghost use Rattle.faucet_top.specs.Given.{Gives};
@@ -24,6 +24,7 @@ pub fn replay_recording<F: Files, O: Sink, E: Sink>(
     ensures gives { Gives (Some (Replay config.now recording.now)) (F.contents files) (Rose (F.absences files) (F.absences result.1)) (Rose (F.faults files) (F.faults result.1))
         (number_of_status result.0) (O.wrote out.old) (O.wrote out.new) (E.wrote err.old) (E.wrote err.new)
         (O.faults out.old) (O.faults out.new) (E.faults err.old) (E.faults err.new) }
+    ensures no_read_fault { result.0 ≢ Status.Unread → result.0 ≢ Status.WriteFault → F.faults files < 2 ^ 64 - 1 → F.faults result.1 ≡ F.faults files }
 
     ensures contents { F.contents result.1 ≡ F.contents files }
     ensures faults { F.faults files ≤ F.faults result.1 }

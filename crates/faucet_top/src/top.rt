@@ -1,4 +1,4 @@
-ghost use Rattle.std.specs.Prelude.{◌≡◌, ◌≢◌, ◌≤◌, ◌⊎◌, ℕ, List, Some, None};
+ghost use Rattle.std.specs.Prelude.{◌≡◌, ◌≢◌, ◌-◌, ◌^◌, ◌<◌, ◌≤◌, ◌⊎◌, ℕ, List, Some, None};
 ghost use Rattle.fg_outside.specs.Counts.{Rose};
 ghost use Rattle.fg_outside.specs.Contents.{Contents};
 ghost use Rattle.fg_outside.specs.Wrote.{appended, AppendsFront};
@@ -31,6 +31,7 @@ fn do_job<F: Files, O: Sink, E: Sink>(
     ensures gives { Gives (Some job.now) (F.contents files) (Rose (F.absences files) (F.absences result.1)) (Rose (F.faults files) (F.faults result.1))
         (number_of_status result.0) (O.wrote out.old) (O.wrote out.new) (E.wrote err.old) (E.wrote err.new)
         (O.faults out.old) (O.faults out.new) (E.faults err.old) (E.faults err.new) }
+    ensures no_read_fault { result.0 ≢ Status.Unread → result.0 ≢ Status.WriteFault → F.faults files < 2 ^ 64 - 1 → F.faults result.1 ≡ F.faults files }
 
     ensures contents { F.contents result.1 ≡ F.contents files }
     ensures faults { F.faults files ≤ F.faults result.1 }
@@ -72,6 +73,7 @@ pub fn local<F: Files, O: Sink, E: Sink>(
     ensures told { (held : Contents) → F.contents files ≡ Some held
         → StatusFor result.0 (IsStatusOf (Some job.now) (held 0)) (Rose (F.faults files) (F.faults result.1)) }
     ensures unread { result.0 ≡ 3 → Rose (F.absences files) (F.absences result.1) ⊎ Rose (F.faults files) (F.faults result.1) }
+    ensures no_read_fault { result.0 ≢ 3 → result.0 ≢ 4 → F.faults files < 2 ^ 64 - 1 → F.faults result.1 ≡ F.faults files }
     ensures write_fault { result.0 ≡ 4 → Rose (O.faults out.old) (O.faults out.new) ⊎ Rose (E.faults err.old) (E.faults err.new) }
     ensures no_write_fault { result.0 ≢ 4 → (O.faults out.new ≡ O.faults out.old) × (E.faults err.new ≡ E.faults err.old) }
     ensures statuses { IsStatus result.0 }
@@ -100,6 +102,7 @@ fn answer_words<F: Files, O: Sink, E: Sink>(
         (O.faults out.old) (O.faults out.new) (E.faults err.old) (E.faults err.new) }
 
     ensures statuses { IsStatus result.0 }
+    ensures no_read_fault { result.0 ≢ 3 → result.0 ≢ 4 → F.faults files < 2 ^ 64 - 1 → F.faults result.1 ≡ F.faults files }
     ensures contents { F.contents result.1 ≡ F.contents files }
     ensures faults { F.faults files ≤ F.faults result.1 }
     ensures absences { F.absences files ≤ F.absences result.1 }
@@ -147,8 +150,10 @@ pub fn faucet<F: Files, H: Hub, O: Sink, E: Sink>(
     ensures usage { result.0 ≡ 1 → meaning words.now ≡ None }
     ensures no_meaning { meaning words.now ≡ None → (result.0 ≡ 1) ⊎ ((result.0 ≡ 4) ⊎ (result.0 ≡ 8)) }
 
-    // Status 3 only where a file isn't there, or a read failed.
+    // Status 3 only where a file isn't there, or a read failed. No read that failed is passed over: it ends the run
+    // with this status, or with 4 where the line that says so couldn't be written.
     ensures unread { result.0 ≡ 3 → Rose (F.absences files) (F.absences result.1) ⊎ Rose (F.faults files) (F.faults result.1) }
+    ensures no_read_fault { result.0 ≢ 3 → result.0 ≢ 4 → F.faults files < 2 ^ 64 - 1 → F.faults result.1 ≡ F.faults files }
 
     // Status 4 only where a write failed, and no other where one did.
     ensures write_fault { result.0 ≡ 4 → Rose (O.faults out.old) (O.faults out.new) ⊎ Rose (E.faults err.old) (E.faults err.new) }

@@ -18,12 +18,16 @@ impl Tally for Units {
 
 impl Units {
     /// None yet.
-    pub fn new() -> Units {
+    pub fn new() -> Units
+        ensures { ⟦<Units as Tally>⟧.count result ≡ 0 }
+    {
         Units { count: 0 }
     }
 
     /// How many there were.
-    pub fn count(&self) -> u64 {
+    pub fn count(&self) -> u64
+        ensures { result ≡ ⟦<Units as Tally>⟧.count self.now }
+    {
         self.count
     }
 }

@@ -1,8 +1,10 @@
 use Rattle.std.proofs.Common.{sym, subst}
 use Rattle.fg_outside.specs.Counts.{Rose}
+use Rattle.faucet_top.specs.declared.deliver.Status.TheVariants as statuses
 use Rattle.faucet_top.specs.Given.{Checks}
 use Rattle.faucet_top.specs.Status.{number_of_status}
 use Rattle.faucet_top.proofs.CheckLemmas.{front_name, next_checked, last_checked}
+use Rattle.faucet_top.proofs.ReadLemmas.{same_status}
 use Rattle.faucet_top.proofs.check.+check_files.Goals as goal
 
 pub returns-in-None-clause-checked : goal.returns-in-None-clause-checked
@@ -27,3 +29,7 @@ returns-in-Some-clause-checked g t c =
     subst (λ names. Checks (g.F.Files.contents c.args.files.now) (Rose (g.F.Files.absences c.args.files.now) (g.F.Files.absences c.check_file.new.files)) (Rose (g.F.Files.faults c.args.files.now) (g.F.Files.faults c.check_file.new.files)) names
     (number_of_status c.in-Some.status) (g.O.Sink.wrote c.args.out.now) (g.O.Sink.wrote c.check_file.new.out) (g.E.Sink.wrote c.args.err.now) (g.E.Sink.wrote c.check_file.new.err)
     (g.O.Sink.faults c.args.out.now) (g.O.Sink.faults c.check_file.new.out) (g.E.Sink.faults c.args.err.now) (g.E.Sink.faults c.check_file.new.err)) (sym front) ours
+
+pub returns-in-Some-clause-no_read_fault : goal.returns-in-Some-clause-no_read_fault
+returns-in-Some-clause-no_read_fault g t c = λ unread written.
+    c.in-Some.ensures.no_read_fault (λ is. unread (same_status c.in-Some.status statuses.Unread is)) (λ is. written (same_status c.in-Some.status statuses.WriteFault is))

@@ -1,6 +1,7 @@
-use Rattle.std.proofs.Common.{Ok, Err}
-use Rattle.conf_gather.specs.declared.refused.LoadRefused.TheVariants.{Memory}
+use Rattle.std.proofs.Common.{Some, Ok, Err, ap}
+use Rattle.conf_gather.specs.declared.refused.LoadRefused.TheVariants.{Read, Memory}
 use Rattle.faucet_top.proofs.CheckLemmas.{memory_loads, refused, cut}
+use Rattle.faucet_top.proofs.ReadLemmas.{no_read_refused, refused_by}
 use Rattle.faucet_top.proofs.check.check_file.Goals as goal
 
 pub returns-in-Err-clause-checked : goal.returns-in-Err-clause-checked
@@ -25,3 +26,7 @@ returns-clause-checked g c = (
   λ more. cut c.args.name.now _ _ (g.E.Sink.wrote c.args.err.now) (g.E.Sink.wrote c.args.err.now) _ _ (g.E.Sink.faults c.args.err.now) (g.E.Sink.faults c.args.err.now) c.in-Ok.conf
       (rw (c.as_slice.ensures, c.in-Ok-make_line.ensures) at c.in-Err-write_all.ensures.err) c.in-Err-write_all.ensures.failed more,
 )
+
+pub returns-in-Err-clause-no_read_fault : goal.returns-in-Err-clause-no_read_fault
+returns-in-Err-clause-no_read_fault g c = λ unread written.
+    c.in-Err.ensures.no_fault (λ file is. no_read_refused _ _ _ _ _ c.deliver_refusal.result (λ e. unread (ap Some e)) (λ e. written (ap Some e)) c.in-Err.why c.deliver_refusal.ensures.ends file (refused_by c.in-Err.why (Read file) is))

@@ -1,6 +1,8 @@
-use Rattle.std.proofs.Common.{Some}
+use Rattle.std.proofs.Common.{Some, ◌∙◌}
 use Rattle.command_line.specs.declared.meaning.Job.TheVariants.{Replay}
+use Rattle.conf_gather.specs.declared.refused.LoadRefused.TheVariants.{Read}
 use Rattle.faucet_top.proofs.CheckLemmas.{refused}
+use Rattle.faucet_top.proofs.ReadLemmas.{no_read_refused, no_read_replayed, refused_by}
 use Rattle.faucet_top.proofs.ReplyLemmas.{replay_given, refusal_given}
 use Rattle.faucet_top.proofs.TopLemmas.{memory_given}
 use Rattle.faucet_top.proofs.replay.replay_recording.Goals as goal
@@ -25,3 +27,12 @@ returns-clause-gives g c =
     (record { missing = rw (c.in-Ok.ensures.contents, c.in-Ok-copy.ensures) at did.missing; there = rw (c.in-Ok.ensures.contents, c.in-Ok-copy.ensures) at did.there })
     (rw c.as_str.ensures at c.deliver_replayed.ensures.ends)
     (rw (c.in-Ok.ensures.contents, c.in-Ok-copy.ensures) at did.replayed) did.write_fault did.no_write_fault
+
+pub returns-in-Err-clause-no_read_fault : goal.returns-in-Err-clause-no_read_fault
+returns-in-Err-clause-no_read_fault g c = λ unread written below.
+    c.in-Err.ensures.no_fault (λ file is. no_read_refused _ _ _ _ _ c.deliver_refusal.result unread written c.in-Err.why c.deliver_refusal.ensures.ends file (refused_by c.in-Err.why (Read file) is))
+
+pub returns-clause-no_read_fault : goal.returns-clause-no_read_fault
+returns-clause-no_read_fault g c = λ unread written below.
+    let loaded = c.in-Ok.ensures.no_fault (λ file is. absurd cc) in
+    c.replay-replayed.ensures.no_fault (no_read_replayed _ _ _ _ _ c.deliver_replayed.result unread written c.replay-replayed.result.0 c.deliver_replayed.ensures.ends) (rw loaded below) ∙ loaded

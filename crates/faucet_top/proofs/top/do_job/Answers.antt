@@ -2,6 +2,7 @@ use Rattle.std.proofs.Common.{◌≡◌, arith}
 use Rattle.std.proofs.lemmas.Grind.{common_steps}
 use Rattle.command_line.specs.declared.meaning.Job.TheVariants.{Check, Plan}
 use Rattle.faucet_top.specs.Status.{number_of_status}
+use Rattle.faucet_top.proofs.ReadLemmas.{no_read_planned}
 use Rattle.faucet_top.proofs.TopLemmas.{check_given, plan_given}
 use Rattle.faucet_top.proofs.top.do_job.Goals as goal
 
@@ -15,3 +16,7 @@ returns-in-Plan-clause-gives g c =
     let is : c.args.job.now ≡ Plan c.in-Plan.config c.in-Plan.dp = grind (arith, common_steps) in
     rw is (plan_given (g.F.Files.contents c.args.files) _ _ _ _ _ _ _ _ _ _ (number_of_status c.deliver_plan-status.result) c.in-Plan.config c.in-Plan.dp c.make_plan-made.result
     (rw (c.as_str.ensures, c.as_str-in-Plan.ensures) at c.make_plan-made.ensures.made) (rw (c.as_str-in-Plan-2.ensures, c.as_str-in-Plan-3.ensures) at c.deliver_plan-status.ensures.answer))
+
+pub returns-in-Plan-clause-no_read_fault : goal.returns-in-Plan-clause-no_read_fault
+returns-in-Plan-clause-no_read_fault g c = λ unread written below.
+    c.make_plan-made.ensures.no_read_fault (no_read_planned _ _ c.make_plan-made.result c.deliver_plan-status.result _ _ _ _ _ _ _ _ c.deliver_plan-status.ensures.answer unread written)
