@@ -168,9 +168,11 @@ module _ (conf : Configuration) (d : Dp) where
   pub sources_done : (h : HostRec) (moment : ℕ) → AllByRecursion CanBeDone (sources conf d h moment)
   sources_done h moment =
       all_joined CanBeDone (if h.dp.0 == d.id.0 then at_its_port conf moment h ∷ [] else []) (if is_permanent conf h then elsewhere h ∷ [] else [])
-      (all_when CanBeDone (h.dp.0 == d.id.0) (at_its_port conf moment h ∷ [])
-      (made table.Source 30 fields (heard_copies conf moment h) (Some table.Ipv4Route) (omega arith)
-      (outputs fields (tags_asked fields) (heard_copies conf moment h) (all_when IsOutput (is_stale conf moment h) (to_controller ∷ []) (tt, tt))), tt))
+      (all_when CanBeDone (h.dp.0 == d.id.0) (at_its_port conf moment h ∷ []) (
+        made table.Source 30 fields (heard_copies conf moment h) (Some table.Ipv4Route) (omega arith)
+            (outputs fields (tags_asked fields) (heard_copies conf moment h) (all_when IsOutput (is_stale conf moment h) (to_controller ∷ []) (tt, tt))),
+        tt,
+      ))
       (all_when CanBeDone (is_permanent conf h) (elsewhere h ∷ []) (ends table.Source 20 (eth_src h.mac ∷ vid_field h.vid ∷ []), tt))
     where
       fields : List Field
