@@ -4,6 +4,7 @@ pub mod Distinct
 pub mod Earlier
 pub mod Exchanged
 pub mod First
+pub mod FirstEnds
 pub mod FirstRouters
 pub mod FirstVlans
 pub mod Gateways
@@ -16,3 +17,4 @@ pub mod SeenGateways
 pub mod SeenNames
 pub mod SeenTagged
 pub mod SeenVids
+pub mod Tables

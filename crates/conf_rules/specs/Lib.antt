@@ -1,3 +1,4 @@
+pub mod Ends
 pub mod Limits
 pub mod MetRoutes
 pub mod MetVips
@@ -9,3 +10,4 @@ pub mod Routing
 pub mod Rules
 pub mod Seen
 pub mod Sizes
+pub mod Tables

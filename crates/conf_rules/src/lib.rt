@@ -1,7 +1,10 @@
 //! The rules of a configuration, and the first place where one is broken.
 #![tactic(auto)]
 
+mod attached;
+mod dp_tables;
 mod edges;
+mod ends;
 mod limits;
 mod members;
 mod met_routes;

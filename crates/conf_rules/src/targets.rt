@@ -1,87 +1,16 @@
 //! The ports that ACLs name, and the fields of their rules.
 
-ghost use Rattle.std.specs.Prelude.{◌≡◌, ◌∷◌, ◌++◌, ◌&&◌, [], IfOk, codes, map};
-ghost use Rattle.std.specs.List.{flat_map, list_any};
-ghost use Rattle.conf_types.specs.Membership.{has_edge_member};
+ghost use Rattle.std.specs.Prelude.{◌≡◌, ◌∷◌, ◌++◌, [], IfOk, codes, map};
+ghost use Rattle.std.specs.List.{flat_map};
 ghost use Rattle.conf_rules.specs.Places.{first, under, nth, nth_of, each_at};
-ghost use Rattle.conf_rules.specs.Ports.{is_in, is_attached, wrong_target, wrong_on, wrong_targets, port_at_site, wrong_port, wrong_output, actions_site, mirror_at, outputs_at, wrong_rule, wrong_acl, wrong_acl_ports, lacking_fields, lacking_of_acl, lacking_rules};
+ghost use Rattle.conf_rules.specs.Ports.{port_at_site, wrong_port, wrong_output, actions_site, mirror_at, outputs_at, wrong_rule, wrong_acl, wrong_acl_ports, lacking_fields, lacking_of_acl, lacking_rules};
 
-use crate::places::{Found, acl_site, broken, is_same, nth, under};
+use crate::dp_tables::Targets;
+use crate::places::{Found, acl_site, broken, nth, under};
 use conf_resolve::{OrderedConf, Resolved};
 use conf_shape::{ConfCause, OneOrList, RawAcl, RawOutput, RawRule};
-use conf_types::{Dp, PortRef};
-use net_base::{Fields, Items, Names, NoMemory, Text, has_prerequisite};
+use net_base::{Fields, Items, Names, NoMemory, has_prerequisite};
 use std::alloc::Global;
-
-fn is_in(name: &Text, names: &[Text]) -> bool
-    ensures { result ≡ is_in name.now names.now }
-{
-    names.iter().any(|other| is_same(other, name))
-}
-
-fn is_on_port(dp: &Dp, name: &Text) -> bool
-    ensures { result ≡ list_any (λ p. is_in name.now p.acls) dp.now.ports }
-{
-    dp.ports
-        .as_slice()
-        .iter()
-        .any(|port| is_in(name, port.acls.as_slice()))
-}
-
-fn is_on_vlan(conf: &Resolved, dp: &Dp, name: &Text) -> bool
-    ensures { result ≡ list_any (λ v. is_in name.now v.acls && has_edge_member dp.now v.vid) conf.now.vlans }
-{
-    conf.vlans().as_slice().iter().any(|vlan| is_in(name, vlan.acls.as_slice())
-        && dp.has_edge_member(vlan.vid))
-}
-
-/// Whether an ACL is attached on a datapath.
-fn is_attached(conf: &Resolved, dp: &Dp, name: &Text) -> bool
-    ensures { result ≡ is_attached conf.now dp.now name.now }
-{
-    is_on_port(dp, name) || is_on_vlan(conf, dp, name)
-}
-
-/// What is wrong with a port that an ACL names on a datapath.
-fn wrong_target(name: &PortRef, dp: &Dp) -> Option<ConfCause>
-    ensures { result ≡ wrong_target name.now dp.now }
-{
-    match dp.port_named(name) {
-        Some(port) => {
-            if port.stack.is_some() {
-                Some(ConfCause::Conflict(8))
-            } else {
-                None
-            }
-        }
-        None => Some(ConfCause::Unresolved),
-    }
-}
-
-/// The same, where the ACL is attached.
-fn wrong_on(conf: &Resolved, acl: &RawAcl, name: &PortRef, dp: &Dp) -> Option<ConfCause>
-    ensures { result ≡ first (wrong_on conf.now acl.now.name name.now dp.now) }
-{
-    let cause = wrong_target(name, dp)?;
-    if is_attached(conf, dp, &acl.name) {
-        Some(cause)
-    } else {
-        None
-    }
-}
-
-/// The same on the first datapath where there is something wrong.
-#[tactic(auto, using(crate::proofs::First::first_rules))]
-fn wrong_cause(conf: &Resolved, acl: &RawAcl, name: &PortRef) -> Option<ConfCause>
-    ensures { result ≡ first (wrong_targets conf.now acl.now.name name.now) }
-{
-    for dp in conf.dps().as_slice() {
-        if let Some(cause) = wrong_on(conf, acl, name, dp) {
-            return Some(cause);
-        }
-    }
-    None
-}
 
 /// Where the actions of a rule are written.
 fn actions_site(alloc: Global, acl: &RawAcl, at: usize) -> Result<Names, NoMemory>
@@ -107,11 +36,11 @@ fn output_site(
     }
 }
 
-fn wrong_mirror(alloc: Global, conf: &Resolved, acl: &RawAcl, at: usize, rule: &RawRule) -> Found
-    ensures { IfOk result (λ found. found ≡ first (flat_map (wrong_port conf.now acl.now) (mirror_at (nth (codes "acls" ∷ acl.now.name ∷ []) at, rule.now)))) }
+fn wrong_mirror(alloc: Global, targets: &Targets, acl: &RawAcl, at: usize, rule: &RawRule) -> Found
+    ensures { IfOk result (λ found. found ≡ first (flat_map (wrong_port targets.now.conf.now acl.now) (mirror_at (nth (codes "acls" ∷ acl.now.name ∷ []) at, rule.now)))) }
 {
     if let Some(name) = &rule.mirror {
-        if let Some(cause) = wrong_cause(conf, acl, name) {
+        if let Some(cause) = targets.wrong_cause(acl, name) {
             let site = under(alloc, actions_site(alloc, acl, at)?, "mirror")?;
             return broken(alloc, cause, site);
         }
@@ -121,16 +50,16 @@ fn wrong_mirror(alloc: Global, conf: &Resolved, acl: &RawAcl, at: usize, rule: &
 
 fn wrong_output_port(
     alloc: Global,
-    conf: &Resolved,
+    targets: &Targets,
     acl: &RawAcl,
     at: usize,
     place: Option<usize>,
     output: &RawOutput,
 ) -> Found
-    ensures { IfOk result (λ found. found ≡ first (flat_map (wrong_port conf.now acl.now) (port_at_site (nth_of (under (actions_site (nth (codes "acls" ∷ acl.now.name ∷ []) at)) (codes "output")) place) output.now.port))) }
+    ensures { IfOk result (λ found. found ≡ first (flat_map (wrong_port targets.now.conf.now acl.now) (port_at_site (nth_of (under (actions_site (nth (codes "acls" ∷ acl.now.name ∷ []) at)) (codes "output")) place) output.now.port))) }
 {
     if let Some(name) = &output.port {
-        if let Some(cause) = wrong_cause(conf, acl, name) {
+        if let Some(cause) = targets.wrong_cause(acl, name) {
             let site = under(alloc, output_site(alloc, acl, at, place)?, "port")?;
             return broken(alloc, cause, site);
         }
@@ -141,16 +70,16 @@ fn wrong_output_port(
 #[tactic(auto, using(crate::proofs::First::first_rules))]
 fn wrong_output_ports(
     alloc: Global,
-    conf: &Resolved,
+    targets: &Targets,
     acl: &RawAcl,
     at: usize,
     place: Option<usize>,
     output: &RawOutput,
 ) -> Found
-    ensures { IfOk result (λ found. found ≡ first (flat_map (wrong_port conf.now acl.now) (each_at (under (nth_of (under (actions_site (nth (codes "acls" ∷ acl.now.name ∷ []) at)) (codes "output")) place) (codes "ports")) output.now.ports))) }
+    ensures { IfOk result (λ found. found ≡ first (flat_map (wrong_port targets.now.conf.now acl.now) (each_at (under (nth_of (under (actions_site (nth (codes "acls" ∷ acl.now.name ∷ []) at)) (codes "output")) place) (codes "ports")) output.now.ports))) }
 {
     for (i, name) in output.ports.as_slice().iter().enumerate() {
-        if let Some(cause) = wrong_cause(conf, acl, name) {
+        if let Some(cause) = targets.wrong_cause(acl, name) {
             let site = under(alloc, output_site(alloc, acl, at, place)?, "ports")?;
             return broken(alloc, cause, nth(alloc, site, i)?);
         }
@@ -161,32 +90,32 @@ fn wrong_output_ports(
 #[tactic(auto, using(crate::proofs::First::first_rules))]
 fn wrong_output(
     alloc: Global,
-    conf: &Resolved,
+    targets: &Targets,
     acl: &RawAcl,
     at: usize,
     place: Option<usize>,
     output: &RawOutput,
 ) -> Found
-    ensures { IfOk result (λ found. found ≡ first (wrong_output conf.now acl.now (nth_of (under (actions_site (nth (codes "acls" ∷ acl.now.name ∷ []) at)) (codes "output")) place, output.now))) }
+    ensures { IfOk result (λ found. found ≡ first (wrong_output targets.now.conf.now acl.now (nth_of (under (actions_site (nth (codes "acls" ∷ acl.now.name ∷ []) at)) (codes "output")) place, output.now))) }
 {
-    if let Some(found) = wrong_output_port(alloc, conf, acl, at, place, output)? {
+    if let Some(found) = wrong_output_port(alloc, targets, acl, at, place, output)? {
         return Ok(Some(found));
     }
-    wrong_output_ports(alloc, conf, acl, at, place, output)
+    wrong_output_ports(alloc, targets, acl, at, place, output)
 }
 
 #[tactic(auto, using(crate::proofs::First::first_rules))]
 fn wrong_outputs(
     alloc: Global,
-    conf: &Resolved,
+    targets: &Targets,
     acl: &RawAcl,
     at: usize,
     outputs: &[RawOutput],
 ) -> Found
-    ensures { IfOk result (λ found. found ≡ first (flat_map (wrong_output conf.now acl.now) (each_at (under (actions_site (nth (codes "acls" ∷ acl.now.name ∷ []) at)) (codes "output")) outputs.now))) }
+    ensures { IfOk result (λ found. found ≡ first (flat_map (wrong_output targets.now.conf.now acl.now) (each_at (under (actions_site (nth (codes "acls" ∷ acl.now.name ∷ []) at)) (codes "output")) outputs.now))) }
 {
     for (i, output) in outputs.iter().enumerate() {
-        if let Some(found) = wrong_output(alloc, conf, acl, at, Some(i), output)? {
+        if let Some(found) = wrong_output(alloc, targets, acl, at, Some(i), output)? {
             return Ok(Some(found));
         }
     }
@@ -194,24 +123,24 @@ fn wrong_outputs(
 }
 
 #[tactic(auto, using(crate::proofs::First::first_rules))]
-fn wrong_rule(alloc: Global, conf: &Resolved, acl: &RawAcl, at: usize, rule: &RawRule) -> Found
-    ensures { IfOk result (λ found. found ≡ first (wrong_rule conf.now acl.now (nth (codes "acls" ∷ acl.now.name ∷ []) at, rule.now))) }
+fn wrong_rule(alloc: Global, targets: &Targets, acl: &RawAcl, at: usize, rule: &RawRule) -> Found
+    ensures { IfOk result (λ found. found ≡ first (wrong_rule targets.now.conf.now acl.now (nth (codes "acls" ∷ acl.now.name ∷ []) at, rule.now))) }
 {
-    if let Some(found) = wrong_mirror(alloc, conf, acl, at, rule)? {
+    if let Some(found) = wrong_mirror(alloc, targets, acl, at, rule)? {
         return Ok(Some(found));
     }
     match &rule.output {
-        OneOrList::One(output) => wrong_output(alloc, conf, acl, at, None, output),
-        OneOrList::List(outputs) => wrong_outputs(alloc, conf, acl, at, outputs.as_slice()),
+        OneOrList::One(output) => wrong_output(alloc, targets, acl, at, None, output),
+        OneOrList::List(outputs) => wrong_outputs(alloc, targets, acl, at, outputs.as_slice()),
     }
 }
 
 #[tactic(auto, using(crate::proofs::First::first_rules))]
-fn wrong_acl(alloc: Global, conf: &Resolved, acl: &RawAcl) -> Found
-    ensures { IfOk result (λ found. found ≡ first (wrong_acl conf.now acl.now)) }
+fn wrong_acl(alloc: Global, targets: &Targets, acl: &RawAcl) -> Found
+    ensures { IfOk result (λ found. found ≡ first (wrong_acl targets.now.conf.now acl.now)) }
 {
     for (i, rule) in acl.rules.as_slice().iter().enumerate() {
-        if let Some(found) = wrong_rule(alloc, conf, acl, i, rule)? {
+        if let Some(found) = wrong_rule(alloc, targets, acl, i, rule)? {
             return Ok(Some(found));
         }
     }
@@ -224,8 +153,9 @@ fn wrong_acl(alloc: Global, conf: &Resolved, acl: &RawAcl) -> Found
 pub(crate) fn wrong_acl_ports(alloc: Global, ordered: &OrderedConf, conf: &Resolved) -> Found
     ensures { IfOk result (λ found. found ≡ first (wrong_acl_ports ordered.now conf.now)) }
 {
+    let targets = Targets::of(alloc, conf)?;
     for acl in ordered.acls.as_slice() {
-        if let Some(found) = wrong_acl(alloc, conf, acl)? {
+        if let Some(found) = wrong_acl(alloc, &targets, acl)? {
             return Ok(Some(found));
         }
     }
