@@ -1,6 +1,7 @@
 //! The rules of a configuration, and the first place where one is broken.
 #![tactic(auto)]
 
+mod acl_names;
 mod attached;
 mod dp_tables;
 mod edges;

@@ -1,6 +1,6 @@
 //! VLANs and ACLs that are named: each exists, and an interface names a VLAN at most once.
 
-ghost use Rattle.std.specs.Prelude.{◌≡◌, IfOk, codes, is_some, is_none, map, option_and_then};
+ghost use Rattle.std.specs.Prelude.{◌≡◌, IfOk, codes, is_none, map, option_and_then};
 ghost use Rattle.std.specs.List.{flat_map};
 ghost use Rattle.std.specs.Option.{option_copied};
 ghost use Rattle.conf_types.specs.Attached.{acl_named};
@@ -10,6 +10,7 @@ ghost use Rattle.conf_shape.specs.declared.refused.ConfCause.TheVariants.{Duplic
 ghost use Rattle.conf_rules.specs.Names.{unknown_vlan, native_at, tagged_at, unknown_of_port, unknown_of_dp, unknown_of_router, unknown_vlans, twice_of_port, twice_of_dp, vlans_twice, unknown_acl, unknown_acls_of_vlan, unknown_acls_of_port, unknown_acls_of_dp, unknown_acls};
 ghost use Rattle.conf_rules.specs.Places.{first, fault_if, nth, under, each_at, one_at, list_at};
 
+use crate::acl_names::AclNames;
 use crate::places::{Found, broken, is_same, nth, port_site, router_site, under, under_port};
 use crate::vids::{see_some, seen_once};
 use conf_resolve::{OrderedConf, PlacedVlan, Resolved};
@@ -184,17 +185,11 @@ pub(crate) fn find_acl<'a>(acls: &'a [Acl], name: &Text) -> Option<&'a Acl>
     acls.iter().find(|acl| is_same(&acl.name, name))
 }
 
-fn is_acl(conf: &Resolved, name: &Text) -> bool
-    ensures { result ≡ is_some (acl_named conf.now.acls name.now) }
-{
-    find_acl(conf.acls().as_slice(), name).is_some()
-}
-
-fn unknown_one_of_vlan(alloc: Global, conf: &Resolved, placed: &PlacedVlan) -> Found
-    ensures { IfOk result (λ found. found ≡ first (flat_map (unknown_acl conf.now) (one_at placed.now.site placed.now.vlan.acls))) }
+fn unknown_one_of_vlan(alloc: Global, acls: &AclNames, placed: &PlacedVlan) -> Found
+    ensures { IfOk result (λ found. found ≡ first (flat_map (unknown_acl acls.now.conf.now) (one_at placed.now.site placed.now.vlan.acls))) }
 {
     if let Some(name) = &placed.vlan.acls.one {
-        if !is_acl(conf, name) {
+        if !acls.has(name) {
             let site = under(alloc, placed.site.copy(alloc)?, "acl_in")?;
             return broken(alloc, ConfCause::Unresolved, site);
         }
@@ -203,11 +198,11 @@ fn unknown_one_of_vlan(alloc: Global, conf: &Resolved, placed: &PlacedVlan) -> F
 }
 
 #[tactic(auto, using(crate::proofs::First::first_rules))]
-fn unknown_nth_of_vlan(alloc: Global, conf: &Resolved, placed: &PlacedVlan, names: &[Text]) -> Found
-    ensures { IfOk result (λ found. found ≡ first (flat_map (unknown_acl conf.now) (each_at (under placed.now.site (codes "acls_in")) names.now))) }
+fn unknown_nth_of_vlan(alloc: Global, acls: &AclNames, placed: &PlacedVlan, names: &[Text]) -> Found
+    ensures { IfOk result (λ found. found ≡ first (flat_map (unknown_acl acls.now.conf.now) (each_at (under placed.now.site (codes "acls_in")) names.now))) }
 {
     for (i, name) in names.iter().enumerate() {
-        if !is_acl(conf, name) {
+        if !acls.has(name) {
             let site = under(alloc, placed.site.copy(alloc)?, "acls_in")?;
             return broken(alloc, ConfCause::Unresolved, nth(alloc, site, i)?);
         }
@@ -216,23 +211,23 @@ fn unknown_nth_of_vlan(alloc: Global, conf: &Resolved, placed: &PlacedVlan, name
 }
 
 #[tactic(auto, using(crate::proofs::First::first_rules))]
-fn unknown_acls_of_vlan(alloc: Global, conf: &Resolved, placed: &PlacedVlan) -> Found
-    ensures { IfOk result (λ found. found ≡ first (unknown_acls_of_vlan conf.now placed.now)) }
+fn unknown_acls_of_vlan(alloc: Global, acls: &AclNames, placed: &PlacedVlan) -> Found
+    ensures { IfOk result (λ found. found ≡ first (unknown_acls_of_vlan acls.now.conf.now placed.now)) }
 {
-    if let Some(found) = unknown_one_of_vlan(alloc, conf, placed)? {
+    if let Some(found) = unknown_one_of_vlan(alloc, acls, placed)? {
         return Ok(Some(found));
     }
     match &placed.vlan.acls.list {
-        Some(names) => unknown_nth_of_vlan(alloc, conf, placed, names.as_slice()),
+        Some(names) => unknown_nth_of_vlan(alloc, acls, placed, names.as_slice()),
         None => Ok(None),
     }
 }
 
-fn unknown_one_of_port(alloc: Global, conf: &Resolved, dp: &RawDp, port: &RawPort) -> Found
-    ensures { IfOk result (λ found. found ≡ first (flat_map (unknown_acl conf.now) (one_at (port_site dp.now port.now) port.now.acls))) }
+fn unknown_one_of_port(alloc: Global, acls: &AclNames, dp: &RawDp, port: &RawPort) -> Found
+    ensures { IfOk result (λ found. found ≡ first (flat_map (unknown_acl acls.now.conf.now) (one_at (port_site dp.now port.now) port.now.acls))) }
 {
     if let Some(name) = &port.acls.one {
-        if !is_acl(conf, name) {
+        if !acls.has(name) {
             let site = under(alloc, port_site(alloc, dp, port)?, "acl_in")?;
             return broken(alloc, ConfCause::Unresolved, site);
         }
@@ -243,15 +238,15 @@ fn unknown_one_of_port(alloc: Global, conf: &Resolved, dp: &RawDp, port: &RawPor
 #[tactic(auto, using(crate::proofs::First::first_rules))]
 fn unknown_nth_of_port(
     alloc: Global,
-    conf: &Resolved,
+    acls: &AclNames,
     dp: &RawDp,
     port: &RawPort,
     names: &[Text],
 ) -> Found
-    ensures { IfOk result (λ found. found ≡ first (flat_map (unknown_acl conf.now) (each_at (under (port_site dp.now port.now) (codes "acls_in")) names.now))) }
+    ensures { IfOk result (λ found. found ≡ first (flat_map (unknown_acl acls.now.conf.now) (each_at (under (port_site dp.now port.now) (codes "acls_in")) names.now))) }
 {
     for (i, name) in names.iter().enumerate() {
-        if !is_acl(conf, name) {
+        if !acls.has(name) {
             let site = under(alloc, port_site(alloc, dp, port)?, "acls_in")?;
             return broken(alloc, ConfCause::Unresolved, nth(alloc, site, i)?);
         }
@@ -260,24 +255,24 @@ fn unknown_nth_of_port(
 }
 
 #[tactic(auto, using(crate::proofs::First::first_rules))]
-fn unknown_acls_of_port(alloc: Global, conf: &Resolved, dp: &RawDp, port: &RawPort) -> Found
-    ensures { IfOk result (λ found. found ≡ first (unknown_acls_of_port conf.now dp.now port.now)) }
+fn unknown_acls_of_port(alloc: Global, acls: &AclNames, dp: &RawDp, port: &RawPort) -> Found
+    ensures { IfOk result (λ found. found ≡ first (unknown_acls_of_port acls.now.conf.now dp.now port.now)) }
 {
-    if let Some(found) = unknown_one_of_port(alloc, conf, dp, port)? {
+    if let Some(found) = unknown_one_of_port(alloc, acls, dp, port)? {
         return Ok(Some(found));
     }
     match &port.acls.list {
-        Some(names) => unknown_nth_of_port(alloc, conf, dp, port, names.as_slice()),
+        Some(names) => unknown_nth_of_port(alloc, acls, dp, port, names.as_slice()),
         None => Ok(None),
     }
 }
 
 #[tactic(auto, using(crate::proofs::First::first_rules))]
-fn unknown_acls_of_vlans(alloc: Global, conf: &Resolved, vlans: &[PlacedVlan]) -> Found
-    ensures { IfOk result (λ found. found ≡ first (flat_map (unknown_acls_of_vlan conf.now) vlans.now)) }
+fn unknown_acls_of_vlans(alloc: Global, acls: &AclNames, vlans: &[PlacedVlan]) -> Found
+    ensures { IfOk result (λ found. found ≡ first (flat_map (unknown_acls_of_vlan acls.now.conf.now) vlans.now)) }
 {
     for placed in vlans {
-        if let Some(found) = unknown_acls_of_vlan(alloc, conf, placed)? {
+        if let Some(found) = unknown_acls_of_vlan(alloc, acls, placed)? {
             return Ok(Some(found));
         }
     }
@@ -285,11 +280,11 @@ fn unknown_acls_of_vlans(alloc: Global, conf: &Resolved, vlans: &[PlacedVlan]) -
 }
 
 #[tactic(auto, using(crate::proofs::First::first_rules))]
-fn unknown_acls_of_dp(alloc: Global, conf: &Resolved, dp: &RawDp) -> Found
-    ensures { IfOk result (λ found. found ≡ first (unknown_acls_of_dp conf.now dp.now)) }
+fn unknown_acls_of_dp(alloc: Global, acls: &AclNames, dp: &RawDp) -> Found
+    ensures { IfOk result (λ found. found ≡ first (unknown_acls_of_dp acls.now.conf.now dp.now)) }
 {
     for port in dp.ports.as_slice() {
-        if let Some(found) = unknown_acls_of_port(alloc, conf, dp, port)? {
+        if let Some(found) = unknown_acls_of_port(alloc, acls, dp, port)? {
             return Ok(Some(found));
         }
     }
@@ -301,11 +296,12 @@ fn unknown_acls_of_dp(alloc: Global, conf: &Resolved, dp: &RawDp) -> Found
 pub(crate) fn unknown_acls(alloc: Global, ordered: &OrderedConf, conf: &Resolved) -> Found
     ensures { IfOk result (λ found. found ≡ first (unknown_acls ordered.now conf.now)) }
 {
-    if let Some(found) = unknown_acls_of_vlans(alloc, conf, ordered.vlans.as_slice())? {
+    let acls = AclNames::of(alloc, conf)?;
+    if let Some(found) = unknown_acls_of_vlans(alloc, &acls, ordered.vlans.as_slice())? {
         return Ok(Some(found));
     }
     for dp in ordered.dps.as_slice() {
-        if let Some(found) = unknown_acls_of_dp(alloc, conf, dp)? {
+        if let Some(found) = unknown_acls_of_dp(alloc, &acls, dp)? {
             return Ok(Some(found));
         }
     }

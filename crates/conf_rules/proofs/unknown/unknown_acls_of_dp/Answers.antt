@@ -5,10 +5,10 @@ use Rattle.conf_rules.proofs.unknown.unknown_acls_of_dp.Goals as goal
 
 pub returns-in-Some : goal.returns-in-Some
 returns-in-Some c =
-    (walked (unknown_acls_of_port c.args.conf.now c.args.dp.now) c.args.dp.now.ports _ c.loop-port.port-index c.port-item.result _ c.as_slice-port-items.ensures c.loop-port-test.true c.port-item.is c.loop-port.invariant).1
+    (walked (unknown_acls_of_port c.args.acls.now.conf.now c.args.dp.now) c.args.dp.now.ports _ c.loop-port.port-index c.port-item.result _ c.as_slice-port-items.ensures c.loop-port-test.true c.port-item.is c.loop-port.invariant).1
     c.in-Some.found (sym c.in_ok-found.ensures ∙ c.in-Some.is)
 
 pub loop-port-preserved : goal.loop-port-preserved
 loop-port-preserved c =
-    (walked (unknown_acls_of_port c.args.conf.now c.args.dp.now) c.args.dp.now.ports _ c.loop-port.port-index c.port-item.result _ c.as_slice-port-items.ensures c.loop-port-test.true c.port-item.is c.loop-port.invariant).0
+    (walked (unknown_acls_of_port c.args.acls.now.conf.now c.args.dp.now) c.args.dp.now.ports _ c.loop-port.port-index c.port-item.result _ c.as_slice-port-items.ensures c.loop-port-test.true c.port-item.is c.loop-port.invariant).0
     (sym c.in_ok-found.ensures ∙ c.in_default.is)

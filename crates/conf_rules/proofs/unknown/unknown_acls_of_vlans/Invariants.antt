@@ -6,4 +6,4 @@ use Rattle.conf_rules.proofs.unknown.unknown_acls_of_vlans.Given as goal
 
 -- none so far breaks the rule
 abbrev pub invariant-loop-placed : goal.invariant-loop-placed
-invariant-loop-placed l = first (flat_map (unknown_acls_of_vlan l.conf) (drop l.placed-index l.vlans)) ≡ first (flat_map (unknown_acls_of_vlan l.conf) l.vlans)
+invariant-loop-placed l = first (flat_map (unknown_acls_of_vlan l.acls.conf.now) (drop l.placed-index l.vlans)) ≡ first (flat_map (unknown_acls_of_vlan l.acls.conf.now) l.vlans)

@@ -7,4 +7,4 @@ use Rattle.conf_rules.proofs.unknown.unknown_nth_of_port.Given as goal
 
 -- none so far breaks the rule
 abbrev pub invariant-loop-i : goal.invariant-loop-i
-invariant-loop-i l = first (flat_map (unknown_acl l.conf) (flat_map (λ item. (nth (under (port_site l.dp l.port) (codes "acls_in")) item.0, item.1) ∷ []) (enumerate_from l.i (drop l.i l.names)))) ≡ first (flat_map (unknown_acl l.conf) (each_at (under (port_site l.dp l.port) (codes "acls_in")) l.names))
+invariant-loop-i l = first (flat_map (unknown_acl l.acls.conf.now) (flat_map (λ item. (nth (under (port_site l.dp l.port) (codes "acls_in")) item.0, item.1) ∷ []) (enumerate_from l.i (drop l.i l.names)))) ≡ first (flat_map (unknown_acl l.acls.conf.now) (each_at (under (port_site l.dp l.port) (codes "acls_in")) l.names))
