@@ -1,4 +1,5 @@
 pub mod Adding
+pub mod Found
 pub mod Naming
 pub mod Once
 pub mod Placing

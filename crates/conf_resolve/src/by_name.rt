@@ -1,4 +1,4 @@
-//! The numbers of VLANs, to be looked up by a name.
+//! What items stand for, to be looked up by their names: of each name the first item counts.
 
 ghost use Rattle.std.specs.Prelude.{◌≡◌, ℕ, List, Option, if◌then◌else◌, IfOk, OnOk};
 ghost use Rattle.std.specs.BTreeMap.{get_by_text};
@@ -7,33 +7,38 @@ ghost use Rattle.conf_types.specs.Lists.{is_same};
 ghost use Rattle.conf_resolve.specs.Indexed.{LeadToFirst};
 
 use crate::ordered::PlacedVlan;
-use net_base::{NoMemory, Vid};
+use net_base::{NoMemory, Text, Vid};
 use std::alloc::Global;
 use std::collections::BTreeMap;
 
-/// Numbers of VLANs by their names.
-pub(crate) type NamedVids = BTreeMap<String, Vid>;
+/// Values by names.
+pub(crate) type Named<V> = BTreeMap<String, V>;
 
-/// Adds the number of a VLAN, where none of its name is there.
-fn add_vid(alloc: Global, vids: &mut NamedVids, placed: &PlacedVlan) -> Result<(), NoMemory>
-    ensures { OnOk result ((name : List ℕ) → get_by_text vids.new name ≡ option_or (get_by_text vids.old name) (if is_same placed.now.vlan.names.name name then Some placed.now.vlan.vid else None)) }
+/// Adds a value under a name, where none is there.
+pub(crate) fn add_first<V: Drop>(
+    alloc: Global,
+    values: &mut Named<V>,
+    name: &Text,
+    value: V,
+) -> Result<(), NoMemory>
+    ensures { OnOk result ((text : List ℕ) → get_by_text values.new text ≡ option_or (get_by_text values.old text) (if is_same name.now text then Some value else None)) }
 {
-    let name = placed.vlan.names.name.as_str();
-    if vids.contains_key(name) {
+    let name = name.as_str();
+    if values.contains_key(name) {
         return Ok(());
     }
     let key = String::from_str(alloc, name)?;
-    vids.insert(key, placed.vlan.vid)?;
+    values.insert(key, value)?;
     Ok(())
 }
 
 /// The number of the first VLAN of each name.
-pub(crate) fn first_vids(alloc: Global, vlans: &[PlacedVlan]) -> Result<NamedVids, NoMemory>
-    ensures { IfOk result (λ vids. LeadToFirst vlans.now vids) }
+pub(crate) fn first_vids(alloc: Global, vlans: &[PlacedVlan]) -> Result<Named<Vid>, NoMemory>
+    ensures { IfOk result (λ vids. LeadToFirst (λ v. v.vlan.names.name) (λ v. v.vlan.vid) vlans.now vids) }
 {
     let mut vids = BTreeMap::new(alloc);
     for placed in vlans {
-        add_vid(alloc, &mut vids, placed)?;
+        add_first(alloc, &mut vids, &placed.vlan.names.name, placed.vlan.vid)?;
     }
     Ok(vids)
 }

@@ -3,8 +3,9 @@
 
 mod by_name;
 mod collected;
-mod lookups;
 mod made;
+mod named_dps;
+mod named_ports;
 mod numbers;
 mod order;
 mod ordered;
@@ -14,9 +15,11 @@ mod ranks;
 mod resolved;
 mod resolving;
 mod rules;
+mod seen;
 mod vlans;
 
-pub use lookups::number_named;
+pub use named_dps::NamedDps;
+pub use named_ports::NamedPorts;
 pub use ordered::{OrderedConf, PlacedVlan, PlacedVlans};
 pub use ordering::arrange;
 pub use resolved::Resolved;

@@ -1,16 +1,20 @@
 //! Lists of names, and of the numbers that names stand for.
 
-ghost use Rattle.std.specs.Prelude.{◌≡◌, ◌++◌, [], IfOk, OnOk, option_and_then};
+ghost use Rattle.std.specs.Prelude.{◌≡◌, ◌++◌, [], ℕ, IfOk, OnOk, option_and_then};
+ghost use Rattle.std.specs.BTreeSet.{contains};
 ghost use Rattle.std.specs.List.{filter_map};
+ghost use Rattle.std.specs.Ordering.{nat_cmp};
 ghost use Rattle.conf_types.specs.Lists.{is_among};
 ghost use Rattle.conf_resolve.specs.Resolved.{to_list, once, vid_of, acl_names};
 ghost use Rattle.conf_resolve.specs.Added.{with_number};
 
 use crate::ordered::OrderedConf;
+use crate::seen::see;
 use conf_shape::{RawAclNames, VlanRef};
 use conf_types::{PortNos, Vids};
 use net_base::{Items, Names, NoMemory, PortNo, Text, TryCopy, Vid};
 use std::alloc::Global;
+use std::collections::BTreeSet;
 
 fn one_name(alloc: Global, name: &Text) -> Result<Names, NoMemory>
     ensures { IfOk result (λ made. made ≡ to_list (Some name.now)) }
@@ -63,20 +67,16 @@ pub fn vids_of(alloc: Global, conf: &OrderedConf, names: &[VlanRef]) -> Result<V
     Ok(vids)
 }
 
-fn has_vid(vids: &[Vid], vid: Vid) -> bool
-    ensures { result ≡ is_among vids.now vid }
+/// Adds an identifier that isn't there; there is a set of those that are.
+fn push_vid(vids: &mut Vids, seen: &mut BTreeSet<u32>, vid: Vid) -> Result<(), NoMemory>
+    requires { (n : ℕ) → contains nat_cmp seen.old n ≡ is_among vids.old n }
+    ensures vids { OnOk result (vids.new ≡ with_number vids.old vid) }
+    ensures seen { OnOk result ((n : ℕ) → contains nat_cmp seen.new n ≡ is_among vids.new n) }
 {
-    vids.iter().any(|other| other.get() == vid.get())
-}
-
-fn push_vid(vids: &mut Vids, vid: Vid) -> Result<(), NoMemory>
-    ensures { OnOk result (vids.new ≡ with_number vids.old vid) }
-{
-    if has_vid(vids.as_slice(), vid) {
-        Ok(())
-    } else {
-        vids.push(vid)
+    if see(seen, u32::from(vid.get()))? {
+        return Ok(());
     }
+    vids.push(vid)
 }
 
 /// Identifiers, each at its first place.
@@ -84,26 +84,27 @@ pub fn vids_once(alloc: Global, vids: &[Vid]) -> Result<Vids, NoMemory>
     ensures { IfOk result (λ made. made ≡ once vids.now) }
 {
     let mut made = Items::new(alloc);
+    let mut seen = BTreeSet::new(alloc);
     for vid in vids {
-        push_vid(&mut made, *vid)?;
+        push_vid(&mut made, &mut seen, *vid)?;
     }
     Ok(made)
 }
 
-fn has_number(numbers: &[PortNo], number: PortNo) -> bool
-    ensures { result ≡ is_among numbers.now number }
+/// Adds a number that isn't there; there is a set of those that are.
+fn push_number(
+    numbers: &mut PortNos,
+    seen: &mut BTreeSet<u32>,
+    number: PortNo,
+) -> Result<(), NoMemory>
+    requires { (n : ℕ) → contains nat_cmp seen.old n ≡ is_among numbers.old n }
+    ensures numbers { OnOk result (numbers.new ≡ with_number numbers.old number) }
+    ensures seen { OnOk result ((n : ℕ) → contains nat_cmp seen.new n ≡ is_among numbers.new n) }
 {
-    numbers.iter().any(|other| other.get() == number.get())
-}
-
-fn push_number(numbers: &mut PortNos, number: PortNo) -> Result<(), NoMemory>
-    ensures { OnOk result (numbers.new ≡ with_number numbers.old number) }
-{
-    if has_number(numbers.as_slice(), number) {
-        Ok(())
-    } else {
-        numbers.push(number)
+    if see(seen, number.get())? {
+        return Ok(());
     }
+    numbers.push(number)
 }
 
 /// Numbers of interfaces, each at its first place.
@@ -111,8 +112,9 @@ pub fn numbers_once(alloc: Global, numbers: &[PortNo]) -> Result<PortNos, NoMemo
     ensures { IfOk result (λ made. made ≡ once numbers.now) }
 {
     let mut made = Items::new(alloc);
+    let mut seen = BTreeSet::new(alloc);
     for number in numbers {
-        push_number(&mut made, *number)?;
+        push_number(&mut made, &mut seen, *number)?;
     }
     Ok(made)
 }

@@ -4,9 +4,10 @@ ghost use Rattle.std.specs.Prelude.{◌≡◌, IfOk};
 ghost use Rattle.std.specs.List.{find};
 ghost use Rattle.std.specs.Option.{option_map};
 ghost use Rattle.conf_types.specs.Lists.{is_same};
+ghost use Rattle.conf_resolve.specs.Resolved.{vid_of};
 
-use crate::by_name::{NamedVids, first_vids};
-use conf_shape::{RawAcls, RawDps, RawRouters, RawVlan};
+use crate::by_name::{Named, first_vids};
+use conf_shape::{RawAcls, RawDps, RawRouters, RawVlan, VlanRef};
 use net_base::{Items, Names, NoMemory, Text, Vid};
 use std::alloc::Global;
 use std::marker::Model;
@@ -22,7 +23,7 @@ pub struct PlacedVlan {
 #[derive(Drop)]
 pub struct PlacedVlans {
     vlans: Items<PlacedVlan>,
-    vids: NamedVids,
+    vids: Named<Vid>,
 }
 
 impl Model for PlacedVlans {
@@ -34,7 +35,7 @@ impl Model for PlacedVlans {
 
     ghost view = { λ p. p.vlans };
 
-    ghost invariant = { λ p. LeadToFirst p.vlans p.vids };
+    ghost invariant = { λ p. LeadToFirst (λ v. v.vlan.names.name) (λ v. v.vlan.vid) p.vlans p.vids };
 }
 
 impl PlacedVlans {
@@ -70,4 +71,17 @@ pub struct OrderedConf {
     pub vlans: PlacedVlans,
     pub acls: RawAcls,
     pub routers: RawRouters,
+}
+
+impl OrderedConf {
+    /// The identifier of the VLAN that is named: a number is its own, whether or not a VLAN is
+    /// written. `None` exactly where no VLAN has the name.
+    pub fn vid_of(&self, name: &VlanRef) -> Option<Vid>
+        ensures { result ≡ vid_of self.now.vlans name.now }
+    {
+        match name {
+            VlanRef::Vid(vid) => Some(*vid),
+            VlanRef::Name(name) => self.vlans.vid_named(name),
+        }
+    }
 }

@@ -4,7 +4,8 @@ ghost use Rattle.std.specs.Prelude.{◌≡◌, [], ◌∷◌, map, unwrap_or, If
 ghost use Rattle.std.specs.Option.{option_map};
 ghost use Rattle.conf_resolve.specs.Resolved.{items_of, once, number_named, far_end, port_of, dp_of};
 
-use crate::lookups::number_named;
+use crate::named_dps::NamedDps;
+use crate::named_ports::NamedPorts;
 use crate::numbers::{acl_names, native_of, numbers_once, vids_of};
 use crate::ordered::OrderedConf;
 use conf_shape::{OneOrList, RawDp, RawPort, RawStackEnd};
@@ -13,10 +14,10 @@ use net_base::{NoMemory, PortNo, TryCopy};
 use std::alloc::Global;
 
 /// The interface that is named; the interface `own` where none is.
-fn number_or(dp: &RawDp, own: PortNo, name: &PortRef) -> PortNo
-    ensures { result ≡ unwrap_or (number_named dp.now name.now) own }
+fn number_or(ports: &NamedPorts, own: PortNo, name: &PortRef) -> PortNo
+    ensures { result ≡ unwrap_or (number_named ports.now name.now) own }
 {
-    match number_named(dp, name) {
+    match ports.number(name) {
         Some(number) => number,
         None => own,
     }
@@ -24,15 +25,15 @@ fn number_or(dp: &RawDp, own: PortNo, name: &PortRef) -> PortNo
 
 fn all_numbers(
     alloc: Global,
-    dp: &RawDp,
+    ports: &NamedPorts,
     own: PortNo,
     names: &[PortRef],
 ) -> Result<PortNos, NoMemory>
-    ensures { IfOk result (λ made. made ≡ map (λ name. unwrap_or (number_named dp.now name) own) names.now) }
+    ensures { IfOk result (λ made. made ≡ map (λ name. unwrap_or (number_named ports.now name) own) names.now) }
 {
     let mut made = PortNos::new(alloc);
     for name in names {
-        made.push(number_or(dp, own, name))?;
+        made.push(number_or(ports, own, name))?;
     }
     Ok(made)
 }
@@ -47,41 +48,41 @@ fn one_number(alloc: Global, number: PortNo) -> Result<PortNos, NoMemory>
 
 fn named_numbers(
     alloc: Global,
-    dp: &RawDp,
+    ports: &NamedPorts,
     own: PortNo,
     names: &OneOrList<PortRef>,
 ) -> Result<PortNos, NoMemory>
-    ensures { IfOk result (λ made. made ≡ map (λ name. unwrap_or (number_named dp.now name) own) (items_of names.now)) }
+    ensures { IfOk result (λ made. made ≡ map (λ name. unwrap_or (number_named ports.now name) own) (items_of names.now)) }
 {
     match names {
-        OneOrList::One(name) => one_number(alloc, number_or(dp, own, name)),
-        OneOrList::List(names) => all_numbers(alloc, dp, own, names.as_slice()),
+        OneOrList::One(name) => one_number(alloc, number_or(ports, own, name)),
+        OneOrList::List(names) => all_numbers(alloc, ports, own, names.as_slice()),
     }
 }
 
 /// The mirrored ports, each once.
-fn mirrored(alloc: Global, dp: &RawDp, port: &RawPort) -> Result<PortNos, NoMemory>
-    ensures { IfOk result (λ made. made ≡ once (map (λ name. unwrap_or (number_named dp.now name) port.now.no) (items_of port.now.mirror))) }
+fn mirrored(alloc: Global, ports: &NamedPorts, port: &RawPort) -> Result<PortNos, NoMemory>
+    ensures { IfOk result (λ made. made ≡ once (map (λ name. unwrap_or (number_named ports.now name) port.now.no) (items_of port.now.mirror))) }
 {
-    let numbers = named_numbers(alloc, dp, port.no, &port.mirror)?;
+    let numbers = named_numbers(alloc, ports, port.no, &port.mirror)?;
     numbers_once(alloc, numbers.as_slice())
 }
 
 /// The far end that is named; the end `own` where there is none.
-fn end_or(conf: &OrderedConf, own: StackEnd, end: &RawStackEnd) -> StackEnd
-    ensures { result ≡ unwrap_or (far_end conf.now.dps end.now) own }
+fn end_or(dps: &NamedDps, own: StackEnd, end: &RawStackEnd) -> StackEnd
+    ensures { result ≡ unwrap_or (far_end dps.now end.now) own }
 {
-    match conf.far_end(end) {
+    match dps.far_end(end) {
         Some(end) => end,
         None => own,
     }
 }
 
-fn stack_of(conf: &OrderedConf, own: StackEnd, stack: &Option<RawStackEnd>) -> Option<StackEnd>
-    ensures { result ≡ option_map (λ end. unwrap_or (far_end conf.now.dps end) own) stack.now }
+fn stack_of(dps: &NamedDps, own: StackEnd, stack: &Option<RawStackEnd>) -> Option<StackEnd>
+    ensures { result ≡ option_map (λ end. unwrap_or (far_end dps.now end) own) stack.now }
 {
     match stack {
-        Some(end) => Some(end_or(conf, own, end)),
+        Some(end) => Some(end_or(dps, own, end)),
         None => None,
     }
 }
@@ -89,13 +90,15 @@ fn stack_of(conf: &OrderedConf, own: StackEnd, stack: &Option<RawStackEnd>) -> O
 fn resolve_port(
     alloc: Global,
     conf: &OrderedConf,
-    dp: &RawDp,
+    dps: &NamedDps,
+    ports: &NamedPorts,
     port: &RawPort,
 ) -> Result<Port, NoMemory>
-    ensures { IfOk result (λ made. made ≡ port_of conf.now dp.now port.now) }
+    requires { dps.now ≡ conf.now.dps }
+    ensures { IfOk result (λ made. made ≡ port_of conf.now ports.now port.now) }
 {
     let own = StackEnd {
-        dp: dp.id,
+        dp: ports.dp().id,
         port: port.no,
     };
     Ok(Port {
@@ -112,27 +115,30 @@ fn resolve_port(
         permanent_learn: port.flags.permanent_learn,
         opstatus_reconf: port.flags.opstatus_reconf,
         max_hosts: port.max_hosts,
-        mirror: mirrored(alloc, dp, port)?,
-        stack: stack_of(conf, own, &port.stack),
+        mirror: mirrored(alloc, ports, port)?,
+        stack: stack_of(dps, own, &port.stack),
     })
 }
 
 fn resolve_ports(
     alloc: Global,
     conf: &OrderedConf,
+    dps: &NamedDps,
     dp: &RawDp,
-    ports: &[RawPort],
 ) -> Result<Ports, NoMemory>
-    ensures { IfOk result (λ made. made ≡ map (port_of conf.now dp.now) ports.now) }
+    requires { dps.now ≡ conf.now.dps }
+    ensures { IfOk result (λ made. made ≡ map (port_of conf.now dp.now) dp.now.ports) }
 {
+    let ports = NamedPorts::of(alloc, dp)?;
     let mut made = Ports::new(alloc);
-    for port in ports {
-        made.push(resolve_port(alloc, conf, dp, port)?)?;
+    for port in dp.ports.as_slice() {
+        made.push(resolve_port(alloc, conf, dps, &ports, port)?)?;
     }
     Ok(made)
 }
 
-fn resolve_dp(alloc: Global, conf: &OrderedConf, dp: &RawDp) -> Result<Dp, NoMemory>
+fn resolve_dp(alloc: Global, conf: &OrderedConf, dps: &NamedDps, dp: &RawDp) -> Result<Dp, NoMemory>
+    requires { dps.now ≡ conf.now.dps }
     ensures { IfOk result (λ made. made ≡ dp_of conf.now dp.now) }
 {
     Ok(Dp {
@@ -147,16 +153,17 @@ fn resolve_dp(alloc: Global, conf: &OrderedConf, dp: &RawDp) -> Result<Dp, NoMem
         drop_broadcast: dp.drops.broadcast,
         drop_bpdu: dp.drops.bpdu,
         drop_lldp: dp.drops.lldp,
-        ports: resolve_ports(alloc, conf, dp, dp.ports.as_slice())?,
+        ports: resolve_ports(alloc, conf, dps, dp)?,
     })
 }
 
-pub fn resolve_dps(alloc: Global, conf: &OrderedConf, dps: &[RawDp]) -> Result<Dps, NoMemory>
-    ensures { IfOk result (λ made. made ≡ map (dp_of conf.now) dps.now) }
+pub fn resolve_dps(alloc: Global, conf: &OrderedConf) -> Result<Dps, NoMemory>
+    ensures { IfOk result (λ made. made ≡ map (dp_of conf.now) conf.now.dps) }
 {
+    let dps = NamedDps::of(alloc, conf)?;
     let mut made = Dps::new(alloc);
-    for dp in dps {
-        made.push(resolve_dp(alloc, conf, dp)?)?;
+    for dp in conf.dps.as_slice() {
+        made.push(resolve_dp(alloc, conf, &dps, dp)?)?;
     }
     Ok(made)
 }

@@ -73,7 +73,7 @@ fn resolve_routers(
 pub fn resolve(alloc: Global, conf: &OrderedConf) -> Result<Resolved, NoMemory>
     ensures { IfOk result (λ made. made ≡ resolved conf.now) }
 {
-    let dps = resolve_dps(alloc, conf, conf.dps.as_slice())?;
+    let dps = resolve_dps(alloc, conf)?;
     let vlans = resolve_vlans(alloc, conf.vlans.as_slice())?;
     let acls = resolve_acls(alloc, conf.acls.as_slice())?;
     let routers = resolve_routers(alloc, conf, conf.routers.as_slice())?;
