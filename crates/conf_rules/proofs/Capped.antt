@@ -75,19 +75,6 @@ sum-joined f g [] = refl
 sum-joined f g (x ∷ xs) =
     sum_by-append f (g x) (flat_map g xs) ∙ ap (λ n. sum_by f (g x) + n) (sum-joined f g xs) ∙ sym (sum_by-cons (λ y. sum_by f (g y)) x xs)
 
-sum-same : {A : Type 0} (f g : A → ℕ) → ((x : A) → f x ≡ g x) → (xs : List A) → sum_by f xs ≡ sum_by g xs
-sum-same f g same [] = refl
-sum-same f g same (x ∷ xs) =
-    sum_by-cons f x xs ∙ ap (λ n. n + sum_by f xs) (same x) ∙ ap (λ n. g x + n) (sum-same f g same xs) ∙ sym (sum_by-cons g x xs)
-
--- a sum over joined lists, each as far as the cap
-pub capped-joined : {A B : Type 0} (cap : ℕ) (f : B → ℕ) (g : A → List B) (xs : List A) → capped cap (λ x. capped cap f (g x)) xs ≡ min cap (sum_by f (flat_map g xs))
-capped-joined cap f g xs =
-    capped-sum cap (λ x. capped cap f (g x)) xs
-    ∙ ap (min cap) (sum-same (λ x. capped cap f (g x)) (λ x. min cap (sum_by f (g x))) (λ x. capped-sum cap f (g x)) xs)
-    ∙ sum-capped cap (λ x. sum_by f (g x)) xs
-    ∙ ap (min cap) (sym (sum-joined f g xs))
-
 -- what is attached on a datapath, on its interfaces and for its VLANs
 pub attached-sum : (size : List Rule → ℕ) (conf : Configuration) (d : Dp)
     → sum_by size (attached conf d) ≡ sum_by (λ p. cost size conf p.acls) d.ports + sum_by (vlan_cost size conf d) conf.vlans
@@ -111,5 +98,14 @@ added_more {A} cap f xs ys i x t u g e lt is so_far here further =
     let more : sum_by f (take (i + 1) xs) ≡ sum_by f (take i xs) + f x =
     subst (λ (zs : List A). sum_by f (take (i + 1) zs) ≡ sum_by f (take i zs) + f x) e (sum_by_more f ys i x lt ∙ ap (λ y. sum_by f (take i ys) + f y) (sym is)) in
     omega arith
+
+-- the same, where the term isn't as far as the cap
+pub added_whole : {A : Type 0} (cap : ℕ) (f : A → ℕ) (xs ys : List A) (i : ℕ) (x : A) (t u g : ℕ) → ys ≡ xs → i < length ys → x ≡ get_or ys i x
+    → t ≡ min cap (sum_by f (take i xs)) → g ≡ f x → u ≡ min cap (t + g) → u ≡ min cap (sum_by f (take (i + 1) xs))
+added_whole cap f xs ys i x t u g e lt is so_far here further =
+    added_more cap f xs ys i x t u (min cap g) e lt is so_far (ap (min cap) here) (let again : min cap (t + g) ≡ min cap (t + min cap g) = omega arith in further ∙ again)
+
+pub both-capped : (cap a b s t u : ℕ) → s ≡ min cap a → t ≡ min cap b → u ≡ min cap (s + t) → u ≡ min cap (a + b)
+both-capped cap a b s t u here there further = omega arith
 
 pub ruleset above_rules = (above-capped)

@@ -36,9 +36,14 @@ any-one k b (n ∷ ns) =
     ∙ ap (λ c. (c && b) || (is_among ns k && b)) (nat_eq_equiv.symm k n)
     ∙ sym (spread (n == k) (is_among ns k) b)
 
-any-none : {A : Type 0} (xs : List A) → list_any (λ (x : A). false) xs ≡ false
+pub any-none : {A : Type 0} (xs : List A) → list_any (λ (x : A). false) xs ≡ false
 any-none [] = refl
 any-none (x ∷ xs) = any-none xs
+
+-- by a test and a fact
+pub any-and : {A : Type 0} (b : Bool) (p : A → Bool) (xs : List A) → list_any (λ x. b && p x) xs ≡ (b && list_any p xs)
+any-and true p xs = refl
+any-and false p xs = any-none xs
 
 -- an item whose number is among those, and that passes a test
 pub exchanged : {A : Type 0} (number : A → ℕ) (passes : A → Bool) (member : ℕ → Bool) (ns : List ℕ) (xs : List A) → ((n : ℕ) → is_among ns n ≡ member n)

@@ -1,7 +1,6 @@
 -- Gateways of routes, asked for by each group.
-use Rattle.std.proofs.Common.{◌≡◌, ℕ, zero, suc, ◌*◌, ◌≤◌, ◌==◌, ◌||◌, Bool, true, false, ltb, List, [], ◌∷◌, ◌++◌, map, min, refl, sym, ap, ◌∙◌, arith, None}
+use Rattle.std.proofs.Common.{◌≡◌, ℕ, zero, suc, ◌*◌, ◌≤◌, ◌==◌, Bool, true, false, ltb, List, ◌++◌, min, refl, sym, ap, ◌∙◌, arith, None}
 use Rattle.std.specs.Prelude.{nat_lt, count_by}
-use Rattle.std.specs.List.{list_any}
 use Rattle.std.proofs.Math.Nat.{mul-le-mul_left}
 use Rattle.net_base.specs.declared.numbers.DpId.{DpId}
 use Rattle.std.proofs.lemmas.Bool.{ltb-true, ltb-false, lt-ltb}
@@ -15,10 +14,6 @@ use Rattle.conf_shape.specs.declared.refused.LimitName.TheVariants as limit
 use Rattle.conf_rules.specs.Limits.{above, whole_dps}
 use Rattle.conf_rules.specs.Places.{first}
 use Rattle.conf_rules.proofs.Groups.{count-same}
-
-pub any-mapped : {A B : Type 0} (p : B → Bool) (v : A → B) (xs : List A) → list_any (λ x. p (v x)) xs ≡ list_any p (map v xs)
-any-mapped p v [] = refl
-any-mapped p v (x ∷ xs) = ap (λ b. p (v x) || b) (any-mapped p v xs)
 
 -- a product, one factor as far as a cap above the limit
 pub product-capped : (g s : ℕ) → ltb 1024 (g * min 1025 s) ≡ ltb 1024 (g * s)

@@ -1,3 +1,4 @@
+pub mod Below
 pub mod Beside
 pub mod Capped
 pub mod Distinct
@@ -5,16 +6,20 @@ pub mod Earlier
 pub mod Exchanged
 pub mod First
 pub mod FirstEnds
+pub mod FirstPlaces
 pub mod FirstRouters
 pub mod FirstVlans
 pub mod Gateways
 pub mod Groups
+pub mod Joined
 pub mod MetRoutes
 pub mod MetVips
 pub mod Mirrors
 pub mod Numbers
-pub mod SeenGateways
+pub mod PortPlaces
 pub mod SeenNames
+pub mod SeenNumbers
 pub mod SeenTagged
 pub mod SeenVids
+pub mod SetNames
 pub mod Tables

@@ -1,10 +1,14 @@
+pub mod AclPlaces
 pub mod Ends
+pub mod Joined
 pub mod Limits
 pub mod MetRoutes
 pub mod MetVips
 pub mod Mirrors
 pub mod Names
+pub mod NumberedPorts
 pub mod Places
+pub mod PortPlaces
 pub mod Ports
 pub mod Routing
 pub mod Rules

@@ -1,46 +1,87 @@
-//! The names of the ACLs of a configuration, each found by one look.
+//! The ACLs of a configuration, each found by one look at its name.
 
-ghost use Rattle.std.specs.Prelude.{◌≡◌, IfOk, is_some};
+ghost use Rattle.std.specs.Prelude.{◌≡◌, ℕ, List, Some, IfOk, OnOk, is_some, option_and_then, if◌then◌else◌};
+ghost use Rattle.std.specs.BTreeMap.{get_by_text};
+ghost use Rattle.std.specs.List.{slice_get};
+ghost use Rattle.std.specs.Option.{option_copied};
 ghost use Rattle.conf_types.specs.Attached.{acl_named};
-ghost use Rattle.conf_rules.specs.Seen.{HasNames};
+ghost use Rattle.conf_types.specs.Lists.{is_same};
+ghost use Rattle.conf_rules.specs.AclPlaces.{acl_at};
 
-use crate::seen::see_name;
 use conf_resolve::Resolved;
 use conf_types::Acl;
 use net_base::{NoMemory, Text};
 use std::alloc::Global;
-use std::collections::BTreeSet;
+use std::collections::BTreeMap;
 
-/// A configuration, and the names of its ACLs.
+/// Of each name, the place of the first ACL that has it.
+type Places = BTreeMap<String, usize>;
+
+/// A configuration, and the places of its ACLs by their names.
 #[derive(Drop)]
 pub(crate) struct AclNames<'a> {
     conf: &'a Resolved,
-    names: BTreeSet<String>,
-    ghost right: { HasNames names (λ a. a.name) conf.now.acls },
+    places: Places,
+    ghost right: { (t : List ℕ) → acl_at conf.now.acls places t ≡ acl_named conf.now.acls t },
 }
 
-fn names_of(alloc: Global, acls: &[Acl]) -> Result<BTreeSet<String>, NoMemory>
-    ensures { IfOk result (λ names. HasNames names (λ a. a.name) acls.now) }
+/// From now on the name of the ACL leads to the place.
+fn add_acl(alloc: Global, places: &mut Places, acl: &Acl, at: usize) -> Result<(), NoMemory>
+    ensures { OnOk result ((t : List ℕ) → get_by_text places.new t ≡ (if is_same acl.now.name t then Some at else get_by_text places.old t)) }
 {
-    let mut names = BTreeSet::new(alloc);
-    for acl in acls {
-        see_name(alloc, &mut names, &acl.name)?;
+    let key = String::from_str(alloc, acl.name.as_str())?;
+    places.insert(key, at)?;
+    Ok(())
+}
+
+fn places_of(alloc: Global, acls: &[Acl]) -> Result<Places, NoMemory>
+    ensures { IfOk result (λ places. (t : List ℕ) → acl_at acls.now places t ≡ acl_named acls.now t) }
+{
+    let mut places = BTreeMap::new(alloc);
+    for i in (0..acls.len()).rev() {
+        add_acl(alloc, &mut places, &acls[i], i)?;
     }
-    Ok(names)
+    Ok(places)
+}
+
+/// The ACL at the place, where there is one.
+fn acl_at(acls: &[Acl], at: Option<usize>) -> Option<&Acl>
+    ensures { option_copied result ≡ option_and_then (slice_get acls.now) at }
+{
+    acls.get(at?)
 }
 
 impl<'a> AclNames<'a> {
     pub(crate) fn of(alloc: Global, conf: &'a Resolved) -> Result<AclNames<'a>, NoMemory>
         ensures { IfOk result (λ made. made.conf.now ≡ conf.now) }
     {
-        let names = names_of(alloc, conf.acls().as_slice())?;
-        Ok(AclNames { conf, names })
+        let places = places_of(alloc, conf.acls().as_slice())?;
+        Ok(AclNames { conf, places })
+    }
+
+    pub(crate) fn conf(&self) -> &Resolved
+        ensures { result.now ≡ self.now.conf.now }
+    {
+        self.conf
+    }
+
+    fn place(&self, name: &Text) -> Option<usize>
+        ensures { result ≡ get_by_text self.now.places name.now }
+    {
+        self.places.get(name.as_str()).copied()
+    }
+
+    /// The first ACL with the name.
+    pub(crate) fn find(&self, name: &Text) -> Option<&Acl>
+        ensures { option_copied result ≡ acl_named self.now.conf.now.acls name.now }
+    {
+        acl_at(self.conf.acls().as_slice(), self.place(name))
     }
 
     /// Whether an ACL has the name.
     pub(crate) fn has(&self, name: &Text) -> bool
         ensures { result ≡ is_some (acl_named self.now.conf.now.acls name.now) }
     {
-        self.names.contains(name.as_str())
+        self.find(name).is_some()
     }
 }

@@ -5,6 +5,7 @@ ghost use Rattle.std.specs.List.{list_any};
 ghost use Rattle.conf_types.specs.Membership.{is_edge_member, has_edge_member};
 
 use crate::vids::{see_all, see_some, seen_once};
+use conf_resolve::Resolved;
 use conf_types::{Dp, Port};
 use net_base::Vid;
 
@@ -14,6 +15,14 @@ pub(crate) struct Edges<'a> {
     dp: &'a Dp,
     seen: [bool; 4096],
     ghost right: { (n : ℕ) → n < 4096 → slice_index_or seen n false ≡ has_edge_member dp.now n },
+}
+
+/// A configuration, and the VLANs of which some datapath has an edge port.
+#[derive(Drop)]
+pub(crate) struct AllEdges<'a> {
+    conf: &'a Resolved,
+    seen: [bool; 4096],
+    ghost right: { (n : ℕ) → n < 4096 → slice_index_or seen n false ≡ list_any (λ d. has_edge_member d n) conf.now.dps },
 }
 
 /// From now on the VLANs of which the interface is an edge port are seen.
@@ -26,12 +35,22 @@ fn see_port(seen: &mut [bool; 4096], port: &Port)
     }
 }
 
-fn see_ports(ports: &[Port]) -> [bool; 4096]
-    ensures { (n : ℕ) → n < 4096 → slice_index_or result n false ≡ list_any (λ p. is_edge_member p n) ports.now }
+/// From now on the VLANs of which these interfaces are edge ports are seen.
+fn see_ports(seen: &mut [bool; 4096], ports: &[Port])
+    ensures { (n : ℕ) → n < 4096 → slice_index_or seen.new n false ≡ (slice_index_or seen.old n false || list_any (λ p. is_edge_member p n) ports.now) }
+{
+    for port in ports {
+        see_port(seen, port);
+    }
+}
+
+/// The VLANs of which these datapaths have edge ports.
+fn see_dps(dps: &[Dp]) -> [bool; 4096]
+    ensures { (n : ℕ) → n < 4096 → slice_index_or result n false ≡ list_any (λ d. has_edge_member d n) dps.now }
 {
     let mut seen = seen_once(None);
-    for port in ports {
-        see_port(&mut seen, port);
+    for dp in dps {
+        see_ports(&mut seen, dp.ports.as_slice());
     }
     seen
 }
@@ -40,13 +59,30 @@ impl<'a> Edges<'a> {
     pub(crate) fn of(dp: &'a Dp) -> Edges<'a>
         ensures { result.dp.now ≡ dp.now }
     {
-        let seen = see_ports(dp.ports.as_slice());
+        let mut seen = seen_once(None);
+        see_ports(&mut seen, dp.ports.as_slice());
         Edges { dp, seen }
     }
 
     /// Whether the datapath has an edge port of the VLAN.
     pub(crate) fn has(&self, vid: Vid) -> bool
         ensures { result ≡ has_edge_member self.now.dp.now vid }
+    {
+        self.seen[usize::from(vid.get())]
+    }
+}
+
+impl<'a> AllEdges<'a> {
+    pub(crate) fn of(conf: &'a Resolved) -> AllEdges<'a>
+        ensures { result.conf.now ≡ conf.now }
+    {
+        let seen = see_dps(conf.dps().as_slice());
+        AllEdges { conf, seen }
+    }
+
+    /// Whether some datapath has an edge port of the VLAN.
+    pub(crate) fn has(&self, vid: Vid) -> bool
+        ensures { result ≡ list_any (λ d. has_edge_member d vid) self.now.conf.now.dps }
     {
         self.seen[usize::from(vid.get())]
     }

@@ -2,6 +2,7 @@
 #![tactic(auto)]
 
 mod acl_names;
+mod acl_sizes;
 mod attached;
 mod dp_tables;
 mod edges;
@@ -13,7 +14,9 @@ mod met_vips;
 mod mirrored;
 mod names;
 mod numbered;
+mod numbered_ports;
 mod places;
+mod port_places;
 mod ports;
 mod routed;
 mod routing;

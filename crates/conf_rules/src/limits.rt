@@ -13,11 +13,12 @@ ghost use Rattle.conf_shape.specs.declared.refused.LimitName.TheVariants.{Routes
 ghost use Rattle.conf_rules.specs.Limits.{size_of, most_of, at_dp, at_dps, routes, many_mirrors, too_many_mirrors, is_attached_somewhere, many_rules_on_vlan, many_rules_on_port, too_many_rules, many_vips, many_router_vlans, too_many_router_vlans, part_limits, acl_limits, above, whole_vlans, gateways, routing_limits, passed_limits};
 ghost use Rattle.conf_rules.specs.Places.{first, fault_if, vlans_of, interfaces, interfaces_of};
 
+use crate::acl_names::AclNames;
+use crate::acl_sizes::{acl_entries, acl_outputs, rules_len};
+use crate::edges::AllEdges;
 use crate::mirrored::Mirrored;
 use crate::places::{Found, broken, dp_site, port_site, router_site, under};
-use crate::sizes::{
-    acl_entries, acl_outputs, all_gateways, all_route_items, members, routes, rules_len,
-};
+use crate::sizes::{all_gateways, all_route_items, members, routes};
 use conf_resolve::{OrderedConf, PlacedVlan, Resolved};
 use conf_shape::{ConfCause, ConfFault, LimitName, RawDp, RawPort, RawRouter};
 use conf_types::{Dp, Port, Router, Vlan, group_at};
@@ -61,37 +62,37 @@ fn specials(alloc: Global, dp: &Dp) -> Result<usize, NoMemory>
 
 /// Whether a datapath passes a limit on datapaths.
 #[tactic(auto, using(crate::proofs::Capped::above_rules))]
-fn is_above(alloc: Global, conf: &Resolved, limit: LimitName, dp: &Dp) -> Result<bool, NoMemory>
-    ensures { IfOk result (λ is_above. is_above ≡ nat_lt (most_of limit) (size_of conf.now limit dp.now)) }
+fn is_above(alloc: Global, acls: &AclNames, limit: LimitName, dp: &Dp) -> Result<bool, NoMemory>
+    ensures { IfOk result (λ is_above. is_above ≡ nat_lt (most_of limit) (size_of acls.now.conf.now limit dp.now)) }
 {
     match limit {
         LimitName::Ports => Ok(dp.ports.len() > 256),
         LimitName::Special => Ok(specials(alloc, dp)? > 16),
-        LimitName::AclEntries => Ok(acl_entries(conf, 20_001, dp) > 20_000),
-        LimitName::AclOutputs => Ok(acl_outputs(conf, 65_537, dp) > 65_536),
-        _ => Ok(members(conf, 8193, dp) > 8192),
+        LimitName::AclEntries => Ok(acl_entries(acls, 20_001, dp) > 20_000),
+        LimitName::AclOutputs => Ok(acl_outputs(alloc, acls, 65_537, dp)? > 65_536),
+        _ => Ok(members(acls.conf(), 8193, dp) > 8192),
     }
 }
 
-fn at_dp(alloc: Global, conf: &Resolved, limit: LimitName, raw_dp: &RawDp, dp: &Dp) -> Found
-    ensures { IfOk result (λ found. found ≡ first (at_dp conf.now limit (raw_dp.now, dp.now))) }
+fn at_dp(alloc: Global, acls: &AclNames, limit: LimitName, raw_dp: &RawDp, dp: &Dp) -> Found
+    ensures { IfOk result (λ found. found ≡ first (at_dp acls.now.conf.now limit (raw_dp.now, dp.now))) }
 {
-    if is_above(alloc, conf, limit, dp)? {
+    if is_above(alloc, acls, limit, dp)? {
         return broken(alloc, ConfCause::TooMany(limit), dp_site(alloc, raw_dp)?);
     }
     Ok(None)
 }
 
 #[tactic(auto, using(crate::proofs::First::zip_rules))]
-fn at_dps(alloc: Global, ordered: &OrderedConf, conf: &Resolved, limit: LimitName) -> Found
-    ensures { IfOk result (λ found. found ≡ first (at_dps ordered.now conf.now limit)) }
+fn at_dps(alloc: Global, ordered: &OrderedConf, acls: &AclNames, limit: LimitName) -> Found
+    ensures { IfOk result (λ found. found ≡ first (at_dps ordered.now acls.now.conf.now limit)) }
 {
-    let dps = conf.dps().as_slice();
+    let dps = acls.conf().dps().as_slice();
     for (i, raw_dp) in ordered.dps.as_slice().iter().enumerate() {
         let Some(dp) = dps.get(i) else {
             return Ok(None);
         };
-        if let Some(found) = at_dp(alloc, conf, limit, raw_dp, dp)? {
+        if let Some(found) = at_dp(alloc, acls, limit, raw_dp, dp)? {
             return Ok(Some(found));
         }
     }
@@ -150,44 +151,53 @@ fn too_many_mirrors(alloc: Global, ordered: &OrderedConf, conf: &Resolved) -> Fo
 }
 
 #[tactic(auto, using(crate::proofs::First::first_rules))]
-fn part_limits(alloc: Global, ordered: &OrderedConf, conf: &Resolved) -> Found
-    ensures { IfOk result (λ found. found ≡ first (part_limits ordered.now conf.now)) }
+fn part_limits(alloc: Global, ordered: &OrderedConf, acls: &AclNames) -> Found
+    ensures { IfOk result (λ found. found ≡ first (part_limits ordered.now acls.now.conf.now)) }
 {
-    if let Some(found) = whole(alloc, conf.dps().len() > 64, LimitName::Dps, "dps")? {
+    if let Some(found) = whole(alloc, acls.conf().dps().len() > 64, LimitName::Dps, "dps")? {
         return Ok(Some(found));
     }
-    if let Some(found) = at_dps(alloc, ordered, conf, LimitName::Ports)? {
+    if let Some(found) = at_dps(alloc, ordered, acls, LimitName::Ports)? {
         return Ok(Some(found));
     }
-    if let Some(found) = whole(alloc, conf.vlans().len() > 1024, LimitName::Vlans, "vlans")? {
+    if let Some(found) = whole(
+        alloc,
+        acls.conf().vlans().len() > 1024,
+        LimitName::Vlans,
+        "vlans",
+    )? {
         return Ok(Some(found));
     }
-    if let Some(found) = too_many_mirrors(alloc, ordered, conf)? {
+    if let Some(found) = too_many_mirrors(alloc, ordered, acls.conf())? {
         return Ok(Some(found));
     }
-    at_dps(alloc, ordered, conf, LimitName::Special)
+    at_dps(alloc, ordered, acls, LimitName::Special)
 }
 
-fn is_attached_somewhere(conf: &Resolved, vlan: &Vlan) -> bool
-    ensures { result ≡ is_attached_somewhere conf.now vlan.now }
+fn is_attached_somewhere(edges: &AllEdges, vlan: &Vlan) -> bool
+    ensures { result ≡ is_attached_somewhere edges.now.conf.now vlan.now }
 {
-    conf.dps()
-        .as_slice()
-        .iter()
-        .any(|dp| dp.has_edge_member(vlan.vid))
+    edges.has(vlan.vid)
 }
 
 #[tactic(auto, using(crate::proofs::Capped::above_rules))]
-fn are_many_rules(conf: &Resolved, names: &[Text]) -> bool
-    ensures { result ≡ nat_lt 1000 (length (rules_of conf.now names.now)) }
+fn are_many_rules(acls: &AclNames, names: &[Text]) -> bool
+    ensures { result ≡ nat_lt 1000 (length (rules_of acls.now.conf.now names.now)) }
 {
-    rules_len(conf, 1001, names) > 1000
+    rules_len(acls, 1001, names) > 1000
 }
 
-fn many_rules_on_vlan(alloc: Global, conf: &Resolved, placed: &PlacedVlan, vlan: &Vlan) -> Found
-    ensures { IfOk result (λ found. found ≡ first (many_rules_on_vlan conf.now (placed.now, vlan.now))) }
+fn many_rules_on_vlan(
+    alloc: Global,
+    acls: &AclNames,
+    edges: &AllEdges,
+    placed: &PlacedVlan,
+    vlan: &Vlan,
+) -> Found
+    requires { edges.now.conf.now ≡ acls.now.conf.now }
+    ensures { IfOk result (λ found. found ≡ first (many_rules_on_vlan acls.now.conf.now (placed.now, vlan.now))) }
 {
-    if are_many_rules(conf, vlan.acls.as_slice()) && is_attached_somewhere(conf, vlan) {
+    if are_many_rules(acls, vlan.acls.as_slice()) && is_attached_somewhere(edges, vlan) {
         let site = placed.site.copy(alloc)?;
         return broken(alloc, ConfCause::TooMany(LimitName::Rules), site);
     }
@@ -195,15 +205,16 @@ fn many_rules_on_vlan(alloc: Global, conf: &Resolved, placed: &PlacedVlan, vlan:
 }
 
 #[tactic(auto, using(crate::proofs::First::zip_rules))]
-fn many_rules_on_vlans(alloc: Global, ordered: &OrderedConf, conf: &Resolved) -> Found
-    ensures { IfOk result (λ found. found ≡ first (flat_map (many_rules_on_vlan conf.now) (vlans_of ordered.now conf.now))) }
+fn many_rules_on_vlans(alloc: Global, ordered: &OrderedConf, acls: &AclNames) -> Found
+    ensures { IfOk result (λ found. found ≡ first (flat_map (many_rules_on_vlan acls.now.conf.now) (vlans_of ordered.now acls.now.conf.now))) }
 {
-    let vlans = conf.vlans().as_slice();
+    let vlans = acls.conf().vlans().as_slice();
+    let edges = AllEdges::of(acls.conf());
     for (i, placed) in ordered.vlans.as_slice().iter().enumerate() {
         let Some(vlan) = vlans.get(i) else {
             return Ok(None);
         };
-        if let Some(found) = many_rules_on_vlan(alloc, conf, placed, vlan)? {
+        if let Some(found) = many_rules_on_vlan(alloc, acls, &edges, placed, vlan)? {
             return Ok(Some(found));
         }
     }
@@ -212,15 +223,15 @@ fn many_rules_on_vlans(alloc: Global, ordered: &OrderedConf, conf: &Resolved) ->
 
 fn many_rules_on_port(
     alloc: Global,
-    conf: &Resolved,
+    acls: &AclNames,
     raw_dp: &RawDp,
     dp: &Dp,
     raw: &RawPort,
     port: &Port,
 ) -> Found
-    ensures { IfOk result (λ found. found ≡ first (many_rules_on_port conf.now (record { raw_dp = raw_dp.now; dp = dp.now; raw = raw.now; port = port.now }))) }
+    ensures { IfOk result (λ found. found ≡ first (many_rules_on_port acls.now.conf.now (record { raw_dp = raw_dp.now; dp = dp.now; raw = raw.now; port = port.now }))) }
 {
-    if are_many_rules(conf, port.acls.as_slice()) {
+    if are_many_rules(acls, port.acls.as_slice()) {
         let site = port_site(alloc, raw_dp, raw)?;
         return broken(alloc, ConfCause::TooMany(LimitName::Rules), site);
     }
@@ -228,15 +239,15 @@ fn many_rules_on_port(
 }
 
 #[tactic(auto, using(crate::proofs::First::zip_rules))]
-fn many_rules_on_ports(alloc: Global, conf: &Resolved, raw_dp: &RawDp, dp: &Dp) -> Found
-    ensures { IfOk result (λ found. found ≡ first (flat_map (many_rules_on_port conf.now) (interfaces_of (raw_dp.now, dp.now)))) }
+fn many_rules_on_ports(alloc: Global, acls: &AclNames, raw_dp: &RawDp, dp: &Dp) -> Found
+    ensures { IfOk result (λ found. found ≡ first (flat_map (many_rules_on_port acls.now.conf.now) (interfaces_of (raw_dp.now, dp.now)))) }
 {
     let ports = dp.ports.as_slice();
     for (i, raw) in raw_dp.ports.as_slice().iter().enumerate() {
         let Some(port) = ports.get(i) else {
             return Ok(None);
         };
-        if let Some(found) = many_rules_on_port(alloc, conf, raw_dp, dp, raw, port)? {
+        if let Some(found) = many_rules_on_port(alloc, acls, raw_dp, dp, raw, port)? {
             return Ok(Some(found));
         }
     }
@@ -244,15 +255,15 @@ fn many_rules_on_ports(alloc: Global, conf: &Resolved, raw_dp: &RawDp, dp: &Dp) 
 }
 
 #[tactic(auto, using(crate::proofs::First::pair_rules))]
-fn many_rules_on_dps(alloc: Global, ordered: &OrderedConf, conf: &Resolved) -> Found
-    ensures { IfOk result (λ found. found ≡ first (flat_map (many_rules_on_port conf.now) (interfaces ordered.now conf.now))) }
+fn many_rules_on_dps(alloc: Global, ordered: &OrderedConf, acls: &AclNames) -> Found
+    ensures { IfOk result (λ found. found ≡ first (flat_map (many_rules_on_port acls.now.conf.now) (interfaces ordered.now acls.now.conf.now))) }
 {
-    let dps = conf.dps().as_slice();
+    let dps = acls.conf().dps().as_slice();
     for (i, raw_dp) in ordered.dps.as_slice().iter().enumerate() {
         let Some(dp) = dps.get(i) else {
             return Ok(None);
         };
-        if let Some(found) = many_rules_on_ports(alloc, conf, raw_dp, dp)? {
+        if let Some(found) = many_rules_on_ports(alloc, acls, raw_dp, dp)? {
             return Ok(Some(found));
         }
     }
@@ -260,29 +271,29 @@ fn many_rules_on_dps(alloc: Global, ordered: &OrderedConf, conf: &Resolved) -> F
 }
 
 #[tactic(auto, using(crate::proofs::First::first_rules))]
-fn too_many_rules(alloc: Global, ordered: &OrderedConf, conf: &Resolved) -> Found
-    ensures { IfOk result (λ found. found ≡ first (too_many_rules ordered.now conf.now)) }
+fn too_many_rules(alloc: Global, ordered: &OrderedConf, acls: &AclNames) -> Found
+    ensures { IfOk result (λ found. found ≡ first (too_many_rules ordered.now acls.now.conf.now)) }
 {
-    if let Some(found) = many_rules_on_vlans(alloc, ordered, conf)? {
+    if let Some(found) = many_rules_on_vlans(alloc, ordered, acls)? {
         return Ok(Some(found));
     }
-    many_rules_on_dps(alloc, ordered, conf)
+    many_rules_on_dps(alloc, ordered, acls)
 }
 
 #[tactic(auto, using(crate::proofs::First::first_rules))]
-fn acl_limits(alloc: Global, ordered: &OrderedConf, conf: &Resolved) -> Found
-    ensures { IfOk result (λ found. found ≡ first (acl_limits ordered.now conf.now)) }
+fn acl_limits(alloc: Global, ordered: &OrderedConf, acls: &AclNames) -> Found
+    ensures { IfOk result (λ found. found ≡ first (acl_limits ordered.now acls.now.conf.now)) }
 {
-    if let Some(found) = too_many_rules(alloc, ordered, conf)? {
+    if let Some(found) = too_many_rules(alloc, ordered, acls)? {
         return Ok(Some(found));
     }
-    if let Some(found) = at_dps(alloc, ordered, conf, LimitName::AclEntries)? {
+    if let Some(found) = at_dps(alloc, ordered, acls, LimitName::AclEntries)? {
         return Ok(Some(found));
     }
-    if let Some(found) = at_dps(alloc, ordered, conf, LimitName::AclOutputs)? {
+    if let Some(found) = at_dps(alloc, ordered, acls, LimitName::AclOutputs)? {
         return Ok(Some(found));
     }
-    at_dps(alloc, ordered, conf, LimitName::Members)
+    at_dps(alloc, ordered, acls, LimitName::Members)
 }
 
 fn many_vips(alloc: Global, placed: &PlacedVlan, vlan: &Vlan) -> Found
@@ -434,10 +445,11 @@ pub fn find_passed_limit(
     requires { EachBefore (λ d e. d.id.0 ≡ e.id.0 → ⊥) conf.now.dps }
     ensures { IfOk result (λ fault. fault ≡ first (passed_limits ordered.now conf.now)) }
 {
-    if let Some(found) = part_limits(alloc, ordered, conf)? {
+    let acls = AclNames::of(alloc, conf)?;
+    if let Some(found) = part_limits(alloc, ordered, &acls)? {
         return Ok(Some(found));
     }
-    if let Some(found) = acl_limits(alloc, ordered, conf)? {
+    if let Some(found) = acl_limits(alloc, ordered, &acls)? {
         return Ok(Some(found));
     }
     routing_limits(alloc, ordered, conf)

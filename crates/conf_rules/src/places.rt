@@ -1,7 +1,6 @@
 //! Places where a rule of a configuration is broken.
 
 ghost use Rattle.std.specs.Prelude.{◌≡◌, ◌++◌, ◌∷◌, [], IfOk, OnOk, Some, codes};
-ghost use Rattle.conf_types.specs.Lists.{is_same};
 ghost use Rattle.conf_shape.specs.Faults.{dotted, path_of};
 ghost use Rattle.conf_resolve.specs.InOrder.{dp_site, port_site, router_site};
 ghost use Rattle.conf_rules.specs.Places.{fault, under, nth, name_site};
@@ -12,12 +11,6 @@ use std::alloc::Global;
 
 /// The first place where a rule is broken; `None` where there is none.
 pub(crate) type Found = Result<Option<ConfFault>, NoMemory>;
-
-pub(crate) fn is_same(a: &Text, b: &Text) -> bool
-    ensures { result ≡ is_same a.now b.now }
-{
-    a.as_str() == b.as_str()
-}
 
 fn append_dotted(path: &mut Text, steps: &[Text]) -> Result<(), NoMemory>
     ensures { OnOk result (path.new ≡ path.old ++ dotted steps.now) }

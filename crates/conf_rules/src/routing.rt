@@ -14,7 +14,7 @@ use crate::met_routes::{MetRoutes, has_route_of, meet_route};
 use crate::met_vips::{MetVips, meet_vips, met_vips};
 use crate::numbered::Numbered;
 use crate::places::{Found, broken, nth, router_site, under};
-use crate::routed::routed_vids;
+use crate::routed::Joined;
 use crate::vids::{see_all, seen_once};
 use conf_resolve::{OrderedConf, PlacedVlan, Resolved};
 use conf_shape::{ConfCause, RawRouter};
@@ -81,23 +81,23 @@ fn vip_site(alloc: Global, placed: &PlacedVlan, at: usize) -> Result<Names, NoMe
 #[tactic(auto, using(crate::proofs::First::first_rules))]
 fn overlapping_of_vlan(
     alloc: Global,
-    conf: &Resolved,
+    joined: &Joined,
     placed: &PlacedVlan,
     met: &MetVips,
     earlier: &[Vlan],
     vlan: &Vlan,
 ) -> Found
     requires { HasVips met.now earlier.now }
-    ensures { IfOk result (λ found. found ≡ first (overlapping_of_vlan conf.now (placed.now, (earlier.now, vlan.now)))) }
+    ensures { IfOk result (λ found. found ≡ first (overlapping_of_vlan joined.now.conf.now (placed.now, (earlier.now, vlan.now)))) }
 {
     let vips = vlan.vips.as_slice();
     if vips.is_empty() {
         return Ok(None);
     }
-    let made = routed_vids(alloc, conf.routers().as_slice(), vlan.vid)?;
+    let made = joined.routed_vids(alloc, vlan.vid)?;
     let vids = made.as_slice();
     for (i, vip) in vips.iter().enumerate() {
-        if overlaps_earlier(conf, met, vids, earlier, vlan, &vips[..i], vip) {
+        if overlaps_earlier(joined.conf(), met, vids, earlier, vlan, &vips[..i], vip) {
             return broken(alloc, ConfCause::Conflict(12), vip_site(alloc, placed, i)?);
         }
     }
@@ -110,12 +110,13 @@ pub(crate) fn overlapping_vips(alloc: Global, ordered: &OrderedConf, conf: &Reso
     ensures { IfOk result (λ found. found ≡ first (overlapping_vips ordered.now conf.now)) }
 {
     let vlans = conf.vlans().as_slice();
+    let joined = Joined::of(alloc, conf)?;
     let mut met = HashMap::new(alloc);
     for (i, placed) in ordered.vlans.as_slice().iter().enumerate() {
         let Some(vlan) = vlans.get(i) else {
             return Ok(None);
         };
-        if let Some(found) = overlapping_of_vlan(alloc, conf, placed, &met, &vlans[..i], vlan)? {
+        if let Some(found) = overlapping_of_vlan(alloc, &joined, placed, &met, &vlans[..i], vlan)? {
             return Ok(Some(found));
         }
         meet_vips(alloc, &mut met, vlan.vid, vlan.vips.as_slice())?;
@@ -311,24 +312,24 @@ fn repeats_earlier(
 #[tactic(auto, using(crate::proofs::First::first_rules))]
 fn repeated_of_vlan(
     alloc: Global,
-    conf: &Resolved,
+    joined: &Joined,
     placed: &PlacedVlan,
     met: &mut MetRoutes,
     earlier: &[Vlan],
     vlan: &Vlan,
 ) -> Found
     requires { HasRoutes met.old (has_same_route earlier.now) }
-    ensures found { IfOk result (λ found. found ≡ first (repeated_of_vlan conf.now (placed.now, (earlier.now, vlan.now)))) }
+    ensures found { IfOk result (λ found. found ≡ first (repeated_of_vlan joined.now.conf.now (placed.now, (earlier.now, vlan.now)))) }
     ensures met { IfOk result (λ found. found ≡ None → HasRoutes met.new (has_same_route_so_far earlier.now vlan.now.vid vlan.now.routes)) }
 {
     let routes = vlan.routes.as_slice();
     if routes.is_empty() {
         return Ok(None);
     }
-    let made = routed_vids(alloc, conf.routers().as_slice(), vlan.vid)?;
+    let made = joined.routed_vids(alloc, vlan.vid)?;
     let vids = made.as_slice();
     for (i, route) in routes.iter().enumerate() {
-        if repeats_earlier(conf, met, vids, earlier, vlan, &routes[..i], route) {
+        if repeats_earlier(joined.conf(), met, vids, earlier, vlan, &routes[..i], route) {
             let site = route_site(alloc, placed, i, "ip_dst")?;
             return broken(alloc, ConfCause::Duplicate, site);
         }
@@ -343,12 +344,20 @@ pub(crate) fn repeated_routes(alloc: Global, ordered: &OrderedConf, conf: &Resol
     ensures { IfOk result (λ found. found ≡ first (repeated_routes ordered.now conf.now)) }
 {
     let vlans = conf.vlans().as_slice();
+    let joined = Joined::of(alloc, conf)?;
     let mut met = HashSet::new(alloc);
     for (i, placed) in ordered.vlans.as_slice().iter().enumerate() {
         let Some(vlan) = vlans.get(i) else {
             return Ok(None);
         };
-        if let Some(found) = repeated_of_vlan(alloc, conf, placed, &mut met, &vlans[..i], vlan)? {
+        if let Some(found) = repeated_of_vlan(
+            alloc,
+            &joined,
+            placed,
+            &mut met,
+            &vlans[..i],
+            vlan,
+        )? {
             return Ok(Some(found));
         }
     }

@@ -1,9 +1,9 @@
-//! Numbers and names that were seen so far, each found by one look.
+//! Numbers and names that were seen so far, each found by one look, and how many numbers differ.
 
-ghost use Rattle.std.specs.Prelude.{◌≡◌, ◌==◌, ◌||◌, ℕ, List, IfOk, OnOk};
+ghost use Rattle.std.specs.Prelude.{◌≡◌, ◌==◌, ◌||◌, ◌+◌, ℕ, List, IfOk, OnOk, if◌then◌else◌};
 ghost use Rattle.std.specs.Ordering.{nat_cmp};
-ghost use Rattle.std.specs.BTreeSet.{contains, contains_text};
-ghost use Rattle.conf_types.specs.Lists.{is_same};
+ghost use Rattle.std.specs.BTreeSet.{btree_set_len, contains, contains_text};
+ghost use Rattle.conf_types.specs.Lists.{different, is_same};
 
 use net_base::{NoMemory, Text};
 use std::alloc::Global;
@@ -13,6 +13,7 @@ use std::collections::BTreeSet;
 pub(crate) fn see_number(seen: &mut BTreeSet<u64>, number: u64) -> Result<bool, NoMemory>
     ensures was { IfOk result (λ was. was ≡ contains nat_cmp seen.old number) }
     ensures is { OnOk result ((n : ℕ) → contains nat_cmp seen.new n ≡ (contains nat_cmp seen.old n || number == n)) }
+    ensures len { IfOk result (λ was. btree_set_len seen.new ≡ btree_set_len seen.old + (if was then 0 else 1)) }
 {
     let was = seen.contains(&number);
     seen.insert(number)?;
@@ -31,4 +32,15 @@ pub(crate) fn see_name(
     let was = seen.contains(name.as_str());
     seen.insert(String::from_str(alloc, name.as_str())?)?;
     Ok(was)
+}
+
+/// How many different numbers these are.
+pub(crate) fn different_len(alloc: Global, numbers: &[u64]) -> Result<usize, NoMemory>
+    ensures { IfOk result (λ count. count ≡ different numbers.now) }
+{
+    let mut seen = BTreeSet::new(alloc);
+    for i in (0..numbers.len()).rev() {
+        see_number(&mut seen, numbers[i])?;
+    }
+    Ok(seen.len())
 }

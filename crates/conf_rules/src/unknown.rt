@@ -2,8 +2,6 @@
 
 ghost use Rattle.std.specs.Prelude.{◌≡◌, IfOk, codes, is_none, map, option_and_then};
 ghost use Rattle.std.specs.List.{flat_map};
-ghost use Rattle.std.specs.Option.{option_copied};
-ghost use Rattle.conf_types.specs.Attached.{acl_named};
 ghost use Rattle.conf_resolve.specs.InOrder.{port_site};
 ghost use Rattle.conf_resolve.specs.Resolved.{vid_of};
 ghost use Rattle.conf_shape.specs.declared.refused.ConfCause.TheVariants.{Duplicate};
@@ -11,11 +9,10 @@ ghost use Rattle.conf_rules.specs.Names.{unknown_vlan, native_at, tagged_at, unk
 ghost use Rattle.conf_rules.specs.Places.{first, fault_if, nth, under, each_at, one_at, list_at};
 
 use crate::acl_names::AclNames;
-use crate::places::{Found, broken, is_same, nth, port_site, router_site, under, under_port};
+use crate::places::{Found, broken, nth, port_site, router_site, under, under_port};
 use crate::vids::{see_some, seen_once};
 use conf_resolve::{OrderedConf, PlacedVlan, Resolved};
 use conf_shape::{ConfCause, RawDp, RawPort, RawRouter, VlanRef};
-use conf_types::Acl;
 use net_base::{NoMemory, Text, TryCopy, Vid};
 use std::alloc::Global;
 
@@ -177,12 +174,6 @@ pub(crate) fn vlans_twice(alloc: Global, ordered: &OrderedConf) -> Found
         }
     }
     Ok(None)
-}
-
-pub(crate) fn find_acl<'a>(acls: &'a [Acl], name: &Text) -> Option<&'a Acl>
-    ensures { option_copied result ≡ acl_named acls.now name.now }
-{
-    acls.iter().find(|acl| is_same(&acl.name, name))
 }
 
 fn unknown_one_of_vlan(alloc: Global, acls: &AclNames, placed: &PlacedVlan) -> Found

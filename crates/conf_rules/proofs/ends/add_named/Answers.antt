@@ -1,7 +1,7 @@
 use Rattle.std.proofs.Common.{Some, cond, string_bytes, ap, ◌∙◌}
 use Rattle.std.specs.BTreeMap.{get_by_text}
 use Rattle.conf_types.specs.Lists.{is_same}
-use Rattle.conf_rules.proofs.FirstEnds.{text_set}
+use Rattle.conf_rules.proofs.SetNames.{text_set}
 use Rattle.conf_rules.proofs.ends.add_named.Goals as goal
 
 pub returns : goal.returns

@@ -6,4 +6,4 @@ use Rattle.conf_rules.proofs.limits.at_dps.Given as goal
 
 -- none so far breaks the rule
 abbrev pub invariant-loop-i : goal.invariant-loop-i
-invariant-loop-i l = first (flat_map (at_dp l.conf l.limit) (zip (drop l.i l.ordered.dps) (drop l.i l.conf.dps))) ≡ first (flat_map (at_dp l.conf l.limit) (zip l.ordered.dps l.conf.dps))
+invariant-loop-i l = first (flat_map (at_dp l.acls.conf.now l.limit) (zip (drop l.i l.ordered.dps) (drop l.i l.acls.conf.now.dps))) ≡ first (flat_map (at_dp l.acls.conf.now l.limit) (zip l.ordered.dps l.acls.conf.now.dps))

@@ -6,4 +6,4 @@ use Rattle.conf_rules.proofs.limits.many_rules_on_vlans.Given as goal
 
 -- none so far breaks the rule
 abbrev pub invariant-loop-i : goal.invariant-loop-i
-invariant-loop-i l = first (flat_map (many_rules_on_vlan l.conf) (zip (drop l.i l.ordered.vlans) (drop l.i l.conf.vlans))) ≡ first (flat_map (many_rules_on_vlan l.conf) (zip l.ordered.vlans l.conf.vlans))
+invariant-loop-i l = first (flat_map (many_rules_on_vlan l.acls.conf.now) (zip (drop l.i l.ordered.vlans) (drop l.i l.acls.conf.now.vlans))) ≡ first (flat_map (many_rules_on_vlan l.acls.conf.now) (zip l.ordered.vlans l.acls.conf.now.vlans))
