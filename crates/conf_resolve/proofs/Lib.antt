@@ -2,5 +2,5 @@ pub mod Adding
 pub mod Found
 pub mod Naming
 pub mod Once
-pub mod Placing
+pub mod Sorting
 pub mod Unwritten

@@ -2,6 +2,7 @@
 
 ghost use Rattle.std.specs.Prelude.{◌≡◌, ◌++◌, map, nat_lt, IfOk, OnOk};
 ghost use Rattle.std.specs.List.{flat_map};
+ghost use Rattle.std.proofs.lemmas.List.Sorted.{IsStrictWeakOrder-by_number};
 ghost use Rattle.net_base.specs.FieldId.{number_of};
 ghost use Rattle.conf_resolve.specs.Resolved.{to_list, items_of, ports_of, rule_of, acl_of};
 
@@ -10,12 +11,15 @@ use conf_shape::{OneOrList, RawAcl, RawField, RawOutput, RawRule};
 use conf_types::{Acl, Acls, PortRef, PortRefs, Rule, Rules};
 use net_base::{Field, Fields, NoMemory, TryCopy};
 use std::alloc::Global;
+use std::cmp::Ordering;
 
 impl Ranked for Field {
     ghost before = { λ f g. nat_lt (number_of f.id) (number_of g.id) };
 
-    fn is_before(&self, other: &Field) -> bool {
-        self.id.number() < other.id.number()
+    ghost ranks = { IsStrictWeakOrder-by_number (λ f. number_of f.id) };
+
+    fn rank(&self, other: &Field) -> Ordering {
+        self.id.number().cmp(&other.id.number())
     }
 }
 
