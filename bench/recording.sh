@@ -11,7 +11,7 @@ size=${2:-200}
 work=$(mktemp -d)
 trap 'rm -rf "$work"' EXIT
 rt=$(command -v rt || echo /opt/rattle/bin/rt)
-libraries=(net_base fg_outside recording)
+libraries=(net_base fg_outside recording real_outside)
 
 # a repository with copies of the checkout's libraries, and of the proofs that it keeps, and the program
 mkdir -p "$work/crates/recording_bench/src"
@@ -19,18 +19,15 @@ for name in "${libraries[@]}"; do
   cp -a --reflink=auto "$top/crates/$name" "$work/crates/$name"
   grep "^$name:" "$top/crates.txt"
 done >"$work/crates.txt"
-echo "recording_bench: net_base fg_outside recording" >>"$work/crates.txt"
-cp "$top/crates/faucet/src/real_files.rt" "$work/crates/recording_bench/src/real_files.rt"
+echo "recording_bench: net_base fg_outside recording real_outside" >>"$work/crates.txt"
 
 cat >"$work/crates/recording_bench/src/main.rt" <<'PROGRAM'
 //! Takes all turns of a recording in a file, and prints how many happenings and heard bytes they gave.
 #![tactic(auto)]
 
-mod real_files;
-
 use fg_outside::{FileSource, Happening, Hub, Turn};
 use net_base::Text;
-use real_files::RealFiles;
+use real_outside::RealFiles;
 use recording::ScriptHub;
 use std::{env, io};
 

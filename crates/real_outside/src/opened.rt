@@ -1,5 +1,5 @@
 ghost use Rattle.std.specs.Prelude.{◌≤◌, ◌<◌, ◌≡◌, ◌+◌, ◌-◌, ◌^◌, ◌↔◌, true, min, length, Some, IfOk, IfSome};
-ghost use Rattle.faucet.specs.Opened.{name_of, file_of, place_of, WentOn};
+ghost use Rattle.real_outside.specs.Opened.{name_of, file_of, place_of, WentOn};
 
 use net_base::Text;
 use std::io::{self, Read, Seek, SeekFrom};

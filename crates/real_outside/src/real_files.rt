@@ -2,7 +2,7 @@ ghost use Rattle.std.specs.Prelude.{◌≤◌, ◌<◌, ◌≡◌, ◌≢◌, �
 ghost use Rattle.std.specs.IoError.{error_kind};
 ghost use Rattle.fg_outside.specs.Contents.{Tells, ReadsAt};
 ghost use Rattle.fg_outside.specs.Counts.{Rose, counted};
-ghost use Rattle.faucet.specs.Opened.{name_of, place_of, WentOn};
+ghost use Rattle.real_outside.specs.Opened.{last_of, name_of, place_of, WentOn};
 
 use crate::opened::OpenAt;
 use fg_outside::{Failed, Files};
@@ -73,11 +73,11 @@ impl<R: rt::Files + AllocGlobal> RealFiles<'_, R> {
     fn read_from(&mut self, name: &str, from: u64, buf: &mut [u8]) -> io::Result<usize>
         ensures count { IfOk result (λ n. n ≤ length buf.old) }
         ensures length { length buf.new ≡ length buf.old }
-        ensures name { IfOk result (λ n. IsSomeAnd self.new.last (λ opened. name_of opened ≡ name.now)) }
-        ensures place { IfOk result (λ n. IsSomeAnd self.new.last (λ opened. place_of opened ≡ min (from + n) (2 ^ 64 - 1))) }
-        ensures bytes { IfSome self.old.last (λ before. name_of before ≡ name.now → place_of before ≡ from
-            → IfOk result (λ n. IsSomeAnd self.new.last (λ after. WentOn R.File.remaining before after n buf.new))) }
-        ensures closed { OnErr result (self.new.last ≡ None) }
+        ensures name { IfOk result (λ n. IsSomeAnd (last_of self.new) (λ opened. name_of opened ≡ name.now)) }
+        ensures place { IfOk result (λ n. IsSomeAnd (last_of self.new) (λ opened. place_of opened ≡ min (from + n) (2 ^ 64 - 1))) }
+        ensures bytes { IfSome (last_of self.old) (λ before. name_of before ≡ name.now → place_of before ≡ from
+            → IfOk result (λ n. IsSomeAnd (last_of self.new) (λ after. WentOn R.File.remaining before after n buf.new))) }
+        ensures closed { OnErr result (last_of self.new ≡ None) }
         ensures faults { self.new.faults ≡ self.old.faults }
         ensures absences { self.new.absences ≡ self.old.absences }
     {
@@ -96,7 +96,7 @@ impl<R: rt::Files + AllocGlobal> RealFiles<'_, R> {
         ensures found { answer ≢ Ok None → self.new.absences ≡ self.old.absences }
         ensures faults { self.old.faults ≤ self.new.faults }
         ensures absences { self.old.absences ≤ self.new.absences }
-        ensures last { self.new.last ≡ self.old.last }
+        ensures last { last_of self.new ≡ last_of self.old }
     {
         match answer {
             Ok(Some(_)) => {}
@@ -130,10 +130,10 @@ impl<R: rt::Files + AllocGlobal> Files for RealFiles<'_, R> {
         ensures faults { self.old.faults ≤ self.new.faults }
         ensures absences { self.old.absences ≤ self.new.absences }
 
-        ensures name { IfOk result (λ got. OnSome got (IsSomeAnd self.new.last (λ opened. name_of opened ≡ name.now))) }
-        ensures place { IfOk result (λ got. IfSome got (λ n. IsSomeAnd self.new.last (λ opened. place_of opened ≡ from + n))) }
-        ensures bytes { IfSome self.old.last (λ before. name_of before ≡ name.now → place_of before ≡ from
-            → IfOk result (λ got. IfSome got (λ n. IsSomeAnd self.new.last
+        ensures name { IfOk result (λ got. OnSome got (IsSomeAnd (last_of self.new) (λ opened. name_of opened ≡ name.now))) }
+        ensures place { IfOk result (λ got. IfSome got (λ n. IsSomeAnd (last_of self.new) (λ opened. place_of opened ≡ from + n))) }
+        ensures bytes { IfSome (last_of self.old) (λ before. name_of before ≡ name.now → place_of before ≡ from
+            → IfOk result (λ got. IfSome got (λ n. IsSomeAnd (last_of self.new)
             (λ after. WentOn R.File.remaining before after n buf.new)))) }
     {
         let read = self.read_from(name, from, buf);
@@ -141,7 +141,7 @@ impl<R: rt::Files + AllocGlobal> Files for RealFiles<'_, R> {
     }
 
     fn refresh(&mut self)
-        ensures closed { self.new.last ≡ None }
+        ensures closed { last_of self.new ≡ None }
         ensures faults { self.new.faults ≡ self.old.faults }
         ensures absences { self.new.absences ≡ self.old.absences }
     {

@@ -1,6 +1,7 @@
 ghost use Rattle.std.specs.Prelude.{◌≡◌, ◌≤◌, ◌<◌, None, length, take, IfOk, OnOk, OnErr};
 ghost use Rattle.std.specs.Io.KnownBytes.{Appends};
 ghost use Rattle.fg_outside.specs.Counts.{Rose};
+ghost use Rattle.real_outside.specs.Opened.{writer_of};
 
 use fg_outside::{Failed, Sink};
 use std::io::Write;
@@ -15,7 +16,7 @@ pub struct Stream<W> {
 impl<W: Write> Stream<W> {
     /// No write has failed yet.
     pub fn new(writer: W) -> Stream<W>
-        ensures writer { result.writer ≡ writer }
+        ensures writer { writer_of result ≡ writer }
         ensures faults { ⟦<Stream<W> as Sink>⟧.faults result ≡ 0 }
     {
         Stream { writer, faults: 0 }
@@ -35,7 +36,7 @@ impl<W: Write> Sink for Stream<W> {
         ensures no_fault { OnOk result (self.new.faults ≡ self.old.faults) }
         ensures faults { self.old.faults ≤ self.new.faults }
 
-        ensures handed { IfOk result (λ n. Appends (W.contents self.old.writer) (W.contents self.new.writer) (take n piece.now)) }
+        ensures handed { IfOk result (λ n. Appends (W.contents (writer_of self.old)) (W.contents (writer_of self.new)) (take n piece.now)) }
     {
         match self.writer.write(piece) {
             Ok(n) if 0 < n || piece.is_empty() => Ok(n),

@@ -1,7 +1,9 @@
--- What callers see of a file that is open at a place.
+-- What callers see of a file that is open at a place, of real files and of a stream.
 use Rattle.std.specs.Prelude.{◌≡◌, ℕ, ◌<◌, List, length, take, Option}
 use Rattle.std.specs.Io.KnownBytes.{Consumes, IsAtEnd}
-use Rattle.faucet.specs.declared.opened.OpenAt.{OpenAt}
+use Rattle.real_outside.specs.declared.opened.OpenAt.{OpenAt}
+use Rattle.real_outside.specs.declared.real_files.RealFiles.{RealFiles}
+use Rattle.real_outside.specs.declared.stream.Stream.{Stream}
 
 -- its name, as UTF-8 bytes
 abbrev pub name_of : {F : Type 0} → OpenAt F → List ℕ
@@ -18,3 +20,11 @@ place_of opened = opened.at
 -- A read went on in the file: where the file tells which bytes it has left, it gave the next n of them, none only at the end.
 abbrev pub WentOn : {F : Type 0} → (F → Option (List ℕ)) → OpenAt F → OpenAt F → ℕ → List ℕ → Type 0
 WentOn remaining before after n buf = Consumes (remaining before.file) (remaining after.file) (take n buf) × (n ≡ 0 → 0 < length buf → IsAtEnd (remaining after.file))
+
+-- the file that was read last, where it is still open
+abbrev pub last_of : {A F B : Type 0} → RealFiles A F B → Option (OpenAt F)
+last_of files = files.last
+
+-- what a stream writes to
+abbrev pub writer_of : {W : Type 0} → Stream W → W
+writer_of stream = stream.writer
