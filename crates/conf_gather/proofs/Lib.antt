@@ -2,3 +2,4 @@ pub mod GatherLemmas
 pub mod JoinLemmas
 pub mod NameLemmas
 pub mod ReadLemmas
+pub mod SoundLemmas
