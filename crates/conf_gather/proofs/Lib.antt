@@ -2,4 +2,6 @@ pub mod GatherLemmas
 pub mod JoinLemmas
 pub mod NameLemmas
 pub mod ReadLemmas
-pub mod SoundLemmas
+mod KeepLemmas
+mod SoundLemmas
+mod IncludeKeys

@@ -29,15 +29,15 @@ use Rattle.conf_shape.specs.Reads.{entries_in, entries_of}
 use Rattle.conf_shape.specs.declared.refused.ConfCause.TheVariants.{WrongType, Duplicate}
 use Rattle.conf_shape.specs.declared.refused.ConfFault.{ConfFault}
 use Rattle.conf_gather.specs.declared.refused.LoadRefused.{LoadRefused}
-use Rattle.conf_gather.specs.declared.refused.LoadRefused.TheVariants.{IncludeTwice, IncludeDepth, Absent}
+use Rattle.conf_gather.specs.declared.refused.LoadRefused.TheVariants.{Absent}
 use Rattle.conf_gather.specs.declared.include.Include.{Include}
 use Rattle.conf_gather.specs.declared.take.Gathered.{Gathered}
-use Rattle.conf_gather.specs.Gives.{◌>>=◌}
-use Rattle.conf_gather.specs.Includes.{is_included, is_optional, is_include_key, includes_of}
+use Rattle.conf_gather.specs.Includes.{is_included, is_optional, is_include_key}
 use Rattle.conf_gather.specs.WrongTypes.{value_of, is_section, is_document, wrong_entries}
 use Rattle.conf_gather.specs.Joined.{first_in_both, gathered_under, given_again, all_given_again, extended, with_more, joined_entry, joined}
-use Rattle.conf_gather.specs.Gathered.{Held, Finds, held_by, tree_of, text_tree, fault_at, entries_fault, tree_fault, with_tree, unless_fault, taken, was_reached, each, with_includes, gather, nothing, main_file, tree_with, gathered}
+use Rattle.conf_gather.specs.Gathered.{Held, held_by, tree_of, text_tree, fault_at, gathered}
 use Rattle.conf_gather.proofs.ReadLemmas.{read_tree_of}
+use Rattle.conf_gather.proofs.KeepLemmas.{Takes, taken_parts, gathered_keeps}
 
 -- ---- keys
 
@@ -265,20 +265,9 @@ joined_within n first (p ∷ ps) before g w file same none =
 
 -- ---- files
 
-abbrev Files : Type 0
-Files = Result Gathered LoadRefused
-
 -- what was gathered so far is sound
-abbrev Sound : Gathered → Type 0
-Sound g = PairsWithin 31 [] g.pairs
-
-abbrev Keeps : Files → Type 0
-Keeps r = (g : Gathered) → r ≡ Ok g → Sound g
-
--- a file's tree that is taken
-no_fault : (fault : Option ConfFault) (more g : Gathered) → unless_fault fault more ≡ Ok g → (fault ≡ None) × (more ≡ g)
-no_fault None more g is = (refl, cc)
-no_fault (Some f) more g is = absurd cc
+abbrev Sound : List Pair → Type 0
+Sound pairs = PairsWithin 31 [] pairs
 
 at_no_fault : (path : Option (List ℕ)) → fault_at Duplicate path ≡ None → path ≡ None
 at_no_fault None is = refl
@@ -288,45 +277,12 @@ none_given : (document : Bool) (fault : Option ConfFault) (again : Option (List 
 none_given true fault again is = at_no_fault again (or_none fault (fault_at Duplicate again) is).1
 none_given false fault again is = absurd cc
 
-taken_sound : (i : Include) (g : Gathered) (t : Tree) → Sound g → IsWithin 32 t → Keeps (taken i g t)
+taken_sound : Takes Sound (IsWithin 32)
 taken_sound i g t w tree more is =
-    let takes = no_fault (tree_fault i.role g.pairs t) (with_tree i g t) more is in
+    let takes = taken_parts i g t more is in
     let none : all_given_again g.pairs (entries_of t) ≡ None =
     none_given (is_document t) (fault_at WrongType (wrong_entries (is_included i.role) g.pairs (entries_of t))) (all_given_again g.pairs (entries_of t)) takes.0 in
-    subst Sound takes.1 (joined_within 30 g.pairs (entries_of t) [] g.pairs w (entries_within 31 t tree) (same_itself g.pairs (entries_of t)) none)
-
-keeps_ok : (g : Gathered) → Sound g → Keeps (Ok g)
-keeps_ok g w more is = let same : g ≡ more = cc in subst Sound same w
-
-keeps_bind : (r : Files) (f : Gathered → Files) → Keeps r → ((g : Gathered) → Sound g → Keeps (f g)) → Keeps (r >>= f)
-keeps_bind (Ok g) f w h = h g (w g refl)
-keeps_bind (Err e) f w h = λ more is. absurd cc
-
-module _ (one : Include → Gathered → Files) (keeps : (i : Include) (g : Gathered) → Sound g → Keeps (one i g)) where
-  each_sound : (is : List Include) (g : Gathered) → Sound g → Keeps (each one is g)
-  unfolding each
-  each_sound [] g w = keeps_ok g w
-  each_sound (i ∷ is) g w = keeps_bind (one i g) (each one is) (keeps i g w) (each_sound is)
-
-  file_sound : (i : Include) (g : Gathered) (found : Result (Option Tree) LoadRefused) → Sound g → ((t : Tree) → found ≡ Ok (Some t) → IsWithin 32 t) → Keeps (found >>= with_includes one i g)
-  file_sound i g (Ok None) w tree = keeps_ok g w
-  file_sound i g (Ok (Some t)) w tree = keeps_bind (taken i g t) (each one (includes_of i.name (entries_of t))) (taken_sound i g t w (tree t refl)) (each_sound (includes_of i.name (entries_of t)))
-  file_sound i g (Err e) w tree = λ more is. absurd cc
-
--- each file that is found has a sound tree
-abbrev FindsSound : Finds → Type 0
-FindsSound finds = (i : Include) (t : Tree) → finds i ≡ Ok (Some t) → IsWithin 32 t
-
-keeps_unless : (b : Bool) (e : LoadRefused) (r : Files) → Keeps r → Keeps (if b then Err e else r)
-keeps_unless true e r w = λ more is. absurd cc
-keeps_unless false e r w = w
-
-gather_sound : (finds : Finds) → FindsSound finds → (n : ℕ) (i : Include) (g : Gathered) → Sound g → Keeps (gather finds n i g)
-unfolding gather
-gather_sound finds h zero i g w = keeps_unless (was_reached i.name g.reached) (IncludeTwice i.name) (Err (IncludeDepth i.name)) (λ more is. absurd cc)
-gather_sound finds h (suc n) i g w =
-    keeps_unless (was_reached i.name g.reached) (IncludeTwice i.name) (finds i >>= with_includes (gather finds n) i g)
-    (file_sound (gather finds n) (gather_sound finds h n) i g (finds i) w (h i))
+    subst (λ (x : Gathered). Sound x.pairs) takes.1 (joined_within 30 g.pairs (entries_of t) [] g.pairs w (entries_within 31 t tree) (same_itself g.pairs (entries_of t)) none)
 
 -- ---- the whole
 
@@ -342,12 +298,9 @@ found_sound : (i : Include) (held : Option (List ℕ)) (t : Tree) → tree_of i 
 found_sound i None t is = absurd (no_tree (is_optional i.role) i t is)
 found_sound i (Some text) t is = text_sound 32 text t (read_tree_of text t (text_found i.name text (read_of text) t refl is))
 
-whole_sound : (r : Files) (t : Tree) → Keeps r → (r >>= tree_with) ≡ Ok t → IsWithin 32 t
-whole_sound (Ok g) t w is = let same : trees.Map g.pairs ≡ t = cc in subst (IsWithin 32) same (map_within 31 g.pairs (w g refl))
-whole_sound (Err e) t w is = absurd cc
-
 -- a gathered tree is sound
 pub gathered_sound : (held : Held) (name : List ℕ) (t : Tree) → gathered held name ≡ Ok t → (is_sound t ≡ true) × (levels t ≤ 32)
 gathered_sound held name t is =
-    let w = whole_sound (gather (held_by held) 9 (main_file name) nothing) t (gather_sound (held_by held) (λ i u e. found_sound i (held i.name) u e) 9 (main_file name) nothing (no_pairs 31 [])) is in
+    let whole = gathered_keeps Sound (IsWithin 32) taken_sound (held_by held) (λ i u e. found_sound i (held i.name) u e) name t (no_pairs 31 []) is in
+    let w : IsWithin 32 t = subst (IsWithin 32) (sym whole.2) (map_within 31 whole.0 whole.1) in
     (w.sound, w.nested)
