@@ -5,3 +5,4 @@ pub mod ReadLemmas
 mod KeepLemmas
 mod SoundLemmas
 mod IncludeKeys
+mod OwnEntries

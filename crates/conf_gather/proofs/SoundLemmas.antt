@@ -51,11 +51,11 @@ or_neither : (b c d : Bool) → b || c ≡ false → (c ≡ false → d ≡ fals
 or_neither true c d e f = e
 or_neither false c d e f = f e
 
-or_first : (b c : Bool) → b || c ≡ false → b ≡ false
+pub or_first : (b c : Bool) → b || c ≡ false → b ≡ false
 or_first true c e = absurd cc
 or_first false c e = refl
 
-or_second : (b c : Bool) → b || c ≡ false → c ≡ false
+pub or_second : (b c : Bool) → b || c ≡ false → c ≡ false
 or_second true c e = absurd cc
 or_second false c e = e
 
@@ -80,7 +80,7 @@ found_step : (b : Bool) (v : Tree) (found : Option Tree) (has : Bool) → is_som
 found_step true v found has e = refl
 found_step false v found has e = e
 
-found_has : (k : Key) (ps : List Pair) → is_some (value_of k ps) ≡ has_key ps k
+pub found_has : (k : Key) (ps : List Pair) → is_some (value_of k ps) ≡ has_key ps k
 unfolding has_key
 found_has k [] = refl
 found_has k (p ∷ ps) = found_step (key_eq p.key k) p.value (value_of k ps) (has_key ps k) (found_has k ps)
@@ -91,13 +91,13 @@ none_some (Some v) e = absurd cc
 
 -- ---- sound entries
 
-record Parts (n : ℕ) (before : List Pair) (p : Pair) (ps : List Pair) : Type 0 where
+pub record Parts (n : ℕ) (before : List Pair) (p : Pair) (ps : List Pair) : Type 0 where
   pub key : is_key p.key ≡ true
   pub first : has_key before p.key ≡ false
   pub value : IsWithin n p.value
   pub more : PairsWithin n (before ++ p ∷ []) ps
 
-parts_of : (n : ℕ) (before : List Pair) (p : Pair) (ps : List Pair) → PairsWithin n before (p ∷ ps) → Parts n before p ps
+pub parts_of : (n : ℕ) (before : List Pair) (p : Pair) (ps : List Pair) → PairsWithin n before (p ∷ ps) → Parts n before p ps
 parts_of n before p ps w =
     let s = sound_entries (map key_at before) p ps w.sound in
     record {
@@ -110,7 +110,7 @@ parts_of n before p ps w =
       };
     }
 
-map_parts : (n : ℕ) (pairs : List Pair) → IsWithin (suc n) (trees.Map pairs) → PairsWithin n [] pairs
+pub map_parts : (n : ℕ) (pairs : List Pair) → IsWithin (suc n) (trees.Map pairs) → PairsWithin n [] pairs
 map_parts n pairs w = record { sound = sym (sound_map pairs) ∙ w.sound; nested = omega (arith, levels_map pairs, w.nested) }
 
 entries_in_within : (n : ℕ) (t : Tree) (x : Tree-F Tree Pair) → t ≡ roll-Tree x → IsWithin (suc n) t → PairsWithin n [] (entries_in x)

@@ -1,6 +1,6 @@
 //! Laws of the definitions alone, which say nothing of the code.
 
-ghost use Rattle.std.specs.Prelude.{◌≡◌, ◌≤◌, ℕ, List, true, false, Ok, Err};
+ghost use Rattle.std.specs.Prelude.{◌≡◌, ◌≤◌, ℕ, List, true, false, Some, Ok, Err};
 ghost use Rattle.std.specs.List.{AllByRecursion};
 ghost use Rattle.yaml_subset.specs.declared.tree.Tree.{Tree};
 ghost use Rattle.yaml_subset.specs.declared.tree.Tree.TheVariants as tree;
@@ -31,4 +31,10 @@ pub fn a_gathered_tree_is_sound()
 pub fn a_gathered_tree_has_no_include_key()
     ensures { (held : Held) (name : List ℕ) (t : Tree) → gathered held name ≡ Ok t
         → (pairs : List Pair) × (t ≡ tree.Map pairs) × AllByRecursion (λ p. is_include_key p.key ≡ false) pairs }
+{}
+
+/// A file that includes no other gives its own entries.
+pub fn a_file_without_includes_gives_its_own_entries()
+    ensures { (held : Held) (name text : List ℕ) (pairs : List Pair) → held name ≡ Some text → Reads text (tree.Map pairs)
+        → AllByRecursion (λ p. is_include_key p.key ≡ false) pairs → gathered held name ≡ Ok (tree.Map pairs) }
 {}
