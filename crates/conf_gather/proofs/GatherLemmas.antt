@@ -121,7 +121,7 @@ module _ (finds : Finds) (i : Include) (g : Gathered) where
   gather_none n is some none = gather_within n is some ∙ ap (λ (r : Trees). r >>= with_includes (gather finds (n - 1)) i g) none
 
   module _ (n : ℕ) (t : Tree) (is : Reached i g false) (some : 0 < n) (told : finds i ≡ Ok (Some t)) where
-    gather_tree : gather finds n i g ≡ (taken i g t >>= each (gather finds (n - 1)) (includes_of i.name (entries_of t)))
+    pub gather_tree : gather finds n i g ≡ (taken i g t >>= each (gather finds (n - 1)) (includes_of i.name (entries_of t)))
     gather_tree = gather_within n is some ∙ ap (λ (r : Trees). r >>= with_includes (gather finds (n - 1)) i g) told
 
     -- its tree is not taken

@@ -2,3 +2,7 @@ pub mod GatherLemmas
 pub mod JoinLemmas
 pub mod NameLemmas
 pub mod ReadLemmas
+mod KeepLemmas
+mod SoundLemmas
+mod IncludeKeys
+mod OwnEntries

@@ -67,8 +67,8 @@ impl<P: FaultPlan> Files for FilesInMemory<P> {
 
     ghost absences = { absences_of };
 
-    /// Fails exactly where the plan says so. The buffer stays as it was behind what was read, and
-    /// whole where nothing was.
+    /// Fails exactly where the plan says so. Reads as much as the buffer has room for, which stays as
+    /// it was behind what was read, and whole where nothing was.
     fn read_at(&mut self, name: &str, from: u64, buf: &mut [u8]) -> Result<Option<usize>, Failed>
         ensures contents { held_in self.new ≡ held_in self.old }
         ensures faults { P.faults (plan_of self.old) ≤ P.faults (plan_of self.new) }
@@ -89,6 +89,8 @@ impl<P: FaultPlan> Files for FilesInMemory<P> {
         ensures one_absence { IfOk result (λ got. IfNone got (absences_of self.new ≡ counted (absences_of self.old))) }
         ensures one_fault { OnErr result (P.faults (plan_of self.new) ≡ counted (P.faults (plan_of self.old))) }
 
+        ensures as_many { (file : List ℕ) → Tells (held_in self.old) name.now (Some file)
+            → IfOk result (λ got. got ≡ Some (min (length buf.old) (length file - from))) }
         ensures behind { IfOk result (λ got. IfSome got (λ n. drop n buf.new ≡ drop n buf.old)) }
         ensures no_file { IfOk result (λ got. IfNone got (buf.new ≡ buf.old)) }
         ensures unread { OnErr result (buf.new ≡ buf.old) }
@@ -140,6 +142,7 @@ fn read_piece(file: &[u8], from: u64, buf: &mut [u8]) -> usize
     ensures reads { ReadsAt file.now from buf.new result }
     ensures count { result ≤ length buf.old }
     ensures end { from + result ≤ 2 ^ 64 - 1 }
+    ensures as_many { result ≡ min (length buf.old) (length file.now - from) }
     ensures behind { drop result buf.new ≡ drop result buf.old }
 {
     let start = file.len().min(from as usize);
