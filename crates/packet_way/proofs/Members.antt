@@ -76,7 +76,7 @@ module _ (conf : Configuration) (valid : IsValid conf) (id : DpId) (d : Dp) (dp_
           rw (stack_has_no_native v.vid stack) refl)
 
       pub all_as_sent : All IsAsSent (leaving conf now d port v p)
-      all_as_sent = leaving_all R joins conf now d port v p (λ r c may. by_one r c) (λ b n is other. over_stack b n is)
+      all_as_sent = leaving_all R joins conf now d port v p (λ r c may reached. by_one r c) (λ b n is other. over_stack b n is)
 
       pub all_sent_as : (x : Packet) → as_sent q v.vid p ≡ x → All (λ s. s.port ≡ q.no → s.packet ≡ x) (leaving conf now d port v p)
       all_sent_as x is = subst (λ (y : Packet). All (λ s. s.port ≡ q.no → s.packet ≡ y) (leaving conf now d port v p)) is all_as_sent

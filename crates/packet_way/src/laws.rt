@@ -1,7 +1,7 @@
 //! What holds of the description, whatever a packet holds. The functions do nothing: their contracts
 //! are the laws.
 
-ghost use Rattle.std.specs.Prelude.{◌≡◌, ◌≢◌, ◌==◌, ◌&&◌, ◌||◌, ◌≤◌, ℕ, true, false, Some, None, List, [], All, count_by, IsPermutation, if◌then◌else◌};
+ghost use Rattle.std.specs.Prelude.{◌≡◌, ◌≢◌, ◌⊎◌, ◌==◌, ◌&&◌, ◌||◌, ◌≤◌, ℕ, true, false, Some, None, List, [], All, IsSomeAnd, count_by, IsPermutation, if◌then◌else◌};
 ghost use Rattle.net_base.specs.Address.{is_group};
 ghost use Rattle.net_base.specs.declared.numbers.DpId.{DpId};
 ghost use Rattle.of_match.specs.declared.action.TheConstants.{CONTROLLER};
@@ -40,6 +40,13 @@ pub fn a_port_that_takes_nothing_in_sends_nothing()
         → IsValid conf → port_at conf id port ≡ Some i → i.output_only ≡ true → sends conf now id port p ≡ [] }
     ensures mirror { (conf : Configuration) (now : State) (id : DpId) (port : ℕ) (i : Port) (p : Packet)
         → IsValid conf → port_at conf id port ≡ Some i → i.mirror ≢ [] → sends conf now id port p ≡ [] }
+{}
+
+/// What is sent leaves by enabled interfaces of the datapath, or goes to the controller.
+pub fn only_enabled_interfaces_send()
+    ensures { (conf : Configuration) (now : State) (id : DpId) (port : ℕ) (p : Packet)
+        → IsValid conf → IsValidState conf now
+        → All (λ s. (s.port ≡ CONTROLLER) ⊎ IsSomeAnd (port_at conf id s.port) (λ q. q.enabled ≡ true)) (sends conf now id port p) }
 {}
 
 /// A packet that the ACLs of its port deny goes where the rule sends it, as it came, and nowhere else.
