@@ -87,6 +87,14 @@ pub fn a_flood_goes_once_to_each_port_that_is_to_get_it()
         → gets_flood (stack_of conf ups) d port v p q ≡ false }
 {}
 
+/// A packet of a VLAN leaves by no edge port outside the VLAN, to a known destination and in a flood alike.
+pub fn a_packet_of_a_vlan_stays_in_the_vlan()
+    ensures { (conf : Configuration) (now : State) (id : DpId) (d : Dp) (v : Vlan) (port : ℕ) (p : Packet) (q : Port)
+        → IsValid conf → IsValidState conf now → dp_with conf.dps id ≡ Some d → port_with d.ports q.no ≡ Some q
+        → is_edge q ≡ true → is_edge_member q v.vid ≡ false
+        → All (λ s. s.port ≢ q.no) (leaving conf now d port v p) }
+{}
+
 /// As a known destination and in a flood alike, a native member of a VLAN gets the packet without its
 /// outermost tag, and a tagged one and the far end of a stack link get it with the tag.
 pub fn a_member_gets_the_packet_with_its_tag_unless_it_is_native()

@@ -1,7 +1,7 @@
-use Rattle.std.proofs.Common.{◌≡◌, ◌∙◌, ◌⊎◌, ℕ, ◌<◌, ◌==◌, ◌&&◌, ◌||◌, true, Option, Some, None, List, [], ◌∷◌, All, find, length, is_some, is_none, inl, inr, refl, sym, subst, arith, ap}
+use Rattle.std.proofs.Common.{◌≡◌, ◌∙◌, ◌⊎◌, ℕ, ◌<◌, ◌==◌, ◌&&◌, ◌||◌, true, Option, Some, None, List, [], ◌∷◌, All, length, is_some, is_none, inl, inr, refl, sym, subst, arith, ap}
 use Rattle.std.specs.Prelude.{Contains, IsSomeAnd}
 use Rattle.std.specs.Option.{option_and_then}
-use Rattle.std.proofs.lemmas.Bool.{and_parts, or_cases, eqb-true}
+use Rattle.std.proofs.lemmas.Bool.{and_parts, or_cases}
 use Rattle.std.proofs.lemmas.List.Elements.{All-nil, All-cons, All-append}
 use Rattle.net_base.specs.Address.{is_group}
 use Rattle.net_base.specs.declared.numbers.DpId.{DpId}
@@ -11,18 +11,18 @@ use Rattle.of_match.specs.declared.packet.Sent.{Sent}
 use Rattle.stack_paths.specs.Chosen.{is_tree_port}
 use Rattle.conf_types.specs.declared.datapath.Dp.{Dp}
 use Rattle.conf_types.specs.declared.datapath.Port.{Port}
-use Rattle.conf_types.specs.declared.state.HostRec.{HostRec}
 use Rattle.conf_types.specs.declared.vlan.Vlan.{Vlan}
 use Rattle.conf_types.specs.Configuration.{Configuration, dp_with, port_with, port_at}
-use Rattle.conf_types.specs.Membership.{is_edge, is_accepting, is_native_in, is_tagged_in, is_edge_member}
-use Rattle.conf_types.specs.State.{State, IsHost, IsValidState}
+use Rattle.conf_types.specs.Membership.{is_edge, is_native_in, is_tagged_in, is_edge_member}
+use Rattle.conf_types.specs.State.{State, IsValidState}
 use Rattle.conf_types.specs.Valid.{IsValid}
 use Rattle.packet_way.specs.Description.{from_port, sends}
 use Rattle.packet_way.specs.Flood.{is_flooded}
 use Rattle.packet_way.specs.Known.{stack_of}
 use Rattle.packet_way.specs.Leaving.{sent, to_controller}
 use Rattle.packet_way.proofs.Ends.{IsEnd, hop_end, tree_end}
-use Rattle.packet_way.proofs.Ports.{of_all, finds, within, datapath, at_port}
+use Rattle.packet_way.proofs.Members.{host_is_member}
+use Rattle.packet_way.proofs.Ports.{finds, within, datapath, at_port}
 use Rattle.packet_way.proofs.Sites.{Joins, Sites, IsReached, from_port_all}
 use Rattle.packet_way.proofs.Taking.{sends_nothing, sends_at}
 use Rattle.packet_way.proofs.laws.only_enabled_interfaces_send.Goals as goal
@@ -66,14 +66,6 @@ module _ (conf : Configuration) (now : State) (valid : IsValid conf) (state : Is
       by_one n end.port x (sym (ap (λ (o : Option Dp). option_and_then (λ (e : Dp). port_with e.ports n) o) dp_found) ∙ end.here)
       (and_parts end.port.enabled (is_some end.port.stack) end.is).0
 
-  -- a host stands at an edge port
-  host_on : (h : HostRec) (q : Port) → Contains now.hosts h → (h.dp.0 == d.id.0) ≡ true → port_with d.ports h.port ≡ Some q → q.enabled ≡ true
-  host_on h q c here is =
-      let dp_here : dp_with conf.dps h.dp ≡ Some d = subst (λ n. find (λ (e : Dp). e.id.0 == n) conf.dps ≡ Some d) (sym (eqb-true h.dp.0 d.id.0 here)) dp_found in
-      let port_here : port_at conf h.dp h.port ≡ Some q = ap (λ (o : Option Dp). option_and_then (λ (e : Dp). port_with e.ports h.port) o) dp_here ∙ is in
-      let place : (is_accepting q && is_edge_member q h.vid) ≡ true = subst (λ (o : Option Port). IsSomeAnd o (λ r. (is_accepting r && is_edge_member r h.vid) ≡ true)) port_here (of_all (IsHost conf now) now.hosts h state.hosts c).place in
-      member_on q h.vid (and_parts (is_accepting q) (is_edge_member q h.vid) place).1
-
   by_flood : (v : Vlan) (y : Packet) (q : Port) (x : Packet) → Contains d.ports q → is_flooded (stack_of conf now.ups) d v y q ≡ true → All (Leaves conf id) (sent q.no x ∷ [])
   by_flood v y q x c is =
       elim (or_cases (is_edge_member q v.vid && (is_group y.dst || q.unicast_flood)) (is_tree_port (stack_of conf now.ups) d.id q.no) is) [
@@ -81,15 +73,15 @@ module _ (conf : Configuration) (now : State) (valid : IsValid conf) (state : Is
         | inr tree ↦ by_end q.no x (tree_end conf valid now.ups d.id q.no tree)
       ]
 
-  by_reached : (q : Port) (x : Packet) → Contains d.ports q → IsReached R joins conf now d i.no q → All (Leaves conf id) (sent q.no x ∷ [])
-  by_reached q x c (inl flood) = by_flood flood.0 flood.1 q x c flood.2
-  by_reached q x c (inr host) = by_one q.no q x (own q c) (host_on host.0 q host.1 host.2 host.3)
+  by_reached : (v : Vlan) (q : Port) (x : Packet) → Contains d.ports q → IsReached R joins conf now d i.no v q → All (Leaves conf id) (sent q.no x ∷ [])
+  by_reached v q x c (inl flood) = by_flood v flood.0 q x c flood.1
+  by_reached v q x c (inr host) = by_one q.no q x (own q c) (member_on q host.0.vid (host_is_member conf valid id d dp_is now state host.0 q host.1 host.2 host.4))
 
   each : Sites R joins conf now d i.no
   each = record {
     target = λ q x c on other. by_one q.no q x (own q c) on;
     mirror = λ m n x c on is. by_one m.no m x (own m c) on;
-    out = λ q x c may reached. by_reached q x c reached;
+    out = λ v q x c may reached. by_reached v q x c reached;
     hop = λ b n x is other. by_end n x (hop_end conf valid now.ups d.id b n is);
   }
 
