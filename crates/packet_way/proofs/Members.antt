@@ -1,8 +1,8 @@
 -- What an interface that mirrors none gets of a packet that leaves.
-use Rattle.std.proofs.Common.{◌≡◌, ◌∙◌, ℕ, ◌==◌, true, false, Option, Some, None, List, [], ◌∷◌, All, refl, sym, ap, subst}
-use Rattle.std.specs.Prelude.{Contains}
+use Rattle.std.proofs.Common.{◌≡◌, ◌∙◌, ℕ, ◌==◌, ◌&&◌, true, false, Option, Some, None, List, [], ◌∷◌, All, find, refl, sym, ap, subst}
+use Rattle.std.specs.Prelude.{Contains, IsSomeAnd}
 use Rattle.std.specs.Option.{option_and_then, option_map_or}
-use Rattle.std.proofs.lemmas.Bool.{both_ways, and_parts}
+use Rattle.std.proofs.lemmas.Bool.{both_ways, and_parts, eqb-true}
 use Rattle.std.proofs.lemmas.List.Elements.{All-nil, All-cons, All-append}
 use Rattle.std.proofs.lemmas.Option.{same_Some}
 use Rattle.stack_paths.specs.Chosen.{hop_of}
@@ -11,17 +11,18 @@ use Rattle.of_match.specs.declared.packet.Packet.{Packet}
 use Rattle.of_match.specs.declared.packet.Sent.{Sent}
 use Rattle.conf_types.specs.declared.datapath.Dp.{Dp}
 use Rattle.conf_types.specs.declared.datapath.Port.{Port}
+use Rattle.conf_types.specs.declared.state.HostRec.{HostRec}
 use Rattle.conf_types.specs.declared.vlan.Vlan.{Vlan}
-use Rattle.conf_types.specs.Configuration.{Configuration, dp_with, port_with}
+use Rattle.conf_types.specs.Configuration.{Configuration, dp_with, port_with, port_at}
 use Rattle.conf_types.specs.Lists.{is_among}
-use Rattle.conf_types.specs.Membership.{is_stack, is_native_in, is_mirror_of}
-use Rattle.conf_types.specs.State.{State}
+use Rattle.conf_types.specs.Membership.{is_stack, is_accepting, is_native_in, is_edge_member, is_mirror_of}
+use Rattle.conf_types.specs.State.{State, IsHost, IsValidState}
 use Rattle.conf_types.specs.Valid.{IsValid}
 use Rattle.packet_way.specs.Description.{leaving}
 use Rattle.packet_way.specs.Known.{stack_of}
 use Rattle.packet_way.specs.Leaving.{sent, as_sent, delivered}
 use Rattle.packet_way.proofs.Ends.{IsEnd, hop_end}
-use Rattle.packet_way.proofs.Ports.{found, finds, within, only_port, stack_port}
+use Rattle.packet_way.proofs.Ports.{of_all, found, finds, within, only_port, stack_port}
 use Rattle.packet_way.proofs.Sites.{Joins, by_port, leaving_all}
 
 module _ (conf : Configuration) (valid : IsValid conf) (id : DpId) (d : Dp) (dp_is : dp_with conf.dps id ≡ Some d) where
@@ -31,6 +32,15 @@ module _ (conf : Configuration) (valid : IsValid conf) (id : DpId) (d : Dp) (dp_
       let in_dps = finds (λ (e : Dp). e.id.0) (λ a b. a.id.0 ≡ b.id.0 → ⊥) (λ a b h. h) conf.dps d valid.datapaths.ids (within conf valid id d dp_is) in
       let same = same_Some q end.port (sym here ∙ sym (ap (λ (o : Option Dp). option_and_then (λ (e : Dp). port_with e.ports n) o) in_dps) ∙ end.here) in
       subst (λ (r : Port). is_stack r ≡ true) (sym same) end.is
+
+  -- a host stands at an edge port of its VLAN
+  pub host_is_member : (now : State) → IsValidState conf now → (h : HostRec) (q : Port) → Contains now.hosts h → (h.dp.0 == d.id.0) ≡ true → port_with d.ports h.port ≡ Some q → is_edge_member q h.vid ≡ true
+  host_is_member now state h q c here is =
+      let dp_found : dp_with conf.dps d.id ≡ Some d = finds (λ (e : Dp). e.id.0) (λ a b. a.id.0 ≡ b.id.0 → ⊥) (λ a b h. h) conf.dps d valid.datapaths.ids (within conf valid id d dp_is) in
+      let dp_here : dp_with conf.dps h.dp ≡ Some d = subst (λ n. find (λ (e : Dp). e.id.0 == n) conf.dps ≡ Some d) (sym (eqb-true h.dp.0 d.id.0 here)) dp_found in
+      let port_here : port_at conf h.dp h.port ≡ Some q = ap (λ (o : Option Dp). option_and_then (λ (e : Dp). port_with e.ports h.port) o) dp_here ∙ is in
+      let place : (is_accepting q && is_edge_member q h.vid) ≡ true = subst (λ (o : Option Port). IsSomeAnd o (λ r. (is_accepting r && is_edge_member r h.vid) ≡ true)) port_here (of_all (IsHost conf now) now.hosts h state.hosts c).place in
+      (and_parts (is_accepting q) (is_edge_member q h.vid) place).1
 
   module _ (q : Port) (here : port_with d.ports q.no ≡ Some q) where
     pub in_ports : Contains d.ports q
@@ -76,7 +86,7 @@ module _ (conf : Configuration) (valid : IsValid conf) (id : DpId) (d : Dp) (dp_
           rw (stack_has_no_native v.vid stack) refl)
 
       pub all_as_sent : All IsAsSent (leaving conf now d port v p)
-      all_as_sent = leaving_all R joins conf now d port v p (λ r c may. by_one r c) (λ b n is other. over_stack b n is)
+      all_as_sent = leaving_all R joins conf now d port v p (λ r c may reached. by_one r c) (λ b n is other. over_stack b n is)
 
       pub all_sent_as : (x : Packet) → as_sent q v.vid p ≡ x → All (λ s. s.port ≡ q.no → s.packet ≡ x) (leaving conf now d port v p)
       all_sent_as x is = subst (λ (y : Packet). All (λ s. s.port ≡ q.no → s.packet ≡ y) (leaving conf now d port v p)) is all_as_sent

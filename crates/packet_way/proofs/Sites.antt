@@ -1,6 +1,6 @@
 -- All that a datapath sends, place by place: what holds of each send holds of all of them together.
 -- `R n` says it of a list, and n bounds what the copies for the controller add.
-use Rattle.std.proofs.Common.{◌≡◌, ℕ, ◌+◌, ◌≤◌, ◌==◌, ◌&&◌, ◌||◌, Bool, true, false, not, cond, Option, Some, None, List, [], ◌∷◌, ◌++◌, length, filter, count_by, refl, subst, arith}
+use Rattle.std.proofs.Common.{◌≡◌, ◌⊎◌, ℕ, ◌+◌, ◌≤◌, ◌==◌, ◌&&◌, ◌||◌, Bool, true, false, not, cond, Option, Some, None, List, [], ◌∷◌, ◌++◌, length, filter, count_by, refl, inl, inr, subst, arith}
 use Rattle.std.specs.Prelude.{Contains}
 use Rattle.std.specs.List.{flat_map}
 use Rattle.std.specs.Option.{option_map_or, option_and_then}
@@ -21,8 +21,9 @@ use Rattle.conf_types.specs.declared.state.HostRec.{HostRec}
 use Rattle.conf_types.specs.declared.vlan.Vlan.{Vlan}
 use Rattle.conf_types.specs.Configuration.{Configuration, port_with, vlan_with}
 use Rattle.conf_types.specs.Groups.{group_of}
+use Rattle.conf_types.specs.Lists.{is_same}
 use Rattle.conf_types.specs.Membership.{is_stack, is_accepting, is_mirror_of, mirrors_of}
-use Rattle.conf_types.specs.State.{State}
+use Rattle.conf_types.specs.State.{State, is_host_in}
 use Rattle.packet_way.specs.declared.known.Onward.TheVariants.{ByPort, OverStack, Everywhere}
 use Rattle.packet_way.specs.declared.source.Heard.{Heard}
 use Rattle.packet_way.specs.declared.source.Heard.TheVariants as heard_case
@@ -90,6 +91,10 @@ module _ (R : ℕ → List Sent → Type 0) where
       abbrev pub may_leave : Port → Bool
       may_leave q = not (q.no == port) || q.hairpin
 
+      -- by an interface that gets floods of the VLAN, or where a host of it stands
+      abbrev pub IsReached : Vlan → Port → Type 0
+      IsReached v q = ((x : Packet) × (is_flooded stack d v x q ≡ true)) ⊎ ((h : HostRec) × Contains now.hosts h × ((h.dp.0 == d.id.0) ≡ true) × ((h.vid == v.vid) ≡ true) × (port_with d.ports h.port ≡ Some q))
+
       -- by an interface and by those that mirror it
       pub by_port : (vid : ℕ) (x : Packet) (q : Port) → R 0 (sent q.no (as_sent q vid x) ∷ [])
           → ((m : Port) → Contains d.ports m → (m.enabled && is_mirror_of m q.no) ≡ true → R 0 (sent m.no (as_sent q vid x) ∷ []))
@@ -97,16 +102,16 @@ module _ (R : ℕ → List Sent → Type 0) where
       by_port vid x q here mirror = with_none 0 (sent q.no (as_sent q vid x) ∷ []) (copies (mirrors_of d q.no) (as_sent q vid x)) here (copied (λ m. m.enabled && is_mirror_of m q.no) (as_sent q vid x) d.ports mirror)
 
       module _ (v : Vlan) (x : Packet)
-          (out : (q : Port) → Contains d.ports q → may_leave q ≡ true → R 0 (delivered d v.vid x q))
+          (out : (q : Port) → Contains d.ports q → may_leave q ≡ true → IsReached v q → R 0 (delivered d v.vid x q))
           (hop : (b : DpId) (n : ℕ) → hop_of stack d.id b ≡ Some n → (n == port) ≡ false → R 0 (sent n x ∷ [])) where
-        to_port_all : (q : Port) → Contains d.ports q → R 0 (to_port d port v.vid x q)
-        to_port_all q c =
+        to_port_all : (q : Port) → Contains d.ports q → IsReached v q → R 0 (to_port d port v.vid x q)
+        to_port_all q c reached =
             elim (q.no == port) as (λ b. (q.no == port) ≡ b → R 0 (cond (b && not q.hairpin) [] (delivered d v.vid x q))) [
               | true ↦ λ same. elim q.hairpin as (λ b. q.hairpin ≡ b → R 0 (cond (true && not b) [] (delivered d v.vid x q))) [
-                | true ↦ λ back. out q c (rw same back)
+                | true ↦ λ back. out q c (rw same back) reached
                 | false ↦ λ fails. j.nil
               ] refl
-              | false ↦ λ other. out q c (rw other refl)
+              | false ↦ λ other. out q c (rw other refl) reached
             ] refl
 
         to_hop_all : (b : DpId) (n : ℕ) → hop_of stack d.id b ≡ Some n → R 0 (to_hop port x n)
@@ -115,26 +120,29 @@ module _ (R : ℕ → List Sent → Type 0) where
         flooded_all : R 0 (flooded stack d port v x)
         unfolding flooded
         flooded_all = if_true 0 (is_group x.dst || v.unicast_flood) (flat_map (delivered d v.vid x) (filter (gets_flood stack d port v x) d.ports)) []
-            (λ passes. joined (gets_flood stack d port v x) (delivered d v.vid x) d.ports (λ q c gets. out q c (and_parts (is_flooded stack d v x q) (may_leave q) gets).1))
+            (λ passes. joined (gets_flood stack d port v x) (delivered d v.vid x) d.ports (λ q c gets. let both = and_parts (is_flooded stack d v x q) (may_leave q) gets in out q c both.1 (inl (x, both.0))))
             (λ fails. j.nil)
 
-        to_host_all : (h : HostRec) → R 0 (sent_onward stack d port v x (onward_to stack d h))
-        to_host_all h =
-            elim (h.dp.0 == d.id.0) as (λ b. R 0 (sent_onward stack d port v x (cond b (ByPort h.port) (option_map_or OverStack (hop_of stack d.id h.dp) Everywhere)))) [
-              | true ↦ if_some 0 (to_port d port v.vid x) (port_with d.ports h.port) (λ q is. to_port_all q (found (λ (p : Port). p.no == h.port) d.ports q is).0)
-              | false ↦ elim (hop_of stack d.id h.dp) as (λ o. hop_of stack d.id h.dp ≡ o → R 0 (sent_onward stack d port v x (option_map_or OverStack o Everywhere))) [
+        to_host_all : (h : HostRec) → Contains now.hosts h → (h.vid == v.vid) ≡ true → R 0 (sent_onward stack d port v x (onward_to stack d h))
+        to_host_all h c of_vlan =
+            elim (h.dp.0 == d.id.0) as (λ b. (h.dp.0 == d.id.0) ≡ b → R 0 (sent_onward stack d port v x (cond b (ByPort h.port) (option_map_or OverStack (hop_of stack d.id h.dp) Everywhere)))) [
+              | true ↦ λ here. if_some 0 (to_port d port v.vid x) (port_with d.ports h.port) (λ q is. to_port_all q (found (λ (p : Port). p.no == h.port) d.ports q is).0 (inr (h, c, here, of_vlan, is)))
+              | false ↦ λ there. elim (hop_of stack d.id h.dp) as (λ o. hop_of stack d.id h.dp ≡ o → R 0 (sent_onward stack d port v x (option_map_or OverStack o Everywhere))) [
                 | None ↦ λ fails. flooded_all
                 | Some n ↦ λ is. to_hop_all h.dp n is
               ] refl
-            ]
+            ] refl
 
         pub leaving_all : R 0 (leaving conf now d port v x)
         unfolding leaving onward
         leaving_all =
-            elim (host_with conf now.hosts d v.vid x.dst) as (λ o. R 0 (sent_onward stack d port v x (option_map_or (onward_to stack d) o Everywhere))) [
-              | None ↦ flooded_all
-              | Some h ↦ to_host_all h
-            ]
+            elim (host_with conf now.hosts d v.vid x.dst) as (λ o. host_with conf now.hosts d v.vid x.dst ≡ o → R 0 (sent_onward stack d port v x (option_map_or (onward_to stack d) o Everywhere))) [
+              | None ↦ λ none. flooded_all
+              | Some h ↦ λ is.
+                  let f = found (λ (g : HostRec). is_host_in conf (group_of conf d.id) v.vid g && is_same g.mac.0 x.dst.0) now.hosts h is in
+                  let in_vlan = (and_parts (is_host_in conf (group_of conf d.id) v.vid h) (is_same h.mac.0 x.dst.0) f.1).0 in
+                  to_host_all h f.0 (and_parts ((group_of conf h.dp).0 == (group_of conf d.id).0) (h.vid == v.vid) in_vlan).1
+            ] refl
 
       -- ---- the steps before
 
@@ -142,7 +150,7 @@ module _ (R : ℕ → List Sent → Type 0) where
       pub record Sites : Type 0 where
         pub target : (q : Port) (x : Packet) → Contains d.ports q → q.enabled ≡ true → (q.no == port) ≡ false → R 0 (sent q.no x ∷ [])
         pub mirror : (m : Port) (n : ℕ) (x : Packet) → Contains d.ports m → m.enabled ≡ true → is_mirror_of m n ≡ true → R 0 (sent m.no x ∷ [])
-        pub out : (q : Port) (x : Packet) → Contains d.ports q → may_leave q ≡ true → R 0 (sent q.no x ∷ [])
+        pub out : (v : Vlan) (q : Port) (x : Packet) → Contains d.ports q → may_leave q ≡ true → IsReached v q → R 0 (sent q.no x ∷ [])
         pub hop : (b : DpId) (n : ℕ) (x : Packet) → hop_of stack d.id b ≡ Some n → (n == port) ≡ false → R 0 (sent n x ∷ [])
 
       module _ (s : Sites) (p : Packet) (learned by_vip : ℕ)
@@ -151,8 +159,8 @@ module _ (R : ℕ → List Sent → Type 0) where
         mirrors_all : (n : ℕ) (x : Packet) → R 0 (copies (mirrors_of d n) x)
         mirrors_all n x = copied (λ m. m.enabled && is_mirror_of m n) x d.ports (λ m c e. let both = and_parts m.enabled (is_mirror_of m n) e in s.mirror m n x c both.0 both.1)
 
-        delivered_all : (vid : ℕ) (x : Packet) (q : Port) → Contains d.ports q → may_leave q ≡ true → R 0 (delivered d vid x q)
-        delivered_all vid x q c e = by_port vid x q (s.out q (as_sent q vid x) c e) (λ m c' e'. let both = and_parts m.enabled (is_mirror_of m q.no) e' in s.mirror m q.no (as_sent q vid x) c' both.0 both.1)
+        delivered_all : (v : Vlan) (x : Packet) (q : Port) → Contains d.ports q → may_leave q ≡ true → IsReached v q → R 0 (delivered d v.vid x q)
+        delivered_all v x q c e reached = by_port v.vid x q (s.out v q (as_sent q v.vid x) c e reached) (λ m c' e'. let both = and_parts m.enabled (is_mirror_of m q.no) e' in s.mirror m q.no (as_sent q v.vid x) c' both.0 both.1)
 
         acl_all : (acls : List (List ℕ)) (x : Packet) → R 0 (acl_sends conf d acls port x)
         acl_all acls x =
@@ -162,7 +170,7 @@ module _ (R : ℕ → List Sent → Type 0) where
             s.target q x c (and_parts q.enabled (names_port rule q) both.0).0 (not-true (q.no == port) both.1)))
 
         leaving_in_all : (vid : ℕ) (x : Packet) → R 0 (leaving_in conf now d port vid x)
-        leaving_in_all vid x = if_some 0 (λ v. leaving conf now d port v x) (vlan_with conf.vlans vid) (λ v is. leaving_all v x (delivered_all v.vid x) (λ b n. s.hop b n x))
+        leaving_in_all vid x = if_some 0 (λ v. leaving conf now d port v x) (vlan_with conf.vlans vid) (λ v is. leaving_all v x (delivered_all v x) (λ b n. s.hop b n x))
 
         behind_routing_all : (x : Packet) (r : Routed) → R by_vip (to_controller x) → R by_vip (behind_routing conf now d port x r)
         behind_routing_all x (GoesOn vid q) h = j.more 0 by_vip (leaving_in conf now d port vid q) (omega arith) (leaving_in_all vid q)

@@ -36,6 +36,13 @@ station n = record { 0 = 2 ∷ 0 ∷ 0 ∷ 0 ∷ 0 ∷ n ∷ [] }
 abbrev pub broadcast : Mac
 broadcast = record { 0 = 255 ∷ 255 ∷ 255 ∷ 255 ∷ 255 ∷ 255 ∷ [] }
 
+-- where bridges speak: 01:80:c2:00:00:00, and Cisco's 01:00:0c:cc:cc:cd
+abbrev pub bridges : Mac
+bridges = record { 0 = 1 ∷ 0x80 ∷ 0xc2 ∷ 0 ∷ 0 ∷ 0 ∷ [] }
+
+abbrev pub cisco_bridges : Mac
+cisco_bridges = record { 0 = 1 ∷ 0 ∷ 0x0c ∷ 0xcc ∷ 0xcc ∷ 0xcd ∷ [] }
+
 -- 0e:00:00:00:00:01
 abbrev pub gateway : Mac
 gateway = record { 0 = 14 ∷ 0 ∷ 0 ∷ 0 ∷ 0 ∷ 1 ∷ [] }

@@ -1,7 +1,7 @@
 //! What holds of the description, whatever a packet holds. The functions do nothing: their contracts
 //! are the laws.
 
-ghost use Rattle.std.specs.Prelude.{◌≡◌, ◌≢◌, ◌==◌, ◌&&◌, ◌||◌, ◌≤◌, ℕ, true, false, Some, None, List, [], All, count_by, IsPermutation, if◌then◌else◌};
+ghost use Rattle.std.specs.Prelude.{◌≡◌, ◌≢◌, ◌⊎◌, ◌==◌, ◌&&◌, ◌||◌, ◌≤◌, ℕ, true, false, Some, None, List, [], All, IsSomeAnd, count_by, IsPermutation, if◌then◌else◌};
 ghost use Rattle.net_base.specs.Address.{is_group};
 ghost use Rattle.net_base.specs.declared.numbers.DpId.{DpId};
 ghost use Rattle.of_match.specs.declared.action.TheConstants.{CONTROLLER};
@@ -42,6 +42,13 @@ pub fn a_port_that_takes_nothing_in_sends_nothing()
         → IsValid conf → port_at conf id port ≡ Some i → i.mirror ≢ [] → sends conf now id port p ≡ [] }
 {}
 
+/// What is sent leaves by enabled interfaces of the datapath, or goes to the controller.
+pub fn only_enabled_interfaces_send()
+    ensures { (conf : Configuration) (now : State) (id : DpId) (port : ℕ) (p : Packet)
+        → IsValid conf → IsValidState conf now
+        → All (λ s. (s.port ≡ CONTROLLER) ⊎ IsSomeAnd (port_at conf id s.port) (λ q. q.enabled ≡ true)) (sends conf now id port p) }
+{}
+
 /// A packet that the ACLs of its port deny goes where the rule sends it, as it came, and nowhere else.
 pub fn a_denied_packet_goes_where_the_rule_sends_it()
     ensures { (conf : Configuration) (now : State) (id : DpId) (port : ℕ) (d : Dp) (i : Port) (p : Packet)
@@ -78,6 +85,14 @@ pub fn a_flood_goes_once_to_each_port_that_is_to_get_it()
     ensures outside { (conf : Configuration) (ups : List UpRec) (id : DpId) (d : Dp) (v : Vlan) (port : ℕ) (p : Packet) (q : Port)
         → IsValid conf → dp_with conf.dps id ≡ Some d → port_with d.ports q.no ≡ Some q → is_edge q ≡ true → is_edge_member q v.vid ≡ false
         → gets_flood (stack_of conf ups) d port v p q ≡ false }
+{}
+
+/// A packet of a VLAN leaves by no edge port outside the VLAN, to a known destination and in a flood alike.
+pub fn a_packet_of_a_vlan_stays_in_the_vlan()
+    ensures { (conf : Configuration) (now : State) (id : DpId) (d : Dp) (v : Vlan) (port : ℕ) (p : Packet) (q : Port)
+        → IsValid conf → IsValidState conf now → dp_with conf.dps id ≡ Some d → port_with d.ports q.no ≡ Some q
+        → is_edge q ≡ true → is_edge_member q v.vid ≡ false
+        → All (λ s. s.port ≢ q.no) (leaving conf now d port v p) }
 {}
 
 /// As a known destination and in a flood alike, a native member of a VLAN gets the packet without its

@@ -6,7 +6,7 @@ ghost use Rattle.of_match.specs.declared.packet.L4.TheVariants as l4;
 ghost use Rattle.of_match.specs.declared.action.TheConstants.{CONTROLLER};
 ghost use Rattle.packet_way.specs.Description.{sends};
 ghost use Rattle.packet_way.specs.Leaving.{sent};
-ghost use Rattle.packet_way.specs.Worked.{LengthsFit, dp, station, broadcast, gateway, ip, edge, datapath, vlan, tag, frame, plain, nothing_learned, mirrored, settled, two_ports, two_vlans, one_neighbour, v4, udp, ping, arp, two_routes, two_gateways, ring, ring_with, all_up, link_down, host, learned, ruled};
+ghost use Rattle.packet_way.specs.Worked.{LengthsFit, dp, station, broadcast, bridges, cisco_bridges, gateway, ip, edge, datapath, vlan, tag, frame, plain, nothing_learned, mirrored, settled, two_ports, two_vlans, one_neighbour, v4, udp, ping, arp, two_routes, two_gateways, ring, ring_with, all_up, link_down, host, learned, ruled};
 
 /// Ports 1 and 2 are native in a VLAN and port 3 is tagged there, and nothing is learned: to a station
 /// that isn't known a packet goes to all others and to the controller. A tag with identifier 0 is a
@@ -40,6 +40,11 @@ pub fn a_mirrored_port()
 pub fn drops_and_floods_by_settings()
     ensures gateway { sends plain nothing_learned (dp 1) 1 (frame (station 9) gateway []) ≡ [] }
     ensures broadcast { sends plain nothing_learned (dp 1) 1 (frame (station 9) broadcast []) ≡ [] }
+    ensures bridges { sends plain nothing_learned (dp 1) 1 (frame bridges (station 1) []) ≡ [] }
+    ensures cisco_bridges { sends plain nothing_learned (dp 1) 1 (frame cisco_bridges (station 1) []) ≡ [] }
+    ensures lldp { sends plain nothing_learned (dp 1) 1 (record (frame (station 9) (station 1) []) { eth_type = 0x88cc }) ≡ [] }
+    ensures no_drop { sends (settled (record (datapath 1 None (edge 1 (Some 100) [] ∷ edge 2 (Some 100) [] ∷ [])) { drop_bpdu = false; drop_lldp = false }) (vlan 100 [])) nothing_learned (dp 1) 1 (record (frame bridges (station 1) []) { eth_type = 0x88cc })
+        ≡ sent CONTROLLER (record (frame bridges (station 1) (tag 100 ∷ [])) { eth_type = 0x88cc }) ∷ sent 2 (record (frame bridges (station 1) []) { eth_type = 0x88cc }) ∷ [] }
     ensures no_flood { sends (settled (datapath 1 None (edge 1 (Some 100) [] ∷ edge 2 (Some 100) [] ∷ [])) (record (vlan 100 []) { unicast_flood = false })) nothing_learned (dp 1) 1 (frame (station 9) (station 1) [])
         ≡ sent CONTROLLER (frame (station 9) (station 1) (tag 100 ∷ [])) ∷ [] }
     ensures no_flood_by_port { sends (two_ports (edge 1 (Some 100) []) (record (edge 2 (Some 100) []) { unicast_flood = false })) nothing_learned (dp 1) 1 (frame (station 9) (station 1) [])

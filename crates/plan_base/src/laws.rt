@@ -1,6 +1,6 @@
 //! Laws of the definitions: each function is empty, and its contract is the law.
 
-ghost use Rattle.std.specs.Prelude.{◌<◌, ◌^◌, ℕ, List, Option};
+ghost use Rattle.std.specs.Prelude.{◌≡◌, ◌<◌, ◌^◌, ℕ, List, Option};
 ghost use Rattle.std.specs.List.{AllByRecursion};
 ghost use Rattle.net_base.specs.declared.address.Mac.{Mac};
 ghost use Rattle.net_base.specs.Address.{IsSixBytes};
@@ -9,12 +9,13 @@ ghost use Rattle.net_base.specs.Numbers.{IsVid, IsPortNo};
 ghost use Rattle.net_base.specs.WellFormed.{Fits};
 ghost use Rattle.net_base.specs.declared.field.FieldId.TheVariants.{Ipv4Dst};
 ghost use Rattle.of_match.specs.declared.action.Action.{Action};
+ghost use Rattle.of_match.specs.declared.action.Action.TheVariants.{Output, PushVlan};
 ghost use Rattle.of_match.specs.WellFormed.{IsAction, AreInstrs};
 ghost use Rattle.conf_types.specs.declared.datapath.Dp.{Dp};
 ghost use Rattle.conf_types.specs.declared.datapath.Port.{Port};
 ghost use Rattle.plan_base.specs.declared.table.Table.{Table};
 ghost use Rattle.plan_base.specs.Fields.{in_port, eth_dst, eth_src, vid_field, arp_tpa};
-ghost use Rattle.plan_base.specs.Actions.{out, set_vid, set_eth_src, set_eth_dst};
+ghost use Rattle.plan_base.specs.Actions.{out, to_controller, to_ingress, push_tag, set_vid, set_eth_src, set_eth_dst};
 ghost use Rattle.plan_base.specs.Entries.{leads_to};
 ghost use Rattle.plan_base.specs.Sending.{sent};
 
@@ -45,4 +46,13 @@ pub fn actions_are_accepted()
 #[tactic(auto, using(crate::proofs::Accepted::instruction_laws))]
 pub fn what_leads_on_is_accepted()
     ensures { (actions : List Action) (next : Option Table) → AllByRecursion IsAction actions → AreInstrs (leads_to actions next) }
+{}
+
+/// The controller gets the whole packet by the number that stands for it, a packet goes back by the
+/// number that stands for its ingress, and a tag has its type (OpenFlow 1.3, 7.2.1 and 7.2.5; IEEE
+/// 802.1Q, 9.6).
+pub fn actions_have_the_numbers_of_the_standard()
+    ensures controller { to_controller ≡ Output 0xfffffffd 0xffff }
+    ensures ingress { to_ingress ≡ Output 0xfffffff8 0 }
+    ensures tag { push_tag ≡ PushVlan 0x8100 }
 {}

@@ -1,11 +1,12 @@
 //! The plan of one datapath, kept from one state to the next. This body makes the whole plan at each
 //! event.
 
-ghost use Rattle.std.specs.Prelude.{◌≡◌, true, false, [], IfOk, OnOk, OnErr, IsErr};
+ghost use Rattle.std.specs.Prelude.{◌≡◌, ◌*◌, true, false, [], length, IfOk, OnOk, OnErr, IsErr};
 ghost use Rattle.conf_types.specs.State.{IsValidState};
 ghost use Rattle.packet_way.specs.Present.{state_of};
 ghost use Rattle.plan_difference.specs.Difference.{difference};
-ghost use Rattle.cold_start.specs.Cold.{cold_at};
+ghost use Rattle.cold_start.specs.Cold.{cold_at, units_at};
+ghost use Rattle.cold_start.specs.Counts.{RisesAtMost, RisesAtLeast};
 ghost use Rattle.warm_plan.specs.Kept.{IsKept};
 
 use crate::change::Change;
@@ -43,7 +44,8 @@ impl Model for Warm {
 }
 
 impl Warm {
-    /// The plan of a datapath whose switch was sent nothing yet.
+    /// The plan of a datapath whose switch was sent nothing yet. For each of its units at least one unit
+    /// of work is counted where it is made, and at most three.
     pub fn open<T: Tally>(
         alloc: Global,
         conf: &Conf,
@@ -52,7 +54,7 @@ impl Warm {
         units: &mut T,
     ) -> Result<Warm, NoMemory>
         requires { IsValidState conf.now (state_of now.now) }
-        ensures { IfOk result (λ made. made ≡ record {
+        ensures warm { IfOk result (λ made. made ≡ record {
           dp = dp;
           conf = conf.now;
           state = state_of now.now;
@@ -60,6 +62,8 @@ impl Warm {
           wanted = cold_at conf.now (state_of now.now) dp;
           is_spent = false;
         }) }
+        ensures most { RisesAtMost (3 * length (units_at conf.now (state_of now.now) dp)) (T.count units.old) (T.count units.new) }
+        ensures least { OnOk result (RisesAtLeast (length (units_at conf.now (state_of now.now) dp)) (T.count units.old) (T.count units.new)) }
     {
         Ok(Warm {
             dp,
@@ -88,6 +92,8 @@ impl Warm {
         ensures spent { OnErr result (self.new.is_spent ≡ true) }
         ensures again { self.old.is_spent ≡ true → IsErr result }
         ensures sent { self.new.sent ≡ self.old.sent }
+        ensures most { RisesAtMost (3 * length (units_at conf.now (state_of now.now) self.old.dp)) (T.count units.old) (T.count units.new) }
+        ensures least { OnOk result (RisesAtLeast (length (units_at conf.now (state_of now.now) self.old.dp)) (T.count units.old) (T.count units.new)) }
     {
         let was_spent = self.spent;
         self.spent = true;
@@ -102,7 +108,8 @@ impl Warm {
     }
 
     /// Takes another state of the same configuration, which differs from the last one at most in what
-    /// `changes` names. Want of memory spends the plan, and a spent one answers nothing else.
+    /// `changes` names. Want of memory spends the plan, and a spent one answers nothing else. At most
+    /// three units of work are counted for each unit of the datapath.
     pub fn event<T: Tally>(
         &mut self,
         alloc: Global,
@@ -120,12 +127,13 @@ impl Warm {
         ensures spent { OnErr result (self.new.is_spent ≡ true) }
         ensures again { self.old.is_spent ≡ true → IsErr result }
         ensures sent { self.new.sent ≡ self.old.sent }
+        ensures most { RisesAtMost (3 * length (units_at conf.now (state_of now.now) self.old.dp)) (T.count units.old) (T.count units.new) }
     {
         self.renew(alloc, conf, now, units)
     }
 
     /// Takes another configuration, and the state under it. Want of memory spends the plan, and a spent
-    /// one answers nothing else.
+    /// one answers nothing else. Work is counted as by `open`.
     pub fn reload<T: Tally>(
         &mut self,
         alloc: Global,
@@ -142,6 +150,8 @@ impl Warm {
         ensures spent { OnErr result (self.new.is_spent ≡ true) }
         ensures again { self.old.is_spent ≡ true → IsErr result }
         ensures sent { self.new.sent ≡ self.old.sent }
+        ensures most { RisesAtMost (3 * length (units_at next.now (state_of now.now) self.old.dp)) (T.count units.old) (T.count units.new) }
+        ensures least { OnOk result (RisesAtLeast (length (units_at next.now (state_of now.now) self.old.dp)) (T.count units.old) (T.count units.new)) }
     {
         self.renew(alloc, next, now, units)
     }

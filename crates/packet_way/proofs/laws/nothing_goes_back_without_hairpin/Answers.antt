@@ -45,7 +45,7 @@ module _ (conf : Configuration) (now : State) (valid : IsValid conf) (id : DpId)
   elsewhere = record {
     target = λ q x c enabled other. alone q.no x (eqb-false q.no i.no other);
     mirror = λ m n x c enabled is. alone m.no x (λ e. both_ways (is_mirror_of m n) (ap (λ ns. is_among ns n) (ap (λ (q : Port). q.mirror) (same m c e) ∙ mirrors_none)) is);
-    out = λ q x c may. alone q.no x (λ e. ⊎_elim
+    out = λ v q x c may reached. alone q.no x (λ e. ⊎_elim
         (λ (other : not (q.no == i.no) ≡ true). eqb-false q.no i.no (not-true (q.no == i.no) other) e)
         (λ (back : q.hairpin ≡ true). both_ways q.hairpin (ap (λ (r : Port). r.hairpin) (same q c e) ∙ no_hairpin) back)
         (or_cases (not (q.no == i.no)) q.hairpin may));

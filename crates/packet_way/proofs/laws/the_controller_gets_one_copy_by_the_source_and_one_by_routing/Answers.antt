@@ -43,7 +43,7 @@ module _ (conf : Configuration) (now : State) (valid : IsValid conf) (id : DpId)
   elsewhere = record {
     target = λ q x c enabled other. by_number q x c;
     mirror = λ m n x c enabled is. by_number m x c;
-    out = λ q x c may. by_number q x c;
+    out = λ v q x c may reached. by_number q x c;
     hop = λ b n x is differs. other n x (end_number conf valid d.id n (hop_end conf valid now.ups d.id b n is));
   }
 

@@ -12,6 +12,10 @@ unfolding from_edge from_stack admitted in_vlan by_routing leaving flooded onwar
 returns c = record {
   gateway = refl;
   broadcast = refl;
+  bridges = refl;
+  cisco_bridges = refl;
+  lldp = refl;
+  no_drop = refl;
   no_flood = refl;
   no_flood_by_port = refl;
   group = refl;
