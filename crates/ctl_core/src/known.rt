@@ -1,8 +1,8 @@
 //! What is known, and how long a settling has nothing to say of it.
 
-ghost use Rattle.std.specs.Prelude.{◌≡◌, false, OnOk};
+ghost use Rattle.std.specs.Prelude.{◌≡◌, ◌<◌, false, OnOk};
 ghost use Rattle.ctl_world.specs.World.{IsSound};
-ghost use Rattle.ctl_settle.specs.Rest.{AreInOrder, RestsUntil};
+ghost use Rattle.ctl_settle.specs.Rest.{AreInOrder, RestsUntil, rests_until};
 ghost use Rattle.ctl_settle.specs.Settling.{settle};
 ghost use Rattle.ctl_core.specs.Known.{HasSettled};
 
@@ -31,6 +31,7 @@ pub(crate) fn settle_anew<T: Tally>(
     requires in_order { AreInOrder known.old.world }
     ensures settled { OnOk result (known.new.world ≡ settle known.old.world) }
     ensures rests { OnOk result (HasSettled known.new) }
+    ensures until { OnOk result (known.new.until ≡ rests_until known.new.world) }
 {
     settle(alloc, &mut known.world, units)?;
     known.until = rests_until(alloc, &known.world)?;
@@ -50,6 +51,7 @@ pub(crate) fn settle_where_due<T: Tally>(
     requires rests { changed ≡ false → RestsUntil known.old.until known.old.world }
     ensures settled { OnOk result (known.new.world ≡ settle known.old.world) }
     ensures rests { OnOk result (HasSettled known.new) }
+    ensures left_out { changed ≡ false → known.old.world.moment.0 < known.old.until → T.count units.new ≡ T.count units.old }
 {
     what_rests_settles_as_it_is();
     if changed || known.until <= known.world.moment.0 {

@@ -1,5 +1,5 @@
 -- One turn: what was done about it up to a point.
-use Rattle.std.proofs.Common.{◌≡◌, ℕ, List, [], Option, Some, refl, sym, ap, subst, ◌∙◌}
+use Rattle.std.proofs.Common.{◌≡◌, ℕ, List, Option, Some, ap, ◌∙◌}
 use Rattle.std.specs.List.{flat_map}
 use Rattle.fg_outside.specs.declared.hub.Happening.{Happening}
 use Rattle.fg_outside.specs.HubStep.{HubStep}
@@ -9,7 +9,7 @@ use Rattle.ctl_world.specs.World.{World}
 use Rattle.ctl_core.specs.declared.controller.Saying.{Saying}
 use Rattle.ctl_core.specs.Turns.{turn}
 use Rattle.ctl_drive.specs.declared.sayings.Outlet.{Outlet}
-use Rattle.ctl_drive.specs.Driving.{Deed, deeds_by, line_by, sayings_of, turn_lines, written_on}
+use Rattle.ctl_drive.specs.Driving.{deeds_by, line_by, sayings_of, turn_lines, written_on}
 use Rattle.ctl_drive.specs.Driven.{Tells, TellsPart, Answers, AnswersPart}
 use Rattle.ctl_drive.proofs.Stories.{front-same, front-whole, turn_out}
 use Rattle.ctl_drive.proofs.Telling.{Tells-same, TellsPart-none, TellsPart-same, TellsPart-whole}

@@ -1,5 +1,5 @@
 -- The replay of a recording, from what the hub that reads it gave and was told.
-use Rattle.std.proofs.Common.{◌≡◌, ◌≤◌, ◌<◌, ◌⊎◌, inl, inr, ℕ, ◌+◌, ◌-◌, ◌^◌, min, arith, Bool, true, false, List, [], ◌∷◌, ◌++◌, length, Option, Some, None, Result, Ok, Err, IfOk, OnOk, OnErr, refl, sym, ap, subst, ◌∙◌}
+use Rattle.std.proofs.Common.{◌≡◌, ◌≤◌, ◌<◌, ◌⊎◌, inl, inr, ℕ, ◌+◌, ◌-◌, ◌^◌, min, arith, Bool, true, false, List, [], ◌∷◌, ◌++◌, Option, Some, None, Result, Ok, Err, IfOk, OnOk, OnErr, refl, sym, ap, subst, ◌∙◌}
 use Rattle.std.specs.Result.{result_unwrap_or}
 use Rattle.fg_outside.specs.declared.file_source.FileSource.{FileSource}
 use Rattle.fg_outside.specs.declared.hub.Happening.{Happening}
@@ -9,7 +9,6 @@ use Rattle.fg_outside.specs.Contents.{Tells as FilesTell}
 use Rattle.fg_outside.specs.Counts.{Rose}
 use Rattle.fg_outside.specs.FileSource.{faults_of, files_of, left_in, missing_of, name_of, KeepsFiles}
 use Rattle.fg_outside.specs.HubStep.{HubStep, Leads, next, happenings, story, turned}
-use Rattle.fg_outside.specs.Wrote.{appended, AppendsFront}
 use Rattle.fg_outside.proofs.SinkLemmas.{appended-nil, AppendsFront-none}
 use Rattle.fg_outside.proofs.CountLemmas.{Rose-since}
 use Rattle.fg_outside.proofs.StepLemmas.{Went-all, KeepsFiles-fault, KeepsFiles-read, KeepsFiles-same, KeepsFiles-then}
@@ -22,12 +21,11 @@ use Rattle.recording.proofs.Whole.{done_told, source_goes, stopped_told}
 use Rattle.ctl_world.specs.World.{World, first}
 use Rattle.ctl_drive.specs.declared.drive.Drove.{Drove}
 use Rattle.ctl_drive.specs.declared.drive.Drove.TheVariants as drove
-use Rattle.ctl_drive.specs.declared.replay.Replayed.{Replayed}
 use Rattle.ctl_drive.specs.declared.replay.Replayed.TheVariants as replayed
 use Rattle.ctl_drive.specs.declared.sayings.Outlet.TheVariants.{Records}
-use Rattle.ctl_drive.specs.Driving.{Deed, IsFront, closings_of, deeds, deeds_of, lines_of, records_of}
-use Rattle.ctl_drive.specs.Driven.{AnswersAll, AnswersFront, Drives}
-use Rattle.ctl_drive.specs.Replay.{IsStoryOf, IsStorySoFar, Replays, RunsSource, TellsSoFar, WritesAll, WritesFront, closed_in, replayed_by}
+use Rattle.ctl_drive.specs.Driving.{Deed, IsFront, deeds, deeds_of}
+use Rattle.ctl_drive.specs.Driven.{Drives}
+use Rattle.ctl_drive.specs.Replay.{IsStoryOf, Replays, RunsSource, TellsSoFar, closed_in, replayed_by}
 use Rattle.ctl_drive.proofs.Deeds.{front_closed, whole_closed, whole_happened}
 use Rattle.ctl_drive.proofs.Stories.{none_begun}
 use Rattle.ctl_drive.proofs.Telling.{IsFront-same}

@@ -1,11 +1,11 @@
 -- A story with one turn more.
-use Rattle.std.proofs.Common.{◌≡◌, ℕ, ◌+◌, ◌<◌, ◌≤◌, List, [], ◌∷◌, ◌++◌, length, Option, Some, None, Result, Ok, Err, refl, sym, ap, subst, ◌∙◌, append_assoc, arith}
-use Rattle.std.proofs.lemmas.List.{append-nil, length_push}
+use Rattle.std.proofs.Common.{◌≡◌, ℕ, ◌≤◌, List, [], ◌∷◌, ◌++◌, length, Option, Some, Ok, Err, refl, sym, ap, subst, ◌∙◌, append_assoc, arith}
+use Rattle.std.proofs.lemmas.List.{append-nil}
 use Rattle.std.proofs.lemmas.List.Concat.{flat_map-append}
 use Rattle.std.specs.List.{flat_map}
 use Rattle.fg_outside.specs.declared.hub.Happening.{Happening}
-use Rattle.fg_outside.specs.declared.hub.Turn.TheVariants.{Happened, Done, Failed, Memory}
-use Rattle.fg_outside.specs.HubStep.{HubStep, happenings, start, story, turned}
+use Rattle.fg_outside.specs.declared.hub.Turn.TheVariants.{Happened, Failed, Memory}
+use Rattle.fg_outside.specs.HubStep.{HubStep, start, story, turned}
 use Rattle.fg_outside.specs.Wrote.{appended, AppendsFront}
 use Rattle.fg_outside.proofs.SinkLemmas.{appended-append, appended-nil, AppendsFront-none, AppendsFront-whole, AppendsFront-second}
 use Rattle.recording.specs.Written.{WrittenRecord, written, written_records}
@@ -15,10 +15,10 @@ use Rattle.ctl_core.specs.Story.{behind}
 use Rattle.ctl_core.specs.Turns.{turn}
 use Rattle.ctl_drive.specs.declared.sayings.Outlet.{Outlet}
 use Rattle.ctl_drive.specs.declared.sayings.Outlet.TheVariants.{Records, Hub}
-use Rattle.ctl_drive.specs.Driving.{Deed, gave, IsFront, deeds, deeds_by, deeds_of, lines_of, out_of, record_by, records_of, sayings_of, turn_deeds, turn_lines, turn_records, written_by, written_on}
+use Rattle.ctl_drive.specs.Driving.{Deed, gave, deeds, deeds_by, deeds_of, lines_of, out_of, record_by, records_of, sayings_of, turn_deeds, turn_lines, turn_records, written_by, written_on}
 use Rattle.ctl_drive.specs.declared.turn.Stopped.{Stopped}
 use Rattle.ctl_drive.specs.declared.turn.Stopped.TheVariants as stopped
-use Rattle.ctl_drive.specs.Driven.{Tells, TellsPart, Answers, AnswersPart, AnswersAll, AnswersFront, Drives, WholeButLast, drove_by}
+use Rattle.ctl_drive.specs.Driven.{Answers, AnswersPart, AnswersAll, AnswersFront, Drives, WholeButLast, drove_by}
 use Rattle.ctl_drive.proofs.Deeds.{happened_in, happened-append, happened-deeds, happenings_are, none_happened_before, whole_happened}
 use Rattle.ctl_drive.proofs.Pieces.{flat_map-flat_map}
 use Rattle.ctl_drive.proofs.Telling.{Tells-one, Tells-same, Tells-then, TellsPart-same, TellsPart-second, TellsPart-whole, deeds-story}

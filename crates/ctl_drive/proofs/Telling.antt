@@ -1,7 +1,7 @@
 -- What a hub gave and was told over many calls, and over a front of them.
 use Rattle.std.proofs.Common.{◌≡◌, List, [], ◌∷◌, ◌++◌, refl, sym, ap, ◌∙◌, append_assoc}
 use Rattle.std.proofs.lemmas.List.{append-nil}
-use Rattle.fg_outside.specs.HubStep.{HubStep, Event, Leads, start, next, story, told_by}
+use Rattle.fg_outside.specs.HubStep.{HubStep, Event, start, next, story, told_by}
 use Rattle.fg_outside.proofs.StoryLemmas.{Leads-append, story-append}
 use Rattle.ctl_drive.specs.Driving.{Deed, IsFront, deeds}
 use Rattle.ctl_drive.specs.Driven.{Tells, TellsPart}

@@ -1,8 +1,9 @@
 -- What a call that drives a controller has done.
-use Rattle.std.specs.Prelude.{◌≡◌, ℕ, ◌<◌, ◌≤◌, List, [], ◌∷◌, ◌++◌, length, Option, Some}
+use Rattle.std.specs.Prelude.{◌≡◌, ℕ, ◌<◌, ◌≤◌, List, ◌++◌, length, Option, Some}
 use Rattle.fg_outside.specs.declared.hub.Happening.{Happening}
 use Rattle.fg_outside.specs.declared.hub.Turn.TheVariants.{Done as is_done, Failed as has_failed}
-use Rattle.fg_outside.specs.HubStep.{HubStep, Leads, happenings, story, turned}
+use Rattle.fg_outside.specs.declared.hub.Said.TheVariants as answers
+use Rattle.fg_outside.specs.HubStep.{HubStep, Leads, happenings, said, story, turned}
 use Rattle.fg_outside.specs.Wrote.{appended, AppendsFront}
 use Rattle.ctl_world.specs.World.{World}
 use Rattle.ctl_core.specs.Story.{behind}
@@ -30,6 +31,10 @@ pub record TellsPart {H : Type 0} (may : H → HubStep → H → Type 0) (old : 
   pub steps : List HubStep
   pub leads : Leads may old steps new
   pub front : IsFront (deeds (story steps)) told
+
+-- a message was said on a connection of the hub, for which it had no memory
+abbrev pub HasNoRoom : {H : Type 0} → (H → HubStep → H → Type 0) → (old new : H) → Type 0
+HasNoRoom may old new = (conn : ℕ) × (message : List ℕ) × may old (said conn message answers.Memory) new
 
 -- ---- one turn, behind what the hub gave
 

@@ -3,7 +3,7 @@ ghost use Rattle.std.specs.List.{flat_map};
 ghost use Rattle.fg_outside.specs.Counts.{Rose};
 ghost use Rattle.ctl_world.specs.World.{World};
 ghost use Rattle.ctl_drive.specs.Driving.{deeds_by};
-ghost use Rattle.ctl_drive.specs.Driven.{Tells, TellsPart, Answers, AnswersPart};
+ghost use Rattle.ctl_drive.specs.Driven.{Tells, TellsPart, HasNoRoom, Answers, AnswersPart};
 
 use crate::sayings::{Outlet, make_lines, make_records};
 use conf_types::Tally;
@@ -42,10 +42,11 @@ impl From<NoMemory> for Stopped {
 }
 
 /// Says a message on a connection of the hub, where messages go there. A connection that is gone is
-/// passed over.
+/// passed over: only a hub that has no memory for it ends this.
 fn say_on<H: Hub>(hub: &mut H, outlet: Outlet, conn: u32, message: &[u8]) -> Result<(), NoMemory>
     ensures ok { OnOk result (Tells H.may hub.old (deeds_by outlet (Saying.Send conn message.now)) hub.new) }
     ensures err { OnErr result (TellsPart H.may hub.old (deeds_by outlet (Saying.Send conn message.now)) hub.new) }
+    ensures memory { OnErr result (HasNoRoom H.may hub.old hub.new) }
     ensures faults { H.faults hub.new ≡ H.faults hub.old }
 {
     if matches!(outlet, Outlet::Records) {
@@ -61,6 +62,7 @@ fn say_on<H: Hub>(hub: &mut H, outlet: Outlet, conn: u32, message: &[u8]) -> Res
 fn tell_one<H: Hub>(hub: &mut H, outlet: Outlet, saying: &Saying) -> Result<(), NoMemory>
     ensures ok { OnOk result (Tells H.may hub.old (deeds_by outlet saying.now) hub.new) }
     ensures err { OnErr result (TellsPart H.may hub.old (deeds_by outlet saying.now) hub.new) }
+    ensures memory { OnErr result (HasNoRoom H.may hub.old hub.new) }
     ensures faults { H.faults hub.new ≡ H.faults hub.old }
 {
     match saying {
@@ -75,6 +77,7 @@ fn tell_one<H: Hub>(hub: &mut H, outlet: Outlet, saying: &Saying) -> Result<(), 
 fn tell_hub<H: Hub>(hub: &mut H, outlet: Outlet, sayings: &[Saying]) -> Result<(), NoMemory>
     ensures ok { OnOk result (Tells H.may hub.old (flat_map (deeds_by outlet) sayings.now) hub.new) }
     ensures err { OnErr result (TellsPart H.may hub.old (flat_map (deeds_by outlet) sayings.now) hub.new) }
+    ensures memory { OnErr result ((before : H) × HasNoRoom H.may before hub.new) }
     ensures faults { H.faults hub.new ≡ H.faults hub.old }
 {
     for saying in sayings {

@@ -49,6 +49,7 @@ hosts_until conf moment hosts = fold (λ least h. min least (host_until conf mom
 abbrev pub neighbours_until : List NeighRec → ℕ
 neighbours_until neighbours = fold (λ least n. min least n.due.0) never neighbours
 
+-- the first moment at which a host turns stale or is to be forgotten, or a neighbour is due
 abbrev pub rests_until : World → ℕ
 rests_until w = min (hosts_until w.conf w.moment.0 w.hosts.hosts) (neighbours_until w.neighbours.neighbours)
 

@@ -1,6 +1,6 @@
 ghost use Rattle.std.specs.Prelude.{◌≡◌, ◌<◌, ◌^◌, IfOk};
 ghost use Rattle.conf_types.specs.State.{fresh_for};
-ghost use Rattle.ctl_settle.specs.Rest.{IsAtRest, RestsUntil, host_until, hosts_until, neighbours_until};
+ghost use Rattle.ctl_settle.specs.Rest.{IsAtRest, RestsUntil, host_until, hosts_until, neighbours_until, rests_until};
 
 use conf_types::{Conf, HostRec, NeighRec};
 use ctl_world::World;
@@ -63,7 +63,8 @@ fn neighbours_until(neighbours: &[NeighRec]) -> u64
 /// one, in milliseconds, at which a host turns stale or is to be forgotten, or a neighbour is due, and
 /// 2^64 - 1 where there is none.
 pub fn rests_until(alloc: Global, world: &World) -> Result<u64, NoMemory>
-    ensures { IfOk result (λ moment. IsAtRest world.now → RestsUntil moment world.now) }
+    ensures exact { IfOk result (λ moment. moment ≡ rests_until world.now) }
+    ensures rests { IfOk result (λ moment. IsAtRest world.now → RestsUntil moment world.now) }
 {
     let hosts = world.hosts.hosts(alloc)?;
     let first = hosts_until(&world.conf, world.moment, hosts.as_slice());

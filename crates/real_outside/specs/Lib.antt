@@ -1,2 +1,3 @@
 -- What the clauses cite.
 pub mod Opened
+pub mod Words

@@ -1,3 +1,4 @@
+use Rattle.std.proofs.Common.{refl}
 use Rattle.ctl_core.proofs.Rests.{left_out}
 use Rattle.ctl_core.proofs.known.settle_where_due.Goals as goal
 
@@ -8,4 +9,5 @@ returns g c =
     record {
       settled = left_out c.what_rests_settles_as_it_is.ensures k.until k.world rests c.if-known.false;
       rests = record { sound = c.requires.sound; in_order = c.requires.in_order; rests = rests };
+      left_out = λ _ _. refl;
     }

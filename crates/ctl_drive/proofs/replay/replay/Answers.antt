@@ -1,10 +1,9 @@
-use Rattle.std.proofs.Common.{◌≡◌, ◌≤◌, Bool, true, false, Option, Some, sym, ap, ◌∙◌, arith}
+use Rattle.std.proofs.Common.{◌≡◌, ◌≤◌, true, false, sym, ◌∙◌, arith}
 use Rattle.std.proofs.lemmas.Grind.{common_steps}
 use Rattle.std.specs.Result.{result_unwrap_or}
 use Rattle.fg_outside.specs.FileSource.{files_of}
 use Rattle.fg_outside.specs.Counts.{Rose}
 use Rattle.ctl_world.specs.World.{first}
-use Rattle.ctl_drive.specs.declared.drive.Drove.TheVariants as drove
 use Rattle.ctl_drive.proofs.Replaying.{failed_write, fault_of_files, fault_of_told, never_begun, never_read, no_failed_read, no_failed_write, none_of_files, run_keeps, run_replays, unread_fault, was_read, was_there, why_unread}
 use Rattle.ctl_drive.proofs.replay.replay.Goals as goal
 

@@ -1,4 +1,4 @@
-use Rattle.std.proofs.Common.{List, ◌+◌, ◌++◌, take, drop, refl, sym, ◌∙◌}
+use Rattle.std.proofs.Common.{◌+◌, ◌++◌, take, drop, refl, sym, ◌∙◌}
 use Rattle.std.specs.List.{flat_map}
 use Rattle.ctl_drive.specs.Driving.{deeds_by}
 use Rattle.ctl_drive.proofs.Pieces.{flat_map-next, flat_map-parts, on_err}

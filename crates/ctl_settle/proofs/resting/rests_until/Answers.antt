@@ -10,4 +10,4 @@ returns c =
     let hosts = c.hosts_until-first.ensures ∙ ap (hosts_until w.conf w.moment.0) (c.as_slice.ensures ∙ c.in_ok-hosts.ensures) in
     let neighbours = c.neighbours_until.ensures ∙ ap neighbours_until c.list.ensures.value in
     let least : c.min.result ≡ rests_until w = c.min.ensures ∙ (λ i. min (hosts i) (neighbours i)) in
-    λ rests. subst (λ moment. RestsUntil moment w) (sym least) (rests_so_long w rests)
+    record { exact = least; rests = λ rests. subst (λ moment. RestsUntil moment w) (sym least) (rests_so_long w rests) }
