@@ -1,3 +1,4 @@
 pub mod FrameLemmas
 pub mod ReplyLemmas
+pub mod StageLemmas
 pub mod ToldLemmas

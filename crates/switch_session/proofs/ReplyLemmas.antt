@@ -14,7 +14,7 @@ use Rattle.switch_session.specs.Told.{told_of}
 use Rattle.switch_session.specs.Stages.{State, answered, awaited, awaits, changed_port, described, heard, heard_in, is_id, leads, passed, speaks}
 use Rattle.switch_session.specs.Replies.{is_reply_in}
 
-pick : (P : State × Step → Type 0) (b : Bool) (x y : State × Step) → P x → P y → P (if b then x else y)
+pub pick : (P : State × Step → Type 0) (b : Bool) (x y : State × Step) → P x → P y → P (if b then x else y)
 pick P true x y h k = h
 pick P false x y h k = k
 

@@ -3,8 +3,9 @@
 ghost use Rattle.std.specs.Prelude.{◌≡◌, ◌⊎◌, ℕ, true, List, [], Some, None};
 ghost use Rattle.std.specs.List.{concat};
 ghost use Rattle.of13_codec.specs.declared.message.Message.{Message};
+ghost use Rattle.switch_session.specs.declared.state.Stage.TheVariants.{Shut};
 ghost use Rattle.switch_session.specs.Stages.{State, leads};
-ghost use Rattle.switch_session.specs.Replies.{is_reply_in};
+ghost use Rattle.switch_session.specs.Replies.{is_awaited_in, is_reply_in, stage_after};
 ghost use Rattle.switch_session.specs.Told.{AreTold};
 ghost use Rattle.switch_session.specs.Frames.{IsBegun, IsBad, HasNoFrame, Splits, Calls};
 
@@ -32,4 +33,11 @@ pub fn what_is_awaited_goes_with_its_reply()
     ensures goes { (s : State) (message : Message) (id : ℕ) → s.awaited ≡ Some id → is_reply_in s.stage message ≡ true
         → (leads s message id).0.awaited ≡ None }
     ensures none { (s : State) (message : Message) (xid : ℕ) → s.awaited ≡ None → (leads s message xid).0.awaited ≡ None }
+{}
+
+/// Only what its stage awaits moves a connection on, and to the next stage alone; whatever else is heard leaves the
+/// stage as it is, or closes the connection.
+pub fn a_stage_moves_by_what_it_awaits()
+    ensures { (s : State) (message : Message) (xid : ℕ) → ((leads s message xid).0.stage ≡ s.stage) ⊎ (((leads s message xid).0.stage ≡ Shut)
+        ⊎ ((is_awaited_in s.stage s message xid ≡ true) × ((leads s message xid).0.stage ≡ stage_after s.stage))) }
 {}
