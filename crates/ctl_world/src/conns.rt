@@ -1,9 +1,10 @@
-ghost use Rattle.std.specs.Prelude.{◌≡◌, ◌≤◌, ◌<◌, [], Some, length, position, nat_lt, IfOk, IfSome, IsTrue, OnOk, OnErr};
+ghost use Rattle.std.specs.Prelude.{◌≡◌, ◌≤◌, ◌<◌, true, [], Some, length, position, nat_lt, IfOk, IfSome, IsTrue, OnOk, OnErr};
 ghost use Rattle.std.specs.Option.{option_copied, option_map, option_map_or};
 ghost use Rattle.switch_session.specs.declared.quiet.Quiet.TheVariants.{Well};
 ghost use Rattle.switch_session.specs.declared.state.Step.TheVariants.{Nothing};
 ghost use Rattle.switch_session.specs.Connections.{due_at, next_id};
 ghost use Rattle.switch_session.specs.Stages.{leads};
+ghost use Rattle.ctl_world.specs.Staying.{leaves};
 ghost use Rattle.ctl_world.specs.Connections.{change, conn_of, conn_with, gap, has_number, is_of, is_open, put, with_asked, with_dp, with_fed, with_heard, with_looked, with_said, with_sent, without};
 
 use crate::staying::leaves;
@@ -184,7 +185,8 @@ impl Conns {
     /// Whether hearing a message leaves the stage of a connection, what it awaits and the ports that it told
     /// as they are. Of some that do, as an ERROR on a connection that was closed, the answer is `false`.
     pub fn stays(&self, number: u32, message: &Message, xid: u32) -> bool
-        ensures { IsTrue result → (c : Conn) → conn_with self.now number ≡ Some c → (leads c.session.state message.now xid).0 ≡ c.session.state }
+        ensures left { IsTrue result → (c : Conn) → conn_with self.now number ≡ Some c → (leads c.session.state message.now xid).0 ≡ c.session.state }
+        ensures exact { result ≡ option_map_or (λ c. leaves c.session.state message.now xid) (conn_with self.now number) true }
     {
         match self.get(number) {
             Some(conn) => leaves(&conn.session, message, xid),

@@ -22,7 +22,7 @@ returns-then-stays c =
     let at : conn_with w.conns number ≡ Some d = sym c.get.ensures ∙ ap option_copied c.in-Some.is in
     let step : c.in_ok-step.step ≡ (leads d.session.state m xid).1 =
     c.in_ok-step.ensures.step ∙ ap (λ o. option_map_or (λ (e : Conn). (leads e.session.state m xid).1) o Nothing) at in
-    let same : (leads d.session.state m xid).0 ≡ d.session.state = c.stays-stays.ensures c.if-stays.true d at in
+    let same : (leads d.session.state m xid).0 ≡ d.session.state = c.stays-stays.ensures.left c.if-stays.true d at in
     let v : World = record w { conns = c.hear.new.self } in
     let heard : World = record w { conns = change number (with_heard m xid) w.conns } in
     let left : v ≡ heard = ap (λ cs. record w { conns = cs }) c.in_ok-step.ensures.noted in

@@ -4,8 +4,8 @@ use Rattle.ctl_world.specs.declared.conns.Conn.{Conn}
 use Rattle.ctl_world.proofs.Stays.{left}
 use Rattle.ctl_world.proofs.conns.Conns.stays.Goals as goal
 
-pub returns-in-Some : goal.returns-in-Some
-returns-in-Some c = λ is conn some.
+pub returns-in-Some-clause-left : goal.returns-in-Some-clause-left
+returns-in-Some-clause-left c = λ is conn some.
     let e : Some c.in-Some.conn.now ≡ Some conn = c.in-Some.ensures ∙ some in
     let same : c.in-Some.conn.now ≡ conn = cc in
     subst (λ (d : Conn). (leads d.session.state c.args.message.now c.args.xid).0 ≡ d.session.state) same
