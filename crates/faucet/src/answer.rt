@@ -1,7 +1,7 @@
-ghost use Rattle.std.specs.Prelude.{◌≡◌, ◌⊎◌, IfOk, OnErr};
+ghost use Rattle.std.specs.Prelude.{◌≡◌, ◌≢◌, ◌⊎◌, IfOk, OnErr};
 ghost use Rattle.std.specs.Process.{exit_status};
 ghost use Rattle.fg_outside.specs.Counts.{Rose};
-ghost use Rattle.fg_outside.specs.Wrote.{appended};
+ghost use Rattle.fg_outside.specs.Wrote.{appended, AppendsFront};
 ghost use Rattle.command_line.specs.Meaning.{meaning};
 ghost use Rattle.faucet_top.specs.Answer.{out_of_memory};
 ghost use Rattle.faucet_top.specs.Given.{Gives};
@@ -27,6 +27,8 @@ pub fn answer_words<F: Files, O: Sink, E: Sink>(
         (O.faults out.old) (O.faults out.new) (E.faults err.old) (E.faults err.new)) }
 
     ensures memory { OnErr words (((exit_status result.0 ≡ 8) × (E.wrote err.new ≡ appended (E.wrote err.old) out_of_memory.err)) ⊎ (exit_status result.0 ≡ 4)) }
+    ensures front { OnErr words (exit_status result.0 ≢ 8 → AppendsFront (E.wrote err.old) (E.wrote err.new) out_of_memory.err) }
+    ensures write_fault { OnErr words (exit_status result.0 ≢ 8 → Rose (E.faults err.old) (E.faults err.new)) }
     ensures out { OnErr words (out.new ≡ out.old) }
 {
     match words {
