@@ -1,31 +1,16 @@
--- Lists that are taken apart from the end, and addresses that are kept once.
-use Rattle.std.proofs.Common.{◌≡◌, ℕ, zero, suc, ◌≤◌, ◌+◌, ◌<◌, Bool, true, false, cond, not, ◌||◌, if◌then◌else◌, inl, inr, Some, List, [], ◌∷◌, ◌++◌, map, filter, reverse, length, take, get_or, slice_get, remove, refl, sym, ap, ◌∙◌, true≢false, arith, append-nil}
+-- Lists that are joined of others, and addresses that are kept once.
+use Rattle.std.proofs.Common.{◌≡◌, ℕ, ◌+◌, ◌<◌, Bool, true, false, cond, not, ◌||◌, inl, inr, List, [], ◌∷◌, ◌++◌, map, filter, length, take, get_or, refl, sym, ap, ◌∙◌, true≢false, append-nil}
 use Rattle.std.specs.List.{AllByRecursion, list_any, flat_map}
 use Rattle.std.proofs.lemmas.Bool.{cases_Bool}
-use Rattle.std.proofs.lemmas.List.{append_assoc, map-append, reverse-append, take_more}
+use Rattle.std.proofs.lemmas.List.{append_assoc, map-append, take_more}
 use Rattle.std.proofs.lemmas.List.Concat.{flat_map-append}
 use Rattle.std.proofs.lemmas.List.Elements.{filter-append}
-use Rattle.std.proofs.lemmas.Option.{same_Some, none-some}
 use Rattle.net_base.specs.declared.address.Mac.{Mac}
 use Rattle.conf_types.specs.declared.vlan.Vlan.{Vlan}
 use Rattle.conf_types.specs.Lists.{EachBefore, is_same}
 use Rattle.plan_base.proofs.Each.{all_filter}
 use Rattle.plan_units.specs.Agrees.{same_bytes, equal_bytes}
 use Rattle.plan_units.specs.Fixed.{once}
-
--- ---- from the end
-
--- the last element and the others
-last_out : {A : Type 0} (xs : List A) (x : A) (i : ℕ) → length xs ≤ suc i → slice_get xs i ≡ Some x → xs ≡ remove xs i ++ x ∷ []
-last_out [] x i few is = absurd (none-some x is)
-last_out (y ∷ []) x zero few is = ap (λ z. z ∷ []) (same_Some y x is)
-last_out (y ∷ z ∷ zs) x zero few is = absurd (omega (arith, few))
-last_out (y ∷ ys) x (suc i) few is = ap (λ l. y ∷ l) (last_out ys x i (omega (arith, few)) is)
-
--- one more element is moved
-pub one_moved : {A : Type 0} (out xs : List A) (x : A) (i : ℕ) → length xs ≤ suc i → slice_get xs i ≡ Some x → (out ++ x ∷ []) ++ reverse (remove xs i) ≡ out ++ reverse xs
-one_moved out xs x i few is =
-    append_assoc out (x ∷ []) (reverse (remove xs i)) ∙ ap (λ l. out ++ l) (sym (ap reverse (last_out xs x i few is) ∙ reverse-append (remove xs i) (x ∷ [])))
 
 -- ---- one more member of a list that is joined of others
 

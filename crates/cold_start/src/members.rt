@@ -29,9 +29,9 @@ pub(crate) fn port_entries<T: Tally>(
 {
     let mut made = port_acl_entries(alloc, conf, dp, port, units)?;
     let admitted = admit_entries(alloc, conf, dp, port, units)?;
-    append(alloc, &mut made, admitted)?;
+    append(&mut made, admitted)?;
     let missed = miss_entries(alloc, conf, dp, port, hosts, units)?;
-    append(alloc, &mut made, missed)?;
+    append(&mut made, missed)?;
     Ok(made)
 }
 
@@ -50,9 +50,9 @@ pub(crate) fn vlan_entries<T: Tally>(
 {
     let mut made = vlan_acl_entries(alloc, conf, dp, vlan, units)?;
     let answered = vip_entries(alloc, conf, dp, vlan, units)?;
-    append(alloc, &mut made, answered)?;
+    append(&mut made, answered)?;
     let flooded = flood_entries(alloc, conf, dp, vlan, paths, units)?;
-    append(alloc, &mut made, flooded)?;
+    append(&mut made, flooded)?;
     Ok(made)
 }
 
@@ -72,6 +72,6 @@ pub(crate) fn host_entries<T: Tally>(
 {
     let mut made = src_entries(alloc, conf, dp, host, moment, units)?;
     let reached = dst_entries(alloc, conf, dp, host, paths, units)?;
-    append(alloc, &mut made, reached)?;
+    append(&mut made, reached)?;
     Ok(made)
 }

@@ -38,7 +38,7 @@ fn push_ports<T: Tally>(
 {
     for port in dp.ports.as_slice() {
         let made = port_entries(alloc, conf, dp, port, hosts, units)?;
-        append(alloc, all, made)?;
+        append(all, made)?;
     }
     Ok(())
 }
@@ -59,7 +59,7 @@ fn push_vlans<T: Tally>(
 {
     for vlan in vlans {
         let made = vlan_entries(alloc, conf, dp, vlan, paths, units)?;
-        append(alloc, all, made)?;
+        append(all, made)?;
     }
     Ok(())
 }
@@ -81,7 +81,7 @@ fn push_hosts<T: Tally>(
 {
     for host in hosts {
         let made = host_entries(alloc, conf, dp, host, moment, paths, units)?;
-        append(alloc, all, made)?;
+        append(all, made)?;
     }
     Ok(())
 }
@@ -102,7 +102,7 @@ fn push_routes<T: Tally>(
 {
     for vlan in vlans {
         let made = fib_entries(alloc, conf, dp, vlan, neighbours, units)?;
-        append(alloc, all, made)?;
+        append(all, made)?;
     }
     Ok(())
 }

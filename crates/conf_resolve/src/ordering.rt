@@ -19,7 +19,7 @@ fn ports_in_order(alloc: Global, dp: &RawDp) -> Result<RawDp, NoMemory>
         arp_timeout: dp.arp_timeout,
         stack_priority: dp.stack_priority,
         drops: dp.drops,
-        ports: in_order(alloc, dp.ports.copy(alloc)?)?,
+        ports: in_order(dp.ports.copy(alloc)?)?,
     })
 }
 
@@ -37,7 +37,7 @@ fn dps_in_order(alloc: Global, raw: &RawConf) -> Result<RawDps, NoMemory>
     ensures { IfOk result (λ made. made ≡ dps_in_order raw.now) }
 {
     let dps = all_ports_in_order(alloc, raw.dps.as_slice())?;
-    in_order(alloc, dps)
+    in_order(dps)
 }
 
 /// A raw configuration in the order in which it is checked, with the VLANs that numbers name and
@@ -46,8 +46,8 @@ pub fn arrange(alloc: Global, raw: &RawConf) -> Result<OrderedConf, NoMemory>
     ensures { IfOk result (λ conf. conf ≡ ordered raw.now) }
 {
     let dps = dps_in_order(alloc, raw)?;
-    let acls = in_order(alloc, raw.acls.copy(alloc)?)?;
-    let routers = in_order(alloc, raw.routers.copy(alloc)?)?;
+    let acls = in_order(raw.acls.copy(alloc)?)?;
+    let routers = in_order(raw.routers.copy(alloc)?)?;
     let vlans = vlans_by(
         alloc,
         raw.vlans.as_slice(),

@@ -92,7 +92,7 @@ fn resolve_rule(alloc: Global, rule: &RawRule) -> Result<Rule, NoMemory>
 {
     let fields = plain_fields(alloc, rule.fields.as_slice())?;
     Ok(Rule {
-        fields: in_order(alloc, fields)?,
+        fields: in_order(fields)?,
         allow: rule.allow,
         output: resolve_output(alloc, &rule.output)?,
         mirror: resolve_mirror(alloc, &rule.mirror)?,

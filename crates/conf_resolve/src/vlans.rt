@@ -137,5 +137,5 @@ pub fn vlans_by(
     let mut made = all_written(alloc, vlans)?;
     add_dps(alloc, &mut made, dps)?;
     add_routers(alloc, &mut made, routers)?;
-    PlacedVlans::new(alloc, in_order(alloc, made.into_items())?)
+    PlacedVlans::new(alloc, in_order(made.into_items())?)
 }

@@ -43,6 +43,13 @@ impl<T> Items<T> {
         self.items.as_slice()
     }
 
+    /// The elements as a vector. It takes no memory.
+    pub fn into_vec(self) -> Vec<T>
+        ensures { result.items ≡ self }
+    {
+        self.items
+    }
+
     /// How many elements there are.
     pub fn len(&self) -> usize
         ensures { result ≡ length self.now }
@@ -63,6 +70,15 @@ impl<T> Items<T> {
         ensures within { OnSome result (at < length self.now) }
     {
         self.items.get(at)
+    }
+}
+
+impl<T> From<Vec<T>> for Items<T> {
+    ghost from_gives = { λ vec items. items ≡ vec.items };
+
+    /// A vector's elements. It takes no memory.
+    fn from(items: Vec<T>) -> Items<T> {
+        Items { items }
     }
 }
 

@@ -10,9 +10,6 @@ pub const IN_PORT: u32 = 0xffff_fff8;
 /// The controller, as a port to send to.
 pub const CONTROLLER: u32 = 0xffff_fffd;
 
-/// No port in particular, in a command.
-pub const ANY_PORT: u32 = 0xffff_ffff;
-
 /// What a switch does to a packet (OpenFlow 1.3, 7.2.5).
 #[derive(Clone, Copy, Debug)]
 pub enum Action {

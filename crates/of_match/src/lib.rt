@@ -12,7 +12,7 @@ mod perform;
 mod pipeline;
 mod tables;
 
-pub use action::{ANY_PORT, Action, Actions, CONTROLLER, IN_PORT, Instr, Instrs};
+pub use action::{Action, Actions, CONTROLLER, IN_PORT, Instr, Instrs};
 pub use entry::{Command, Commands, Entries, Entry, Key};
 pub use hit::{hits, value_of};
 pub use ingress::in_port;
