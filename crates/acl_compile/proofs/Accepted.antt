@@ -8,7 +8,6 @@ use Rattle.std.proofs.lemmas.Bool.{and_parts}
 use Rattle.std.proofs.lemmas.Option.{none-some, same_Some}
 use Rattle.net_base.specs.declared.field.Field.{Field}
 use Rattle.net_base.specs.Numbers.{IsVid, IsPortNo}
-use Rattle.net_base.specs.WellFormed.{IsWellFormed}
 use Rattle.of_match.specs.declared.action.Action.{Action}
 use Rattle.of_match.specs.declared.entry.Entry.{Entry}
 use Rattle.of_match.specs.WellFormed.{IsAction, AreInstrs}
@@ -25,16 +24,18 @@ use Rattle.conf_types.specs.Membership.{is_accepting, is_stack, has_edge_member}
 use Rattle.conf_types.specs.Valid.{IsValid, IsRule, IsPort, IsDatapath, IsVlan, attached}
 use Rattle.conf_types.proofs.Found.{all_found}
 use Rattle.plan_base.specs.Accepted.{IsFlowEntry, HaveDistinctKeys}
+use Rattle.plan_base.specs.declared.table.Table.TheVariants.{PortAcl, VlanAcl}
 use Rattle.plan_base.specs.Actions.{out}
 use Rattle.plan_base.proofs.Each.{all_from, all_append, all_map, all_filter, all_filter_map, all_flat_map, all_of_append, all_of_map, all_of_filter, all_contains, before_from}
-use Rattle.plan_base.proofs.Accepted.{fits_in_port, fits_vid, is_out, are_instrs}
+use Rattle.plan_base.proofs.Accepted.{is_out, are_instrs, made_of}
+use Rattle.plan_base.proofs.MatchFields.{is_in_port, is_vid_field, AreFields, are_fields}
 use Rattle.acl_compile.specs.declared.place.Place.{Place}
 use Rattle.acl_compile.specs.declared.place.Place.TheVariants.{AtPort, AtVlan}
-use Rattle.acl_compile.specs.Places.{next_at, field_at}
+use Rattle.acl_compile.specs.Places.{table_at, next_at}
 use Rattle.acl_compile.specs.Targets.{may_go, target, once, targets}
 use Rattle.acl_compile.specs.Rows.{rule_priority, rule_instrs, asks_for_another, with_vid, rule_fields, rule_entry_for, rule_entry, denial}
 use Rattle.acl_compile.specs.Slices.{rule_entries, acl_entries, port_entry, has_acls, port_acl, vlan_acl}
-use Rattle.acl_compile.proofs.Matches.{with_port_is_formed, with_vid_is_formed}
+use Rattle.acl_compile.proofs.Matches.{are_match_fields, with_port, among_fields}
 
 -- ---- the place
 
@@ -78,28 +79,24 @@ module _ (conf : Configuration) (d : Dp) (valid : IsDatapath conf d) (at : Place
 
   -- ---- the entries of the rules
 
-  formed : (at : Place) → IsPlace at → (rule : Rule) → IsRule rule → (fields : List Field) → rule_fields at rule.fields ≡ Some fields → IsWellFormed fields
+  formed : (at : Place) → IsPlace at → (rule : Rule) → IsRule rule → (fields : List Field) → rule_fields at rule.fields ≡ Some fields → AreFields fields
   formed (AtPort number) place rule is fields e =
-      let P : List Field → Type 0 = λ l. IsWellFormed l in subst P (same_Some _ fields e) (with_port_is_formed number rule place is)
+      let P : List Field → Type 0 = λ l. AreFields l in subst P (same_Some _ fields e) (with_port number rule place is)
   formed (AtVlan vid) place rule is fields e = one (list_any (asks_for_another vid) rule.fields) e
     where
-      one : (b : Bool) → cond b None (Some (with_vid vid rule.fields)) ≡ Some fields → IsWellFormed fields
+      one : (b : Bool) → cond b None (Some (with_vid vid rule.fields)) ≡ Some fields → AreFields fields
       one true e = absurd (none-some fields e)
-      one false e = let P : List Field → Type 0 = λ l. IsWellFormed l in subst P (same_Some _ fields e) (with_vid_is_formed vid rule.fields place is.fields)
+      one false e = let P : List Field → Type 0 = λ l. AreFields l in subst P (same_Some _ fields e) (among_fields vid rule.fields place is.fields (are_match_fields rule is))
 
   is_rule_entry : IsPlace at → (priority : ℕ) → priority < 2 ^ 16 → (rule : Rule) → IsRule rule → (e : Entry) → rule_entry at d priority rule ≡ Some e → IsFlowEntry e
   is_rule_entry place priority fits rule is e found = of_fields (rule_fields at rule.fields) (λ fields same. formed at place rule is fields same) found
     where
-      of_fields : (o : Option (List Field)) → ((fields : List Field) → o ≡ Some fields → IsWellFormed fields) → option_map (rule_entry_for at d priority rule) o ≡ Some e → IsFlowEntry e
+      of_fields : (o : Option (List Field)) → ((fields : List Field) → o ≡ Some fields → AreFields fields) → option_map (rule_entry_for at d priority rule) o ≡ Some e → IsFlowEntry e
       of_fields None h same = absurd (none-some e same)
       of_fields (Some fields) h same =
           let P : Entry → Type 0 = λ x. IsFlowEntry x in
           subst P (same_Some (rule_entry_for at d priority rule fields) e same)
-          (record { table = table_small at; priority = fits; fields = h fields refl; instrs = are_rule_instrs rule })
-        where
-          table_small : (at : Place) → (rule_entry_for at d priority rule fields).key.table < 2 ^ 8
-          table_small (AtPort number) = lit< tt
-          table_small (AtVlan vid) = lit< tt
+          (made_of (table_at at) priority fields (rule_instrs at d rule) fits (h fields refl) (are_rule_instrs rule))
 
 -- ---- the rules of named ACLs
 
@@ -120,14 +117,11 @@ all_enumerated P n [] all = tt
 all_enumerated P n (x ∷ xs) all = (all.0, all_enumerated P (n + 1) xs all.1)
 
 is_denial : (at : Place) → IsPlace at → IsFlowEntry (denial at)
-is_denial (AtPort number) place =
-    record { table = lit< tt; priority = lit< tt; fields = record { ascending = (tt, tt); fitting = (fits_in_port number place, tt); prerequisites = (refl, tt) }; instrs = tt }
-is_denial (AtVlan vid) place =
-    record { table = lit< tt; priority = lit< tt; fields = record { ascending = (tt, tt); fitting = (fits_vid vid place, tt); prerequisites = (refl, tt) }; instrs = tt }
+is_denial (AtPort number) place = made_of PortAcl 1 _ _ (lit< tt) (are_fields _ (tt, tt) (is_in_port number place, tt) (refl, tt)) tt
+is_denial (AtVlan vid) place = made_of VlanAcl 1 _ _ (lit< tt) (are_fields _ (tt, tt) (is_vid_field vid place, tt) (refl, tt)) tt
 
 is_port_entry : (number : ℕ) → IsPortNo number → IsFlowEntry (port_entry number)
-is_port_entry number place =
-    record { table = lit< tt; priority = lit< tt; fields = record { ascending = (tt, tt); fitting = (fits_in_port number place, tt); prerequisites = (refl, tt) }; instrs = lit< tt }
+is_port_entry number place = made_of PortAcl 1 _ _ (lit< tt) (are_fields _ (tt, tt) (is_in_port number place, tt) (refl, tt)) (lit< tt)
 
 are_acl_entries : (conf : Configuration) → IsValid conf → (d : Dp) → IsDatapath conf d → (at : Place) → IsPlace at → (acls : List (List ℕ)) → AllByRecursion IsFlowEntry (acl_entries at conf d acls)
 are_acl_entries conf valid d datapath at place acls =

@@ -1,10 +1,11 @@
 -- Matches of the rules of ACLs are matches that a switch accepts.
-use Rattle.std.proofs.Common.{◌≡◌, ℕ, ◌+◌, ◌-◌, ◌^◌, ◌<◌, ◌≤◌, ◌==◌, ◌&&◌, ◌||◌, not, nat_lt, Bool, true, false, cond, if◌then◌else◌, Option, Some, None, List, [], ◌∷◌, ◌++◌, map, filter, find, refl, sym, ap, ◌∙◌, arith, lit<, lit≤, inl, inr}
-use Rattle.std.specs.Prelude.{Contains, IsTrue}
+use Rattle.std.proofs.Common.{◌≡◌, ℕ, ◌+◌, ◌-◌, ◌*◌, ◌/◌, ◌^◌, ◌<◌, ◌≤◌, ◌==◌, ◌&&◌, ◌||◌, not, nat_lt, Bool, true, false, cond, if◌then◌else◌, Option, Some, None, List, [], ◌∷◌, ◌++◌, map, filter, find, refl, sym, ap, ◌∙◌, arith, lit<, lit≤, inl, inr}
+use Rattle.std.specs.Prelude.{Contains, IsTrue, bit_and}
 use Rattle.std.specs.List.{AllByRecursion, list_any, filter_map, flat_map, enumerate_from}
 use Rattle.std.specs.Option.{option_map, option_map_or, option_and_then}
 use Rattle.std.proofs.lemmas.Bool.{cases_Bool, eqb-true, ltb-true, and_parts}
 use Rattle.std.proofs.lemmas.Bool.Decides.{nat_tests}
+use Rattle.std.proofs.lemmas.Nat.{pow_pos, and_le_r, shr_split}
 use Rattle.std.proofs.lemmas.List.Folds.{list_any-append}
 use Rattle.std.proofs.lemmas.Map.Views.{any-filter_same}
 use Rattle.net_base.specs.declared.field.Field.{Field}
@@ -14,15 +15,49 @@ use Rattle.net_base.specs.declared.field.Prerequisite.{Prerequisite}
 use Rattle.net_base.specs.declared.field.Prerequisite.TheVariants.{Tagged, Exactly, Either}
 use Rattle.net_base.specs.FieldId.{number_of, prerequisite_of, all_ones}
 use Rattle.net_base.specs.Numbers.{IsVid, IsPortNo}
-use Rattle.net_base.specs.WellFormed.{Fits, AreAscending, IsWellFormed, meets, has_prerequisite}
+use Rattle.net_base.specs.WellFormed.{AreAscending, IsWellFormed, meets, has_prerequisite}
 use Rattle.of_match.proofs.AfterOrder.{all_pass}
-use Rattle.conf_types.specs.RuleFields.{MayAsk}
+use Rattle.conf_types.specs.RuleFields.{IsNumber, IsMacMask, IsPrefix, MayAsk}
 use Rattle.conf_types.specs.declared.acl.Rule.{Rule}
 use Rattle.conf_types.specs.Valid.{IsRule}
 use Rattle.plan_base.specs.Fields.{in_port, vid_field}
+use Rattle.plan_base.specs.MatchFields.{bits_of, may_be_masked, IsMatchField}
 use Rattle.plan_base.proofs.Each.{all_from, all_append, all_filter}
-use Rattle.plan_base.proofs.Accepted.{fits_in_port, fits_vid}
+use Rattle.plan_base.proofs.MatchFields.{is_in_port, is_vid_field, whole_field, without_host_bits, AreFields, are_fields}
 use Rattle.acl_compile.specs.Rows.{with_vid}
+
+-- ---- what a rule asks for
+
+number_asked : (least most : ℕ) (f : Field) → IsNumber least most f → most < 2 ^ bits_of f.id → IsMatchField f
+number_asked least most f h less = whole_field f (omega (arith, h.to)) h.whole
+
+mac_asked : (f : Field) → IsMacMask f → bits_of f.id ≡ 48 → may_be_masked f.id ≡ true → IsMatchField f
+mac_asked f h bits may =
+    let less : f.value < 2 ^ 48 = omega (arith, h.most, h.within, and_le_r f.value f.mask) in
+    record { bits = rw bits less; within = h.within; mask = inr (may, rw bits h.most) }
+
+prefix_asked : (f : Field) → IsPrefix f → bits_of f.id ≡ 32 → may_be_masked f.id ≡ true → IsMatchField f
+prefix_asked f h bits may =
+    let some : 0 < 2 ^ h.host_bits = pow_pos h.host_bits in
+    let none : f.value / 2 ^ h.host_bits * 2 ^ h.host_bits ≡ f.value = omega (arith, shr_split f.value h.host_bits, h.zeros) in
+    record {
+      bits = rw bits h.most;
+      within = ap (bit_and f.value) h.mask ∙ without_host_bits f.value h.host_bits (omega (arith, h.long)) h.most none;
+      mask = inr (may, rw bits (omega (arith, h.mask)));
+    }
+
+is_asked : (id : FieldId) (f : Field) → f.id ≡ id → MayAsk id f → IsMatchField f
+is_asked InPort f e h = absurd h
+is_asked EthDst f e h = mac_asked f h (ap bits_of e) (ap may_be_masked e)
+is_asked EthSrc f e h = mac_asked f h (ap bits_of e) (ap may_be_masked e)
+is_asked Ipv4Src f e h = prefix_asked f h (ap bits_of e) (ap may_be_masked e)
+is_asked Ipv4Dst f e h = prefix_asked f h (ap bits_of e) (ap may_be_masked e)
+is_asked ArpSpa f e h = prefix_asked f h (ap bits_of e) (ap may_be_masked e)
+is_asked ArpTpa f e h = prefix_asked f h (ap bits_of e) (ap may_be_masked e)
+is_asked id f e h = number_asked _ _ f h (rw e (lit< tt))
+
+pub are_match_fields : (rule : Rule) → IsRule rule → AllByRecursion IsMatchField rule.fields
+are_match_fields rule h = all_from {P = λ (f : Field). MayAsk f.id f} {Q = IsMatchField} (λ f asked. is_asked f.id f refl asked) rule.fields h.each
 
 -- ---- the port, before what the rule asks for
 
@@ -39,12 +74,12 @@ still_asked (Some p) g fields h = either (meets p g) h
     either true e = refl
     either false e = e
 
-pub with_port_is_formed : (number : ℕ) (rule : Rule) → IsPortNo number → IsRule rule → IsWellFormed (in_port number ∷ rule.fields)
-with_port_is_formed number rule port h = record {
-  ascending = (all_from {P = λ (f : Field). MayAsk f.id f} {Q = λ (f : Field). 0 < number_of f.id} (λ f asked. asks_no_port f.id f asked) rule.fields h.each, h.fields.ascending);
-  fitting = (fits_in_port number port, h.fields.fitting);
-  prerequisites = (refl, all_from {P = λ (f : Field). IsTrue (has_prerequisite f.id rule.fields)} {Q = λ (f : Field). IsTrue (has_prerequisite f.id (in_port number ∷ rule.fields))} (λ f met. still_asked (prerequisite_of f.id) (in_port number) rule.fields met) rule.fields h.fields.prerequisites);
-}
+pub with_port : (number : ℕ) (rule : Rule) → IsPortNo number → IsRule rule → AreFields (in_port number ∷ rule.fields)
+with_port number rule port h =
+    are_fields _
+    (all_from {P = λ (f : Field). MayAsk f.id f} {Q = λ (f : Field). 0 < number_of f.id} (λ f asked. asks_no_port f.id f asked) rule.fields h.each, h.fields.ascending)
+    (is_in_port number port, are_match_fields rule h)
+    (refl, all_from {P = λ (f : Field). IsTrue (has_prerequisite f.id rule.fields)} {Q = λ (f : Field). IsTrue (has_prerequisite f.id (in_port number ∷ rule.fields))} (λ f met. still_asked (prerequisite_of f.id) (in_port number) rule.fields met) rule.fields h.fields.prerequisites)
 
 -- ---- the tag of a VLAN, among what the rule asks for
 
@@ -130,14 +165,14 @@ module _ (vid : ℕ) (fields : List Field) where
   abbrev Met : Field → Type 0
   Met = λ f. IsTrue (has_prerequisite f.id (with_vid vid fields))
 
-  pub with_vid_is_formed : IsVid vid → IsWellFormed fields → IsWellFormed (with_vid vid fields)
-  with_vid_is_formed v h = record {
-    ascending = ascending_joined (vid_field vid) (filter low fields) (filter high fields) (ascending_filter low fields h.ascending)
-        (all_passing (λ f. number_of f.id < 6) low (λ f is. ltb-true (number_of f.id) 6 is))
-        (all_passing (λ f. 6 < number_of f.id) high (λ f is. ltb-true 6 (number_of f.id) is), ascending_filter high fields h.ascending);
-    fitting = all_append Fits (filter low fields) (vid_field vid ∷ filter high fields) (all_filter Fits low fields h.fitting) (fits_vid vid v, all_filter Fits high fields h.fitting);
-    prerequisites = all_append Met (filter low fields) (vid_field vid ∷ filter high fields) (all_filter Met low fields met) (refl, all_filter Met high fields met);
-  }
+  pub among_fields : IsVid vid → IsWellFormed fields → AllByRecursion IsMatchField fields → AreFields (with_vid vid fields)
+  among_fields v h each =
+      are_fields _
+      (ascending_joined (vid_field vid) (filter low fields) (filter high fields) (ascending_filter low fields h.ascending)
+      (all_passing (λ f. number_of f.id < 6) low (λ f is. ltb-true (number_of f.id) 6 is))
+      (all_passing (λ f. 6 < number_of f.id) high (λ f is. ltb-true 6 (number_of f.id) is), ascending_filter high fields h.ascending))
+      (all_append IsMatchField (filter low fields) (vid_field vid ∷ filter high fields) (all_filter IsMatchField low fields each) (is_vid_field vid v, all_filter IsMatchField high fields each))
+      (all_append Met (filter low fields) (vid_field vid ∷ filter high fields) (all_filter Met low fields met) (refl, all_filter Met high fields met))
     where
       met : AllByRecursion (λ f. IsTrue (has_prerequisite f.id (with_vid vid fields))) fields
       met = all_from {P = λ (f : Field). IsTrue (has_prerequisite f.id fields)} {Q = λ (f : Field). IsTrue (has_prerequisite f.id (with_vid vid fields))} (λ f is. among (prerequisite_of f.id) (asks_others f.id) is) fields h.prerequisites

@@ -11,8 +11,9 @@ ghost use Rattle.conf_types.specs.Valid.{IsValid};
 ghost use Rattle.plan_base.specs.Accepted.{IsFlowEntry, HaveDistinctKeys};
 ghost use Rattle.acl_compile.specs.Slices.{port_acl, vlan_acl};
 
-/// A switch accepts each entry: its match is in order, with what each field asks for before it, and
-/// its instructions are well formed (OpenFlow 1.3, 7.2.3 and 7.2.4).
+/// A switch accepts each entry: its match is in order, with what each field asks for before it, each
+/// field has its bits and a mask only where it takes one, and its instructions are well formed
+/// (OpenFlow 1.3, 7.2.3 and 7.2.4).
 #[tactic(auto, using(crate::proofs::Accepted::accepted_laws))]
 pub fn entries_are_accepted()
     ensures ports { (conf : Configuration) → IsValid conf → (d : Dp) → Contains conf.dps d → (i : Port) → Contains d.ports i

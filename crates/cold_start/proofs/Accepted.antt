@@ -1,5 +1,5 @@
 -- A switch accepts each entry of a plan.
-use Rattle.std.proofs.Common.{ℕ, ◌^◌, ◌<◌, Bool, true, false, cond, List, [], ◌∷◌, refl, lit<, lit≤}
+use Rattle.std.proofs.Common.{ℕ, ◌^◌, ◌<◌, Bool, true, false, cond, List, [], ◌∷◌, refl, lit<}
 use Rattle.std.specs.Prelude.{Contains}
 use Rattle.std.specs.List.{AllByRecursion, flat_map}
 use Rattle.net_base.specs.declared.address.Mac.{Mac}
@@ -7,7 +7,6 @@ use Rattle.net_base.specs.declared.field.Field.{Field}
 use Rattle.net_base.specs.declared.field.FieldId.TheVariants.{EthDst, EthSrc}
 use Rattle.net_base.specs.Address.{IsSixBytes}
 use Rattle.net_base.specs.Field.{exact}
-use Rattle.net_base.specs.WellFormed.{IsWellFormed}
 use Rattle.of_match.specs.declared.entry.Entry.{Entry}
 use Rattle.conf_types.specs.declared.datapath.Dp.{Dp}
 use Rattle.conf_types.specs.declared.state.HostRec.{HostRec}
@@ -17,9 +16,10 @@ use Rattle.packet_way.specs.declared.drops.TheConstants.{BROADCAST, LLDP, PVST_G
 use Rattle.packet_way.specs.Known.{stack_of}
 use Rattle.plan_base.specs.Accepted.{IsFlowEntry}
 use Rattle.plan_base.specs.declared.table.Table.{Table}
-use Rattle.plan_base.specs.declared.table.Table.TheVariants.{Ipv4Route, Ipv6Route, Vip, Destination, Flood}
+use Rattle.plan_base.specs.declared.table.Table.TheVariants.{Admission, Source, Ipv4Route, Ipv6Route, Vip, Destination, Flood}
 use Rattle.plan_base.specs.Fields.{eth_src, eth_type}
-use Rattle.plan_base.proofs.Accepted.{fits_exact, fits_eth_src, fits_eth_type, fits_group_src, table_fits}
+use Rattle.plan_base.proofs.Accepted.{table_fits, made_of}
+use Rattle.plan_base.proofs.MatchFields.{is_exact, is_eth_src, is_eth_type, is_group_src, AreFields, are_fields}
 use Rattle.plan_base.proofs.Each.{all_from, all_append, all_map, all_filter, all_flat_map, all_contains, all_by}
 use Rattle.acl_compile.specs.Slices.{port_acl, vlan_acl}
 use Rattle.acl_compile.proofs.Accepted.{accepted_of_port, accepted_of_vlan}
@@ -36,23 +36,23 @@ use Rattle.cold_start.proofs.Distinct.{in_conf, gateways_six}
 module _ (conf : Configuration) (now : State) (d : Dp) (s : IsSetting conf now d) where
   -- ---- what stands once
 
-  is_drop : (priority : ℕ) → priority < 2 ^ 16 → (f : Field) → IsWellFormed (f ∷ []) → IsFlowEntry (drop priority f)
-  is_drop priority less f formed = record { table = lit< tt; priority = less; fields = formed; instrs = tt }
+  is_drop : (priority : ℕ) → priority < 2 ^ 16 → (f : Field) → AreFields (f ∷ []) → IsFlowEntry (drop priority f)
+  is_drop priority less f are = made_of Admission priority _ _ less are tt
 
-  bridge_1 : IsWellFormed (exact EthDst PVST_GROUP ∷ [])
-  bridge_1 = record { ascending = (tt, tt); fitting = (fits_exact EthDst PVST_GROUP (lit≤ tt), tt); prerequisites = (refl, tt) }
+  bridge_1 : AreFields (exact EthDst PVST_GROUP ∷ [])
+  bridge_1 = are_fields _ (tt, tt) (is_exact EthDst PVST_GROUP (lit< tt), tt) (refl, tt)
 
-  bridge_2 : IsWellFormed (exact EthDst BRIDGE_GROUP ∷ [])
-  bridge_2 = record { ascending = (tt, tt); fitting = (fits_exact EthDst BRIDGE_GROUP (lit≤ tt), tt); prerequisites = (refl, tt) }
+  bridge_2 : AreFields (exact EthDst BRIDGE_GROUP ∷ [])
+  bridge_2 = are_fields _ (tt, tt) (is_exact EthDst BRIDGE_GROUP (lit< tt), tt) (refl, tt)
 
-  lldp : IsWellFormed (eth_type LLDP ∷ [])
-  lldp = record { ascending = (tt, tt); fitting = (fits_eth_type LLDP (lit< tt), tt); prerequisites = (refl, tt) }
+  lldp : AreFields (eth_type LLDP ∷ [])
+  lldp = are_fields _ (tt, tt) (is_eth_type LLDP (lit< tt), tt) (refl, tt)
 
-  broadcast : IsWellFormed (exact EthSrc BROADCAST ∷ [])
-  broadcast = record { ascending = (tt, tt); fitting = (fits_exact EthSrc BROADCAST (lit≤ tt), tt); prerequisites = (refl, tt) }
+  broadcast : AreFields (exact EthSrc BROADCAST ∷ [])
+  broadcast = are_fields _ (tt, tt) (is_exact EthSrc BROADCAST (lit< tt), tt) (refl, tt)
 
-  spoofed : (mac : Mac) → IsSixBytes mac.0 → IsWellFormed (eth_src mac ∷ [])
-  spoofed mac six = record { ascending = (tt, tt); fitting = (fits_eth_src mac six, tt); prerequisites = (refl, tt) }
+  spoofed : (mac : Mac) → IsSixBytes mac.0 → AreFields (eth_src mac ∷ [])
+  spoofed mac six = are_fields _ (tt, tt) (is_eth_src mac six, tt) (refl, tt)
 
   wanted : (b : Bool) (es : List Entry) → AllByRecursion IsFlowEntry es → AllByRecursion IsFlowEntry (cond b es [])
   wanted true es all = all
@@ -68,10 +68,10 @@ module _ (conf : Configuration) (now : State) (d : Dp) (s : IsSetting conf now d
       (all_from {P = λ (mac : Mac). IsSixBytes mac.0} {Q = λ (mac : Mac). IsFlowEntry (drop 30 (eth_src mac))} (λ mac six. is_drop 30 (lit< tt) (eth_src mac) (spoofed mac six)) (gateways conf) (gateways_six conf now d s))))))
 
   is_pass : (table next : Table) → IsFlowEntry (pass table next)
-  is_pass table next = record { table = table_fits table; priority = lit< tt; fields = record { ascending = tt; fitting = tt; prerequisites = tt }; instrs = table_fits next }
+  is_pass table next = made_of table 0 [] _ (lit< tt) (are_fields [] tt tt tt) (table_fits next)
 
   is_from_group : IsFlowEntry from_group
-  is_from_group = record { table = lit< tt; priority = lit< tt; fields = record { ascending = (tt, tt); fitting = (fits_group_src, tt); prerequisites = (refl, tt) }; instrs = lit< tt }
+  is_from_group = made_of Source 40 _ _ (lit< tt) (are_fields _ (tt, tt) (is_group_src, tt) (refl, tt)) (lit< tt)
 
   are_fixed : AllByRecursion IsFlowEntry (fixed conf d)
   are_fixed =

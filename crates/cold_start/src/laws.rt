@@ -41,8 +41,9 @@ pub fn a_cold_start_is_the_plan_in_key_order()
         → IsPermutation (plan conf now d) (cold conf now d) }
 {}
 
-/// A switch accepts each entry: its match is in order, with what each field asks for before it, and its
-/// instructions are well formed (OpenFlow 1.3, 7.2.3 and 7.2.4).
+/// A switch accepts each entry: its match is in order, with what each field asks for before it, each
+/// field has its bits and a mask only where it takes one, and its instructions are well formed
+/// (OpenFlow 1.3, 7.2.3 and 7.2.4).
 pub fn a_switch_accepts_each_entry()
     ensures { (conf : Configuration) (now : State) (d : Dp) → IsSetting conf now d
         → AllByRecursion IsFlowEntry (cold conf now d) }

@@ -1,8 +1,8 @@
 -- Entries that can be done, by their parts.
-use Rattle.std.specs.Prelude.{◌≡◌, ℕ, ◌+◌, ◌/◌, ◌%◌, ◌<◌, ◌≤◌, Bool, true, false, ◌||◌, List, [], ◌∷◌, ◌++◌, map, Option, Some, None, option_to_list, if◌then◌else◌}
+use Rattle.std.specs.Prelude.{◌≡◌, ℕ, ◌+◌, ◌/◌, ◌%◌, ◌<◌, ◌≤◌, Bool, true, false, ◌==◌, ◌||◌, List, [], ◌∷◌, ◌++◌, map, Option, Some, None, option_to_list, if◌then◌else◌}
 use Rattle.std.specs.List.{AllByRecursion, list_any}
 use Rattle.std.specs.Option.{option_map}
-use Rattle.std.proofs.Common.{refl, sym, ap, subst, arith, eq-eqb}
+use Rattle.std.proofs.Common.{refl, sym, ap, subst, arith}
 use Rattle.net_base.specs.declared.field.Field.{Field}
 use Rattle.net_base.specs.Numbers.{IsVid}
 use Rattle.of_match.specs.declared.action.Action.{Action}
@@ -62,8 +62,11 @@ tagged t priority fields actions next later asks all =
     made t priority fields actions next later (subst (λ (n : ℕ). AreDoable fields n actions) (sym (ap (λ (b : Bool). if b then 1 else 0) asks)) all)
 
 -- a VLAN's identifier leaves the bit beside it
-pub present : (vid : ℕ) → IsVid vid → has_present (0x1000 + vid) ≡ true
-present vid is = let most = is.most in let bit : (0x1000 + vid) / 0x1000 % 2 ≡ 1 = omega (arith, most) in eq-eqb ((0x1000 + vid) / 0x1000 % 2) 1 bit
+pub before_vid : (vid : ℕ) → IsVid vid → (0x1000 + vid) / 0x1000 ≡ 1
+before_vid vid is = let most = is.most in omega (arith, most)
+
+present : (vid : ℕ) → IsVid vid → has_present (0x1000 + vid) ≡ true
+present vid is = ap (λ n. n % 2 == 1) (before_vid vid is)
 
 pub asks_among : (vid : ℕ) → IsVid vid → (more : List Field) → list_any asks_for_tag (vid_field vid ∷ more) ≡ true
 asks_among vid is more = ap (λ (b : Bool). b || list_any asks_for_tag more) (present vid is)

@@ -61,7 +61,7 @@ use Rattle.flow_runs.specs.Members.{all_joined, all_mapped, all_flat, all_by}
 use Rattle.plan_units.specs.Fixed.{drops, bridge_drops, lldp_drops, broadcast_drops, drop, gateways, from_group, passes, fixed}
 use Rattle.law_copies.specs.Doable.{tags_asked, asks_for_tag, AreDoable, CanBeDone}
 use Rattle.law_copies.proofs.Parts.{all_when}
-use Rattle.law_copies.proofs.DoableParts.{IsLater, IsOutput, made, tagged, present, asks_among, each, of_option, outputs_first, outputs, popped_first, sent_done, outs_are, numbers_are, copied_are}
+use Rattle.law_copies.proofs.DoableParts.{IsLater, IsOutput, made, tagged, before_vid, asks_among, each, of_option, outputs_first, outputs, popped_first, sent_done, outs_are, numbers_are, copied_are}
 
 -- an entry that ends
 ends : (t : Table) (priority : ℕ) (fields : List Field) → CanBeDone (entry t priority fields [])
@@ -132,7 +132,7 @@ module _ (conf : Configuration) (d : Dp) where
         let fields = in_port i.no ∷ untagged ∷ [] in
         made table.Admission 20 fields (mirrored d i.no ++ push_tag ∷ set_vid v.vid ∷ []) (Some (next_in v)) (later_in v)
         (outputs_first fields (tags_asked fields) (mirrored d i.no) (push_tag ∷ set_vid v.vid ∷ []) copies_are
-        (record { pushes = refl; sets = tt; values = tt; lowers = tt; pops = tt }, (record { pushes = tt; sets = omega arith; values = present v.vid is; lowers = tt; pops = tt }, tt)))
+        (record { pushes = refl; sets = tt; values = tt; lowers = tt; pops = tt }, (record { pushes = tt; sets = omega arith; values = before_vid v.vid is; lowers = tt; pops = tt }, tt)))
 
     with_tag_done : (v : Vlan) → CanBeDone (with_tag d i v)
     with_tag_done v =
@@ -302,7 +302,7 @@ module _ (v : Vlan) (is : IsVid v.vid) where
             record { pushes = tt; sets = tt; values = tt; lowers = tt; pops = tt },
             (
               record { pushes = tt; sets = tt; values = tt; lowers = tt; pops = tt },
-              (record { pushes = tt; sets = omega arith; values = present vid there; lowers = tt; pops = tt }, (record { pushes = tt; sets = tt; values = tt; lowers = refl; pops = tt }, tt)),
+              (record { pushes = tt; sets = omega arith; values = before_vid vid there; lowers = tt; pops = tt }, (record { pushes = tt; sets = tt; values = tt; lowers = refl; pops = tt }, tt)),
             ),
           )
       by Network there = handed table.Ipv4Route (10 + item.len) fields

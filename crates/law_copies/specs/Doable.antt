@@ -55,9 +55,9 @@ abbrev pub SetsWhatIsThere : ℕ → Action → Type 0
 SetsWhatIsThere tags (Set f) = HasField tags f.id
 SetsWhatIsThere tags a = Unit {0}
 
--- the new VLAN identifier says that a tag is there
+-- the new VLAN identifier has 12 bits, and before them the one that says that a tag is there
 abbrev pub IsValue : FieldId → ℕ → Type 0
-IsValue VlanVid value = IsTrue (has_present value)
+IsValue VlanVid value = value / 0x1000 ≡ 1
 IsValue id value = Unit {0}
 
 abbrev pub SetsToValue : Action → Type 0

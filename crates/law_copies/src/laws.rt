@@ -22,10 +22,10 @@ pub fn the_controller_gets_whole_packets()
 
 /// Of a valid configuration and state, each entry of a datapath can be done where it stands (OpenFlow 1.3, 5.1,
 /// 7.2.4 and 7.2.5): it leads on to a later of the nine tables alone (`onward`), pushes tags of the type 0x8100
-/// alone (`pushes`), sets nothing but Ethernet addresses and, where a tag is there, its VLAN (`sets`), to a value
-/// with the bit OFPVID_PRESENT (`values`), lowers the TTL only where the match asks for IPv4 (`lowers`), and pops
-/// only a tag that is there (`pops`). A tag is there where the match asks for one, or an action before has pushed
-/// one, until it is popped. So in the plan, and in the cold start.
+/// alone (`pushes`), sets nothing but Ethernet addresses and, where a tag is there, its VLAN (`sets`), to 12 bits
+/// with OFPVID_PRESENT before them (`values`), lowers the TTL only where the match asks for IPv4 (`lowers`), and
+/// pops only a tag that is there (`pops`). A tag is there where the match asks for one, or an action before has
+/// pushed one, until it is popped. So in the plan, and in the cold start.
 pub fn each_entry_can_be_done()
     ensures plan { (conf : Configuration) (now : State) (d : Dp) → IsSetting conf now d
         → AllByRecursion CanBeDone (plan conf now d) }

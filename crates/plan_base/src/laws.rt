@@ -3,6 +3,7 @@
 ghost use Rattle.std.specs.Prelude.{◌≡◌, ◌<◌, ◌^◌, ℕ, List, Option};
 ghost use Rattle.std.specs.List.{AllByRecursion};
 ghost use Rattle.net_base.specs.declared.address.Mac.{Mac};
+ghost use Rattle.net_base.specs.declared.field.Field.{Field};
 ghost use Rattle.net_base.specs.Address.{IsSixBytes};
 ghost use Rattle.net_base.specs.Field.{prefix};
 ghost use Rattle.net_base.specs.Numbers.{IsVid, IsPortNo};
@@ -14,20 +15,25 @@ ghost use Rattle.of_match.specs.WellFormed.{IsAction, AreInstrs};
 ghost use Rattle.conf_types.specs.declared.datapath.Dp.{Dp};
 ghost use Rattle.conf_types.specs.declared.datapath.Port.{Port};
 ghost use Rattle.plan_base.specs.declared.table.Table.{Table};
-ghost use Rattle.plan_base.specs.Fields.{in_port, eth_dst, eth_src, vid_field, arp_tpa};
+ghost use Rattle.plan_base.specs.Fields.{in_port, eth_dst, eth_src, group_dst, group_src, vid_field, untagged, arp_tpa};
+ghost use Rattle.plan_base.specs.MatchFields.{IsMatchField};
 ghost use Rattle.plan_base.specs.Actions.{out, to_controller, to_ingress, push_tag, set_vid, set_eth_src, set_eth_dst};
 ghost use Rattle.plan_base.specs.Entries.{leads_to};
 ghost use Rattle.plan_base.specs.Sending.{sent};
 
-/// The value and the mask of each field fit its bytes (OpenFlow 1.3, 7.2.3.7).
-#[tactic(auto, using(crate::proofs::Accepted::field_laws))]
-pub fn fields_fit()
-    ensures ports { (number : ℕ) → IsPortNo number → Fits (in_port number) }
-    ensures destinations { (mac : Mac) → IsSixBytes mac.0 → Fits (eth_dst mac) }
-    ensures sources { (mac : Mac) → IsSixBytes mac.0 → Fits (eth_src mac) }
-    ensures vlans { (vid : ℕ) → IsVid vid → Fits (vid_field vid) }
-    ensures targets { (ip : ℕ) → ip < 2 ^ 32 → Fits (arp_tpa ip) }
-    ensures prefixes { (ip len : ℕ) → ip < 2 ^ 32 → Fits (prefix Ipv4Dst ip len) }
+/// Each field is one that a switch accepts, by its bits and its mask; so its value and its mask fit
+/// its bytes (OpenFlow 1.3, 7.2.3.5 and 7.2.3.7).
+#[tactic(auto, using(crate::proofs::MatchFields::field_laws))]
+pub fn fields_are_accepted()
+    ensures ports { (number : ℕ) → IsPortNo number → IsMatchField (in_port number) }
+    ensures destinations { (mac : Mac) → IsSixBytes mac.0 → IsMatchField (eth_dst mac) }
+    ensures sources { (mac : Mac) → IsSixBytes mac.0 → IsMatchField (eth_src mac) }
+    ensures vlans { (vid : ℕ) → IsVid vid → IsMatchField (vid_field vid) }
+    ensures groups { IsMatchField group_dst × IsMatchField group_src }
+    ensures without_tag { IsMatchField untagged }
+    ensures targets { (ip : ℕ) → ip < 2 ^ 32 → IsMatchField (arp_tpa ip) }
+    ensures prefixes { (ip len : ℕ) → ip < 2 ^ 32 → IsMatchField (prefix Ipv4Dst ip len) }
+    ensures fit { (f : Field) → IsMatchField f → Fits f }
 {}
 
 /// Each action is one that a switch accepts (OpenFlow 1.3, 7.2.5).

@@ -16,7 +16,6 @@ use Rattle.net_base.specs.Address.{IsSixBytes}
 use Rattle.net_base.specs.Field.{prefix}
 use Rattle.net_base.specs.FieldId.{number_of}
 use Rattle.net_base.specs.Numbers.{IsVid}
-use Rattle.net_base.specs.WellFormed.{IsWellFormed}
 use Rattle.of_match.specs.declared.entry.Entry.{Entry}
 use Rattle.of_match.specs.declared.entry.Key.{Key}
 use Rattle.of_match.specs.WellFormed.{AreInstrs}
@@ -37,11 +36,14 @@ use Rattle.packet_way.specs.declared.routes.Target.{Target}
 use Rattle.packet_way.specs.declared.routes.Target.TheVariants.{Gateway, Hop, Network}
 use Rattle.packet_way.specs.Routes.{mac_of_neighbour, vip_item, hop_item, neighbour_item, network_item, route_item, items_of, route_list}
 use Rattle.plan_base.specs.Accepted.{IsFlowEntry, HaveDistinctKeys}
-use Rattle.plan_base.specs.declared.table.Table.TheVariants.{Destination}
+use Rattle.plan_base.specs.declared.table.Table.TheVariants.{Ipv4Route, Vip, Destination}
 use Rattle.plan_base.specs.Actions.{to_controller, set_eth_src, set_eth_dst, set_vid, dec_ttl}
-use Rattle.plan_base.specs.Fields.{ipv4_dst}
+use Rattle.plan_base.specs.Entries.{leads_to}
+use Rattle.plan_base.specs.Fields.{eth_dst, vid_field, ipv4_dst}
+use Rattle.plan_base.specs.MatchFields.{IsMatchField}
 use Rattle.plan_base.proofs.Each.{all_from, all_append, all_map, all_filter_map, all_flat_map, all_contains, all_by, before_from, before_append, before_map, before_both}
-use Rattle.plan_base.proofs.Accepted.{fits_eth_dst, fits_eth_type, fits_vid, fits_ip_proto, fits_icmpv4_type, fits_arp_tpa, fits_prefix, is_to_controller, is_set_vid, is_set_eth_src, is_set_eth_dst, are_instrs}
+use Rattle.plan_base.proofs.Accepted.{is_to_controller, is_set_vid, is_set_eth_src, is_set_eth_dst, are_instrs, made_of}
+use Rattle.plan_base.proofs.MatchFields.{is_eth_dst, is_eth_type, is_vid_field, is_ip_proto, is_icmpv4_type, is_arp_tpa, is_prefix_field, AreFields, are_fields}
 use Rattle.route_compile.specs.Gateways.{has_gateway}
 use Rattle.route_compile.specs.Prefixes.{SamePrefix, HaveAddresses}
 use Rattle.route_compile.specs.Routes.{ipv4_for, item_fields, led_to, item_entry, no_route, fib}
@@ -162,37 +164,29 @@ are_led_to (Hop vid gateway mac) h =
 are_led_to Network h = are_instrs (to_controller ∷ []) None (is_to_controller, tt)
 
 module _ (v : Vlan) (vlan : IsVlan v) where
-  ipv4_is_formed : IsWellFormed (ipv4_for v)
-  ipv4_is_formed = record {
-    ascending = ((lit< tt, (lit< tt, tt)), ((lit< tt, tt), (tt, tt)));
-    fitting = (fits_eth_dst v.mac (station v.mac vlan.mac), (fits_eth_type 0x0800 (lit< tt), (fits_vid v.vid vlan.number, tt)));
-    prerequisites = (refl, (refl, (refl, tt)));
-  }
+  ipv4_fields : AreFields (ipv4_for v)
+  ipv4_fields =
+      are_fields _ ((lit< tt, (lit< tt, tt)), ((lit< tt, tt), (tt, tt)))
+      (is_eth_dst v.mac (station v.mac vlan.mac), (is_eth_type 0x0800 (lit< tt), (is_vid_field v.vid vlan.number, tt))) (refl, (refl, (refl, tt)))
 
-  with_prefix_is_formed : (ip len : ℕ) → ip < 2 ^ 32 → IsWellFormed (ipv4_for v ++ prefix Ipv4Dst ip len ∷ [])
-  with_prefix_is_formed ip len fits = record {
-    ascending = ((lit< tt, (lit< tt, (lit< tt, tt))), ((lit< tt, (lit< tt, tt)), ((lit< tt, tt), (tt, tt))));
-    fitting = (fits_eth_dst v.mac (station v.mac vlan.mac), (fits_eth_type 0x0800 (lit< tt), (fits_vid v.vid vlan.number, (fits_prefix ip len fits, tt))));
-    prerequisites = (refl, (refl, (refl, (refl, tt))));
-  }
+  prefix_fields : (ip len : ℕ) → ip < 2 ^ 32 → AreFields (ipv4_for v ++ prefix Ipv4Dst ip len ∷ [])
+  prefix_fields ip len fits =
+      are_fields _ ((lit< tt, (lit< tt, (lit< tt, tt))), ((lit< tt, (lit< tt, tt)), ((lit< tt, tt), (tt, tt))))
+      (is_eth_dst v.mac (station v.mac vlan.mac), (is_eth_type 0x0800 (lit< tt), (is_vid_field v.vid vlan.number, (is_prefix_field ip len fits, tt))))
+      (refl, (refl, (refl, (refl, tt))))
 
-  item_is_formed : (item : RouteItem) → item.ip.0 < 2 ^ 32 → IsWellFormed (item_fields v item)
-  item_is_formed item fits = one (item.len == 0)
+  are_item_fields : (item : RouteItem) → item.ip.0 < 2 ^ 32 → AreFields (item_fields v item)
+  are_item_fields item fits = one (item.len == 0)
     where
-      one : (b : Bool) → IsWellFormed (ipv4_for v ++ cons_option (cond b None (Some (prefix Ipv4Dst item.ip.0 item.len))) [])
-      one true = ipv4_is_formed
-      one false = with_prefix_is_formed item.ip.0 item.len fits
+      one : (b : Bool) → AreFields (ipv4_for v ++ cons_option (cond b None (Some (prefix Ipv4Dst item.ip.0 item.len))) [])
+      one true = ipv4_fields
+      one false = prefix_fields item.ip.0 item.len fits
 
   is_item_entry : (item : RouteItem) → IsItem item → IsFlowEntry (item_entry v item)
-  is_item_entry item is = record {
-    table = lit< tt;
-    priority = omega (arith, is.len);
-    fields = item_is_formed item is.address;
-    instrs = are_led_to item.to is.target;
-  }
+  is_item_entry item is = made_of Ipv4Route (10 + item.len) _ _ (omega (arith, is.len)) (are_item_fields item is.address) (are_led_to item.to is.target)
 
   is_no_route : IsFlowEntry (no_route v)
-  is_no_route = record { table = lit< tt; priority = lit< tt; fields = ipv4_is_formed; instrs = tt }
+  is_no_route = made_of Ipv4Route 9 _ _ (lit< tt) ipv4_fields tt
 
   -- ---- their keys
 
@@ -255,53 +249,33 @@ module _ (conf : Configuration) (valid : IsValid conf) (d : Dp) (v : Vlan) (is_v
   is_one : IsVlan v
   is_one = all_contains IsVlan conf.vlans valid.vlans.each v is_vlan
 
+  told : AreInstrs (leads_to (to_controller ∷ []) None)
+  told = are_instrs (to_controller ∷ []) None (is_to_controller, tt)
+
+  for_gateway : IsMatchField (eth_dst v.mac)
+  for_gateway = is_eth_dst v.mac (station v.mac is_one.mac)
+
+  of_vlan : IsMatchField (vid_field v.vid)
+  of_vlan = is_vid_field v.vid is_one.number
+
   is_arp_entry : (vip : Net4) → IsVip vip → IsFlowEntry (arp_entry v vip)
-  is_arp_entry vip is = record {
-    table = lit< tt;
-    priority = lit< tt;
-    fields = record {
-      ascending = ((lit< tt, (lit< tt, tt)), ((lit< tt, tt), (tt, tt)));
-      fitting = (fits_eth_type 0x0806 (lit< tt), (fits_vid v.vid is_one.number, (fits_arp_tpa vip.ip.0 is.address, tt)));
-      prerequisites = (refl, (refl, (refl, tt)));
-    };
-    instrs = are_instrs (to_controller ∷ []) None (is_to_controller, tt);
-  }
+  is_arp_entry vip is =
+      made_of Vip 30 _ _ (lit< tt)
+      (are_fields _ ((lit< tt, (lit< tt, tt)), ((lit< tt, tt), (tt, tt))) (is_eth_type 0x0806 (lit< tt), (of_vlan, (is_arp_tpa vip.ip.0 is.address, tt))) (refl, (refl, (refl, tt)))) told
 
   is_echo_entry : IsFlowEntry (echo_entry v)
-  is_echo_entry = record {
-    table = lit< tt;
-    priority = lit< tt;
-    fields = record {
-      ascending = ((lit< tt, (lit< tt, (lit< tt, (lit< tt, tt)))), ((lit< tt, (lit< tt, (lit< tt, tt))), ((lit< tt, (lit< tt, tt)), ((lit< tt, tt), (tt, tt)))));
-      fitting = (fits_eth_dst v.mac (station v.mac is_one.mac), (fits_eth_type 0x0800 (lit< tt), (fits_vid v.vid is_one.number, (fits_ip_proto 1 (lit< tt), (fits_icmpv4_type 8 (lit< tt), tt)))));
-      prerequisites = (refl, (refl, (refl, (refl, (refl, tt)))));
-    };
-    instrs = are_instrs (to_controller ∷ []) None (is_to_controller, tt);
-  }
+  is_echo_entry =
+      made_of Vip 30 _ _ (lit< tt)
+      (are_fields _ ((lit< tt, (lit< tt, (lit< tt, (lit< tt, tt)))), ((lit< tt, (lit< tt, (lit< tt, tt))), ((lit< tt, (lit< tt, tt)), ((lit< tt, tt), (tt, tt)))))
+      (for_gateway, (is_eth_type 0x0800 (lit< tt), (of_vlan, (is_ip_proto 1 (lit< tt), (is_icmpv4_type 8 (lit< tt), tt))))) (refl, (refl, (refl, (refl, (refl, tt)))))) told
 
   is_heard_entry : IsFlowEntry (heard_entry v)
-  is_heard_entry = record {
-    table = lit< tt;
-    priority = lit< tt;
-    fields = record {
-      ascending = ((lit< tt, (lit< tt, tt)), ((lit< tt, tt), (tt, tt)));
-      fitting = (fits_eth_dst v.mac (station v.mac is_one.mac), (fits_eth_type 0x0806 (lit< tt), (fits_vid v.vid is_one.number, tt)));
-      prerequisites = (refl, (refl, (refl, tt)));
-    };
-    instrs = are_instrs (to_controller ∷ []) None (is_to_controller, tt);
-  }
+  is_heard_entry =
+      made_of Vip 20 _ _ (lit< tt)
+      (are_fields _ ((lit< tt, (lit< tt, tt)), ((lit< tt, tt), (tt, tt))) (for_gateway, (is_eth_type 0x0806 (lit< tt), (of_vlan, tt))) (refl, (refl, (refl, tt)))) told
 
   is_end_entry : IsFlowEntry (end_entry v)
-  is_end_entry = record {
-    table = lit< tt;
-    priority = lit< tt;
-    fields = record {
-      ascending = ((lit< tt, tt), (tt, tt));
-      fitting = (fits_eth_dst v.mac (station v.mac is_one.mac), (fits_vid v.vid is_one.number, tt));
-      prerequisites = (refl, (refl, tt));
-    };
-    instrs = tt;
-  }
+  is_end_entry = made_of Vip 10 _ _ (lit< tt) (are_fields _ ((lit< tt, tt), (tt, tt)) (for_gateway, (of_vlan, tt)) (refl, (refl, tt))) tt
 
   pub vips_are_accepted : AllByRecursion IsFlowEntry (vip_slice d v)
   vips_are_accepted = one (has_gateway d v)

@@ -24,8 +24,9 @@ pub fn items_have_distinct_prefixes()
         → EachBefore (λ a b. SamePrefix a b → ⊥) (route_list conf state.neighbours group v.vid) }
 {}
 
-/// A switch accepts each entry: its match is in order, with what each field asks for before it, and
-/// its instructions are well formed (OpenFlow 1.3, 7.2.3 and 7.2.4).
+/// A switch accepts each entry: its match is in order, with what each field asks for before it, each
+/// field has its bits and a mask only where it takes one, and its instructions are well formed
+/// (OpenFlow 1.3, 7.2.3 and 7.2.4).
 #[tactic(auto, using(crate::proofs::Accepted::accepted_laws))]
 pub fn entries_are_accepted()
     ensures routes { (conf : Configuration) → IsValid conf → (state : State) → IsValidState conf state → HaveAddresses state.neighbours

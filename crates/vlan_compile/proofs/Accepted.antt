@@ -1,16 +1,12 @@
 -- A switch accepts each entry.
-use Rattle.std.proofs.Common.{◌≡◌, ℕ, ◌^◌, ◌<◌, ◌==◌, ◌&&◌, ◌||◌, not, Bool, true, false, cond, Option, Some, None, List, [], ◌∷◌, ◌++◌, map, filter, refl, lit<}
+use Rattle.std.proofs.Common.{◌≡◌, ℕ, ◌<◌, ◌==◌, ◌&&◌, ◌||◌, not, Bool, true, false, cond, Option, Some, None, List, [], ◌∷◌, ◌++◌, map, filter, refl, lit<}
 use Rattle.std.specs.Prelude.{Contains, option_to_list}
 use Rattle.std.specs.List.{AllByRecursion, flat_map}
 use Rattle.std.specs.Option.{option_map, option_map_or}
 use Rattle.net_base.specs.declared.address.Mac.{Mac}
-use Rattle.net_base.specs.declared.field.Field.{Field}
 use Rattle.net_base.specs.Address.{IsSixBytes}
 use Rattle.net_base.specs.Numbers.{IsVid, IsPortNo}
-use Rattle.net_base.specs.WellFormed.{IsWellFormed}
 use Rattle.of_match.specs.declared.action.Action.{Action}
-use Rattle.of_match.specs.declared.action.Instr.{Instr}
-use Rattle.of_match.specs.declared.entry.Entry.{Entry}
 use Rattle.of_match.specs.WellFormed.{IsAction, AreInstrs}
 use Rattle.stack_paths.specs.Stack.{Stack}
 use Rattle.stack_paths.specs.Chosen.{hop_of}
@@ -26,14 +22,14 @@ use Rattle.conf_types.specs.State.{State, IsValidState, is_stale, is_permanent}
 use Rattle.conf_types.specs.Valid.{IsValid}
 use Rattle.conf_types.proofs.Found.{all_found}
 use Rattle.plan_base.specs.Accepted.{IsFlowEntry}
-use Rattle.plan_base.specs.declared.table.Table.{Table}
 use Rattle.plan_base.specs.declared.table.Table.TheVariants as table
 use Rattle.plan_base.specs.Fields.{in_port, eth_dst, eth_src, group_dst, vid_field, untagged}
 use Rattle.plan_base.specs.Actions.{out, to_ingress, to_controller, push_tag, set_vid}
-use Rattle.plan_base.specs.Entries.{leads_to, entry}
+use Rattle.plan_base.specs.Entries.{leads_to}
 use Rattle.plan_base.specs.Sending.{mirrored, copied, sent}
 use Rattle.plan_base.proofs.Each.{all_from, all_append, all_map, all_filter, all_flat_map, all_contains}
-use Rattle.plan_base.proofs.Accepted.{fits_in_port, fits_eth_dst, fits_eth_src, fits_group_dst, fits_vid, fits_untagged, is_out, is_to_controller, is_to_ingress, is_push_tag, is_set_vid, are_mirrored, are_copied, are_sent, table_fits, are_instrs}
+use Rattle.plan_base.proofs.Accepted.{is_out, is_to_controller, is_to_ingress, is_push_tag, is_set_vid, are_mirrored, are_copied, are_sent, are_instrs, made_of}
+use Rattle.plan_base.proofs.MatchFields.{is_in_port, is_eth_dst, is_eth_src, is_group_dst, is_vid_field, is_untagged, AreFields, are_fields}
 use Rattle.vlan_compile.specs.declared.flood.Flood.{Flood}
 use Rattle.vlan_compile.specs.declared.flood.Flood.TheVariants.{Group, Unicast}
 use Rattle.vlan_compile.specs.declared.flood.Ingress.{Ingress}
@@ -49,74 +45,38 @@ use Rattle.vlan_compile.proofs.Valid.{is_datapath, ports_numbered, vlans_numbere
 -- ---- matches
 
 module _ (vid : ℕ) (is_vid : IsVid vid) where
-  by_vid : IsWellFormed (vid_field vid ∷ [])
-  by_vid = record {
-    ascending = (tt, tt);
-    fitting = (fits_vid vid is_vid, tt);
-    prerequisites = (refl, tt);
-  }
+  by_vid : AreFields (vid_field vid ∷ [])
+  by_vid = are_fields _ (tt, tt) (is_vid_field vid is_vid, tt) (refl, tt)
 
-  by_group : IsWellFormed (group_dst ∷ vid_field vid ∷ [])
-  by_group = record {
-    ascending = ((lit< tt, tt), (tt, tt));
-    fitting = (fits_group_dst, (fits_vid vid is_vid, tt));
-    prerequisites = (refl, (refl, tt));
-  }
+  by_group : AreFields (group_dst ∷ vid_field vid ∷ [])
+  by_group = are_fields _ ((lit< tt, tt), (tt, tt)) (is_group_dst, (is_vid_field vid is_vid, tt)) (refl, (refl, tt))
 
   module _ (port : ℕ) (is_port : IsPortNo port) where
-    by_port_vid : IsWellFormed (in_port port ∷ vid_field vid ∷ [])
-    by_port_vid = record {
-      ascending = ((lit< tt, tt), (tt, tt));
-      fitting = (fits_in_port port is_port, (fits_vid vid is_vid, tt));
-      prerequisites = (refl, (refl, tt));
-    }
+    by_port_vid : AreFields (in_port port ∷ vid_field vid ∷ [])
+    by_port_vid = are_fields _ ((lit< tt, tt), (tt, tt)) (is_in_port port is_port, (is_vid_field vid is_vid, tt)) (refl, (refl, tt))
 
-    by_port_group : IsWellFormed (in_port port ∷ group_dst ∷ vid_field vid ∷ [])
-    by_port_group = record {
-      ascending = ((lit< tt, (lit< tt, tt)), ((lit< tt, tt), (tt, tt)));
-      fitting = (fits_in_port port is_port, (fits_group_dst, (fits_vid vid is_vid, tt)));
-      prerequisites = (refl, (refl, (refl, tt)));
-    }
+    by_port_group : AreFields (in_port port ∷ group_dst ∷ vid_field vid ∷ [])
+    by_port_group =
+        are_fields _ ((lit< tt, (lit< tt, tt)), ((lit< tt, tt), (tt, tt))) (is_in_port port is_port, (is_group_dst, (is_vid_field vid is_vid, tt))) (refl, (refl, (refl, tt)))
 
   module _ (mac : Mac) (six : IsSixBytes mac.0) where
-    by_src : IsWellFormed (eth_src mac ∷ vid_field vid ∷ [])
-    by_src = record {
-      ascending = ((lit< tt, tt), (tt, tt));
-      fitting = (fits_eth_src mac six, (fits_vid vid is_vid, tt));
-      prerequisites = (refl, (refl, tt));
-    }
+    by_src : AreFields (eth_src mac ∷ vid_field vid ∷ [])
+    by_src = are_fields _ ((lit< tt, tt), (tt, tt)) (is_eth_src mac six, (is_vid_field vid is_vid, tt)) (refl, (refl, tt))
 
-    by_dst : IsWellFormed (eth_dst mac ∷ vid_field vid ∷ [])
-    by_dst = record {
-      ascending = ((lit< tt, tt), (tt, tt));
-      fitting = (fits_eth_dst mac six, (fits_vid vid is_vid, tt));
-      prerequisites = (refl, (refl, tt));
-    }
+    by_dst : AreFields (eth_dst mac ∷ vid_field vid ∷ [])
+    by_dst = are_fields _ ((lit< tt, tt), (tt, tt)) (is_eth_dst mac six, (is_vid_field vid is_vid, tt)) (refl, (refl, tt))
 
     module _ (port : ℕ) (is_port : IsPortNo port) where
-      by_port_src : IsWellFormed (in_port port ∷ eth_src mac ∷ vid_field vid ∷ [])
-      by_port_src = record {
-        ascending = ((lit< tt, (lit< tt, tt)), ((lit< tt, tt), (tt, tt)));
-        fitting = (fits_in_port port is_port, (fits_eth_src mac six, (fits_vid vid is_vid, tt)));
-        prerequisites = (refl, (refl, (refl, tt)));
-      }
+      by_port_src : AreFields (in_port port ∷ eth_src mac ∷ vid_field vid ∷ [])
+      by_port_src =
+          are_fields _ ((lit< tt, (lit< tt, tt)), ((lit< tt, tt), (tt, tt))) (is_in_port port is_port, (is_eth_src mac six, (is_vid_field vid is_vid, tt))) (refl, (refl, (refl, tt)))
 
-      by_port_dst : IsWellFormed (in_port port ∷ eth_dst mac ∷ vid_field vid ∷ [])
-      by_port_dst = record {
-        ascending = ((lit< tt, (lit< tt, tt)), ((lit< tt, tt), (tt, tt)));
-        fitting = (fits_in_port port is_port, (fits_eth_dst mac six, (fits_vid vid is_vid, tt)));
-        prerequisites = (refl, (refl, (refl, tt)));
-      }
+      by_port_dst : AreFields (in_port port ∷ eth_dst mac ∷ vid_field vid ∷ [])
+      by_port_dst =
+          are_fields _ ((lit< tt, (lit< tt, tt)), ((lit< tt, tt), (tt, tt))) (is_in_port port is_port, (is_eth_dst mac six, (is_vid_field vid is_vid, tt))) (refl, (refl, (refl, tt)))
 
-by_port_untagged : (port : ℕ) → IsPortNo port → IsWellFormed (in_port port ∷ untagged ∷ [])
-by_port_untagged port is_port = record {
-  ascending = ((lit< tt, tt), (tt, tt));
-  fitting = (fits_in_port port is_port, (fits_untagged, tt));
-  prerequisites = (refl, (refl, tt));
-}
-
-made_of : (t : Table) (priority : ℕ) (fields : List Field) (instrs : List Instr) → priority < 2 ^ 16 → IsWellFormed fields → AreInstrs instrs → IsFlowEntry (entry t priority fields instrs)
-made_of t priority fields instrs fits formed are = record { table = table_fits t; priority = fits; fields = formed; instrs = are }
+by_port_untagged : (port : ℕ) → IsPortNo port → AreFields (in_port port ∷ untagged ∷ [])
+by_port_untagged port is_port = are_fields _ ((lit< tt, tt), (tt, tt)) (is_in_port port is_port, (is_untagged, tt)) (refl, (refl, tt))
 
 -- ---- lists with conditions
 

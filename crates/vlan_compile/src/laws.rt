@@ -21,9 +21,10 @@ ghost use Rattle.vlan_compile.specs.Misses.{misses};
 ghost use Rattle.vlan_compile.specs.Destinations.{destinations};
 ghost use Rattle.vlan_compile.specs.Floods.{floods};
 
-/// A switch accepts each entry: its match is in order, with what each field asks for before it, and
-/// its instructions are well formed (OpenFlow 1.3, 7.2.3 and 7.2.4). An Ethernet address has six bytes,
-/// and the links of the stack are those that are up.
+/// A switch accepts each entry: its match is in order, with what each field asks for before it, each
+/// field has its bits and a mask only where it takes one, and its instructions are well formed
+/// (OpenFlow 1.3, 7.2.3 and 7.2.4). An Ethernet address has six bytes, and the links of the stack are
+/// those that are up.
 #[tactic(auto, using(crate::proofs::Accepted::accepted_laws))]
 pub fn entries_are_accepted()
     ensures admissions { (conf : Configuration) → IsValid conf → (d : Dp) → Contains conf.dps d → (i : Port) → Contains d.ports i
