@@ -1,6 +1,9 @@
 pub mod Choice
+pub mod EchoDue
 pub mod EchoLaws
+pub mod MadeFrames
 pub mod Shapes
 pub mod Spelled
 pub mod Sums
 pub mod Tags
+pub mod UpperLaws

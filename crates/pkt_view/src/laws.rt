@@ -1,13 +1,17 @@
 //! Laws of the definitions: each function is empty, and its contract is the law.
 
-ghost use Rattle.std.specs.Prelude.{◌≡◌, ◌++◌, false, ◌≤◌, ◌<◌, ◌%◌, ◌-◌, ◌^◌, ℕ, List, All, IfSome, length, slice_index, take, drop, sum};
+ghost use Rattle.std.specs.Prelude.{◌≡◌, [], ◌∷◌, ◌++◌, false, Some, ◌≤◌, ◌<◌, ◌%◌, ◌-◌, ◌^◌, ◌↔◌, IsSome, ℕ, List, All, IfSome, length, slice_index, take, drop, sum};
 ghost use Rattle.std.specs.List.{fold};
+ghost use Rattle.net_base.specs.Address.{is_group};
 ghost use Rattle.pkt_view.specs.Checksum.{carried, ones_complement, internet_checksum};
-ghost use Rattle.pkt_view.specs.Frame.{is_tag_type, parts};
+ghost use Rattle.net_base.specs.declared.address.Mac.{Mac};
+ghost use Rattle.net_base.specs.declared.address.Ip4.{Ip4};
+ghost use Rattle.pkt_view.specs.Frame.{is_tag_type, parts, upper_parts, Arp, V4};
+ghost use Rattle.pkt_view.specs.Layouts.{untagged_parts, IsArp, ShowsArp, IsHeader, IsUpper, Echo, header_of, message_of, IsEcho, IsEchoRequest, Answers};
 ghost use Rattle.pkt_view.specs.Numbers.{number};
 ghost use Rattle.pkt_view.specs.Packets.{packet};
-ghost use Rattle.pkt_view.specs.Replies.{reply_header, reply_icmp};
-ghost use Rattle.of_match.specs.Shaped.{IsShaped};
+ghost use Rattle.pkt_view.specs.Replies.{untagged, arp_request, arp_reply, reply_header, reply_icmp, echo_upper};
+ghost use Rattle.of_match.specs.Shaped.{IsIp4, IsShaped};
 
 /// The parts of a frame's packet fit their headers, and agree with its EtherType and protocol, and its
 /// tags with IEEE 802.1Q.
@@ -55,4 +59,39 @@ pub fn echo_reply_exchanges_addresses()
     ensures target { (header : List ℕ) (n : ℕ) → 20 ≤ length header → take 4 (drop 16 (reply_header header n)) ≡ take 4 (drop 12 header) }
     ensures source_again { (header : List ℕ) (n : ℕ) (m : ℕ) → 20 ≤ length header → take 4 (drop 12 (reply_header (reply_header header n) m)) ≡ take 4 (drop 12 header) }
     ensures target_again { (header : List ℕ) (n : ℕ) (m : ℕ) → 20 ≤ length header → take 4 (drop 16 (reply_header (reply_header header n) m)) ≡ take 4 (drop 16 header) }
+{}
+
+/// What stands behind the EtherType is read as an ARP packet for Ethernet and IPv4 (RFC 826) or an IPv4
+/// packet (RFC 791, 3.1) exactly where it is one.
+pub fn what_is_read_behind_the_type_stands_there()
+    ensures there { (eth_type : ℕ) (payload : List ℕ) → All (λ b. b < 256) payload → IsUpper eth_type payload (upper_parts eth_type payload) }
+    ensures arp { (payload : List ℕ) (op : ℕ) (sha : Mac) (spa : Ip4) (tha : Mac) (tpa : Ip4) → IsArp payload op sha spa tha tpa → upper_parts 0x0806 payload ≡ Arp op sha spa tha tpa }
+    ensures ipv4 { (header body : List ℕ) → IsHeader header → upper_parts 0x0800 (header ++ body) ≡ V4 header body }
+{}
+
+/// An untagged frame is read as it is made, whatever it carries.
+pub fn an_untagged_frame_is_read_as_it_is_made()
+    ensures { (dst src : Mac) (eth_type : ℕ) (payload : List ℕ) → length dst.0 ≡ 6 → length src.0 ≡ 6 → eth_type < 2 ^ 16 → is_tag_type eth_type ≡ false → parts (untagged dst src eth_type payload) ≡ Some (untagged_parts dst src eth_type payload) }
+{}
+
+/// The frame that asks by ARP goes from the asker to all, and that which answers to the one that asked
+/// (RFC 826); the operations are 1 and 2, and a request leaves the target's hardware address at 0.
+pub fn arp_frames_show_who_asks_and_who_answers()
+    ensures request { (src : Mac) (spa tpa : Ip4) → length src.0 ≡ 6 → IsIp4 spa → IsIp4 tpa
+        → ShowsArp (arp_request src spa tpa) (record { 0 = 0xff ∷ 0xff ∷ 0xff ∷ 0xff ∷ 0xff ∷ 0xff ∷ [] }) 1 src spa (record { 0 = 0 ∷ 0 ∷ 0 ∷ 0 ∷ 0 ∷ 0 ∷ [] }) tpa }
+    ensures reply { (src : Mac) (spa : Ip4) (dst : Mac) (tpa : Ip4) → length src.0 ≡ 6 → IsIp4 spa → length dst.0 ≡ 6 → IsIp4 tpa → ShowsArp (arp_reply src spa dst tpa) dst 2 src spa dst tpa }
+{}
+
+/// An echo request is answered exactly where it is whole, no fragment, in a packet of at most 65,400
+/// bytes under right checksums, and from no group address (RFC 792; RFC 791, 3.1).
+pub fn an_answer_is_due_to_an_echo_request()
+    ensures { (src from : Mac) (eth_type : ℕ) (payload : List ℕ) → All (λ b. b < 256) payload
+        → IsSome (echo_upper src from (upper_parts eth_type payload)) ↔ ((eth_type ≡ 0x0800) × (is_group from ≡ false) × IsEchoRequest payload) }
+{}
+
+/// The answer to an echo request is an echo reply with right checksums, from its destination to its
+/// source, and has its identifier, sequence number and data (RFC 792).
+pub fn an_echo_request_gets_its_reply()
+    ensures { (src from : Mac) (e : Echo) (padding : List ℕ) → is_group from ≡ false → IsEcho 8 e
+        → (a : Echo) × IsEcho 0 a × Answers e a × (echo_upper src from (upper_parts 0x0800 (header_of e ++ message_of 8 e ++ padding)) ≡ Some (untagged from src 0x0800 (header_of a ++ message_of 0 a))) }
 {}

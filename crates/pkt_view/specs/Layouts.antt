@@ -1,0 +1,116 @@
+-- Packets as their fields, one behind the other.
+use Rattle.std.specs.Prelude.{◌≡◌, ℕ, ◌+◌, ◌*◌, ◌/◌, ◌%◌, ◌^◌, ◌<◌, ◌≤◌, List, [], ◌∷◌, ◌++◌, length, drop, Some}
+use Rattle.net_base.specs.declared.address.Mac.{Mac}
+use Rattle.net_base.specs.declared.address.Ip4.{Ip4}
+use Rattle.net_base.specs.Address.{IsSixBytes}
+use Rattle.of_match.specs.Shaped.{IsIp4}
+use Rattle.pkt_view.specs.Numbers.{number}
+use Rattle.pkt_view.specs.Checksum.{internet_checksum}
+use Rattle.pkt_view.specs.Frame.{UpperParts, Unknown, Arp, V4, FrameParts, upper_parts, parts}
+use Rattle.pkt_view.specs.Replies.{arp_packet}
+
+-- ---- Ethernet (IEEE 802.3, 3.1.1)
+
+-- the parts of a frame without tags
+abbrev pub untagged_parts : Mac → Mac → ℕ → List ℕ → FrameParts
+untagged_parts dst src eth_type payload = record { dst = dst; src = src; tags = []; eth_type = eth_type; payload = payload; upper = upper_parts eth_type payload }
+
+-- ---- ARP (RFC 826, Packet format)
+
+-- an ARP packet with these fields, and padding
+pub record IsArp (payload : List ℕ) (op : ℕ) (sha : Mac) (spa : Ip4) (tha : Mac) (tpa : Ip4) : Type 0 where
+  pub operation : op < 2 ^ 16
+  pub sender : IsSixBytes sha.0 × IsIp4 spa
+  pub target : IsSixBytes tha.0 × IsIp4 tpa
+  pub padding : List ℕ
+  pub row : payload ≡ arp_packet op sha spa tha tpa ++ padding
+
+-- a frame of such a packet, without tag and padding: what is read of it, and its bytes, in which the
+-- EtherType, hardware and protocol type, the lengths of their addresses and the operation stand one by one
+pub record ShowsArp (frame : List ℕ) (dst : Mac) (op : ℕ) (sha : Mac) (spa : Ip4) (tha : Mac) (tpa : Ip4) : Type 0 where
+  pub read : parts frame ≡ Some (record { dst = dst; src = sha; tags = []; eth_type = 0x0806; payload = drop 14 frame; upper = Arp op sha spa tha tpa })
+  pub row : frame ≡ dst.0 ++ sha.0 ++ (0x08 ∷ 0x06 ∷ 0 ∷ 1 ∷ 0x08 ∷ 0x00 ∷ 6 ∷ 4 ∷ 0 ∷ op ∷ []) ++ sha.0 ++ number 4 spa.0 ++ tha.0 ++ number 4 tpa.0
+
+-- ---- IPv4 (RFC 791, 3.1)
+
+-- a header: the first byte holds the version, 4, and the length in words of 32 bits, 5 to 15 of them
+pub record IsHeader (header : List ℕ) : Type 0 where
+  pub words : ℕ
+  pub more : List ℕ
+  pub first : header ≡ (4 * 16 + words) ∷ more
+  pub long : length header ≡ 4 * words
+  pub least : 5 ≤ words
+  pub most : words ≤ 15
+
+-- ---- either of them behind its EtherType
+
+abbrev pub IsUpper : ℕ → List ℕ → UpperParts → Type 0
+IsUpper eth_type payload Unknown = Unit {0}
+IsUpper eth_type payload (Arp op sha spa tha tpa) = (eth_type ≡ 0x0806) × IsArp payload op sha spa tha tpa
+IsUpper eth_type payload (V4 header body) = (eth_type ≡ 0x0800) × IsHeader header × (payload ≡ header ++ body)
+
+-- ---- ICMP echo in IPv4 (RFC 791, 3.1; RFC 792, Echo or Echo Reply Message)
+
+-- the fields that may differ from one echo packet to another
+pub record Echo : Type 0 where
+  pub service : ℕ
+  pub identification : ℕ
+  pub flags : ℕ
+  pub lifetime : ℕ
+  pub header_sum : ℕ
+  pub source : ℕ
+  pub destination : ℕ
+  pub options : List ℕ
+  pub message_sum : ℕ
+  pub identifier : ℕ
+  pub sequence : ℕ
+  pub sent : List ℕ
+
+abbrev pub whole_len : Echo → ℕ
+whole_len e = 20 + length e.options + (8 + length e.sent)
+
+-- version and length in words; type of service; total length; identification; the unused flag and
+-- Don't Fragment, then neither More Fragments nor an offset; time to live; protocol 1; checksum;
+-- source; destination; options
+abbrev pub header_of : Echo → List ℕ
+header_of e =
+    ((4 * 16 + (20 + length e.options) / 4) ∷ e.service ∷ []) ++ number 2 (whole_len e) ++ number 2 e.identification ++ number 2 (e.flags * 2 ^ 14) ++ (e.lifetime ∷ 1 ∷ []) ++ number 2 e.header_sum ++ number 4 e.source ++ number 4 e.destination ++ e.options
+
+-- type; code 0; checksum; identifier; sequence number; data
+abbrev pub message_of : ℕ → Echo → List ℕ
+message_of kind e = (kind ∷ 0 ∷ []) ++ number 2 e.message_sum ++ number 2 e.identifier ++ number 2 e.sequence ++ e.sent
+
+-- the numbers fit their fields, the options are whole words, the packet isn't longer than what is
+-- answered, and both checksums are right
+pub record IsEcho (kind : ℕ) (e : Echo) : Type 0 where
+  pub service : e.service < 2 ^ 8
+  pub identification : e.identification < 2 ^ 16
+  pub flags : e.flags < 2 ^ 2
+  pub lifetime : e.lifetime < 2 ^ 8
+  pub header_sum : e.header_sum < 2 ^ 16
+  pub source : e.source < 2 ^ 32
+  pub destination : e.destination < 2 ^ 32
+  pub options : (length e.options % 4 ≡ 0) × (length e.options ≤ 40)
+  pub message_sum : e.message_sum < 2 ^ 16
+  pub identifier : e.identifier < 2 ^ 16
+  pub sequence : e.sequence < 2 ^ 16
+  pub longest : whole_len e ≤ 65400
+  pub header_right : internet_checksum (header_of e) ≡ 0
+  pub message_right : internet_checksum (message_of kind e) ≡ 0
+
+-- an echo request (8), and padding
+abbrev pub IsEchoRequest : List ℕ → Type 0
+IsEchoRequest payload = (e : Echo) × (padding : List ℕ) × IsEcho 8 e × (payload ≡ header_of e ++ message_of 8 e ++ padding)
+
+-- what an answer has of the request
+pub record Answers (request answer : Echo) : Type 0 where
+  pub service : answer.service ≡ request.service
+  pub identification : answer.identification ≡ request.identification
+  pub flags : answer.flags ≡ 0
+  pub lifetime : answer.lifetime ≡ 64
+  pub source : answer.source ≡ request.destination
+  pub destination : answer.destination ≡ request.source
+  pub options : answer.options ≡ []
+  pub identifier : answer.identifier ≡ request.identifier
+  pub sequence : answer.sequence ≡ request.sequence
+  pub sent : answer.sent ≡ request.sent
