@@ -56,7 +56,7 @@ byte_here (b ∷ bytes) all zero = all 0 0 (omega arith)
 byte_here (b ∷ bytes) all (suc i) = byte_here bytes (λ k d below. all (suc k) d (omega (arith, below))) i
 
 arp_row : (payload : List ℕ) → 28 ≤ length payload → All (λ b. b < 256) payload → number_at 2 0 payload ≡ 1 → number_at 2 2 payload ≡ 0x0800 → slice_index payload 4 ≡ 6 → slice_index payload 5 ≡ 4 → payload ≡ arp_packet (number_at 2 6 payload) (mac_at 8 payload) (ip4_at 14 payload) (mac_at 18 payload) (ip4_at 24 payload) ++ drop 28 payload
-arp_row payload there all hardware protocol six four =
+arp_row payload there all hardware protocol hardware_len protocol_len =
     let one = number 2 1 in
     let two = one ++ number 2 0x0800 in
     let three = two ++ (6 ∷ 4 ∷ []) in
@@ -70,7 +70,7 @@ arp_row payload there all hardware protocol six four =
     ∙ joined sha (number 4 (number_at 4 14 payload)) 4 14 18 payload refl (number_back_4 14 payload (omega (arith, there)) all)
     ∙ joined op (take 6 (drop 8 payload)) 6 8 14 payload refl refl
     ∙ joined three (number 2 (number_at 2 6 payload)) 2 6 8 payload refl (number_back 6 payload (omega (arith, there)) all)
-    ∙ joined two (6 ∷ 4 ∷ []) 2 4 6 payload refl (two_bytes 4 payload 6 4 (omega (arith, there)) (sym six) (sym four))
+    ∙ joined two (6 ∷ 4 ∷ []) 2 4 6 payload refl (two_bytes 4 payload 6 4 (omega (arith, there)) (sym hardware_len) (sym protocol_len))
     ∙ joined one (number 2 0x0800) 2 2 4 payload refl (in_front 2 0x0800 (omega (arith, there)) protocol)
     ∙ joined [] one 2 0 2 payload refl (in_front 0 1 (omega (arith, there)) hardware))
 
