@@ -2,6 +2,7 @@ pub mod Choice
 pub mod EchoDue
 pub mod EchoLaws
 pub mod MadeFrames
+pub mod PortLaws
 pub mod Shapes
 pub mod Spelled
 pub mod Sums

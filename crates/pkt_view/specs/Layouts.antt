@@ -3,6 +3,8 @@ use Rattle.std.specs.Prelude.{◌≡◌, ℕ, ◌+◌, ◌*◌, ◌/◌, ◌%◌
 use Rattle.net_base.specs.declared.address.Mac.{Mac}
 use Rattle.net_base.specs.declared.address.Ip4.{Ip4}
 use Rattle.net_base.specs.Address.{IsSixBytes}
+use Rattle.of_match.specs.declared.packet.L4.{L4}
+use Rattle.of_match.specs.declared.packet.L4.TheVariants.{None as NoL4, Tcp, Udp, Icmp}
 use Rattle.of_match.specs.Shaped.{IsIp4}
 use Rattle.pkt_view.specs.Numbers.{number}
 use Rattle.pkt_view.specs.Checksum.{internet_checksum}
@@ -48,6 +50,31 @@ abbrev pub IsUpper : ℕ → List ℕ → UpperParts → Type 0
 IsUpper eth_type payload Unknown = Unit {0}
 IsUpper eth_type payload (Arp op sha spa tha tpa) = (eth_type ≡ 0x0806) × IsArp payload op sha spa tha tpa
 IsUpper eth_type payload (V4 header body) = (eth_type ≡ 0x0800) × IsHeader header × (payload ≡ header ++ body)
+
+-- ---- TCP, UDP and ICMP in IPv4 (RFC 9293, 3.1; RFC 768; RFC 792)
+
+-- a header of the protocol, in a packet that is no later fragment: three flags, then an offset of 0
+-- (RFC 791, 3.1)
+pub record IsFirstOf (proto : ℕ) (header : List ℕ) : Type 0 where
+  pub front : List ℕ
+  pub flags : ℕ
+  pub lifetime : ℕ
+  pub more : List ℕ
+  pub count : length front ≡ 6
+  pub fits : flags < 2 ^ 3
+  pub row : header ≡ front ++ number 2 (flags * 2 ^ 13) ++ (lifetime ∷ proto ∷ []) ++ more
+
+-- two ports, and all that follows
+pub record HasPorts (body : List ℕ) (src dst : ℕ) : Type 0 where
+  pub fits : (src < 2 ^ 16) × (dst < 2 ^ 16)
+  pub more : List ℕ
+  pub row : body ≡ number 2 src ++ number 2 dst ++ more
+
+abbrev pub IsL4 : List ℕ → List ℕ → L4 → Type 0
+IsL4 header body NoL4 = Unit {0}
+IsL4 header body (Tcp src dst) = IsFirstOf 6 header × HasPorts body src dst
+IsL4 header body (Udp src dst) = IsFirstOf 17 header × HasPorts body src dst
+IsL4 header body (Icmp kind code) = IsFirstOf 1 header × ((more : List ℕ) × (body ≡ kind ∷ code ∷ more))
 
 -- ---- ICMP echo in IPv4 (RFC 791, 3.1; RFC 792, Echo or Echo Reply Message)
 

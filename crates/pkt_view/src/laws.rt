@@ -7,10 +7,11 @@ ghost use Rattle.pkt_view.specs.Checksum.{carried, ones_complement, internet_che
 ghost use Rattle.net_base.specs.declared.address.Mac.{Mac};
 ghost use Rattle.net_base.specs.declared.address.Ip4.{Ip4};
 ghost use Rattle.pkt_view.specs.Frame.{is_tag_type, parts, upper_parts, Arp, V4};
-ghost use Rattle.pkt_view.specs.Layouts.{untagged_parts, IsArp, ShowsArp, IsHeader, IsUpper, Echo, header_of, message_of, IsEcho, IsEchoRequest, Answers};
+ghost use Rattle.pkt_view.specs.Layouts.{untagged_parts, IsArp, ShowsArp, IsHeader, IsUpper, IsFirstOf, HasPorts, IsL4, Echo, header_of, message_of, IsEcho, IsEchoRequest, Answers};
 ghost use Rattle.pkt_view.specs.Numbers.{number};
-ghost use Rattle.pkt_view.specs.Packets.{packet};
+ghost use Rattle.pkt_view.specs.Packets.{l4_of, packet};
 ghost use Rattle.pkt_view.specs.Replies.{untagged, arp_request, arp_reply, reply_header, reply_icmp, echo_upper};
+ghost use Rattle.of_match.specs.declared.packet.L4.TheVariants.{Tcp, Udp, Icmp};
 ghost use Rattle.of_match.specs.Shaped.{IsIp4, IsShaped};
 
 /// The parts of a frame's packet fit their headers, and agree with its EtherType and protocol, and its
@@ -67,6 +68,15 @@ pub fn what_is_read_behind_the_type_stands_there()
     ensures there { (eth_type : ℕ) (payload : List ℕ) → All (λ b. b < 256) payload → IsUpper eth_type payload (upper_parts eth_type payload) }
     ensures arp { (payload : List ℕ) (op : ℕ) (sha : Mac) (spa : Ip4) (tha : Mac) (tpa : Ip4) → IsArp payload op sha spa tha tpa → upper_parts 0x0806 payload ≡ Arp op sha spa tha tpa }
     ensures ipv4 { (header body : List ℕ) → IsHeader header → upper_parts 0x0800 (header ++ body) ≡ V4 header body }
+{}
+
+/// The ports of TCP and UDP, and type and code of ICMP, are read behind an IPv4 header exactly where they
+/// stand there and the packet is no later fragment (RFC 9293, 3.1; RFC 768; RFC 792).
+pub fn what_is_read_behind_a_header_stands_there()
+    ensures there { (header body : List ℕ) → 20 ≤ length header → All (λ b. b < 256) header → All (λ b. b < 256) body → IsL4 header body (l4_of header body) }
+    ensures tcp { (header body : List ℕ) (src dst : ℕ) → IsFirstOf 6 header → HasPorts body src dst → l4_of header body ≡ Tcp src dst }
+    ensures udp { (header body : List ℕ) (src dst : ℕ) → IsFirstOf 17 header → HasPorts body src dst → l4_of header body ≡ Udp src dst }
+    ensures icmp { (header : List ℕ) (kind code : ℕ) (more : List ℕ) → IsFirstOf 1 header → l4_of header (kind ∷ code ∷ more) ≡ Icmp kind code }
 {}
 
 /// An untagged frame is read as it is made, whatever it carries.
