@@ -1,8 +1,10 @@
 -- Packets as their fields, one behind the other.
-use Rattle.std.specs.Prelude.{◌≡◌, ℕ, ◌+◌, ◌*◌, ◌/◌, ◌%◌, ◌^◌, ◌<◌, ◌≤◌, List, [], ◌∷◌, ◌++◌, length, drop, Some}
+use Rattle.std.specs.Prelude.{◌≡◌, ℕ, ◌+◌, ◌*◌, ◌/◌, ◌%◌, ◌^◌, ◌<◌, ◌≤◌, if◌then◌else◌, List, [], ◌∷◌, ◌++◌, length, drop, Some}
+use Rattle.std.specs.List.{flat_map}
 use Rattle.net_base.specs.declared.address.Mac.{Mac}
 use Rattle.net_base.specs.declared.address.Ip4.{Ip4}
 use Rattle.net_base.specs.Address.{IsSixBytes}
+use Rattle.of_match.specs.declared.packet.Tag.{Tag}
 use Rattle.of_match.specs.declared.packet.L4.{L4}
 use Rattle.of_match.specs.declared.packet.L4.TheVariants.{None as NoL4, Tcp, Udp, Icmp}
 use Rattle.of_match.specs.Shaped.{IsIp4}
@@ -11,11 +13,19 @@ use Rattle.pkt_view.specs.Checksum.{internet_checksum}
 use Rattle.pkt_view.specs.Frame.{UpperParts, Unknown, Arp, V4, FrameParts, upper_parts, parts}
 use Rattle.pkt_view.specs.Replies.{arp_packet}
 
--- ---- Ethernet (IEEE 802.3, 3.1.1)
+-- ---- Ethernet (IEEE 802.3, 3.1.1; IEEE 802.1Q, 9.3 and 9.6)
 
--- the parts of a frame without tags
-abbrev pub untagged_parts : Mac → Mac → ℕ → List ℕ → FrameParts
-untagged_parts dst src eth_type payload = record { dst = dst; src = src; tags = []; eth_type = eth_type; payload = payload; upper = upper_parts eth_type payload }
+-- a tag: its type, then a number of 3 bits of priority, one of whether the frame may be dropped first,
+-- and 12 of the VLAN
+abbrev pub tag_bytes : Tag → List ℕ
+tag_bytes tag = number 2 tag.tpid ++ number 2 (tag.pcp * 2 ^ 13 + (if tag.dei then 2 ^ 12 else 0) + tag.vid)
+
+-- the frame with these parts, and what of it is lent
+abbrev pub frame_of : Mac → Mac → List Tag → ℕ → List ℕ → List ℕ
+frame_of dst src tags eth_type payload = dst.0 ++ src.0 ++ flat_map tag_bytes tags ++ number 2 eth_type ++ payload
+
+abbrev pub parts_of : Mac → Mac → List Tag → ℕ → List ℕ → FrameParts
+parts_of dst src tags eth_type payload = record { dst = dst; src = src; tags = flat_map tag_bytes tags; eth_type = eth_type; payload = payload; upper = upper_parts eth_type payload }
 
 -- ---- ARP (RFC 826, Packet format)
 

@@ -1,18 +1,19 @@
 //! Laws of the definitions: each function is empty, and its contract is the law.
 
 ghost use Rattle.std.specs.Prelude.{◌≡◌, [], ◌∷◌, ◌++◌, false, Some, ◌≤◌, ◌<◌, ◌%◌, ◌-◌, ◌^◌, ◌↔◌, IsSome, ℕ, List, All, IfSome, length, slice_index, take, drop, sum};
-ghost use Rattle.std.specs.List.{fold};
+ghost use Rattle.std.specs.List.{AllByRecursion, flat_map, fold};
 ghost use Rattle.net_base.specs.Address.{is_group};
 ghost use Rattle.pkt_view.specs.Checksum.{carried, ones_complement, internet_checksum};
 ghost use Rattle.net_base.specs.declared.address.Mac.{Mac};
 ghost use Rattle.net_base.specs.declared.address.Ip4.{Ip4};
 ghost use Rattle.pkt_view.specs.Frame.{is_tag_type, parts, upper_parts, Arp, V4};
-ghost use Rattle.pkt_view.specs.Layouts.{untagged_parts, IsArp, ShowsArp, IsHeader, IsUpper, IsFirstOf, HasPorts, IsL4, Echo, header_of, message_of, IsEcho, IsEchoRequest, Answers};
+ghost use Rattle.pkt_view.specs.Layouts.{tag_bytes, frame_of, parts_of, IsArp, ShowsArp, IsHeader, IsUpper, IsFirstOf, HasPorts, IsL4, Echo, header_of, message_of, IsEcho, IsEchoRequest, Answers};
 ghost use Rattle.pkt_view.specs.Numbers.{number};
-ghost use Rattle.pkt_view.specs.Packets.{l4_of, packet};
+ghost use Rattle.pkt_view.specs.Packets.{tags_of, l4_of, packet};
 ghost use Rattle.pkt_view.specs.Replies.{untagged, arp_request, arp_reply, reply_header, reply_icmp, echo_upper};
+ghost use Rattle.of_match.specs.declared.packet.Tag.{Tag};
 ghost use Rattle.of_match.specs.declared.packet.L4.TheVariants.{Tcp, Udp, Icmp};
-ghost use Rattle.of_match.specs.Shaped.{IsIp4, IsShaped};
+ghost use Rattle.of_match.specs.Shaped.{IsTag, IsIp4, IsShaped};
 
 /// The parts of a frame's packet fit their headers, and agree with its EtherType and protocol, and its
 /// tags with IEEE 802.1Q.
@@ -79,9 +80,14 @@ pub fn what_is_read_behind_a_header_stands_there()
     ensures icmp { (header : List ℕ) (kind code : ℕ) (more : List ℕ) → IsFirstOf 1 header → l4_of header (kind ∷ code ∷ more) ≡ Icmp kind code }
 {}
 
-/// An untagged frame is read as it is made, whatever it carries.
-pub fn an_untagged_frame_is_read_as_it_is_made()
-    ensures { (dst src : Mac) (eth_type : ℕ) (payload : List ℕ) → length dst.0 ≡ 6 → length src.0 ≡ 6 → eth_type < 2 ^ 16 → is_tag_type eth_type ≡ false → parts (untagged dst src eth_type payload) ≡ Some (untagged_parts dst src eth_type payload) }
+/// A frame is read as its parts are spelled: two addresses, the tags, an EtherType that shows no tag,
+/// and the payload (IEEE 802.3, 3.1.1; IEEE 802.1Q, 9.3 and 9.6).
+pub fn a_frame_is_read_as_its_parts_are_spelled()
+    ensures parts { (dst src : Mac) (tags : List Tag) (eth_type : ℕ) (payload : List ℕ) → length dst.0 ≡ 6 → length src.0 ≡ 6 → AllByRecursion IsTag tags → eth_type < 2 ^ 16 → is_tag_type eth_type ≡ false
+        → parts (frame_of dst src tags eth_type payload) ≡ Some (parts_of dst src tags eth_type payload) }
+    ensures tags { (tags : List Tag) → AllByRecursion IsTag tags → tags_of (flat_map tag_bytes tags) ≡ tags }
+    ensures untagged { (dst src : Mac) (eth_type : ℕ) (payload : List ℕ) → length dst.0 ≡ 6 → length src.0 ≡ 6 → eth_type < 2 ^ 16 → is_tag_type eth_type ≡ false
+        → parts (untagged dst src eth_type payload) ≡ Some (parts_of dst src [] eth_type payload) }
 {}
 
 /// The frame that asks by ARP goes from the asker to all, and that which answers to the one that asked
