@@ -1,6 +1,7 @@
 pub mod Choice
 pub mod EchoDue
 pub mod EchoLaws
+pub mod FieldLaws
 pub mod MadeFrames
 pub mod PortLaws
 pub mod Shapes

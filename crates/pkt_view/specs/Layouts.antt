@@ -54,6 +54,28 @@ pub record IsHeader (header : List ℕ) : Type 0 where
   pub least : 5 ≤ words
   pub most : words ≤ 15
 
+-- the fields of one; the first byte and the number of flags and offset are told whole
+pub record Header : Type 0 where
+  pub first : ℕ
+  pub service : ℕ
+  pub total : ℕ
+  pub identification : ℕ
+  pub fragment : ℕ
+  pub lifetime : ℕ
+  pub protocol : ℕ
+  pub checksum : ℕ
+  pub source : ℕ
+  pub destination : ℕ
+  pub options : List ℕ
+
+-- what stands before the time to live
+abbrev pub header_front : Header → List ℕ
+header_front h = (h.first ∷ h.service ∷ []) ++ number 2 h.total ++ number 2 h.identification ++ number 2 h.fragment
+
+abbrev pub header_bytes : Header → List ℕ
+header_bytes h =
+    header_front h ++ (h.lifetime ∷ h.protocol ∷ []) ++ number 2 h.checksum ++ number 4 h.source ++ number 4 h.destination ++ h.options
+
 -- ---- either of them behind its EtherType
 
 abbrev pub IsUpper : ℕ → List ℕ → UpperParts → Type 0
@@ -106,12 +128,11 @@ pub record Echo : Type 0 where
 abbrev pub whole_len : Echo → ℕ
 whole_len e = 20 + length e.options + (8 + length e.sent)
 
--- version and length in words; type of service; total length; identification; the unused flag and
--- Don't Fragment, then neither More Fragments nor an offset; time to live; protocol 1; checksum;
--- source; destination; options
+-- version 4 and the length in words; the unused flag and Don't Fragment, but neither More Fragments nor
+-- an offset; protocol 1
 abbrev pub header_of : Echo → List ℕ
 header_of e =
-    ((4 * 16 + (20 + length e.options) / 4) ∷ e.service ∷ []) ++ number 2 (whole_len e) ++ number 2 e.identification ++ number 2 (e.flags * 2 ^ 14) ++ (e.lifetime ∷ 1 ∷ []) ++ number 2 e.header_sum ++ number 4 e.source ++ number 4 e.destination ++ e.options
+    header_bytes (record { first = 4 * 16 + (20 + length e.options) / 4; service = e.service; total = whole_len e; identification = e.identification; fragment = e.flags * 2 ^ 14; lifetime = e.lifetime; protocol = 1; checksum = e.header_sum; source = e.source; destination = e.destination; options = e.options })
 
 -- type; code 0; checksum; identifier; sequence number; data
 abbrev pub message_of : ℕ → Echo → List ℕ

@@ -7,12 +7,13 @@ ghost use Rattle.pkt_view.specs.Checksum.{carried, ones_complement, internet_che
 ghost use Rattle.net_base.specs.declared.address.Mac.{Mac};
 ghost use Rattle.net_base.specs.declared.address.Ip4.{Ip4};
 ghost use Rattle.pkt_view.specs.Frame.{is_tag_type, parts, upper_parts, Arp, V4};
-ghost use Rattle.pkt_view.specs.Layouts.{tag_bytes, frame_of, parts_of, IsArp, ShowsArp, IsHeader, IsUpper, IsFirstOf, HasPorts, IsL4, Echo, header_of, message_of, IsEcho, IsEchoRequest, Answers};
+ghost use Rattle.pkt_view.specs.Layouts.{tag_bytes, frame_of, parts_of, IsArp, ShowsArp, IsHeader, Header, header_front, header_bytes, IsUpper, IsFirstOf, HasPorts, IsL4, Echo, header_of, message_of, IsEcho, IsEchoRequest, Answers};
 ghost use Rattle.pkt_view.specs.Numbers.{number};
-ghost use Rattle.pkt_view.specs.Packets.{tags_of, l4_of, packet};
-ghost use Rattle.pkt_view.specs.Replies.{untagged, arp_request, arp_reply, reply_header, reply_icmp, echo_upper};
+ghost use Rattle.pkt_view.specs.Packets.{tags_of, l4_of, l4_len, upper_of, rest_of, packet};
+ghost use Rattle.pkt_view.specs.Replies.{untagged, arp_packet, arp_request, arp_reply, reply_header, reply_icmp, echo_upper};
 ghost use Rattle.of_match.specs.declared.packet.Tag.{Tag};
 ghost use Rattle.of_match.specs.declared.packet.L4.TheVariants.{Tcp, Udp, Icmp};
+ghost use Rattle.of_match.specs.declared.packet.Upper.TheVariants.{V4 as V4Part};
 ghost use Rattle.of_match.specs.Shaped.{IsTag, IsIp4, IsShaped};
 
 /// The parts of a frame's packet fit their headers, and agree with its EtherType and protocol, and its
@@ -88,6 +89,16 @@ pub fn a_frame_is_read_as_its_parts_are_spelled()
     ensures tags { (tags : List Tag) → AllByRecursion IsTag tags → tags_of (flat_map tag_bytes tags) ≡ tags }
     ensures untagged { (dst src : Mac) (eth_type : ℕ) (payload : List ℕ) → length dst.0 ≡ 6 → length src.0 ≡ 6 → eth_type < 2 ^ 16 → is_tag_type eth_type ≡ false
         → parts (untagged dst src eth_type payload) ≡ Some (parts_of dst src [] eth_type payload) }
+{}
+
+/// A packet has the addresses, the protocol and the TTL of its IPv4 header; and its rest is what else
+/// stands behind the EtherType, in order, without the header's checksum (RFC 791, 3.1; RFC 826).
+pub fn a_packet_has_what_its_headers_hold()
+    ensures ipv4 { (h : Header) (body : List ℕ) → h.source < 2 ^ 32 → h.destination < 2 ^ 32
+        → upper_of (V4 (header_bytes h) body) ≡ V4Part (record { 0 = h.source }) (record { 0 = h.destination }) h.protocol h.lifetime (l4_of (header_bytes h) body) }
+    ensures ipv4_rest { (h : Header) (payload body : List ℕ) → rest_of payload (V4 (header_bytes h) body) ≡ header_front h ++ h.options ++ drop (l4_len (l4_of (header_bytes h) body)) body }
+    ensures arp_rest { (op : ℕ) (sha : Mac) (spa : Ip4) (tha : Mac) (tpa : Ip4) (padding : List ℕ) → length sha.0 ≡ 6 → length tha.0 ≡ 6
+        → rest_of (arp_packet op sha spa tha tpa ++ padding) (Arp op sha spa tha tpa) ≡ (0 ∷ 1 ∷ 0x08 ∷ 0x00 ∷ 6 ∷ 4 ∷ []) ++ sha.0 ++ tha.0 ++ padding }
 {}
 
 /// The frame that asks by ARP goes from the asker to all, and that which answers to the one that asked
