@@ -1,6 +1,11 @@
 pub mod Choice
+pub mod EchoDue
 pub mod EchoLaws
+pub mod FieldLaws
+pub mod MadeFrames
+pub mod PortLaws
 pub mod Shapes
 pub mod Spelled
 pub mod Sums
 pub mod Tags
+pub mod UpperLaws

@@ -30,11 +30,11 @@ each : (xs : List ℕ) → AreBytes xs → AllByRecursion (λ b. b < 256) xs
 each [] all = tt
 each (x ∷ xs) all = (all 0, each xs (λ i. all (suc i)))
 
-fits_2 : (at : ℕ) (xs : List ℕ) → AreBytes xs → number_at 2 at xs < 2 ^ 16
+pub fits_2 : (at : ℕ) (xs : List ℕ) → AreBytes xs → number_at 2 at xs < 2 ^ 16
 unfolding number_at
 fits_2 at xs all = let a = behind at xs all 0 in let b = behind at xs all 1 in omega (arith, a, b)
 
-fits_4 : (at : ℕ) (xs : List ℕ) → AreBytes xs → number_at 4 at xs < 2 ^ 32
+pub fits_4 : (at : ℕ) (xs : List ℕ) → AreBytes xs → number_at 4 at xs < 2 ^ 32
 unfolding number_at
 fits_4 at xs all =
     let a = behind at xs all 0 in
@@ -43,7 +43,7 @@ fits_4 at xs all =
     let d = behind at xs all 3 in
     omega (arith, a, b, c, d)
 
-six : (at : ℕ) (xs : List ℕ) → at + 6 ≤ length xs → AreBytes xs → IsSixBytes (take 6 (drop at xs))
+pub six : (at : ℕ) (xs : List ℕ) → at + 6 ≤ length xs → AreBytes xs → IsSixBytes (take 6 (drop at xs))
 six at xs within all =
     record {
       count = length-take-le 6 (drop at xs) (omega (arith, within, length-drop at xs));

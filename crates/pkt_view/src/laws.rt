@@ -1,13 +1,20 @@
 //! Laws of the definitions: each function is empty, and its contract is the law.
 
-ghost use Rattle.std.specs.Prelude.{◌≡◌, ◌++◌, false, ◌≤◌, ◌<◌, ◌%◌, ◌-◌, ◌^◌, ℕ, List, All, IfSome, length, slice_index, take, drop, sum};
-ghost use Rattle.std.specs.List.{fold};
+ghost use Rattle.std.specs.Prelude.{◌≡◌, [], ◌∷◌, ◌++◌, false, Some, ◌≤◌, ◌<◌, ◌%◌, ◌-◌, ◌^◌, ◌↔◌, IsSome, ℕ, List, All, IfSome, length, slice_index, take, drop, sum};
+ghost use Rattle.std.specs.List.{AllByRecursion, flat_map, fold};
+ghost use Rattle.net_base.specs.Address.{is_group};
 ghost use Rattle.pkt_view.specs.Checksum.{carried, ones_complement, internet_checksum};
-ghost use Rattle.pkt_view.specs.Frame.{is_tag_type, parts};
+ghost use Rattle.net_base.specs.declared.address.Mac.{Mac};
+ghost use Rattle.net_base.specs.declared.address.Ip4.{Ip4};
+ghost use Rattle.pkt_view.specs.Frame.{is_tag_type, parts, upper_parts, Arp, V4};
+ghost use Rattle.pkt_view.specs.Layouts.{tag_bytes, frame_of, parts_of, IsArp, ShowsArp, IsHeader, Header, header_front, header_bytes, IsUpper, IsFirstOf, HasPorts, IsL4, Echo, header_of, message_of, IsEcho, IsEchoRequest, Answers};
 ghost use Rattle.pkt_view.specs.Numbers.{number};
-ghost use Rattle.pkt_view.specs.Packets.{packet};
-ghost use Rattle.pkt_view.specs.Replies.{reply_header, reply_icmp};
-ghost use Rattle.of_match.specs.Shaped.{IsShaped};
+ghost use Rattle.pkt_view.specs.Packets.{tags_of, l4_of, l4_len, upper_of, rest_of, packet};
+ghost use Rattle.pkt_view.specs.Replies.{untagged, arp_packet, arp_request, arp_reply, reply_header, reply_icmp, echo_upper};
+ghost use Rattle.of_match.specs.declared.packet.Tag.{Tag};
+ghost use Rattle.of_match.specs.declared.packet.L4.TheVariants.{Tcp, Udp, Icmp};
+ghost use Rattle.of_match.specs.declared.packet.Upper.TheVariants.{V4 as V4Part};
+ghost use Rattle.of_match.specs.Shaped.{IsTag, IsIp4, IsShaped};
 
 /// The parts of a frame's packet fit their headers, and agree with its EtherType and protocol, and its
 /// tags with IEEE 802.1Q.
@@ -55,4 +62,63 @@ pub fn echo_reply_exchanges_addresses()
     ensures target { (header : List ℕ) (n : ℕ) → 20 ≤ length header → take 4 (drop 16 (reply_header header n)) ≡ take 4 (drop 12 header) }
     ensures source_again { (header : List ℕ) (n : ℕ) (m : ℕ) → 20 ≤ length header → take 4 (drop 12 (reply_header (reply_header header n) m)) ≡ take 4 (drop 12 header) }
     ensures target_again { (header : List ℕ) (n : ℕ) (m : ℕ) → 20 ≤ length header → take 4 (drop 16 (reply_header (reply_header header n) m)) ≡ take 4 (drop 16 header) }
+{}
+
+/// What stands behind the EtherType is read as an ARP packet for Ethernet and IPv4 (RFC 826) or an IPv4
+/// packet (RFC 791, 3.1) exactly where it is one.
+pub fn what_is_read_behind_the_type_stands_there()
+    ensures there { (eth_type : ℕ) (payload : List ℕ) → All (λ b. b < 256) payload → IsUpper eth_type payload (upper_parts eth_type payload) }
+    ensures arp { (payload : List ℕ) (op : ℕ) (sha : Mac) (spa : Ip4) (tha : Mac) (tpa : Ip4) → IsArp payload op sha spa tha tpa → upper_parts 0x0806 payload ≡ Arp op sha spa tha tpa }
+    ensures ipv4 { (header body : List ℕ) → IsHeader header → upper_parts 0x0800 (header ++ body) ≡ V4 header body }
+{}
+
+/// The ports of TCP and UDP, and type and code of ICMP, are read behind an IPv4 header exactly where they
+/// stand there and the packet is no later fragment (RFC 9293, 3.1; RFC 768; RFC 792).
+pub fn what_is_read_behind_a_header_stands_there()
+    ensures there { (header body : List ℕ) → 20 ≤ length header → All (λ b. b < 256) header → All (λ b. b < 256) body → IsL4 header body (l4_of header body) }
+    ensures tcp { (header body : List ℕ) (src dst : ℕ) → IsFirstOf 6 header → HasPorts body src dst → l4_of header body ≡ Tcp src dst }
+    ensures udp { (header body : List ℕ) (src dst : ℕ) → IsFirstOf 17 header → HasPorts body src dst → l4_of header body ≡ Udp src dst }
+    ensures icmp { (header : List ℕ) (kind code : ℕ) (more : List ℕ) → IsFirstOf 1 header → l4_of header (kind ∷ code ∷ more) ≡ Icmp kind code }
+{}
+
+/// A frame is read as its parts are spelled: two addresses, the tags, an EtherType that shows no tag,
+/// and the payload (IEEE 802.3, 3.1.1; IEEE 802.1Q, 9.3 and 9.6).
+pub fn a_frame_is_read_as_its_parts_are_spelled()
+    ensures parts { (dst src : Mac) (tags : List Tag) (eth_type : ℕ) (payload : List ℕ) → length dst.0 ≡ 6 → length src.0 ≡ 6 → AllByRecursion IsTag tags → eth_type < 2 ^ 16 → is_tag_type eth_type ≡ false
+        → parts (frame_of dst src tags eth_type payload) ≡ Some (parts_of dst src tags eth_type payload) }
+    ensures tags { (tags : List Tag) → AllByRecursion IsTag tags → tags_of (flat_map tag_bytes tags) ≡ tags }
+    ensures untagged { (dst src : Mac) (eth_type : ℕ) (payload : List ℕ) → length dst.0 ≡ 6 → length src.0 ≡ 6 → eth_type < 2 ^ 16 → is_tag_type eth_type ≡ false
+        → parts (untagged dst src eth_type payload) ≡ Some (parts_of dst src [] eth_type payload) }
+{}
+
+/// A packet has the addresses, the protocol and the TTL of its IPv4 header; and its rest is what else
+/// stands behind the EtherType, in order, without the header's checksum (RFC 791, 3.1; RFC 826).
+pub fn a_packet_has_what_its_headers_hold()
+    ensures ipv4 { (h : Header) (body : List ℕ) → h.source < 2 ^ 32 → h.destination < 2 ^ 32
+        → upper_of (V4 (header_bytes h) body) ≡ V4Part (record { 0 = h.source }) (record { 0 = h.destination }) h.protocol h.lifetime (l4_of (header_bytes h) body) }
+    ensures ipv4_rest { (h : Header) (payload body : List ℕ) → rest_of payload (V4 (header_bytes h) body) ≡ header_front h ++ h.options ++ drop (l4_len (l4_of (header_bytes h) body)) body }
+    ensures arp_rest { (op : ℕ) (sha : Mac) (spa : Ip4) (tha : Mac) (tpa : Ip4) (padding : List ℕ) → length sha.0 ≡ 6 → length tha.0 ≡ 6
+        → rest_of (arp_packet op sha spa tha tpa ++ padding) (Arp op sha spa tha tpa) ≡ (0 ∷ 1 ∷ 0x08 ∷ 0x00 ∷ 6 ∷ 4 ∷ []) ++ sha.0 ++ tha.0 ++ padding }
+{}
+
+/// The frame that asks by ARP goes from the asker to all, and that which answers to the one that asked
+/// (RFC 826); the operations are 1 and 2, and a request leaves the target's hardware address at 0.
+pub fn arp_frames_show_who_asks_and_who_answers()
+    ensures request { (src : Mac) (spa tpa : Ip4) → length src.0 ≡ 6 → IsIp4 spa → IsIp4 tpa
+        → ShowsArp (arp_request src spa tpa) (record { 0 = 0xff ∷ 0xff ∷ 0xff ∷ 0xff ∷ 0xff ∷ 0xff ∷ [] }) 1 src spa (record { 0 = 0 ∷ 0 ∷ 0 ∷ 0 ∷ 0 ∷ 0 ∷ [] }) tpa }
+    ensures reply { (src : Mac) (spa : Ip4) (dst : Mac) (tpa : Ip4) → length src.0 ≡ 6 → IsIp4 spa → length dst.0 ≡ 6 → IsIp4 tpa → ShowsArp (arp_reply src spa dst tpa) dst 2 src spa dst tpa }
+{}
+
+/// An echo request is answered exactly where it is whole, no fragment, in a packet of at most 65,400
+/// bytes under right checksums, and from no group address (RFC 792; RFC 791, 3.1).
+pub fn an_answer_is_due_to_an_echo_request()
+    ensures { (src from : Mac) (eth_type : ℕ) (payload : List ℕ) → All (λ b. b < 256) payload
+        → IsSome (echo_upper src from (upper_parts eth_type payload)) ↔ ((eth_type ≡ 0x0800) × (is_group from ≡ false) × IsEchoRequest payload) }
+{}
+
+/// The answer to an echo request is an echo reply with right checksums, from its destination to its
+/// source, and has its identifier, sequence number and data (RFC 792).
+pub fn an_echo_request_gets_its_reply()
+    ensures { (src from : Mac) (e : Echo) (padding : List ℕ) → is_group from ≡ false → IsEcho 8 e
+        → (a : Echo) × IsEcho 0 a × Answers e a × (echo_upper src from (upper_parts 0x0800 (header_of e ++ message_of 8 e ++ padding)) ≡ Some (untagged from src 0x0800 (header_of a ++ message_of 0 a))) }
 {}
