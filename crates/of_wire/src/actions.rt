@@ -1,4 +1,4 @@
-ghost use Rattle.std.specs.Prelude.{◌≡◌, ◌≤◌, ◌<◌, ◌+◌, ◌*◌, ◌++◌, ◌^◌, length, take, drop, List, Ok, OnOk, OnErr, IfOk};
+ghost use Rattle.std.specs.Prelude.{◌≡◌, ◌≢◌, ◌≤◌, ◌<◌, ◌+◌, ◌*◌, ◌++◌, ◌^◌, length, take, drop, List, Ok, OnOk, OnErr, IfOk, IfErr};
 ghost use Rattle.std.specs.List.{flat_map};
 ghost use Rattle.of_wire.specs.Parts.{bare_action, set_bytes, action_bytes};
 ghost use Rattle.of_match.specs.declared.action.Action.{Action};
@@ -132,6 +132,7 @@ fn read_set_named(
     requires small { at + length bytes.now < 2 ^ 32 }
     ensures exact { Gives (λ x. x) result (set_named named past len at bytes.now) }
     ensures taken { IfOk result (λ x. (4 ≤ x.1) × (x.1 ≤ length bytes.now)) }
+    ensures sure { IfErr result (λ e. e ≢ PartRefused.Memory) }
 {
     let Some(id) = named else {
         return Err(refused(at + 4, PartCause::BadClass));
@@ -158,6 +159,7 @@ fn read_set(
     requires small { at + length bytes.now < 2 ^ 32 }
     ensures exact { Gives (λ x. x) result (set_at past len at bytes.now) }
     ensures taken { IfOk result (λ x. (4 ≤ x.1) × (x.1 ≤ length bytes.now)) }
+    ensures sure { IfErr result (λ e. e ≢ PartRefused.Memory) }
 {
     if len < 8 {
         return Err(refused(at + 2, PartCause::BadLength));
@@ -187,6 +189,7 @@ fn take_sized(
     requires small { at + length bytes.now < 2 ^ 32 }
     ensures exact { Gives (λ n. n) result (sized_at past size len at bytes.now) }
     ensures taken { IfOk result (λ n. (n ≡ size) × (n ≤ length bytes.now)) }
+    ensures sure { IfErr result (λ e. e ≢ PartRefused.Memory) }
 {
     if len != size {
         return Err(refused(at + 2, PartCause::BadLength));
@@ -208,6 +211,7 @@ fn read_output(
     requires small { at + length bytes.now < 2 ^ 32 }
     ensures exact { Gives (λ x. x) result (output_at past len at bytes.now) }
     ensures taken { IfOk result (λ x. (4 ≤ x.1) × (x.1 ≤ length bytes.now)) }
+    ensures sure { IfErr result (λ e. e ≢ PartRefused.Memory) }
 {
     let taken = take_sized(past, 16, len, at, bytes)?;
     let port = u32_at(bytes, 4);
@@ -226,6 +230,7 @@ fn read_push(
     requires small { at + length bytes.now < 2 ^ 32 }
     ensures exact { Gives (λ x. x) result (push_at past len at bytes.now) }
     ensures taken { IfOk result (λ x. (4 ≤ x.1) × (x.1 ≤ length bytes.now)) }
+    ensures sure { IfErr result (λ e. e ≢ PartRefused.Memory) }
 {
     let taken = take_sized(past, 8, len, at, bytes)?;
     Ok((Action::PushVlan(u16_at(bytes, 4)), taken))
@@ -243,6 +248,7 @@ fn read_bare(
     requires small { at + length bytes.now < 2 ^ 32 }
     ensures exact { Gives (λ x. x) result (bare_at past action len at bytes.now) }
     ensures taken { IfOk result (λ x. (4 ≤ x.1) × (x.1 ≤ length bytes.now)) }
+    ensures sure { IfErr result (λ e. e ≢ PartRefused.Memory) }
 {
     let taken = take_sized(past, 8, len, at, bytes)?;
     Ok((action, taken))
@@ -262,6 +268,7 @@ fn read_action_of(
     requires small { at + length bytes.now < 2 ^ 32 }
     ensures exact { Gives (λ x. x) result (action_of kind past len at bytes.now) }
     ensures taken { IfOk result (λ x. (4 ≤ x.1) × (x.1 ≤ length bytes.now)) }
+    ensures sure { IfErr result (λ e. e ≢ PartRefused.Memory) }
 {
     match u128::from(kind) {
         OUTPUT => read_output(past, len, at, bytes),
@@ -279,6 +286,7 @@ fn read_action(past: PartFault, at: u32, bytes: &[u8]) -> Result<(Action, usize)
     requires { at + length bytes.now < 2 ^ 32 }
     ensures exact { Gives (λ x. x) result (action_at past at bytes.now) }
     ensures taken { IfOk result (λ x. (4 ≤ x.1) × (x.1 ≤ length bytes.now)) }
+    ensures sure { IfErr result (λ e. e ≢ PartRefused.Memory) }
 {
     if bytes.len() < 4 {
         return Err(PartRefused::At(past));

@@ -1,4 +1,4 @@
-ghost use Rattle.std.specs.Prelude.{◌≡◌, ◌≤◌, ◌<◌, ◌+◌, ◌++◌, ◌^◌, ℕ, length, take, List, [], true, false, Ok, OnOk, OnErr, IfOk, IfSome};
+ghost use Rattle.std.specs.Prelude.{◌≡◌, ◌≢◌, ◌≤◌, ◌<◌, ◌+◌, ◌++◌, ◌^◌, ℕ, length, take, List, [], true, false, Ok, OnOk, OnErr, IfOk, IfErr, IfSome};
 ghost use Rattle.std.specs.List.{flat_map};
 ghost use Rattle.of_wire.specs.Parts.{field_bytes, match_bytes};
 ghost use Rattle.of_wire.specs.Spelling.{stands, first_above, placed, SpellsMatch, SpellsMatchSeen};
@@ -192,6 +192,7 @@ fn known_field(past: PartFault, id: FieldId, at: u32, bytes: &[u8]) -> Result<Fi
     requires small { at + length bytes.now < 2 ^ 32 }
     ensures exact { Gives (λ f. f) result (known_field past id at bytes.now) }
     ensures there { IfOk result (λ f. 4 + payload_len bytes.now ≤ length bytes.now) }
+    ensures sure { IfErr result (λ e. e ≢ PartRefused.Memory) }
 {
     let len = usize::from(u8_at(bytes, 3));
     if len != wanted_len(id, has_mask(bytes)) {
@@ -235,6 +236,7 @@ fn pass_over(strict: bool, past: PartFault, at: u32, bytes: &[u8]) -> Result<usi
     requires { 4 ≤ length bytes.now }
     ensures exact { (fields : List Field) → Gives (λ n. (fields, n)) result (unknown_step strict past fields at bytes.now) }
     ensures taken { IfOk result (λ n. (4 ≤ n) × (n ≤ length bytes.now)) }
+    ensures sure { IfErr result (λ e. e ≢ PartRefused.Memory) }
 {
     if strict {
         return Err(refused(at, PartCause::BadClass));
