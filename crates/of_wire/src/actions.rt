@@ -306,6 +306,7 @@ fn take_action(
     requires { at + length bytes.now < 2 ^ 32 }
     ensures exact { Gives (λ n. (actions.new, n)) result (action_step past actions.old at bytes.now) }
     ensures taken { IfOk result (λ n. (4 ≤ n) × (n ≤ length bytes.now)) }
+    ensures sure { length bytes.now < 4 → IfErr result (λ e. e ≢ PartRefused.Memory) }
 {
     let (action, taken) = read_action(past, at, bytes)?;
     actions.push(action)?;
@@ -321,7 +322,8 @@ pub fn read_each_action(
     bytes: &[u8],
 ) -> Result<Actions, PartRefused>
     requires { at + length bytes.now < 2 ^ 32 }
-    ensures { Gives (λ a. a) result (actions_at past at bytes.now) }
+    ensures exact { Gives (λ a. a) result (actions_at past at bytes.now) }
+    ensures sure { length bytes.now < 4 → IfErr result (λ e. e ≢ PartRefused.Memory) }
 {
     let mut actions = Actions::new(alloc);
     let mut rest = bytes;
@@ -348,6 +350,7 @@ pub fn read_actions(
     ensures spelled { IfOk result (λ actions. SpellsActions actions bytes.now) }
     ensures complete { (actions : List Action) → SpellsActions actions bytes.now → Gives (λ a. a) result (Ok actions) }
     ensures first { TellsFirst (FaultInActionsAt at past bytes.now) result }
+    ensures sure { length bytes.now < 4 → IfErr result (λ e. e ≢ PartRefused.Memory) }
 {
     read_each_action(alloc, past, at, bytes)
 }
@@ -358,6 +361,7 @@ pub fn get_actions(alloc: Global, bytes: &[u8]) -> Result<Actions, PartRefused>
     ensures spelled { IfOk result (λ actions. SpellsActions actions bytes.now) }
     ensures complete { (actions : List Action) → SpellsActions actions bytes.now → Gives (λ a. a) result (Ok actions) }
     ensures first { TellsFirst (FaultInActions bytes.now) result }
+    ensures sure { length bytes.now < 4 → IfErr result (λ e. e ≢ PartRefused.Memory) }
 {
     let past = PartFault {
         at: bytes.len() as u32,

@@ -209,6 +209,7 @@ fn take_instr(
     requires { at + length bytes.now < 2 ^ 32 }
     ensures exact { Gives (λ n. (instrs.new, n)) result (instr_step past instrs.old at bytes.now) }
     ensures taken { IfOk result (λ n. (4 ≤ n) × (n ≤ length bytes.now)) }
+    ensures sure { length bytes.now < 4 → IfErr result (λ e. e ≢ PartRefused.Memory) }
 {
     if bytes.len() < 4 {
         return Err(PartRefused::At(past));
@@ -223,7 +224,8 @@ fn take_instr(
 #[tactic(auto, unfolding(crate::specs::Reading::instrs_at))]
 fn read_each_instr(alloc: Global, at: u32, bytes: &[u8]) -> Result<Instrs, PartRefused>
     requires { at + length bytes.now < 2 ^ 32 }
-    ensures { Gives (λ i. i) result (instrs_at at bytes.now) }
+    ensures exact { Gives (λ i. i) result (instrs_at at bytes.now) }
+    ensures sure { length bytes.now < 4 → IfErr result (λ e. e ≢ PartRefused.Memory) }
 {
     let past = PartFault {
         at: at + bytes.len() as u32,
@@ -249,6 +251,7 @@ pub fn get_instrs_at(alloc: Global, at: u32, bytes: &[u8]) -> Result<Instrs, Par
     ensures spelled { IfOk result (λ instrs. SpellsInstrs instrs bytes.now) }
     ensures complete { (instrs : List Instr) → SpellsInstrs instrs bytes.now → Gives (λ i. i) result (Ok instrs) }
     ensures first { TellsFirst (From at (FaultInInstrs bytes.now)) result }
+    ensures sure { length bytes.now < 4 → IfErr result (λ e. e ≢ PartRefused.Memory) }
 {
     read_each_instr(alloc, at, bytes)
 }
@@ -259,6 +262,7 @@ pub fn get_instrs(alloc: Global, bytes: &[u8]) -> Result<Instrs, PartRefused>
     ensures spelled { IfOk result (λ instrs. SpellsInstrs instrs bytes.now) }
     ensures complete { (instrs : List Instr) → SpellsInstrs instrs bytes.now → Gives (λ i. i) result (Ok instrs) }
     ensures first { TellsFirst (FaultInInstrs bytes.now) result }
+    ensures sure { length bytes.now < 4 → IfErr result (λ e. e ≢ PartRefused.Memory) }
 {
     get_instrs_at(alloc, 0, bytes)
 }

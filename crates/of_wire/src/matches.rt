@@ -5,6 +5,7 @@ ghost use Rattle.of_wire.specs.Spelling.{stands, first_above, placed, SpellsMatc
 ghost use Rattle.of_wire.specs.Faults.{TellsFirst, From, FaultInMatch};
 ghost use Rattle.net_base.specs.declared.field.Field.{Field};
 ghost use Rattle.of_wire.specs.Answers.{Gives, fault_at};
+ghost use Rattle.of_wire.specs.Memory.{HoldsNoField};
 ghost use Rattle.of_wire.specs.Reading.{field_numbered, field_named, has_mask, payload_len, wanted_len, field_value, known_field, known_step, unknown_step, field_step, many, fields_at, sized_match_at, match_at};
 
 use crate::fault::{PartCause, PartFault, PartRefused};
@@ -260,6 +261,7 @@ fn take_field(
     requires { at + length bytes.now < 2 ^ 32 }
     ensures exact { Gives (λ n. (fields.new, n)) result (field_step strict past fields.old at bytes.now) }
     ensures taken { IfOk result (λ n. (4 ≤ n) × (n ≤ length bytes.now)) }
+    ensures sure { length bytes.now < 4 → IfErr result (λ e. e ≢ PartRefused.Memory) }
 {
     if bytes.len() < 4 {
         return Err(PartRefused::At(past));
@@ -279,7 +281,8 @@ fn read_field_list(
     bytes: &[u8],
 ) -> Result<Fields, PartRefused>
     requires { at + length bytes.now < 2 ^ 32 }
-    ensures { Gives (λ f. f) result (many (field_step strict past) (length bytes.now) [] at bytes.now) }
+    ensures exact { Gives (λ f. f) result (many (field_step strict past) (length bytes.now) [] at bytes.now) }
+    ensures sure { length bytes.now < 4 → IfErr result (λ e. e ≢ PartRefused.Memory) }
 {
     let mut fields = Fields::new(alloc);
     let mut rest = bytes;
@@ -305,7 +308,8 @@ fn read_fields(
     requires head { 4 ≤ len }
     requires there { 4 ≤ length bytes.now }
     requires small { at + length bytes.now < 2 ^ 32 }
-    ensures { Gives (λ f. f) result (fields_at strict len at bytes.now) }
+    ensures exact { Gives (λ f. f) result (fields_at strict len at bytes.now) }
+    ensures sure { len < 8 → IfErr result (λ e. e ≢ PartRefused.Memory) }
 {
     let end = at + bytes.len() as u32;
     let wrong = PartFault {
@@ -337,6 +341,7 @@ fn read_sized_match(
     requires small { at + length bytes.now < 2 ^ 32 }
     ensures exact { Gives (λ x. x) result (sized_match_at strict len at bytes.now) }
     ensures taken { IfOk result (λ x. x.1 ≤ length bytes.now) }
+    ensures sure { len < 8 → IfErr result (λ e. e ≢ PartRefused.Memory) }
 {
     let fields = read_fields(alloc, strict, len, at, bytes)?;
     let short = PartFault {
@@ -358,6 +363,7 @@ fn read_match(
     requires { at + length bytes.now < 2 ^ 32 }
     ensures exact { Gives (λ x. x) result (match_at strict at bytes.now) }
     ensures taken { IfOk result (λ x. x.1 ≤ length bytes.now) }
+    ensures sure { HoldsNoField bytes.now → IfErr result (λ e. e ≢ PartRefused.Memory) }
 {
     if bytes.len() < 4 {
         return Err(refused(at + bytes.len() as u32, PartCause::Short));
@@ -382,6 +388,7 @@ pub fn get_match(alloc: Global, bytes: &[u8]) -> Result<(Fields, usize), PartRef
     ensures complete { (fields : List Field) (spelling rest : List ℕ) → SpellsMatch fields spelling → bytes.now ≡ spelling ++ rest
         → Gives (λ x. x) result (Ok (fields, length spelling)) }
     ensures first { TellsFirst (FaultInMatch true bytes.now) result }
+    ensures sure { HoldsNoField bytes.now → IfErr result (λ e. e ≢ PartRefused.Memory) }
 {
     get_match_at(alloc, 0, bytes)
 }
@@ -395,6 +402,7 @@ pub fn get_match_seen(alloc: Global, bytes: &[u8]) -> Result<(Fields, usize), Pa
     ensures complete { (fields : List Field) (spelling rest : List ℕ) → SpellsMatchSeen fields spelling → bytes.now ≡ spelling ++ rest
         → Gives (λ x. x) result (Ok (fields, length spelling)) }
     ensures first { TellsFirst (FaultInMatch false bytes.now) result }
+    ensures sure { HoldsNoField bytes.now → IfErr result (λ e. e ≢ PartRefused.Memory) }
 {
     get_match_seen_at(alloc, 0, bytes)
 }
@@ -409,6 +417,7 @@ pub fn get_match_at(alloc: Global, at: u32, bytes: &[u8]) -> Result<(Fields, usi
     ensures complete { (fields : List Field) (spelling rest : List ℕ) → SpellsMatch fields spelling → bytes.now ≡ spelling ++ rest
         → Gives (λ x. x) result (Ok (fields, length spelling)) }
     ensures first { TellsFirst (From at (FaultInMatch true bytes.now)) result }
+    ensures sure { HoldsNoField bytes.now → IfErr result (λ e. e ≢ PartRefused.Memory) }
 {
     read_match(alloc, true, at, bytes)
 }
@@ -426,6 +435,7 @@ pub fn get_match_seen_at(
     ensures complete { (fields : List Field) (spelling rest : List ℕ) → SpellsMatchSeen fields spelling → bytes.now ≡ spelling ++ rest
         → Gives (λ x. x) result (Ok (fields, length spelling)) }
     ensures first { TellsFirst (From at (FaultInMatch false bytes.now)) result }
+    ensures sure { HoldsNoField bytes.now → IfErr result (λ e. e ≢ PartRefused.Memory) }
 {
     read_match(alloc, false, at, bytes)
 }
