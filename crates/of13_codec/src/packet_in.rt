@@ -67,7 +67,8 @@ fn read_packet_in_rest(
 ) -> Result<Message, PartRefused>
     requires head { 16 ≤ length body.now }
     requires small { length body.now < 2 ^ 16 }
-    ensures { Gives (λ m. m) result (packet_in_rest fields body.now rest.now) }
+    ensures exact { Gives (λ m. m) result (packet_in_rest fields body.now rest.now) }
+    ensures wrong_size { length rest.now < 2 → IfErr result (λ e. e ≢ PartRefused.Memory) }
 {
     if rest.len() < 2 {
         return Err(PartRefused::At(short(body)));

@@ -1,4 +1,4 @@
-ghost use Rattle.std.specs.Prelude.{◌≡◌, ◌≢◌, ◌≤◌, ◌<◌, ◌+◌, ◌*◌, ◌++◌, ◌^◌, length, take, drop, List, Ok, OnOk, OnErr, IfOk, IfErr};
+ghost use Rattle.std.specs.Prelude.{◌≡◌, ◌≢◌, ◌≤◌, ◌<◌, ◌+◌, ◌*◌, ◌++◌, ◌^◌, length, take, drop, List, Ok, OnOk, OnErr, IfOk, IfErr, IsOk};
 ghost use Rattle.std.specs.List.{flat_map};
 ghost use Rattle.of_wire.specs.Parts.{bare_action, set_bytes, action_bytes};
 ghost use Rattle.of_match.specs.declared.action.Action.{Action};
@@ -81,6 +81,7 @@ fn put_action(action: &Action, out: &mut Bytes) -> Result<(), NoMemory>
 pub fn put_actions(actions: &[Action], out: &mut Bytes) -> Result<(), NoMemory>
     ensures ok { OnOk result (out.new ≡ out.old ++ flat_map action_bytes actions.now) }
     ensures err { OnErr result (out.new ≡ out.old) }
+    ensures sure { length actions.now ≡ 0 → IsOk result }
 {
     let start = out.len();
     for action in actions {

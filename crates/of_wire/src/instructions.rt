@@ -1,4 +1,4 @@
-ghost use Rattle.std.specs.Prelude.{◌≡◌, ◌≢◌, ◌≤◌, ◌<◌, ◌+◌, ◌++◌, ◌^◌, length, take, List, Ok, OnOk, OnErr, IfOk, IfErr};
+ghost use Rattle.std.specs.Prelude.{◌≡◌, ◌≢◌, ◌≤◌, ◌<◌, ◌+◌, ◌++◌, ◌^◌, length, take, List, Ok, OnOk, OnErr, IfOk, IfErr, IsOk};
 ghost use Rattle.std.specs.List.{flat_map};
 ghost use Rattle.of_wire.specs.Parts.{instr_bytes};
 ghost use Rattle.of_wire.specs.Numbers.{number_in};
@@ -47,6 +47,7 @@ fn put_instr(instr: &Instr, out: &mut Bytes) -> Result<(), NoMemory>
 pub fn put_instrs(instrs: &[Instr], out: &mut Bytes) -> Result<(), NoMemory>
     ensures ok { OnOk result (out.new ≡ out.old ++ flat_map instr_bytes instrs.now) }
     ensures err { OnErr result (out.new ≡ out.old) }
+    ensures sure { length instrs.now ≡ 0 → IsOk result }
 {
     let start = out.len();
     for instr in instrs {
@@ -129,6 +130,7 @@ fn read_applied(
     requires small { at + length bytes.now < 2 ^ 32 }
     ensures exact { Gives (λ x. x) result (applied_at past len at bytes.now) }
     ensures taken { IfOk result (λ x. (4 ≤ x.1) × (x.1 ≤ length bytes.now)) }
+    ensures sure { len < 12 → IfErr result (λ e. e ≢ PartRefused.Memory) }
 {
     let wrong = PartFault {
         at: at + 2,
@@ -158,6 +160,7 @@ fn read_apply(
     requires small { at + length bytes.now < 2 ^ 32 }
     ensures exact { Gives (λ x. x) result (apply_at past instrs.now len at bytes.now) }
     ensures taken { IfOk result (λ x. (4 ≤ x.1) × (x.1 ≤ length bytes.now)) }
+    ensures sure { len < 12 → IfErr result (λ e. e ≢ PartRefused.Memory) }
 {
     if has_apply(instrs) {
         return Err(refused(at, PartCause::Repeated));
@@ -188,6 +191,7 @@ fn read_instr_of(
     requires small { at + length bytes.now < 2 ^ 32 }
     ensures exact { Gives (λ x. x) result (instr_of kind past instrs.now (number_in 2 2 bytes.now) at bytes.now) }
     ensures taken { IfOk result (λ x. (4 ≤ x.1) × (x.1 ≤ length bytes.now)) }
+    ensures sure { number_in 2 2 bytes.now < 12 → IfErr result (λ e. e ≢ PartRefused.Memory) }
 {
     let len = usize::from(u16_at(bytes, 2));
     match u128::from(kind) {

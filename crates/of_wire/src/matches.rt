@@ -1,4 +1,4 @@
-ghost use Rattle.std.specs.Prelude.{◌≡◌, ◌≢◌, ◌≤◌, ◌<◌, ◌+◌, ◌++◌, ◌^◌, ℕ, length, take, List, [], true, false, Ok, OnOk, OnErr, IfOk, IfErr, IfSome};
+ghost use Rattle.std.specs.Prelude.{◌≡◌, ◌≢◌, ◌≤◌, ◌<◌, ◌+◌, ◌++◌, ◌^◌, ℕ, length, take, List, [], true, false, Ok, OnOk, OnErr, IfOk, IfErr, IsOk, IfSome};
 ghost use Rattle.std.specs.List.{flat_map};
 ghost use Rattle.of_wire.specs.Parts.{field_bytes, match_bytes};
 ghost use Rattle.of_wire.specs.Spelling.{stands, first_above, placed, SpellsMatch, SpellsMatchSeen};
@@ -45,6 +45,7 @@ pub fn put_field(field: &Field, out: &mut Bytes) -> Result<(), NoMemory>
 fn put_fields(fields: &[Field], out: &mut Bytes) -> Result<(), NoMemory>
     ensures ok { OnOk result (out.new ≡ out.old ++ flat_map field_bytes fields.now) }
     ensures err { OnErr result (out.new ≡ out.old) }
+    ensures sure { length fields.now ≡ 0 → IsOk result }
 {
     let start = out.len();
     for field in fields {
@@ -219,6 +220,7 @@ fn take_known(
     requires small { at + length bytes.now < 2 ^ 32 }
     ensures exact { Gives (λ n. (fields.new, n)) result (known_step strict past id fields.old at bytes.now) }
     ensures taken { IfOk result (λ n. (4 ≤ n) × (n ≤ length bytes.now)) }
+    ensures sure { stands id fields.old ≡ true → IfErr result (λ e. e ≢ PartRefused.Memory) }
 {
     if stands(id, fields.as_slice()) {
         return Err(refused(at, PartCause::Repeated));
