@@ -1,4 +1,4 @@
-ghost use Rattle.std.specs.Prelude.{◌≡◌, ◌≤◌, ◌<◌, ◌++◌, ◌+◌, ◌^◌, ℕ, List, length, take, Ok, OnOk, OnErr, IfOk, MatchOption};
+ghost use Rattle.std.specs.Prelude.{◌≡◌, ◌≢◌, ◌≤◌, ◌<◌, ◌++◌, ◌+◌, ◌^◌, ℕ, List, length, take, drop, Ok, OnOk, OnErr, IfOk, IfErr, MatchOption};
 ghost use Rattle.of_wire.specs.Reading.{Gives};
 ghost use Rattle.of_wire.specs.Numbers.{number_in};
 ghost use Rattle.of13_codec.specs.Decoding.{error_at, other_at, bare_at, echo_request_at, echo_reply_at, body_at, is_version, decoded, Decodes};
@@ -7,6 +7,7 @@ ghost use Rattle.of13_codec.specs.Messages.{body_of, error_bytes, framed, writte
 ghost use Rattle.of13_codec.specs.Spelling.{Spells};
 ghost use Rattle.of13_codec.specs.Faults.{TellsFrame, Answers};
 ghost use Rattle.of13_codec.specs.WellFormed.{IsWellFormed, FitsFrame};
+ghost use Rattle.of13_codec.specs.Memory.{HasWrongHeader, HasWrongSize, NeedsNoMemory};
 
 use crate::features::{put_features, read_features};
 use crate::flow_mod::{put_flow_mod, read_flow_mod};
@@ -131,7 +132,8 @@ pub fn header(bytes: &[u8]) -> Option<FrameHead>
 #[tactic(auto, unfolding(crate::specs::Decoding::error_at))]
 fn read_error(alloc: Global, body: &[u8]) -> Result<Message, PartRefused>
     requires { length body.now < 2 ^ 16 }
-    ensures { Gives (λ m. m) result (error_at body.now) }
+    ensures exact { Gives (λ m. m) result (error_at body.now) }
+    ensures wrong_size { length body.now < 4 → IfErr result (λ e. e ≢ PartRefused.Memory) }
 {
     if let Err(fault) = at_least(4, body) {
         return Err(PartRefused::At(fault));
@@ -160,7 +162,8 @@ fn read_echo_reply(alloc: Global, body: &[u8]) -> Result<Message, PartRefused>
 /// Reads a message that is nothing but its header.
 fn read_bare(message: Message, body: &[u8]) -> Result<Message, PartRefused>
     requires { length body.now < 2 ^ 16 }
-    ensures { Gives (λ m. m) result (bare_at message body.now) }
+    ensures exact { Gives (λ m. m) result (bare_at message body.now) }
+    ensures sure { IfErr result (λ e. e ≢ PartRefused.Memory) }
 {
     if let Err(fault) = exactly(0, body) {
         return Err(PartRefused::At(fault));
@@ -172,7 +175,9 @@ fn read_bare(message: Message, body: &[u8]) -> Result<Message, PartRefused>
 #[tactic(auto, unfolding(crate::specs::Decoding::body_at))]
 fn read_body(alloc: Global, version: u8, kind: u8, body: &[u8]) -> Result<Message, PartRefused>
     requires { length body.now < 2 ^ 16 }
-    ensures { Gives (λ m. m) result (body_at version kind body.now) }
+    ensures exact { Gives (λ m. m) result (body_at version kind body.now) }
+    ensures wrong_size { HasWrongSize kind body.now → IfErr result (λ e. e ≢ PartRefused.Memory) }
+    ensures sure { NeedsNoMemory kind body.now → IfErr result (λ e. e ≢ PartRefused.Memory) }
 {
     match kind {
         0 => read_hello(version, body),
@@ -206,7 +211,10 @@ fn is_version(version: u8, kind: u8) -> bool
 /// Reads a frame, whose version, length and body are tested in this order.
 #[tactic(auto, unfolding(crate::specs::Decoding::decoded))]
 fn read_frame(alloc: Global, frame: &[u8]) -> Result<(Message, u32), WireRefused>
-    ensures { Decodes result (decoded frame.now) }
+    ensures exact { Decodes result (decoded frame.now) }
+    ensures wrong_header { HasWrongHeader frame.now → IfErr result (λ e. e ≢ WireRefused.Memory) }
+    ensures wrong_size { HasWrongSize (number_in 1 1 frame.now) (drop 8 frame.now) → IfErr result (λ e. e ≢ WireRefused.Memory) }
+    ensures sure { NeedsNoMemory (number_in 1 1 frame.now) (drop 8 frame.now) → IfErr result (λ e. e ≢ WireRefused.Memory) }
 {
     if frame.len() < 8 {
         return Err(WireRefused::Length);
@@ -234,6 +242,9 @@ pub fn decode(alloc: Global, frame: &[u8]) -> Result<(Message, u32), WireRefused
     ensures spelled { IfOk result (λ x. Spells x.0 x.1 frame.now) }
     ensures complete { (m : Message) (xid : ℕ) → Spells m xid frame.now → Answers (m, xid) result }
     ensures first { TellsFrame frame.now result }
+    ensures wrong_header { HasWrongHeader frame.now → IfErr result (λ e. e ≢ WireRefused.Memory) }
+    ensures wrong_size { HasWrongSize (number_in 1 1 frame.now) (drop 8 frame.now) → IfErr result (λ e. e ≢ WireRefused.Memory) }
+    ensures sure { NeedsNoMemory (number_in 1 1 frame.now) (drop 8 frame.now) → IfErr result (λ e. e ≢ WireRefused.Memory) }
 {
     read_frame(alloc, frame)
 }

@@ -1,4 +1,4 @@
-ghost use Rattle.std.specs.Prelude.{◌≡◌, ◌≤◌, ◌<◌, ◌+◌, ◌++◌, ◌^◌, length, OnOk, IfOk};
+ghost use Rattle.std.specs.Prelude.{◌≡◌, ◌≢◌, ◌≤◌, ◌<◌, ◌+◌, ◌++◌, ◌^◌, length, Ok, OnOk, IfOk, IfErr};
 ghost use Rattle.of_wire.specs.Reading.{Gives};
 ghost use Rattle.of13_codec.specs.Decoding.{features_at};
 ghost use Rattle.of13_codec.specs.Messages.{features_bytes};
@@ -20,7 +20,9 @@ pub struct FeaturesReply {
 }
 
 impl TryCopy for FeaturesReply {
-    fn copy(&self, _alloc: Global) -> Result<FeaturesReply, NoMemory> {
+    fn copy(&self, _alloc: Global) -> Result<FeaturesReply, NoMemory>
+        ensures { result ≡ Ok self.now }
+    {
         Ok(*self)
     }
 }
@@ -42,7 +44,8 @@ pub fn put_features(m: &FeaturesReply, out: &mut Bytes) -> Result<(), NoMemory>
 #[tactic(auto, unfolding(crate::specs::Decoding::features_at))]
 pub fn read_features(body: &[u8]) -> Result<Message, PartRefused>
     requires { length body.now < 2 ^ 16 }
-    ensures { Gives (λ m. m) result (features_at body.now) }
+    ensures exact { Gives (λ m. m) result (features_at body.now) }
+    ensures sure { IfErr result (λ e. e ≢ PartRefused.Memory) }
 {
     if let Err(fault) = exactly(24, body) {
         return Err(PartRefused::At(fault));

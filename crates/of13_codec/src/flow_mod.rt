@@ -1,4 +1,4 @@
-ghost use Rattle.std.specs.Prelude.{◌≡◌, ◌≤◌, ◌<◌, ◌+◌, ◌++◌, ◌^◌, length, OnOk, IfOk};
+ghost use Rattle.std.specs.Prelude.{◌≡◌, ◌≢◌, ◌≤◌, ◌<◌, ◌+◌, ◌++◌, ◌^◌, length, OnOk, IfOk, IfErr};
 ghost use Rattle.of_wire.specs.Reading.{Gives};
 ghost use Rattle.of13_codec.specs.Decoding.{flow_mod_of, flow_mod_at};
 ghost use Rattle.of13_codec.specs.Messages.{flow_mod_target, flow_mod_terms, flow_mod_filter, flow_mod_bytes};
@@ -116,7 +116,8 @@ fn flow_mod_of(fields: Fields, instrs: Instrs, body: &[u8]) -> FlowMod
 #[tactic(auto, unfolding(crate::specs::Decoding::flow_mod_at))]
 pub fn read_flow_mod(alloc: Global, body: &[u8]) -> Result<Message, PartRefused>
     requires { length body.now < 2 ^ 16 }
-    ensures { Gives (λ m. m) result (flow_mod_at body.now) }
+    ensures exact { Gives (λ m. m) result (flow_mod_at body.now) }
+    ensures wrong_size { length body.now < 40 → IfErr result (λ e. e ≢ PartRefused.Memory) }
 {
     if let Err(fault) = at_least(40, body) {
         return Err(PartRefused::At(fault));

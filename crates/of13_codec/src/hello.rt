@@ -1,4 +1,4 @@
-ghost use Rattle.std.specs.Prelude.{◌≡◌, ◌≤◌, ◌<◌, ◌+◌, ◌++◌, ◌^◌, ◌⊎◌, length, Option, OnOk, IfOk};
+ghost use Rattle.std.specs.Prelude.{◌≡◌, ◌≢◌, ◌≤◌, ◌<◌, ◌+◌, ◌++◌, ◌^◌, ◌⊎◌, length, Option, OnOk, IfOk, IfErr};
 ghost use Rattle.of_wire.specs.Reading.{Gives, many};
 ghost use Rattle.of13_codec.specs.Decoding.{short, first_bitmap, element_at, hello_step, hello_at};
 ghost use Rattle.of13_codec.specs.Messages.{hello_bytes};
@@ -52,6 +52,7 @@ fn read_element(
     requires small { at + length bytes.now < 2 ^ 32 }
     ensures exact { Gives (λ x. x) result (element_at past bitmap kind len at bytes.now) }
     ensures taken { IfOk result (λ x. (4 ≤ x.1) × (x.1 ≤ length bytes.now)) }
+    ensures sure { IfErr result (λ e. e ≢ PartRefused.Memory) }
 {
     if len < 4 || (u128::from(kind) == VERSION_BITMAP && len < 8) {
         return Err(refused(at + 2, PartCause::BadLength));
@@ -71,6 +72,7 @@ fn take_element(
     requires { at + length bytes.now < 2 ^ 32 }
     ensures exact { Gives (λ x. x) result (hello_step past bitmap at bytes.now) }
     ensures taken { IfOk result (λ x. (4 ≤ x.1) × (x.1 ≤ length bytes.now)) }
+    ensures sure { IfErr result (λ e. e ≢ PartRefused.Memory) }
 {
     if bytes.len() < 4 {
         return Err(PartRefused::At(past));
@@ -81,7 +83,8 @@ fn take_element(
 
 fn read_elements(body: &[u8]) -> Result<Option<u32>, PartRefused>
     requires { length body.now < 2 ^ 16 }
-    ensures { Gives (λ x. x) result (many (hello_step (short body.now)) (length body.now) None 8 body.now) }
+    ensures exact { Gives (λ x. x) result (many (hello_step (short body.now)) (length body.now) None 8 body.now) }
+    ensures sure { IfErr result (λ e. e ≢ PartRefused.Memory) }
 {
     let past = short(body);
     let mut bitmap = None;
@@ -101,7 +104,8 @@ fn read_elements(body: &[u8]) -> Result<Option<u32>, PartRefused>
 #[tactic(auto, unfolding(crate::specs::Decoding::hello_at))]
 pub fn read_hello(version: u8, body: &[u8]) -> Result<Message, PartRefused>
     requires { length body.now < 2 ^ 16 }
-    ensures { Gives (λ m. m) result (hello_at version body.now) }
+    ensures exact { Gives (λ m. m) result (hello_at version body.now) }
+    ensures sure { IfErr result (λ e. e ≢ PartRefused.Memory) }
 {
     let bitmap = read_elements(body)?;
     Ok(Message::Hello { version, bitmap })

@@ -1,5 +1,6 @@
-ghost use Rattle.std.specs.Prelude.{◌≡◌, ◌≤◌, ◌<◌, ◌+◌, ◌++◌, ◌^◌, length, ℕ, OnOk, IfOk};
+ghost use Rattle.std.specs.Prelude.{◌≡◌, ◌≢◌, ◌≤◌, ◌<◌, ◌+◌, ◌++◌, ◌^◌, length, ℕ, OnOk, IfOk, IfErr};
 ghost use Rattle.of_wire.specs.Reading.{Gives};
+ghost use Rattle.of13_codec.specs.Memory.{AsksForPorts, TellsNoPort};
 ghost use Rattle.of13_codec.specs.Decoding.{other_at, port_desc_request_at, port_stats_request_at, port_desc_reply_at, port_stats_reply_at, request_at, has_more, items_at, reply_at};
 ghost use Rattle.std.specs.List.{flat_map};
 ghost use Rattle.of13_codec.specs.Messages.{multipart_head, port_bytes, port_stats_bytes, port_desc_reply_bytes, port_stats_request_bytes, port_stats_reply_bytes};
@@ -65,7 +66,8 @@ pub fn put_port_stats_reply(
 
 fn read_port_desc_request(body: &[u8]) -> Result<Message, PartRefused>
     requires { length body.now < 2 ^ 16 }
-    ensures { Gives (λ m. m) result (port_desc_request_at body.now) }
+    ensures exact { Gives (λ m. m) result (port_desc_request_at body.now) }
+    ensures sure { IfErr result (λ e. e ≢ PartRefused.Memory) }
 {
     if let Err(fault) = exactly(8, body) {
         return Err(PartRefused::At(fault));
@@ -75,7 +77,8 @@ fn read_port_desc_request(body: &[u8]) -> Result<Message, PartRefused>
 
 fn read_port_stats_request(body: &[u8]) -> Result<Message, PartRefused>
     requires { length body.now < 2 ^ 16 }
-    ensures { Gives (λ m. m) result (port_stats_request_at body.now) }
+    ensures exact { Gives (λ m. m) result (port_stats_request_at body.now) }
+    ensures sure { IfErr result (λ e. e ≢ PartRefused.Memory) }
 {
     if let Err(fault) = exactly(16, body) {
         return Err(PartRefused::At(fault));
@@ -96,7 +99,9 @@ pub fn read_other(alloc: Global, kind: u8, body: &[u8]) -> Result<Message, PartR
 #[tactic(auto, unfolding(crate::specs::Decoding::request_at))]
 pub fn read_request(alloc: Global, body: &[u8]) -> Result<Message, PartRefused>
     requires { length body.now < 2 ^ 16 }
-    ensures { Gives (λ m. m) result (request_at body.now) }
+    ensures exact { Gives (λ m. m) result (request_at body.now) }
+    ensures wrong_size { length body.now < 8 → IfErr result (λ e. e ≢ PartRefused.Memory) }
+    ensures sure { AsksForPorts body.now → IfErr result (λ e. e ≢ PartRefused.Memory) }
 {
     if let Err(fault) = at_least(8, body) {
         return Err(PartRefused::At(fault));
@@ -122,7 +127,8 @@ fn read_items<T: Item>(
     bytes: &[u8],
 ) -> Result<Items<T>, PartRefused>
     requires { 0 < T.SIZE }
-    ensures { Gives (λ x. x) result (items_at T.SIZE T.of past bytes.now) }
+    ensures exact { Gives (λ x. x) result (items_at T.SIZE T.of past bytes.now) }
+    ensures sure { length bytes.now < T.SIZE → IfErr result (λ e. e ≢ PartRefused.Memory) }
 {
     let mut items = Items::new(alloc);
     let mut rest = bytes;
@@ -140,7 +146,8 @@ fn read_items<T: Item>(
 fn read_port_desc_reply(alloc: Global, body: &[u8]) -> Result<Message, PartRefused>
     requires head { 8 ≤ length body.now }
     requires small { length body.now < 2 ^ 16 }
-    ensures { Gives (λ m. m) result (port_desc_reply_at body.now) }
+    ensures exact { Gives (λ m. m) result (port_desc_reply_at body.now) }
+    ensures sure { length body.now < 72 → IfErr result (λ e. e ≢ PartRefused.Memory) }
 {
     let (_, items) = body.split_at(8);
     let ports = read_items(alloc, short(body), items)?;
@@ -153,7 +160,8 @@ fn read_port_desc_reply(alloc: Global, body: &[u8]) -> Result<Message, PartRefus
 fn read_port_stats_reply(alloc: Global, body: &[u8]) -> Result<Message, PartRefused>
     requires head { 8 ≤ length body.now }
     requires small { length body.now < 2 ^ 16 }
-    ensures { Gives (λ m. m) result (port_stats_reply_at body.now) }
+    ensures exact { Gives (λ m. m) result (port_stats_reply_at body.now) }
+    ensures sure { length body.now < 120 → IfErr result (λ e. e ≢ PartRefused.Memory) }
 {
     let (_, items) = body.split_at(8);
     let ports = read_items(alloc, short(body), items)?;
@@ -167,7 +175,9 @@ fn read_port_stats_reply(alloc: Global, body: &[u8]) -> Result<Message, PartRefu
 #[tactic(auto, unfolding(crate::specs::Decoding::reply_at))]
 pub fn read_reply(alloc: Global, body: &[u8]) -> Result<Message, PartRefused>
     requires { length body.now < 2 ^ 16 }
-    ensures { Gives (λ m. m) result (reply_at body.now) }
+    ensures exact { Gives (λ m. m) result (reply_at body.now) }
+    ensures wrong_size { length body.now < 8 → IfErr result (λ e. e ≢ PartRefused.Memory) }
+    ensures sure { TellsNoPort body.now → IfErr result (λ e. e ≢ PartRefused.Memory) }
 {
     if let Err(fault) = at_least(8, body) {
         return Err(PartRefused::At(fault));

@@ -1,4 +1,4 @@
-ghost use Rattle.std.specs.Prelude.{◌≡◌, ◌≤◌, ◌<◌, ◌+◌, ◌++◌, ◌^◌, length, OnOk, IfOk};
+ghost use Rattle.std.specs.Prelude.{◌≡◌, ◌≢◌, ◌≤◌, ◌<◌, ◌+◌, ◌++◌, ◌^◌, length, OnOk, IfOk, IfErr};
 ghost use Rattle.of_wire.specs.Reading.{Gives};
 ghost use Rattle.of13_codec.specs.Decoding.{packet_in_rest, packet_in_at};
 ghost use Rattle.of13_codec.specs.Messages.{packet_in_head, packet_in_bytes};
@@ -67,7 +67,8 @@ fn read_packet_in_rest(
 ) -> Result<Message, PartRefused>
     requires head { 16 ≤ length body.now }
     requires small { length body.now < 2 ^ 16 }
-    ensures { Gives (λ m. m) result (packet_in_rest fields body.now rest.now) }
+    ensures exact { Gives (λ m. m) result (packet_in_rest fields body.now rest.now) }
+    ensures wrong_size { length rest.now < 2 → IfErr result (λ e. e ≢ PartRefused.Memory) }
 {
     if rest.len() < 2 {
         return Err(PartRefused::At(short(body)));
@@ -89,7 +90,8 @@ fn read_packet_in_rest(
 #[tactic(auto, unfolding(crate::specs::Decoding::packet_in_at))]
 pub fn read_packet_in(alloc: Global, body: &[u8]) -> Result<Message, PartRefused>
     requires { length body.now < 2 ^ 16 }
-    ensures { Gives (λ m. m) result (packet_in_at body.now) }
+    ensures exact { Gives (λ m. m) result (packet_in_at body.now) }
+    ensures wrong_size { length body.now < 16 → IfErr result (λ e. e ≢ PartRefused.Memory) }
 {
     if let Err(fault) = at_least(16, body) {
         return Err(PartRefused::At(fault));

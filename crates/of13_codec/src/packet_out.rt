@@ -1,4 +1,4 @@
-ghost use Rattle.std.specs.Prelude.{◌≡◌, ◌≤◌, ◌<◌, ◌+◌, ◌++◌, ◌^◌, length, OnOk, IfOk};
+ghost use Rattle.std.specs.Prelude.{◌≡◌, ◌≢◌, ◌≤◌, ◌<◌, ◌+◌, ◌++◌, ◌^◌, length, OnOk, IfOk, IfErr};
 ghost use Rattle.of_wire.specs.Reading.{Gives};
 ghost use Rattle.of13_codec.specs.Decoding.{short, packet_out_with, packet_out_at};
 ghost use Rattle.of13_codec.specs.Messages.{packet_out_bytes};
@@ -76,7 +76,8 @@ fn read_packet_out_with(alloc: Global, len: usize, body: &[u8]) -> Result<Messag
 #[tactic(auto, unfolding(crate::specs::Decoding::packet_out_at))]
 pub fn read_packet_out(alloc: Global, body: &[u8]) -> Result<Message, PartRefused>
     requires { length body.now < 2 ^ 16 }
-    ensures { Gives (λ m. m) result (packet_out_at body.now) }
+    ensures exact { Gives (λ m. m) result (packet_out_at body.now) }
+    ensures wrong_size { length body.now < 16 → IfErr result (λ e. e ≢ PartRefused.Memory) }
 {
     if let Err(fault) = at_least(16, body) {
         return Err(PartRefused::At(fault));

@@ -1,4 +1,4 @@
-ghost use Rattle.std.specs.Prelude.{◌≡◌, ◌≤◌, ◌<◌, ◌+◌, ◌++◌, ◌^◌, ℕ, List, length, OnOk, IfOk};
+ghost use Rattle.std.specs.Prelude.{◌≡◌, ◌≢◌, ◌≤◌, ◌<◌, ◌+◌, ◌++◌, ◌^◌, ℕ, List, length, Ok, OnOk, IfOk, IfErr};
 ghost use Rattle.of_wire.specs.Reading.{Gives};
 ghost use Rattle.of13_codec.specs.Decoding.{port_of, port_status_at, stats_of};
 ghost use Rattle.std.specs.List.{flat_map};
@@ -50,7 +50,9 @@ pub struct PortStats {
 }
 
 impl TryCopy for PortStats {
-    fn copy(&self, _alloc: Global) -> Result<PortStats, NoMemory> {
+    fn copy(&self, _alloc: Global) -> Result<PortStats, NoMemory>
+        ensures { result ≡ Ok self.now }
+    {
         Ok(*self)
     }
 }
@@ -160,7 +162,8 @@ pub fn port_of(alloc: Global, bytes: &[u8]) -> Result<PortDesc, NoMemory>
 #[tactic(auto, unfolding(crate::specs::Decoding::port_status_at))]
 pub fn read_port_status(alloc: Global, body: &[u8]) -> Result<Message, PartRefused>
     requires { length body.now < 2 ^ 16 }
-    ensures { Gives (λ m. m) result (port_status_at body.now) }
+    ensures exact { Gives (λ m. m) result (port_status_at body.now) }
+    ensures wrong_size { length body.now ≢ 72 → IfErr result (λ e. e ≢ PartRefused.Memory) }
 {
     if let Err(fault) = exactly(72, body) {
         return Err(PartRefused::At(fault));
@@ -227,7 +230,10 @@ impl Item for PortStats {
 
     ghost bytes_of = { port_stats_bytes };
 
-    fn from_bytes(_alloc: Global, bytes: &[u8]) -> Result<PortStats, NoMemory> {
+    fn from_bytes(_alloc: Global, bytes: &[u8]) -> Result<PortStats, NoMemory>
+        requires { 112 ≤ length bytes.now }
+        ensures { result ≡ Ok (stats_of bytes.now) }
+    {
         Ok(stats_of(bytes))
     }
 

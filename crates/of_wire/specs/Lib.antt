@@ -2,6 +2,7 @@ pub mod Answers
 pub mod Causes
 pub mod Faults
 pub mod Grammar
+pub mod Memory
 pub mod Numbers
 pub mod Parts
 pub mod Reading

@@ -1,4 +1,4 @@
-ghost use Rattle.std.specs.Prelude.{◌≡◌, ◌≤◌, ◌<◌, ◌+◌, ◌*◌, ◌++◌, ◌^◌, length, take, drop, List, Ok, OnOk, OnErr, IfOk};
+ghost use Rattle.std.specs.Prelude.{◌≡◌, ◌≢◌, ◌≤◌, ◌<◌, ◌+◌, ◌*◌, ◌++◌, ◌^◌, length, take, drop, List, Ok, OnOk, OnErr, IfOk, IfErr, IsOk};
 ghost use Rattle.std.specs.List.{flat_map};
 ghost use Rattle.of_wire.specs.Parts.{bare_action, set_bytes, action_bytes};
 ghost use Rattle.of_match.specs.declared.action.Action.{Action};
@@ -81,6 +81,7 @@ fn put_action(action: &Action, out: &mut Bytes) -> Result<(), NoMemory>
 pub fn put_actions(actions: &[Action], out: &mut Bytes) -> Result<(), NoMemory>
     ensures ok { OnOk result (out.new ≡ out.old ++ flat_map action_bytes actions.now) }
     ensures err { OnErr result (out.new ≡ out.old) }
+    ensures sure { length actions.now ≡ 0 → IsOk result }
 {
     let start = out.len();
     for action in actions {
@@ -132,6 +133,7 @@ fn read_set_named(
     requires small { at + length bytes.now < 2 ^ 32 }
     ensures exact { Gives (λ x. x) result (set_named named past len at bytes.now) }
     ensures taken { IfOk result (λ x. (4 ≤ x.1) × (x.1 ≤ length bytes.now)) }
+    ensures sure { IfErr result (λ e. e ≢ PartRefused.Memory) }
 {
     let Some(id) = named else {
         return Err(refused(at + 4, PartCause::BadClass));
@@ -158,6 +160,7 @@ fn read_set(
     requires small { at + length bytes.now < 2 ^ 32 }
     ensures exact { Gives (λ x. x) result (set_at past len at bytes.now) }
     ensures taken { IfOk result (λ x. (4 ≤ x.1) × (x.1 ≤ length bytes.now)) }
+    ensures sure { IfErr result (λ e. e ≢ PartRefused.Memory) }
 {
     if len < 8 {
         return Err(refused(at + 2, PartCause::BadLength));
@@ -187,6 +190,7 @@ fn take_sized(
     requires small { at + length bytes.now < 2 ^ 32 }
     ensures exact { Gives (λ n. n) result (sized_at past size len at bytes.now) }
     ensures taken { IfOk result (λ n. (n ≡ size) × (n ≤ length bytes.now)) }
+    ensures sure { IfErr result (λ e. e ≢ PartRefused.Memory) }
 {
     if len != size {
         return Err(refused(at + 2, PartCause::BadLength));
@@ -208,6 +212,7 @@ fn read_output(
     requires small { at + length bytes.now < 2 ^ 32 }
     ensures exact { Gives (λ x. x) result (output_at past len at bytes.now) }
     ensures taken { IfOk result (λ x. (4 ≤ x.1) × (x.1 ≤ length bytes.now)) }
+    ensures sure { IfErr result (λ e. e ≢ PartRefused.Memory) }
 {
     let taken = take_sized(past, 16, len, at, bytes)?;
     let port = u32_at(bytes, 4);
@@ -226,6 +231,7 @@ fn read_push(
     requires small { at + length bytes.now < 2 ^ 32 }
     ensures exact { Gives (λ x. x) result (push_at past len at bytes.now) }
     ensures taken { IfOk result (λ x. (4 ≤ x.1) × (x.1 ≤ length bytes.now)) }
+    ensures sure { IfErr result (λ e. e ≢ PartRefused.Memory) }
 {
     let taken = take_sized(past, 8, len, at, bytes)?;
     Ok((Action::PushVlan(u16_at(bytes, 4)), taken))
@@ -243,6 +249,7 @@ fn read_bare(
     requires small { at + length bytes.now < 2 ^ 32 }
     ensures exact { Gives (λ x. x) result (bare_at past action len at bytes.now) }
     ensures taken { IfOk result (λ x. (4 ≤ x.1) × (x.1 ≤ length bytes.now)) }
+    ensures sure { IfErr result (λ e. e ≢ PartRefused.Memory) }
 {
     let taken = take_sized(past, 8, len, at, bytes)?;
     Ok((action, taken))
@@ -262,6 +269,7 @@ fn read_action_of(
     requires small { at + length bytes.now < 2 ^ 32 }
     ensures exact { Gives (λ x. x) result (action_of kind past len at bytes.now) }
     ensures taken { IfOk result (λ x. (4 ≤ x.1) × (x.1 ≤ length bytes.now)) }
+    ensures sure { IfErr result (λ e. e ≢ PartRefused.Memory) }
 {
     match u128::from(kind) {
         OUTPUT => read_output(past, len, at, bytes),
@@ -279,6 +287,7 @@ fn read_action(past: PartFault, at: u32, bytes: &[u8]) -> Result<(Action, usize)
     requires { at + length bytes.now < 2 ^ 32 }
     ensures exact { Gives (λ x. x) result (action_at past at bytes.now) }
     ensures taken { IfOk result (λ x. (4 ≤ x.1) × (x.1 ≤ length bytes.now)) }
+    ensures sure { IfErr result (λ e. e ≢ PartRefused.Memory) }
 {
     if bytes.len() < 4 {
         return Err(PartRefused::At(past));
@@ -298,6 +307,7 @@ fn take_action(
     requires { at + length bytes.now < 2 ^ 32 }
     ensures exact { Gives (λ n. (actions.new, n)) result (action_step past actions.old at bytes.now) }
     ensures taken { IfOk result (λ n. (4 ≤ n) × (n ≤ length bytes.now)) }
+    ensures sure { length bytes.now < 4 → IfErr result (λ e. e ≢ PartRefused.Memory) }
 {
     let (action, taken) = read_action(past, at, bytes)?;
     actions.push(action)?;
@@ -313,7 +323,8 @@ pub fn read_each_action(
     bytes: &[u8],
 ) -> Result<Actions, PartRefused>
     requires { at + length bytes.now < 2 ^ 32 }
-    ensures { Gives (λ a. a) result (actions_at past at bytes.now) }
+    ensures exact { Gives (λ a. a) result (actions_at past at bytes.now) }
+    ensures sure { length bytes.now < 4 → IfErr result (λ e. e ≢ PartRefused.Memory) }
 {
     let mut actions = Actions::new(alloc);
     let mut rest = bytes;
@@ -340,6 +351,7 @@ pub fn read_actions(
     ensures spelled { IfOk result (λ actions. SpellsActions actions bytes.now) }
     ensures complete { (actions : List Action) → SpellsActions actions bytes.now → Gives (λ a. a) result (Ok actions) }
     ensures first { TellsFirst (FaultInActionsAt at past bytes.now) result }
+    ensures sure { length bytes.now < 4 → IfErr result (λ e. e ≢ PartRefused.Memory) }
 {
     read_each_action(alloc, past, at, bytes)
 }
@@ -350,6 +362,7 @@ pub fn get_actions(alloc: Global, bytes: &[u8]) -> Result<Actions, PartRefused>
     ensures spelled { IfOk result (λ actions. SpellsActions actions bytes.now) }
     ensures complete { (actions : List Action) → SpellsActions actions bytes.now → Gives (λ a. a) result (Ok actions) }
     ensures first { TellsFirst (FaultInActions bytes.now) result }
+    ensures sure { length bytes.now < 4 → IfErr result (λ e. e ≢ PartRefused.Memory) }
 {
     let past = PartFault {
         at: bytes.len() as u32,

@@ -1,4 +1,4 @@
-ghost use Rattle.std.specs.Prelude.{◌≡◌, ◌≤◌, ◌<◌, ◌+◌, ◌++◌, ◌^◌, length, take, List, Ok, OnOk, OnErr, IfOk};
+ghost use Rattle.std.specs.Prelude.{◌≡◌, ◌≢◌, ◌≤◌, ◌<◌, ◌+◌, ◌++◌, ◌^◌, length, take, List, Ok, OnOk, OnErr, IfOk, IfErr, IsOk};
 ghost use Rattle.std.specs.List.{flat_map};
 ghost use Rattle.of_wire.specs.Parts.{instr_bytes};
 ghost use Rattle.of_wire.specs.Numbers.{number_in};
@@ -47,6 +47,7 @@ fn put_instr(instr: &Instr, out: &mut Bytes) -> Result<(), NoMemory>
 pub fn put_instrs(instrs: &[Instr], out: &mut Bytes) -> Result<(), NoMemory>
     ensures ok { OnOk result (out.new ≡ out.old ++ flat_map instr_bytes instrs.now) }
     ensures err { OnErr result (out.new ≡ out.old) }
+    ensures sure { length instrs.now ≡ 0 → IsOk result }
 {
     let start = out.len();
     for instr in instrs {
@@ -101,6 +102,7 @@ fn read_goto(
     requires small { at + length bytes.now < 2 ^ 32 }
     ensures exact { Gives (λ x. x) result (goto_at past instrs.now len at bytes.now) }
     ensures taken { IfOk result (λ x. (4 ≤ x.1) × (x.1 ≤ length bytes.now)) }
+    ensures sure { IfErr result (λ e. e ≢ PartRefused.Memory) }
 {
     if has_goto(instrs) {
         return Err(refused(at, PartCause::Repeated));
@@ -128,6 +130,7 @@ fn read_applied(
     requires small { at + length bytes.now < 2 ^ 32 }
     ensures exact { Gives (λ x. x) result (applied_at past len at bytes.now) }
     ensures taken { IfOk result (λ x. (4 ≤ x.1) × (x.1 ≤ length bytes.now)) }
+    ensures sure { len < 12 → IfErr result (λ e. e ≢ PartRefused.Memory) }
 {
     let wrong = PartFault {
         at: at + 2,
@@ -157,6 +160,7 @@ fn read_apply(
     requires small { at + length bytes.now < 2 ^ 32 }
     ensures exact { Gives (λ x. x) result (apply_at past instrs.now len at bytes.now) }
     ensures taken { IfOk result (λ x. (4 ≤ x.1) × (x.1 ≤ length bytes.now)) }
+    ensures sure { len < 12 → IfErr result (λ e. e ≢ PartRefused.Memory) }
 {
     if has_apply(instrs) {
         return Err(refused(at, PartCause::Repeated));
@@ -187,6 +191,7 @@ fn read_instr_of(
     requires small { at + length bytes.now < 2 ^ 32 }
     ensures exact { Gives (λ x. x) result (instr_of kind past instrs.now (number_in 2 2 bytes.now) at bytes.now) }
     ensures taken { IfOk result (λ x. (4 ≤ x.1) × (x.1 ≤ length bytes.now)) }
+    ensures sure { number_in 2 2 bytes.now < 12 → IfErr result (λ e. e ≢ PartRefused.Memory) }
 {
     let len = usize::from(u16_at(bytes, 2));
     match u128::from(kind) {
@@ -208,6 +213,7 @@ fn take_instr(
     requires { at + length bytes.now < 2 ^ 32 }
     ensures exact { Gives (λ n. (instrs.new, n)) result (instr_step past instrs.old at bytes.now) }
     ensures taken { IfOk result (λ n. (4 ≤ n) × (n ≤ length bytes.now)) }
+    ensures sure { length bytes.now < 4 → IfErr result (λ e. e ≢ PartRefused.Memory) }
 {
     if bytes.len() < 4 {
         return Err(PartRefused::At(past));
@@ -222,7 +228,8 @@ fn take_instr(
 #[tactic(auto, unfolding(crate::specs::Reading::instrs_at))]
 fn read_each_instr(alloc: Global, at: u32, bytes: &[u8]) -> Result<Instrs, PartRefused>
     requires { at + length bytes.now < 2 ^ 32 }
-    ensures { Gives (λ i. i) result (instrs_at at bytes.now) }
+    ensures exact { Gives (λ i. i) result (instrs_at at bytes.now) }
+    ensures sure { length bytes.now < 4 → IfErr result (λ e. e ≢ PartRefused.Memory) }
 {
     let past = PartFault {
         at: at + bytes.len() as u32,
@@ -248,6 +255,7 @@ pub fn get_instrs_at(alloc: Global, at: u32, bytes: &[u8]) -> Result<Instrs, Par
     ensures spelled { IfOk result (λ instrs. SpellsInstrs instrs bytes.now) }
     ensures complete { (instrs : List Instr) → SpellsInstrs instrs bytes.now → Gives (λ i. i) result (Ok instrs) }
     ensures first { TellsFirst (From at (FaultInInstrs bytes.now)) result }
+    ensures sure { length bytes.now < 4 → IfErr result (λ e. e ≢ PartRefused.Memory) }
 {
     read_each_instr(alloc, at, bytes)
 }
@@ -258,6 +266,7 @@ pub fn get_instrs(alloc: Global, bytes: &[u8]) -> Result<Instrs, PartRefused>
     ensures spelled { IfOk result (λ instrs. SpellsInstrs instrs bytes.now) }
     ensures complete { (instrs : List Instr) → SpellsInstrs instrs bytes.now → Gives (λ i. i) result (Ok instrs) }
     ensures first { TellsFirst (FaultInInstrs bytes.now) result }
+    ensures sure { length bytes.now < 4 → IfErr result (λ e. e ≢ PartRefused.Memory) }
 {
     get_instrs_at(alloc, 0, bytes)
 }

@@ -1,10 +1,11 @@
-ghost use Rattle.std.specs.Prelude.{◌≡◌, ◌≤◌, ◌<◌, ◌+◌, ◌++◌, ◌^◌, ℕ, length, take, List, [], true, false, Ok, OnOk, OnErr, IfOk, IfSome};
+ghost use Rattle.std.specs.Prelude.{◌≡◌, ◌≢◌, ◌≤◌, ◌<◌, ◌+◌, ◌++◌, ◌^◌, ℕ, length, take, List, [], true, false, Ok, OnOk, OnErr, IfOk, IfErr, IsOk, IfSome};
 ghost use Rattle.std.specs.List.{flat_map};
 ghost use Rattle.of_wire.specs.Parts.{field_bytes, match_bytes};
 ghost use Rattle.of_wire.specs.Spelling.{stands, first_above, placed, SpellsMatch, SpellsMatchSeen};
 ghost use Rattle.of_wire.specs.Faults.{TellsFirst, From, FaultInMatch};
 ghost use Rattle.net_base.specs.declared.field.Field.{Field};
 ghost use Rattle.of_wire.specs.Answers.{Gives, fault_at};
+ghost use Rattle.of_wire.specs.Memory.{HoldsNoField};
 ghost use Rattle.of_wire.specs.Reading.{field_numbered, field_named, has_mask, payload_len, wanted_len, field_value, known_field, known_step, unknown_step, field_step, many, fields_at, sized_match_at, match_at};
 
 use crate::fault::{PartCause, PartFault, PartRefused};
@@ -44,6 +45,7 @@ pub fn put_field(field: &Field, out: &mut Bytes) -> Result<(), NoMemory>
 fn put_fields(fields: &[Field], out: &mut Bytes) -> Result<(), NoMemory>
     ensures ok { OnOk result (out.new ≡ out.old ++ flat_map field_bytes fields.now) }
     ensures err { OnErr result (out.new ≡ out.old) }
+    ensures sure { length fields.now ≡ 0 → IsOk result }
 {
     let start = out.len();
     for field in fields {
@@ -192,6 +194,7 @@ fn known_field(past: PartFault, id: FieldId, at: u32, bytes: &[u8]) -> Result<Fi
     requires small { at + length bytes.now < 2 ^ 32 }
     ensures exact { Gives (λ f. f) result (known_field past id at bytes.now) }
     ensures there { IfOk result (λ f. 4 + payload_len bytes.now ≤ length bytes.now) }
+    ensures sure { IfErr result (λ e. e ≢ PartRefused.Memory) }
 {
     let len = usize::from(u8_at(bytes, 3));
     if len != wanted_len(id, has_mask(bytes)) {
@@ -217,6 +220,7 @@ fn take_known(
     requires small { at + length bytes.now < 2 ^ 32 }
     ensures exact { Gives (λ n. (fields.new, n)) result (known_step strict past id fields.old at bytes.now) }
     ensures taken { IfOk result (λ n. (4 ≤ n) × (n ≤ length bytes.now)) }
+    ensures sure { stands id fields.old ≡ true → IfErr result (λ e. e ≢ PartRefused.Memory) }
 {
     if stands(id, fields.as_slice()) {
         return Err(refused(at, PartCause::Repeated));
@@ -235,6 +239,7 @@ fn pass_over(strict: bool, past: PartFault, at: u32, bytes: &[u8]) -> Result<usi
     requires { 4 ≤ length bytes.now }
     ensures exact { (fields : List Field) → Gives (λ n. (fields, n)) result (unknown_step strict past fields at bytes.now) }
     ensures taken { IfOk result (λ n. (4 ≤ n) × (n ≤ length bytes.now)) }
+    ensures sure { IfErr result (λ e. e ≢ PartRefused.Memory) }
 {
     if strict {
         return Err(refused(at, PartCause::BadClass));
@@ -258,6 +263,7 @@ fn take_field(
     requires { at + length bytes.now < 2 ^ 32 }
     ensures exact { Gives (λ n. (fields.new, n)) result (field_step strict past fields.old at bytes.now) }
     ensures taken { IfOk result (λ n. (4 ≤ n) × (n ≤ length bytes.now)) }
+    ensures sure { length bytes.now < 4 → IfErr result (λ e. e ≢ PartRefused.Memory) }
 {
     if bytes.len() < 4 {
         return Err(PartRefused::At(past));
@@ -277,7 +283,8 @@ fn read_field_list(
     bytes: &[u8],
 ) -> Result<Fields, PartRefused>
     requires { at + length bytes.now < 2 ^ 32 }
-    ensures { Gives (λ f. f) result (many (field_step strict past) (length bytes.now) [] at bytes.now) }
+    ensures exact { Gives (λ f. f) result (many (field_step strict past) (length bytes.now) [] at bytes.now) }
+    ensures sure { length bytes.now < 4 → IfErr result (λ e. e ≢ PartRefused.Memory) }
 {
     let mut fields = Fields::new(alloc);
     let mut rest = bytes;
@@ -303,7 +310,8 @@ fn read_fields(
     requires head { 4 ≤ len }
     requires there { 4 ≤ length bytes.now }
     requires small { at + length bytes.now < 2 ^ 32 }
-    ensures { Gives (λ f. f) result (fields_at strict len at bytes.now) }
+    ensures exact { Gives (λ f. f) result (fields_at strict len at bytes.now) }
+    ensures sure { len < 8 → IfErr result (λ e. e ≢ PartRefused.Memory) }
 {
     let end = at + bytes.len() as u32;
     let wrong = PartFault {
@@ -335,6 +343,7 @@ fn read_sized_match(
     requires small { at + length bytes.now < 2 ^ 32 }
     ensures exact { Gives (λ x. x) result (sized_match_at strict len at bytes.now) }
     ensures taken { IfOk result (λ x. x.1 ≤ length bytes.now) }
+    ensures sure { len < 8 → IfErr result (λ e. e ≢ PartRefused.Memory) }
 {
     let fields = read_fields(alloc, strict, len, at, bytes)?;
     let short = PartFault {
@@ -356,6 +365,7 @@ fn read_match(
     requires { at + length bytes.now < 2 ^ 32 }
     ensures exact { Gives (λ x. x) result (match_at strict at bytes.now) }
     ensures taken { IfOk result (λ x. x.1 ≤ length bytes.now) }
+    ensures sure { HoldsNoField bytes.now → IfErr result (λ e. e ≢ PartRefused.Memory) }
 {
     if bytes.len() < 4 {
         return Err(refused(at + bytes.len() as u32, PartCause::Short));
@@ -380,6 +390,7 @@ pub fn get_match(alloc: Global, bytes: &[u8]) -> Result<(Fields, usize), PartRef
     ensures complete { (fields : List Field) (spelling rest : List ℕ) → SpellsMatch fields spelling → bytes.now ≡ spelling ++ rest
         → Gives (λ x. x) result (Ok (fields, length spelling)) }
     ensures first { TellsFirst (FaultInMatch true bytes.now) result }
+    ensures sure { HoldsNoField bytes.now → IfErr result (λ e. e ≢ PartRefused.Memory) }
 {
     get_match_at(alloc, 0, bytes)
 }
@@ -393,6 +404,7 @@ pub fn get_match_seen(alloc: Global, bytes: &[u8]) -> Result<(Fields, usize), Pa
     ensures complete { (fields : List Field) (spelling rest : List ℕ) → SpellsMatchSeen fields spelling → bytes.now ≡ spelling ++ rest
         → Gives (λ x. x) result (Ok (fields, length spelling)) }
     ensures first { TellsFirst (FaultInMatch false bytes.now) result }
+    ensures sure { HoldsNoField bytes.now → IfErr result (λ e. e ≢ PartRefused.Memory) }
 {
     get_match_seen_at(alloc, 0, bytes)
 }
@@ -407,6 +419,7 @@ pub fn get_match_at(alloc: Global, at: u32, bytes: &[u8]) -> Result<(Fields, usi
     ensures complete { (fields : List Field) (spelling rest : List ℕ) → SpellsMatch fields spelling → bytes.now ≡ spelling ++ rest
         → Gives (λ x. x) result (Ok (fields, length spelling)) }
     ensures first { TellsFirst (From at (FaultInMatch true bytes.now)) result }
+    ensures sure { HoldsNoField bytes.now → IfErr result (λ e. e ≢ PartRefused.Memory) }
 {
     read_match(alloc, true, at, bytes)
 }
@@ -424,6 +437,7 @@ pub fn get_match_seen_at(
     ensures complete { (fields : List Field) (spelling rest : List ℕ) → SpellsMatchSeen fields spelling → bytes.now ≡ spelling ++ rest
         → Gives (λ x. x) result (Ok (fields, length spelling)) }
     ensures first { TellsFirst (From at (FaultInMatch false bytes.now)) result }
+    ensures sure { HoldsNoField bytes.now → IfErr result (λ e. e ≢ PartRefused.Memory) }
 {
     read_match(alloc, false, at, bytes)
 }

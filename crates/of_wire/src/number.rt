@@ -1,4 +1,4 @@
-ghost use Rattle.std.specs.Prelude.{◌≡◌, ◌≤◌, ◌<◌, ◌+◌, ◌++◌, ◌^◌, length, OnOk, OnErr};
+ghost use Rattle.std.specs.Prelude.{◌≡◌, ◌≤◌, ◌<◌, ◌+◌, ◌++◌, ◌^◌, length, OnOk, OnErr, IsOk};
 ghost use Rattle.of_wire.specs.Parts.{number, zeros};
 ghost use Rattle.of_wire.specs.Numbers.{number_in};
 
@@ -24,6 +24,7 @@ pub fn put_number(out: &mut Bytes, value: u128, len: usize) -> Result<(), NoMemo
 pub fn put_zeros(out: &mut Bytes, count: usize) -> Result<(), NoMemory>
     ensures ok { OnOk result (out.new ≡ out.old ++ zeros count) }
     ensures err { OnErr result (out.new ≡ out.old) }
+    ensures sure { count ≡ 0 → IsOk result }
 {
     let start = out.len();
     for _ in 0..count {

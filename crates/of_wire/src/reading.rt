@@ -1,4 +1,4 @@
-ghost use Rattle.std.specs.Prelude.{◌≡◌, ◌≤◌, ◌<◌, ◌+◌, ◌^◌, length, IfOk, IfSome};
+ghost use Rattle.std.specs.Prelude.{◌≡◌, ◌≢◌, ◌≤◌, ◌<◌, ◌+◌, ◌^◌, length, IfOk, IfErr, IfSome};
 ghost use Rattle.of_wire.specs.Parts.{up_to_8};
 ghost use Rattle.of_wire.specs.Answers.{Gives, fault_at};
 ghost use Rattle.of_wire.specs.Reading.{past_end, padding_at, first_nonzero};
@@ -49,6 +49,7 @@ pub fn take_padding(
     requires small { at + length bytes.now < 2 ^ 32 }
     ensures exact { Gives (λ n. n) result (padding_at past at from to bytes.now) }
     ensures taken { IfOk result (λ n. (n ≡ to) × (n ≤ length bytes.now)) }
+    ensures sure { IfErr result (λ e. e ≢ PartRefused.Memory) }
 {
     let start = from.min(bytes.len());
     let end = to.min(bytes.len());

@@ -22,8 +22,8 @@ loop-rest-preserved c =
           (is_some c.loop-rest.rest.now c.loop-rest-test.ensures) (omega (arith, c.in_ok-next.ensures.taken.0)) h c.loop-rest.invariant.left);
     }
 
-pub returns-in_err-next : goal.returns-in_err-next
-returns-in_err-next c =
+pub returns-in_err-next-clause-exact : goal.returns-in_err-next-clause-exact
+returns-in_err-next-clause-exact c =
     let body = c.args.body.now in
     let p = err_from_is_err_and c.from_residual.result c.from_residual.ensures.1 in
     let h : Fails c.in_err-next.field-0.0 (hello_step (short body) c.loop-rest.bitmap c.loop-rest.place c.loop-rest.rest.now) =
@@ -31,5 +31,5 @@ returns-in_err-next c =
     rw (p.1, p.2) (ends (hello_step (short body)) (many (hello_step (short body)) (length body) None 8 body) c.loop-rest.bitmap c.loop-rest.place c.loop-rest.rest.now c.in_err-next.field-0.0
     (is_some c.loop-rest.rest.now c.loop-rest-test.ensures) h c.loop-rest.invariant.left)
 
-pub returns : goal.returns
-returns c = is_done (hello_step (short c.args.body.now)) (many (hello_step (short c.args.body.now)) (length c.args.body.now) None 8 c.args.body.now) c.loop-rest.bitmap c.loop-rest.place c.loop-rest.rest.now (is_none c.loop-rest.rest.now c.loop-rest-test.ensures) c.loop-rest.invariant.left
+pub returns-clause-exact : goal.returns-clause-exact
+returns-clause-exact c = is_done (hello_step (short c.args.body.now)) (many (hello_step (short c.args.body.now)) (length c.args.body.now) None 8 c.args.body.now) c.loop-rest.bitmap c.loop-rest.place c.loop-rest.rest.now (is_none c.loop-rest.rest.now c.loop-rest-test.ensures) c.loop-rest.invariant.left
