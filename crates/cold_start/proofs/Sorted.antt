@@ -1,6 +1,6 @@
 -- The order of keys; entries in key order, which adds leave as they are, no two with one key.
-use Rattle.std.proofs.Common.{◌≡◌, Bool, true, false, ℕ, suc, ◌+◌, length, get_or, List, [], ◌∷◌, ◌++◌, map, refl, sym, ap, ◌∙◌, subst, arith, append-nil, true≢false}
-use Rattle.std.specs.Prelude.{IsTrue}
+use Rattle.std.proofs.Common.{◌≡◌, Bool, true, false, ℕ, zero, suc, ◌+◌, ◌<◌, length, get_or, List, [], ◌∷◌, ◌++◌, map, refl, sym, ap, ◌∙◌, subst, arith, append-nil, true≢false}
+use Rattle.std.specs.Prelude.{◌↔◌, IsTrue}
 use Rattle.std.specs.List.{AllByRecursion, AllAdjacentBelow, IsAllAdjacentAnswer}
 use Rattle.std.specs.Borrow.{Bor}
 use Rattle.std.specs.Fn.{Called, ComputesOnPairs, Mut}
@@ -52,15 +52,29 @@ in_order (x ∷ y ∷ es) up =
     let first = up 0 x (omega arith) in
     ((first, all_behind x y first es more.0), more)
 
+next_to : (es : List Entry) → IsInKeyOrder es → (k : ℕ) (d : Entry) → k + 1 < length es → IsBefore (get_or es k d) (get_or es (k + 1) d)
+next_to [] order k d lt = absurd (omega (arith, lt))
+next_to (x ∷ []) order k d lt = absurd (omega (arith, lt))
+next_to (x ∷ y ∷ es) order zero d lt = order.0.0
+next_to (x ∷ y ∷ es) order (suc k) d lt =
+    let next : suc (k + 1) ≡ suc k + 1 = omega arith in
+    subst (λ (n : ℕ). IsBefore (get_or (y ∷ es) k d) (get_or (x ∷ y ∷ es) n d)) next (next_to (y ∷ es) order.1 k d (omega (arith, lt)))
+
+out_of_order : (es : List Entry) → IsInKeyOrder es → (k : ℕ) → k + 1 < length es → ((d : Entry) → false ≡ is_lt (key_cmp (get_or es k d).key (get_or es (k + 1) d).key)) → ⊥
+out_of_order [] order k lt not_less = omega (arith, lt)
+out_of_order (x ∷ es) order k lt not_less = true≢false (ap is_lt (sym (next_to (x ∷ es) order k x lt)) ∙ sym (not_less x))
+
 -- where each call of the closure tells whether the first is before the second
 pub answered : {F : Type 0} {g : Mut F (Bor Entry × (Bor Entry × Unit {0})) Bool} {f : F} (es : List Entry) (r : Bool)
     → ((e : Entry → Entry → Bool) → ComputesOnPairs g e f → IsAllAdjacentAnswer (λ x y b. b ≡ e x y) es r)
     → ((a : Bor Entry × (Bor Entry × Unit {0})) (r : Bool) (f' : F) → Called g f a r f' → (r ≡ is_lt (key_cmp a.0.now.key a.1.0.now.key)) × (f' ≡ f))
-    → IsTrue r → IsInKeyOrder es
-answered {g = g} {f = f} es true cases h is =
-    let adjacent = cases (λ x y. is_lt (key_cmp x.key y.key)) (always_returns_same g (λ a r. r ≡ is_lt (key_cmp a.0.now.key a.1.0.now.key)) f h) in
-    in_order es (λ k d lt. less_from_test (key_cmp (get_or es k d).key (get_or es (k + 1) d).key) (sym (adjacent k d lt)))
-answered es false cases h is = absurd (true≢false (sym is))
+    → IsTrue r ↔ IsInKeyOrder es
+answered {g = g} {f = f} es r cases h = by r (cases (λ x y. is_lt (key_cmp x.key y.key)) (always_returns_same g (λ a r. r ≡ is_lt (key_cmp a.0.now.key a.1.0.now.key)) f h))
+  where
+    by : (r : Bool) → IsAllAdjacentAnswer (λ x y b. b ≡ is_lt (key_cmp x.key y.key)) es r → IsTrue r ↔ IsInKeyOrder es
+    by true adjacent =
+        ((λ is. in_order es (λ k d lt. less_from_test (key_cmp (get_or es k d).key (get_or es (k + 1) d).key) (sym (adjacent k d lt)))), λ order. refl)
+    by false found = ((λ is. absurd (true≢false (sym is))), λ order. absurd (out_of_order es order found.0 found.1 found.2))
 
 -- ---- adds in key order come one behind another
 

@@ -1,4 +1,4 @@
-ghost use Rattle.std.specs.Prelude.{◌≡◌, ◌*◌, [], map, length, IsTrue, IfOk, OnOk};
+ghost use Rattle.std.specs.Prelude.{◌≡◌, ◌↔◌, ◌*◌, [], map, length, IsTrue, IfOk, OnOk};
 ghost use Rattle.of_match.specs.declared.entry.Command.TheVariants.{Add};
 ghost use Rattle.of_match.specs.FlowTables.{IsInKeyOrder};
 ghost use Rattle.of_match.specs.KeyOrder.{key_cmp};
@@ -8,7 +8,6 @@ ghost use Rattle.packet_way.specs.Present.{state_of};
 ghost use Rattle.cold_start.specs.Cold.{cold_at, units_at};
 ghost use Rattle.cold_start.specs.Counts.{RisesAtMost, RisesAtLeast};
 
-use crate::append::moved;
 use crate::plan::plan_entries;
 use conf_types::{Conf, Tally};
 use net_base::{DpId, NoMemory};
@@ -30,7 +29,7 @@ fn compare(a: &Key, b: &Key) -> Ordering
 
 /// Whether each entry is before the next one, so that no two have one key.
 fn are_in_key_order(entries: &[Entry]) -> bool
-    ensures { IsTrue result → IsInKeyOrder entries.now }
+    ensures { IsTrue result ↔ IsInKeyOrder entries.now }
 {
     entries.is_sorted_by(|a, b| compare(&a.key, &b.key).is_lt())
 }
@@ -50,7 +49,7 @@ fn add_all(alloc: Global, entries: Vec<Entry>) -> Result<Tables, NoMemory>
 fn sorted_tables(alloc: Global, entries: Entries) -> Result<Tables, NoMemory>
     ensures { IfOk result (λ tables. tables ≡ after_all [] (map Add entries)) }
 {
-    let mut sorted = moved(alloc, entries)?;
+    let mut sorted = entries.into_vec();
     sorted.sort_by(|a, b| compare(&a.key, &b.key))?;
     if are_in_key_order(sorted.as_slice()) {
         Ok(Tables::from_ordered(sorted))

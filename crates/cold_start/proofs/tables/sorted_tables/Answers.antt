@@ -10,11 +10,11 @@ use Rattle.cold_start.proofs.tables.sorted_tables.Goals as goal
 pub returns-then-are_in_key_order : goal.returns-then-are_in_key_order
 returns-then-are_in_key_order c =
     let stable = stable_by_key _ _ c.in_ok-sort_by.ensures.stable (λ a r q k. search rules) in
-    let order = subst IsInKeyOrder c.as_slice.ensures.value (c.are_in_key_order.ensures c.if-are_in_key_order.true) in
-    c.from_ordered.ensures ∙ sym (added [] c.sort_by.new.self.items order) ∙ stable_adds _ _ stable ∙ ap (λ l. after_all [] (map Add l)) c.in_ok-sorted.ensures
+    let order = subst IsInKeyOrder c.as_slice.ensures.value (c.are_in_key_order.ensures.0 c.if-are_in_key_order.true) in
+    c.from_ordered.ensures ∙ sym (added [] c.sort_by.new.self.items order) ∙ stable_adds _ _ stable ∙ ap (λ l. after_all [] (map Add l)) c.into_vec-sorted.ensures
 
 pub returns-else-are_in_key_order : goal.returns-else-are_in_key_order
 returns-else-are_in_key_order c =
     let stable = stable_by_key _ _ c.in_ok-sort_by.ensures.stable (λ a r q k. search rules) in
-    let same = stable_adds _ _ stable ∙ ap (λ l. after_all [] (map Add l)) c.in_ok-sorted.ensures in
+    let same = stable_adds _ _ stable ∙ ap (λ l. after_all [] (map Add l)) c.into_vec-sorted.ensures in
     subst (λ l. IfOk c.add_all.result (λ tables. tables ≡ l)) same c.add_all.ensures
