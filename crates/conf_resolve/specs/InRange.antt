@@ -6,15 +6,17 @@ use Rattle.net_base.specs.FieldId.{number_of}
 use Rattle.net_base.specs.Numbers.{IsVid, IsPortNo}
 use Rattle.conf_types.specs.Lists.{EachBefore, IsLabel}
 use Rattle.conf_types.specs.RuleFields.{MayAsk}
-use Rattle.conf_types.specs.Valid.{IsTimeout, IsStation, IsVip, IsRoute}
+use Rattle.conf_types.specs.Valid.{IsTimeout, IsStation, IsVip, IsRoute, NamesPort}
 use Rattle.conf_shape.specs.declared.raw.VlanRef.{VlanRef}
 use Rattle.conf_shape.specs.declared.raw.VlanRef.TheVariants.{Vid, Name}
 use Rattle.conf_shape.specs.declared.raw.RawNames.{RawNames}
 use Rattle.conf_shape.specs.declared.raw.RawPort.{RawPort}
 use Rattle.conf_shape.specs.declared.raw.RawDp.{RawDp}
 use Rattle.conf_shape.specs.declared.raw.RawVlan.{RawVlan}
+use Rattle.conf_shape.specs.declared.raw.RawOutput.{RawOutput}
 use Rattle.conf_shape.specs.declared.raw.RawRule.{RawRule}
 use Rattle.conf_shape.specs.declared.raw.RawConf.{RawConf}
+use Rattle.conf_resolve.specs.Resolved.{items_of}
 
 -- a VLAN that is named by its number
 abbrev pub NamesVlan : VlanRef → Type 0
@@ -38,6 +40,7 @@ pub record DpIsInRange (d : RawDp) : Type 0 where
   pub names : AreNames d.names
   pub timeout : IsTimeout d.timeout
   pub arp_timeout : IsTimeout d.arp_timeout
+  pub stack_priority : IfSome d.stack_priority (λ priority. priority < 2 ^ 32)
   pub ports : AllByRecursion PortIsInRange d.ports
 
 pub record VlanIsInRange (v : RawVlan) : Type 0 where
@@ -49,10 +52,16 @@ pub record VlanIsInRange (v : RawVlan) : Type 0 where
   pub hosts : 1 ≤ v.max_hosts
   pub most_hosts : v.max_hosts ≤ 16384
 
+pub record OutputIsInRange (o : RawOutput) : Type 0 where
+  pub port : IfSome o.port NamesPort
+  pub ports : AllByRecursion NamesPort o.ports
+
 pub record RuleIsInRange (r : RawRule) : Type 0 where
   pub each : AllByRecursion (λ f. MayAsk f.field.id f.field) r.fields
   -- no field twice
   pub once : EachBefore (λ f g. number_of f.field.id ≡ number_of g.field.id → ⊥) r.fields
+  pub mirror : IfSome r.mirror NamesPort
+  pub output : AllByRecursion OutputIsInRange (items_of r.output)
 
 pub record IsInRange (raw : RawConf) : Type 0 where
   pub dps : AllByRecursion DpIsInRange raw.dps

@@ -47,7 +47,7 @@ fn first_dps<'a>(alloc: Global, dps: &'a [RawDp]) -> Result<Named<NamedPorts<'a>
 }
 
 impl<'a> NamedDps<'a> {
-    /// The datapaths of this configuration.
+    /// The datapaths of this configuration; the only error is that memory runs out.
     pub fn of(alloc: Global, conf: &'a OrderedConf) -> Result<NamedDps<'a>, NoMemory>
         ensures { IfOk result (λ made. made ≡ conf.now.dps) }
     {

@@ -32,7 +32,7 @@ impl<'a> Model for NamedPorts<'a> {
 }
 
 impl<'a> NamedPorts<'a> {
-    /// The interfaces of this datapath.
+    /// The interfaces of this datapath; the only error is that memory runs out.
     pub fn of(alloc: Global, dp: &'a RawDp) -> Result<NamedPorts<'a>, NoMemory>
         ensures { IfOk result (λ made. made ≡ dp.now) }
     {

@@ -1,10 +1,11 @@
 -- What is found in lists: by halving where numbers rise, and what holds of it.
 use Rattle.std.proofs.Common.{◌≡◌, ℕ, zero, suc, ◌+◌, ◌<◌, ◌==◌, Bool, true, false, cond, Some, None, List, [], ◌∷◌, length, get_or, Result, Ok, Err, refl, inl, inr, sym, ap, ◌∙◌, arith, eq-eqb, subst, MatchResult}
+use Rattle.std.specs.Prelude.{Contains}
 use Rattle.std.specs.List.{AllByRecursion, find}
 use Rattle.std.specs.Ordering.{nat_cmp, ordering_index, is_lt}
 use Rattle.std.specs.declared.cmp.Ordering.TheVariants.{Less, Equal, Greater}
 use Rattle.std.specs.List.Sorted.{IsSearchInRange, IsBinarySearchResult, IsNonDecreasingBy}
-use Rattle.std.proofs.lemmas.Bool.{cases_lt}
+use Rattle.std.proofs.lemmas.Bool.{cases_lt, ne_eqb}
 use Rattle.std.proofs.lemmas.Bool.Decides.{nat_tests}
 use Rattle.std.proofs.lemmas.Cmp.{ranked, nat_cmp_total}
 use Rattle.std.proofs.lemmas.List.Sorted.{searchable_from_sorted}
@@ -25,12 +26,33 @@ all_at P [] all i d lt = absurd (omega arith)
 all_at P (x ∷ xs) all zero d lt = all.0
 all_at P (x ∷ xs) all (suc i) d lt = all_at P xs all.1 i d (omega arith)
 
+-- and of each that stands in the list
+pub of_all : {X : Type 0} (P : X → Type 0) (xs : List X) (x : X) → AllByRecursion P xs → Contains xs x → P x
+of_all P xs x all c = subst P c.2 (all_at P xs all c.0 x c.1)
+
 -- each stands so to those behind it, by places
 pub before_at : {X : Type 0} (R : X → X → Type 0) (xs : List X) → EachBefore R xs → (i j : ℕ) (d : X) → i < j → j < length xs → R (get_or xs i d) (get_or xs j d)
 before_at R [] r i j d lt within = absurd (omega arith)
 before_at R (x ∷ xs) r i zero d lt within = absurd (omega arith)
 before_at R (x ∷ xs) r zero (suc j) d lt within = all_at (R x) xs r.0 j d (omega arith)
 before_at R (x ∷ xs) r (suc i) (suc j) d lt within = before_at R xs r.1 i j d (omega arith) (omega arith)
+
+-- what is found is one of them, and passes
+pub found : {X : Type 0} (p : X → Bool) (xs : List X) (x : X) → find p xs ≡ Some x → Contains xs x × (p x ≡ true)
+found p [] x is = absurd cc
+found p (y ∷ ys) x is =
+    elim (p y) as (λ b. p y ≡ b → cond b (Some y) (find p ys) ≡ Some x → Contains (y ∷ ys) x × (p x ≡ true)) [
+      | true ↦ λ passes e. let same : y ≡ x = cc in (subst (λ z. Contains (y ∷ ys) z) same (zero, omega arith, refl), subst (λ z. p z ≡ true) same passes)
+      | false ↦ λ fails e. let rest = found p ys x e in let within = rest.0 in ((suc within.0, omega (arith, within.1), within.2), rest.1)
+    ] refl is
+
+-- one that has its key alone is found by it
+pub finds : {X : Type 0} (key : X → ℕ) (R : X → X → Type 0) → ((a b : X) → R a b → key a ≡ key b → ⊥) → (xs : List X) (x : X) → EachBefore R xs → Contains xs x → find (λ y. key y == key x) xs ≡ Some x
+finds key R apart [] x before c = absurd (omega (arith, c.1))
+finds key R apart (y ∷ ys) x before (zero, lt, is) = rw (eq-eqb (key y) (key x) (ap key is)) (ap Some is)
+finds key R apart (y ∷ ys) x before (suc k, lt, is) =
+    let more : Contains ys x = (k, omega (arith, lt), is) in
+    rw (ne_eqb (key y) (key x) (apart y x (of_all (R y) ys x before.0 more))) (finds key R apart ys x before.1 more)
 
 -- ---- comparisons of numbers
 

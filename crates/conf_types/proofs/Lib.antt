@@ -1,5 +1,7 @@
 pub mod Found
 pub mod Marks
+pub mod LinksUp
+pub mod Listed
 pub mod Reached
 pub mod Taken
 mod Alone

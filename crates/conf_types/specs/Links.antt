@@ -1,5 +1,5 @@
 -- Stack links that are up.
-use Rattle.std.specs.Prelude.{ℕ, ◌==◌, ◌&&◌, Bool, false, Option, Some, None, List, nat_lt, if◌then◌else◌}
+use Rattle.std.specs.Prelude.{◌≡◌, ℕ, ◌==◌, ◌&&◌, Bool, true, false, Option, Some, None, List, Contains, nat_lt, if◌then◌else◌}
 use Rattle.std.specs.List.{filter_map, flat_map, list_any}
 use Rattle.std.specs.Option.{option_and_then, option_map_or}
 use Rattle.net_base.specs.declared.numbers.DpId.{DpId}
@@ -41,3 +41,33 @@ links_of conf ups d = filter_map (link_from conf ups d) d.ports
 -- all links that are up, each once
 abbrev pub links : Configuration → List UpRec → List StackLink
 links conf ups = flat_map (links_of conf ups) conf.dps
+
+-- ---- what they are to be
+
+-- an enabled interface that is up and an end of a stack link, with the far end
+pub record IsEndUp (conf : Configuration) (ups : List UpRec) (here far : StackEnd) : Type 0 where
+  pub dp : Dp
+  pub port : Port
+  pub is_dp : Contains conf.dps dp
+  pub dp_is : dp.id ≡ here.dp
+  pub is_port : Contains dp.ports port
+  pub port_is : port.no ≡ here.port
+  pub enabled : port.enabled ≡ true
+  pub up : Contains ups (record { dp = here.dp; port = here.port })
+  pub leads : port.stack ≡ Some far
+
+-- where a link begins, and where it ends
+abbrev pub first_end : StackLink → StackEnd
+first_end l = record { dp = l.a; port = l.a_port }
+
+abbrev pub last_end : StackLink → StackEnd
+last_end l = record { dp = l.b; port = l.b_port }
+
+-- both ends are enabled and up, and each is the far end of the other
+pub record IsLinkUp (conf : Configuration) (ups : List UpRec) (l : StackLink) : Type 0 where
+  pub forth : IsEndUp conf ups (first_end l) (last_end l)
+  pub back : IsEndUp conf ups (last_end l) (first_end l)
+
+-- the same link from its other end
+abbrev pub turned : StackLink → StackLink
+turned l = record { a = l.b; a_port = l.b_port; b = l.a; b_port = l.a_port }

@@ -5,6 +5,8 @@ use Rattle.std.specs.Option.{option_map_or}
 use Rattle.net_base.specs.declared.net4.Net4.{Net4}
 use Rattle.net_base.specs.WellFormed.{IsWellFormed}
 use Rattle.net_base.specs.Numbers.{IsVid, IsPortNo}
+use Rattle.conf_types.specs.declared.acl.PortRef.{PortRef}
+use Rattle.conf_types.specs.declared.acl.PortRef.TheVariants.{No, Name}
 use Rattle.conf_types.specs.declared.acl.Rule.{Rule}
 use Rattle.conf_types.specs.declared.datapath.Dp.{Dp}
 use Rattle.conf_types.specs.declared.datapath.Port.{Port}
@@ -85,6 +87,7 @@ pub record IsDatapath (conf : Configuration) (d : Dp) : Type 0 where
   pub description : IsLabel d.description
   pub timeout : IsTimeout d.timeout
   pub arp_timeout : IsTimeout d.arp_timeout
+  pub stack_priority : IfSome d.stack_priority (λ priority. priority < 2 ^ 32)
   pub ports : AllByRecursion (IsPort conf) d.ports
   -- by number, no two with one
   pub in_order : EachBefore (λ p q. p.no < q.no) d.ports
@@ -98,10 +101,17 @@ pub record DatapathsAreValid (conf : Configuration) : Type 0 where
 
 -- ---- ACLs
 
+-- a port that is named by its number has the number of one
+abbrev pub NamesPort : PortRef → Type 0
+NamesPort (No number) = IsPortNo number
+NamesPort (Name name) = Unit {0}
+
 pub record IsRule (rule : Rule) : Type 0 where
   -- by number, no two with one; each with what it asks of the others (OpenFlow 1.3, 7.2.3.6)
   pub fields : IsWellFormed rule.fields
   pub each : AllByRecursion (λ f. MayAsk f.id f) rule.fields
+  -- whether or not the rule is attached anywhere
+  pub ports : AllByRecursion NamesPort (names_in rule)
 
 -- the ports that the rules name are interfaces of the datapath, and no ends of stack links
 abbrev pub NamePortsOf : Dp → List Rule → Type 0

@@ -1,6 +1,6 @@
--- The fields of a rule that is in range and lacks nothing make a match.
-use Rattle.std.specs.Prelude.{◌≡◌, ℕ, ◌+◌, ◌-◌, ◌^◌, ◌<◌, ◌≤◌, Bool, true, false, List, [], ◌∷◌, map, Option, Some, None, IsTrue, nat_lt}
-use Rattle.std.specs.List.{AllByRecursion, list_any}
+-- A rule that is in range and lacks no field is valid: its fields make a match.
+use Rattle.std.specs.Prelude.{◌≡◌, ℕ, ◌+◌, ◌-◌, ◌^◌, ◌<◌, ◌≤◌, Bool, true, false, List, [], ◌∷◌, map, Option, Some, None, IfSome, IsTrue, nat_lt}
+use Rattle.std.specs.List.{AllByRecursion, flat_map, list_any}
 use Rattle.std.specs.Option.{option_map_or}
 use Rattle.std.proofs.Common.{refl, sym, subst, arith}
 use Rattle.std.proofs.lemmas.Nat.{and_le_r, pow_pos}
@@ -12,13 +12,14 @@ use Rattle.net_base.specs.FieldId.{number_of, prerequisite_of, all_ones}
 use Rattle.net_base.specs.WellFormed.{Fits, AreAscending, has_prerequisite, meets}
 use Rattle.conf_types.specs.Lists.{EachBefore}
 use Rattle.conf_types.specs.RuleFields.{MayAsk, IsNumber, IsMacMask, IsPrefix}
-use Rattle.conf_types.specs.Valid.{IsRule}
+use Rattle.conf_types.specs.Valid.{IsRule, NamesPort}
 use Rattle.conf_shape.specs.declared.raw.RawField.{RawField}
+use Rattle.conf_shape.specs.declared.raw.RawOutput.{RawOutput}
 use Rattle.conf_shape.specs.declared.raw.RawRule.{RawRule}
 use Rattle.conf_resolve.specs.InOrder.{in_order}
-use Rattle.conf_resolve.specs.InRange.{RuleIsInRange}
-use Rattle.conf_resolve.specs.Resolved.{rule_of}
-use Rattle.law_checked.proofs.Members.{IsIn, of_all, all_by, all_mapped, of_mapped, some_of, any_by, before_mapped, before_both}
+use Rattle.conf_resolve.specs.InRange.{OutputIsInRange, RuleIsInRange}
+use Rattle.conf_resolve.specs.Resolved.{items_of, ports_of, rule_of, to_list}
+use Rattle.law_checked.proofs.Members.{IsIn, of_all, all_by, all_mapped, all_joined, all_flat, of_mapped, some_of, any_by, before_mapped, before_both}
 use Rattle.law_checked.proofs.Orders.{of_order, into_order, all_ordered, each_ordered, sorted, number_order, rises_apart}
 
 -- ---- what a field may be asked for has as many bytes as the field
@@ -73,6 +74,17 @@ still_asked before fs id = by (prerequisite_of id)
     by None is = refl
     by (Some p) is = let m = some_of (meets p) fs is in any_by (meets p) (in_order before fs) m.0 (into_order before fs m.0 m.1) m.2
 
+-- ---- the ports that are named by their numbers
+
+of_option : {A : Type 0} (P : A → Type 0) (o : Option A) → IfSome o P → AllByRecursion P (to_list o)
+of_option P None h = tt
+of_option P (Some x) h = (h, tt)
+
+ports_in_range : (o : RawOutput) → OutputIsInRange o → AllByRecursion NamesPort (ports_of o)
+ports_in_range o range = all_joined NamesPort (to_list o.port) o.ports (of_option NamesPort o.port range.port) range.ports
+
+-- ---- the rule
+
 pub rule_valid : (r : RawRule) → RuleIsInRange r → ((f : RawField) → IsIn r.fields f → has_prerequisite f.field.id (map (λ g. g.field) r.fields) ≡ true) → IsRule (rule_of r)
 rule_valid r range asked = record {
   fields = record {
@@ -86,6 +98,8 @@ rule_valid r range asked = record {
         still_asked before fields f.id (subst (λ (g : Field). has_prerequisite g.id fields ≡ true) m.2 (asked m.0 m.1)));
   };
   each = each;
+  ports = all_joined NamesPort (to_list r.mirror) (flat_map ports_of (items_of r.output)) (of_option NamesPort r.mirror range.mirror)
+      (all_flat NamesPort ports_of (items_of r.output) (all_by (λ o. AllByRecursion NamesPort (ports_of o)) (items_of r.output) (λ o i. ports_in_range o (of_all OutputIsInRange (items_of r.output) range.output o i))));
 }
   where
     fields : List Field

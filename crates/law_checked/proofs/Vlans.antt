@@ -96,6 +96,7 @@ module _ (raw : RawConf) (range : IsInRange raw) where
     names = r.names;
     timeout = r.timeout;
     arp_timeout = r.arp_timeout;
+    stack_priority = r.stack_priority;
     ports = all_ordered PortIsInRange _ d.ports r.ports;
   })))
 

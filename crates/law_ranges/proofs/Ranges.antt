@@ -7,13 +7,16 @@ use Rattle.std.proofs.lemmas.Bool.{or_left, or_right, true≢false}
 use Rattle.std.proofs.lemmas.List.Folds.{list_any-append}
 use Rattle.std.proofs.lemmas.Slice.Eq.{bytes_eq-Decides}
 use Rattle.net_base.specs.AddressReading.{spelled_mac, pair_at, next_at}
-use Rattle.yaml_subset.specs.declared.tree.Tree.{Tree}
+use Rattle.yaml_subset.specs.declared.tree.Tree.{Tree, out-Tree}
+use Rattle.yaml_subset.specs.declared.tree.Tree.TheOpen.{Tree-F}
+use Rattle.yaml_subset.specs.declared.tree.Tree.TheOpen as tree
 use Rattle.yaml_subset.specs.declared.tree.Key.{Key}
 use Rattle.yaml_subset.specs.declared.tree.Key.TheVariants as key
 use Rattle.yaml_subset.specs.declared.tree.Pair.{Pair}
 use Rattle.conf_types.specs.Lists.{EachBefore, IsLabel}
-use Rattle.conf_types.specs.Valid.{IsTimeout, IsStation, IsVip, IsRoute}
+use Rattle.conf_types.specs.Valid.{IsTimeout, IsStation, IsVip, IsRoute, NamesPort}
 use Rattle.conf_shape.specs.declared.refused.ConfCause.TheVariants.{OutOfRange, Duplicate}
+use Rattle.conf_shape.specs.declared.raw.OneOrList.TheVariants as one_or_list
 use Rattle.conf_shape.specs.declared.kinds.Kind.{Kind}
 use Rattle.conf_shape.specs.declared.kinds.Kind.TheVariants.{One, Several, Map, Maps}
 use Rattle.conf_shape.specs.declared.kinds.Scalar.TheVariants.{Number, Name, StationMac, Vip, Destination}
@@ -22,12 +25,13 @@ use Rattle.conf_shape.specs.declared.kinds.MapKind.TheVariants as maps
 use Rattle.conf_shape.specs.Addresses.{station_cause}
 use Rattle.conf_shape.specs.Faults.{faults_of, entry_of, map_faults, first_fault}
 use Rattle.conf_shape.specs.Keys.{Count, OwnKey, OwnName}
-use Rattle.conf_shape.specs.Raw.{names_by, port_of_entry, datapath_of_entry, vip_of, route_of, mac_at, vlan_of_entry, rule_with, rule_of, acl_of_entry, router_of_entry, raw_of}
-use Rattle.conf_shape.specs.Reads.{value_at, number_of, words_of, text_of, items_of, entries_of, entries_at, words_at, text_in, text_at, default_of, default_number, default_text, vlan_or, vlan_of, label_of, own_number, number_at}
+use Rattle.conf_shape.specs.Raw.{names_by, port_of_entry, datapath_of_entry, vip_of, route_of, mac_at, vlan_of_entry, output_of, rule_with, rule_of, acl_of_entry, router_of_entry, raw_of}
+use Rattle.conf_shape.specs.Reads.{value_at, number_of, words_of, text_of, items_of, entries_of, entries_at, words_at, text_in, text_at, default_of, default_number, default_text, port_or, port_of, vlan_or, vlan_of, label_of, own_number, number_at, one_or_list_in, one_or_list_of}
 use Rattle.conf_shape.specs.Sections.{key_text, has_text, named_once, named_kind, under_key}
 use Rattle.conf_shape.specs.Values.{ip_of, net_of}
 use Rattle.conf_shape.specs.Written.{IsRight, Takes}
-use Rattle.conf_resolve.specs.InRange.{NamesVlan, AreNames, PortIsInRange, DpIsInRange, VlanIsInRange, RuleIsInRange, IsInRange}
+use Rattle.conf_resolve.specs.InRange.{NamesVlan, AreNames, PortIsInRange, DpIsInRange, VlanIsInRange, OutputIsInRange, RuleIsInRange, IsInRange}
+use Rattle.conf_resolve.specs.Resolved.{items_of as outputs_of}
 use Rattle.law_ranges.proofs.Right.{document_right, map_right, entry_right, each_right, value_right, takes_by, below_right, items_right, all_through, all_read, listed_right}
 use Rattle.law_ranges.proofs.Values.{number_or, own_range, number_bounds, within_bounds, text_right, text_or, name_or, named_right, numbered_right}
 use Rattle.law_ranges.proofs.Addresses.{IsDestination, station_right, vip_right, network_right, no_network, gateway_below}
@@ -67,6 +71,18 @@ names_vlan t = by (number_of 1 4094 t) (number_bounds 1 4094 t)
     by None h = tt
     by (Some n) h = record { least = h.0; most = h.1 }
 
+names_port : (t : Tree) → NamesPort (port_of t)
+names_port t = by (number_of 1 0xffffff00 t) (number_bounds 1 0xffffff00 t)
+  where
+    by : (o : Option ℕ) → IfSome o (λ n. (1 ≤ n) × (n ≤ 0xffffff00)) → NamesPort (port_or (label_of t) o)
+    by None h = tt
+    by (Some n) h = record { least = h.0; most = h.1 }
+
+-- what is read of a tree, where one stands
+if_read : {A : Type 0} (P : A → Type 0) (read : Tree → A) → ((t : Tree) → P (read t)) → (o : Option Tree) → IfSome (option_map read o) P
+if_read P read h None = tt
+if_read P read h (Some t) = h t
+
 -- ---- interfaces
 
 module _ (number : Option ℕ) where
@@ -83,10 +99,6 @@ module _ (number : Option ℕ) where
   port_hosts pairs right =
       number_in_range (maps.Interface None) (codes "max_hosts") pairs 1 16384 255 refl (omega arith) (omega arith) (omega arith) (port_takes (codes "max_hosts") (One (Number 1 16384)) refl (λ n. refl) pairs right)
 
-native_right : (o : Option Tree) → IfSome (option_map vlan_of o) NamesVlan
-native_right None = tt
-native_right (Some t) = names_vlan t
-
 port_right : (p : Pair) (number : Option ℕ) → IsLabel (key_text p.key) → IsRight (maps.Interface number) (entries_of p.value) → PortIsInRange (port_of_entry p)
 port_right p number label right =
     let pairs : List Pair = entries_of p.value in
@@ -97,7 +109,7 @@ port_right p number label right =
       names = port_names number (key_text p.key) pairs label right;
       hosts = hosts.0;
       most_hosts = hosts.1;
-      native = native_right (value_at (codes "native_vlan") pairs);
+      native = if_read NamesVlan vlan_of names_vlan (value_at (codes "native_vlan") pairs);
       tagged = all_read NamesVlan vlan_of names_vlan (option_map_or items_of (value_at (codes "tagged_vlans") pairs) []);
     }
 
@@ -130,6 +142,15 @@ dp_id : (o : Option Tree) → unwrap_or (option_and_then (number_of 0 (2 ^ 64 - 
 dp_id None = omega arith
 dp_id (Some t) = let r = own_range 0 (2 ^ 64 - 1) 0 (omega arith) (omega arith) (number_of 0 (2 ^ 64 - 1) t) (number_bounds 0 (2 ^ 64 - 1) t) in omega (arith, r.1)
 
+-- whatever stands there, what is read as a priority is one
+dp_priority : (o : Option Tree) → IfSome (option_and_then (number_of 0 (2 ^ 32 - 1)) o) (λ priority. priority < 2 ^ 32)
+dp_priority None = tt
+dp_priority (Some t) = by (number_of 0 (2 ^ 32 - 1) t) (number_bounds 0 (2 ^ 32 - 1) t)
+  where
+    by : (o : Option ℕ) → IfSome o (λ n. (0 ≤ n) × (n ≤ 2 ^ 32 - 1)) → IfSome o (λ priority. priority < 2 ^ 32)
+    by None h = tt
+    by (Some n) h = omega (arith, h.1)
+
 dp_right : (p : Pair) → IsLabel (key_text p.key) → IsRight maps.Datapath (entries_of p.value) → DpIsInRange (datapath_of_entry p)
 dp_right p label right =
     let pairs : List Pair = entries_of p.value in
@@ -138,6 +159,7 @@ dp_right p label right =
       names = dp_names (key_text p.key) pairs label right;
       timeout = dp_timeout pairs right;
       arp_timeout = dp_arp_timeout pairs right;
+      stack_priority = dp_priority (value_at (codes "priority") (entries_at (codes "stack") pairs));
       ports = below_right maps.Interfaces (λ pairs. AllByRecursion PortIsInRange (map port_of_entry pairs)) ports_right tt (value_at (codes "interfaces") pairs) (value_right maps.Datapath (codes "interfaces") (Map maps.Interfaces) refl pairs right);
     }
 
@@ -226,9 +248,41 @@ vlans_right pairs right =
 
 -- ---- ACLs and routers
 
+output_right : (t : Tree) → OutputIsInRange (output_of t)
+output_right t =
+    let pairs : List Pair = entries_of t in
+    record {
+      port = if_read NamesPort port_of names_port (value_at (codes "port") pairs);
+      ports = all_read NamesPort port_of names_port (option_map_or items_of (value_at (codes "ports") pairs) []);
+    }
+
+-- one map, or a list of them
+outputs_right : (o : Option Tree) → AllByRecursion OutputIsInRange (outputs_of (option_map_or (one_or_list_of output_of) o (one_or_list.List [])))
+outputs_right None = tt
+outputs_right (Some t) = by (out-Tree t)
+  where
+    one : AllByRecursion OutputIsInRange (output_of t ∷ [])
+    one = (output_right t, tt)
+
+    by : (x : Tree-F Tree Pair) → AllByRecursion OutputIsInRange (outputs_of (one_or_list_in output_of (output_of t) x))
+    by (tree.List items) = all_read OutputIsInRange output_of output_right items
+    by tree.Null = one
+    by (tree.Bool flag) = one
+    by (tree.Int n) = one
+    by (tree.Text text) = one
+    by (tree.Map pairs) = one
+
+rule_right : (pairs actions : List Pair) → IsRight maps.Rule pairs → RuleIsInRange (rule_with pairs actions)
+rule_right pairs actions right = record {
+  each = fields_may pairs right;
+  once = fields_apart pairs right;
+  mirror = if_read NamesPort port_of names_port (value_at (codes "mirror") actions);
+  output = outputs_right (value_at (codes "output") actions);
+}
+
 rule_in_range : (t : Tree) → faults_of t (Map maps.RuleItem) ≡ [] → RuleIsInRange (rule_of t)
 rule_in_range t h =
-    below_right maps.Rule (λ pairs. RuleIsInRange (rule_with pairs (entries_at (codes "actions") pairs))) (λ pairs right. record { each = fields_may pairs right; once = fields_apart pairs right }) (record { each = tt; once = tt })
+    below_right maps.Rule (λ pairs. RuleIsInRange (rule_with pairs (entries_at (codes "actions") pairs))) (λ pairs right. rule_right pairs (entries_at (codes "actions") pairs) right) (record { each = tt; once = tt; mirror = tt; output = tt })
     (value_at (codes "rule") (entries_of t)) (value_right maps.RuleItem (codes "rule") (Map maps.Rule) refl (entries_of t) (map_right maps.RuleItem t h))
 
 acl_right : (p : Pair) (kind : Kind) → named_kind (key_text p.key) maps.Acls ≡ Ok kind → faults_of p.value kind ≡ [] → AllByRecursion RuleIsInRange (map rule_of (items_of p.value))

@@ -1,11 +1,11 @@
 -- Interfaces of a valid configuration.
-use Rattle.std.proofs.Common.{◌≡◌, ◌⊎◌, ℕ, ◌<◌, ◌==◌, ◌&&◌, Bool, true, false, not, cond, Some, None, List, [], ◌∷◌, length, find, refl, inl, inr, sym, ap, ◌∙◌, arith, subst, is_some, is_none}
+use Rattle.std.proofs.Common.{◌≡◌, ◌⊎◌, ℕ, ◌<◌, ◌==◌, ◌&&◌, true, false, not, cond, Some, None, List, [], ◌∷◌, length, find, refl, inl, inr, sym, ap, ◌∙◌, arith, is_some, is_none}
 use Rattle.std.specs.Prelude.{Contains, IfSome, option_and_then}
 use Rattle.std.specs.List.{AllByRecursion}
-use Rattle.std.proofs.lemmas.Bool.{eqb-true, eq-eqb, both_ways, ne_eqb, and_parts, and_right, false_from_ne_true}
-use Rattle.std.proofs.lemmas.List.Elements.{All-from_recursion, All-contains}
-use Rattle.stack_paths.proofs.Finite.{contains_here, contains_there, contains_cons}
+use Rattle.std.proofs.lemmas.Bool.{eqb-true, eq-eqb, both_ways, and_parts, and_right, false_from_ne_true}
+use Rattle.stack_paths.proofs.Finite.{contains_cons}
 use Rattle.net_base.specs.declared.numbers.DpId.{DpId}
+pub use Rattle.conf_types.proofs.Found.{of_all, found, finds}
 use Rattle.conf_types.specs.declared.datapath.Dp.{Dp}
 use Rattle.conf_types.specs.declared.datapath.Port.{Port}
 use Rattle.conf_types.specs.declared.datapath.StackEnd.{StackEnd}
@@ -15,19 +15,6 @@ use Rattle.conf_types.specs.Membership.{is_edge, is_stack, is_accepting}
 use Rattle.conf_types.specs.Valid.{IsValid, IsDatapath, IsPort, IsMirror, IsStackPort}
 
 -- ---- what is found in a list
-
--- what holds of each holds of one of them
-pub of_all : {X : Type 0} (P : X → Type 0) (xs : List X) (x : X) → AllByRecursion P xs → Contains xs x → P x
-of_all P xs x all c = All-contains P xs x (All-from_recursion P xs all) c
-
--- what is found is one of them, and passes
-pub found : {X : Type 0} (p : X → Bool) (xs : List X) (x : X) → find p xs ≡ Some x → Contains xs x × (p x ≡ true)
-found p [] x is = absurd cc
-found p (y ∷ ys) x is =
-    elim (p y) as (λ b. p y ≡ b → cond b (Some y) (find p ys) ≡ Some x → Contains (y ∷ ys) x × (p x ≡ true)) [
-      | true ↦ λ passes e. let same : y ≡ x = cc in (subst (λ z. Contains (y ∷ ys) z) same (contains_here y ys), subst (λ z. p z ≡ true) same passes)
-      | false ↦ λ fails e. let rest = found p ys x e in (contains_there y x ys rest.0, rest.1)
-    ] refl is
 
 module _ {X : Type 0} (key : X → ℕ) where
   -- of those that rise by a number only one has it
@@ -51,15 +38,6 @@ module _ {X : Type 0} (key : X → ℕ) where
 empty : {X : Type 0} (xs : List X) → length xs ≡ 0 → xs ≡ []
 empty [] e = refl
 empty (x ∷ xs) e = absurd (omega arith)
-
--- one that has its key alone is found by it
-pub finds : {X : Type 0} (key : X → ℕ) (R : X → X → Type 0) → ((a b : X) → R a b → key a ≡ key b → ⊥) → (xs : List X) (x : X) → EachBefore R xs → Contains xs x → find (λ y. key y == key x) xs ≡ Some x
-finds key R apart [] x before c = absurd (omega (arith, c.1))
-finds key R apart (y ∷ ys) x before c =
-    elim (contains_cons y x ys c) [
-      | inl first ↦ rw (eq-eqb (key y) (key x) (ap key first)) (ap Some first)
-      | inr more ↦ rw (ne_eqb (key y) (key x) (apart y x (of_all (R y) ys x before.0 more))) (finds key R apart ys x before.1 more)
-    ]
 
 -- ---- interfaces
 
@@ -100,9 +78,6 @@ module _ (conf : Configuration) (valid : IsValid conf) where
 
   stack_is : (d : Dp) → Contains conf.dps d → (i : Port) → Contains d.ports i → IfSome i.stack (IsStackPort conf d i)
   stack_is d within i c = of_all (λ p. IfSome p.stack (IsStackPort conf d p)) d.ports i (of_all (λ e. AllByRecursion (λ p. IfSome p.stack (IsStackPort conf e p)) e.ports) conf.dps d valid.stacks.each within) c
-
-  pub stack_of_port : (d : Dp) → Contains conf.dps d → (i : Port) → Contains d.ports i → (far : StackEnd) → i.stack ≡ Some far → IsStackPort conf d i far
-  stack_of_port d within i c far is = subst (λ o. IfSome o (IsStackPort conf d i)) is (stack_is d within i c)
 
 module _ (conf : Configuration) (valid : IsValid conf) (id : DpId) (d : Dp) (here : dp_with conf.dps id ≡ Some d) where
   pub within : Contains conf.dps d

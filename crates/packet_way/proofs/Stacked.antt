@@ -1,60 +1,32 @@
 -- The datapaths of a valid configuration with the stack links that are up are a stack.
-use Rattle.std.proofs.Common.{◌≡◌, ◌∙◌, ℕ, ◌<◌, ◌==◌, Option, Some, None, List, [], ◌∷◌, ◌++◌, map, refl, inl, inr, sym, ap, subst, arith}
+use Rattle.std.proofs.Common.{◌≡◌, ◌∙◌, ℕ, ◌==◌, Option, Some, List, [], ◌∷◌, map, inl, inr, sym, ap, subst, arith}
 use Rattle.std.specs.Prelude.{Contains}
-use Rattle.std.specs.List.{AllByRecursion, filter_map, flat_map, cons_option}
+use Rattle.std.specs.List.{AllByRecursion}
 use Rattle.std.specs.Option.{option_map}
 use Rattle.std.proofs.lemmas.List.{length-map}
-use Rattle.std.proofs.lemmas.List.Elements.{All-weaker, All-contains_itself, recursion_from_All, Contains-append_cases}
+use Rattle.std.proofs.lemmas.List.Elements.{All-weaker, All-contains_itself}
 use Rattle.std.proofs.lemmas.Option.{same_Some, slice_get-map, slice_get-get_or}
 use Rattle.stack_paths.proofs.ChosenWalks.{same_dp}
-use Rattle.stack_paths.proofs.Finite.{contains_here, contains_there}
 use Rattle.stack_paths.specs.Stack.{Stack, IsStack, IsNode, ArePortsApart}
 use Rattle.net_base.specs.declared.numbers.DpId.{DpId}
 use Rattle.net_base.specs.declared.stack.Node.{Node}
 use Rattle.net_base.specs.declared.stack.StackLink.{StackLink}
 use Rattle.conf_types.proofs.Found.{before_at}
+use Rattle.conf_types.proofs.LinksUp.{begin_apart}
+use Rattle.conf_types.proofs.Listed.{weaker}
 use Rattle.conf_types.specs.declared.datapath.Dp.{Dp}
 use Rattle.conf_types.specs.declared.datapath.Port.{Port}
 use Rattle.conf_types.specs.declared.datapath.StackEnd.{StackEnd}
 use Rattle.conf_types.specs.declared.state.UpRec.{UpRec}
 use Rattle.conf_types.specs.Configuration.{Configuration, port_at}
-use Rattle.conf_types.specs.Links.{link_from, links_of, links}
+use Rattle.conf_types.specs.Links.{links}
 use Rattle.conf_types.specs.Lists.{EachBefore}
 use Rattle.conf_types.specs.Valid.{IsValid}
 use Rattle.packet_way.specs.Known.{node_of, stack_of}
-use Rattle.packet_way.proofs.Ends.{IsLink, link_is, begin_of, in_flat_map, in_filter_map}
-use Rattle.packet_way.proofs.Ports.{of_all, found, at_port, datapath_of}
+use Rattle.packet_way.proofs.Ends.{IsLink, link_is}
+use Rattle.packet_way.proofs.Ports.{found, at_port}
 
 -- ---- lists of which each stands so to those behind it
-
-all_of : {X : Type 0} (P : X → Type 0) (xs : List X) → ((x : X) → Contains xs x → P x) → AllByRecursion P xs
-all_of P xs h = recursion_from_All P xs (All-weaker (Contains xs) P h xs (All-contains_itself xs))
-
-joined : {X : Type 0} (R : X → X → Type 0) (xs ys : List X) → EachBefore R xs → EachBefore R ys → ((x y : X) → Contains xs x → Contains ys y → R x y) → EachBefore R (xs ++ ys)
-joined R [] ys a b h = b
-joined R (x ∷ xs) ys a b h = (
-  all_of (R x) (xs ++ ys) (λ y c. elim (Contains-append_cases xs ys y c) [
-    | inl first ↦ of_all (R x) xs y a.0 first
-    | inr more ↦ h x y (contains_here x xs) more
-  ]),
-  joined R xs ys a.1 b (λ z y c d. h z y (contains_there x z xs c) d),
-)
-
-of_flat_map : {X Y : Type 0} (S : X → X → Type 0) (R : Y → Y → Type 0) (f : X → List Y) (xs : List X) → EachBefore S xs → ((x : X) → Contains xs x → EachBefore R (f x))
-    → ((x z : X) (y w : Y) → S x z → Contains (f x) y → Contains (f z) w → R y w) → EachBefore R (flat_map f xs)
-of_flat_map S R f [] before each across = tt
-of_flat_map S R f (x ∷ xs) before each across =
-    joined R (f x) (flat_map f xs) (each x (contains_here x xs)) (of_flat_map S R f xs before.1 (λ z c. each z (contains_there x z xs c)) across)
-    (λ y w c d. let from = in_flat_map f xs w d in across x from.0 y w (of_all (S x) xs from.0 before.0 from.1) c from.2)
-
-of_filter_map : {X Y : Type 0} (S : X → X → Type 0) (R : Y → Y → Type 0) (h : X → Option Y) (xs : List X) → EachBefore S xs
-    → ((x z : X) (y w : Y) → S x z → h x ≡ Some y → h z ≡ Some w → R y w) → EachBefore R (filter_map h xs)
-of_filter_map S R h [] before across = tt
-of_filter_map S R h (x ∷ xs) before across =
-    elim (h x) as (λ o. h x ≡ o → EachBefore R (cons_option o (filter_map h xs))) [
-      | None ↦ λ none. of_filter_map S R h xs before.1 across
-      | Some y ↦ λ some. (all_of (R y) (filter_map h xs) (λ w c. let from = in_filter_map h xs w c in across x from.0 y w (of_all (S x) xs from.0 before.0 from.1) some from.2), of_filter_map S R h xs before.1 across)
-    ] refl
 
 of_map : {X Y : Type 0} (S : X → X → Type 0) (R : Y → Y → Type 0) (f : X → Y) (xs : List X) → EachBefore S xs → ((x z : X) → S x z → R (f x) (f z)) → EachBefore R (map f xs)
 of_map S R f [] before h = tt
@@ -63,11 +35,6 @@ of_map {X = X} S R f (x ∷ xs) before h = (all_mapped xs before.0, of_map S R f
     all_mapped : (ys : List X) → AllByRecursion (S x) ys → AllByRecursion (R (f x)) (map f ys)
     all_mapped [] all = tt
     all_mapped (y ∷ ys) all = (h x y all.0, all_mapped ys all.1)
-
-weaker : {X : Type 0} (P : X → Type 0) (R S : X → X → Type 0) → ((x y : X) → P x → P y → R x y → S x y) → (xs : List X) → ((x : X) → Contains xs x → P x) → EachBefore R xs → EachBefore S xs
-weaker P R S h [] each before = tt
-weaker P R S h (x ∷ xs) each before =
-    (all_of (S x) xs (λ y c. h x y (each x (contains_here x xs)) (each y (contains_there x y xs c)) (of_all (R x) xs y before.0 c)), weaker P R S h xs (λ y c. each y (contains_there x y xs c)) before.1)
 
 -- ---- links
 
@@ -106,16 +73,6 @@ module _ (conf : Configuration) (valid : IsValid conf) (ups : List UpRec) where
   abbrev stack : Stack
   stack = stack_of conf ups
 
-  begins : EachBefore (λ l m. l.a ≡ m.a → l.a_port ≡ m.a_port → ⊥) (links conf ups)
-  begins =
-      of_flat_map (λ (d e : Dp). d.id.0 ≡ e.id.0 → ⊥) (λ (l m : StackLink). l.a ≡ m.a → l.a_port ≡ m.a_port → ⊥) (links_of conf ups) conf.dps valid.datapaths.ids
-      (λ d c. of_filter_map (λ (p q : Port). p.no < q.no) (λ (l m : StackLink). l.a ≡ m.a → l.a_port ≡ m.a_port → ⊥) (link_from conf ups d) d.ports (datapath_of conf valid d c).in_order
-      (λ p q l m less is_l is_m same same_port. let at_l = (begin_of conf ups d p l is_l).1 in let at_m = (begin_of conf ups d q m is_m).1 in omega (arith, less, same_port, at_l, at_m)))
-      (λ d e l m other in_d in_e same same_port.
-      let of_l = in_filter_map (link_from conf ups d) d.ports l in_d in
-      let of_m = in_filter_map (link_from conf ups e) e.ports m in_e in
-      other (ap (λ (x : DpId). x.0) (sym (begin_of conf ups d of_l.0 l of_l.2).0 ∙ same ∙ (begin_of conf ups e of_m.0 m of_m.2).0)))
-
   node_at : (d : Dp) → Contains conf.dps d → IsNode stack d.id
   node_at d c = (
     c.0,
@@ -137,5 +94,5 @@ module _ (conf : Configuration) (valid : IsValid conf) (ups : List UpRec) where
     between_two = All-weaker (Contains (links conf ups)) (λ l. IsNode stack l.a × IsNode stack l.b × (l.a ≡ l.b → ⊥)) (λ l c.
         let is = link_is conf valid ups l c in
         (node_of_port l.a l.a_port is.near is.near_here, node_of_port l.b l.b_port is.far is.far_here, λ same. let less = is.less in let eq = ap (λ (x : DpId). x.0) same in omega (arith, less, eq))) (links conf ups) (All-contains_itself (links conf ups));
-    ports_apart = before_at ArePortsApart (links conf ups) (weaker (IsLink conf) (λ l m. l.a ≡ m.a → l.a_port ≡ m.a_port → ⊥) ArePortsApart (λ l m is_l is_m begin. apart conf l m is_l is_m begin) (links conf ups) (link_is conf valid ups) begins);
+    ports_apart = before_at ArePortsApart (links conf ups) (weaker (IsLink conf) (λ l m. l.a ≡ m.a → l.a_port ≡ m.a_port → ⊥) ArePortsApart (λ l m is_l is_m begin. apart conf l m is_l is_m begin) (links conf ups) (link_is conf valid ups) (begin_apart conf ups valid));
   }

@@ -1,4 +1,4 @@
-use Rattle.std.proofs.Common.{◌≡◌, ◌∙◌, ℕ, List, ap}
+use Rattle.std.proofs.Common.{◌∙◌, ℕ, List, ap}
 use Rattle.std.specs.Cmp.Lexicographic.{texts_ties}
 use Rattle.conf_types.specs.Lists.{is_same}
 use Rattle.conf_types.proofs.named.is_same_text.Goals as goal
