@@ -17,7 +17,7 @@ use Rattle.ctl_core.specs.Changes.{closes, falls_silent, is_silent}
 use Rattle.ctl_core.specs.Turns.{look, look_on, stir}
 use Rattle.ctl_core.proofs.TurnLooks.{not_found}
 
--- ---- silence is that of a minute, whether an echo was asked for or not
+-- ---- a connection is closed after 60 seconds, whether an echo was asked for or not
 
 closes_due : (echoed : Bool) (silence : ℕ) → closes (due echoed silence) ≡ nat_le 60000 silence
 closes_due true silence = elim (nat_le 60000 silence) as (λ b. closes (if b then Silent else Well) ≡ b) [ true ↦ refl | false ↦ refl ]

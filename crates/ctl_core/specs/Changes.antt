@@ -31,7 +31,7 @@ abbrev pub heard_packet_changes : Message → Option DpId → World → Bool
 heard_packet_changes (messages.PacketIn m) (Some dp) w = packet_changes m dp w
 heard_packet_changes m dp w = false
 
--- the switch is asked or told something, or the connection closed; a packet changes what it tells
+-- a packet changes what it tells; a setup goes on, or the connection is closed
 abbrev pub step_changes : Step → Message → Option DpId → World → Bool
 step_changes steps.Nothing m dp w = false
 step_changes steps.Settled m dp w = false
@@ -44,7 +44,7 @@ step_changes steps.PortsKnown m dp w = true
 step_changes steps.Wiped m dp w = true
 step_changes (steps.Close cause) m dp w = true
 
--- the state of the connection changes, or its step changes something
+-- the message isn't one of those that leave the state of its connection, or its step changes something
 abbrev pub message_changes_on : Message → (xid : ℕ) → World → Conn → Bool
 message_changes_on m xid w c = not (leaves c.session.state m xid) || step_changes (leads c.session.state m xid).1 m c.dp w
 
@@ -66,13 +66,13 @@ front_changes Bad number w = true
 abbrev pub next_changes : (number : ℕ) → World → Bool
 next_changes number w = front_changes (front (unread number w)) number (read number w)
 
--- some frame does, of so many at most
+-- one of the frames does, of so many at most
 abbrev pub any_changes : (most : ℕ) → (number : ℕ) → World → Bool
 any_changes zero number w = false
 any_changes (suc most) number w = next_changes number w || (has_frame number w && any_changes most number (hear_next number w))
 
-abbrev pub all_changes : (number : ℕ) → World → Bool
-all_changes number w = any_changes (length (unread number w)) number w
+abbrev pub unread_changes : (number : ℕ) → World → Bool
+unread_changes number w = any_changes (length (unread number w)) number w
 
 -- ---- the clock
 
@@ -81,7 +81,7 @@ closes Well = false
 closes Echo = false
 closes Silent = true
 
--- no byte came for a minute
+-- no byte came for 60 seconds
 abbrev pub is_silent : Moment → Conn → Bool
 is_silent now c = nat_le 60000 (now.0 - c.session.heard.0)
 
@@ -90,11 +90,11 @@ falls_silent w number = option_map_or (is_silent w.moment) (conn_with w.conns nu
 
 -- ---- one turn
 
--- a connection that opens or ends does, a piece where a frame in it does, a moment where a connection falls silent, and a
--- reload where the text has a configuration
+-- a connection that opens or ends does; bytes do where a frame in them does, a moment where a connection falls silent at
+-- it, and a reload where its text has a configuration
 abbrev pub changes : Happening → World → Bool
 changes (happenings.Opened number) w = not (is_open w.conns number)
-changes (happenings.Heard number piece) w = is_open w.conns number && all_changes number (feed number piece w)
+changes (happenings.Heard number piece) w = is_open w.conns number && unread_changes number (feed number piece w)
 changes (happenings.Closed number cause) w = is_open w.conns number
 changes (happenings.Moment moment) w = list_any (falls_silent (show moment w)) (map (λ c. c.number) w.conns)
 changes (happenings.Reload text) w = is_ok (accepted text)

@@ -4,7 +4,7 @@ ghost use Rattle.std.specs.Prelude.{◌≡◌, ◌<◌, map, max, false, OnOk, I
 ghost use Rattle.std.specs.List.{list_any};
 ghost use Rattle.fg_outside.specs.declared.hub.Happening.TheVariants.{Opened, Heard, Closed, Moment as Shown, Reload};
 ghost use Rattle.ctl_world.specs.Alike.{IsAlike};
-ghost use Rattle.ctl_core.specs.Changes.{all_changes, changes, closes, falls_silent, latest};
+ghost use Rattle.ctl_core.specs.Changes.{changes, closes, falls_silent, latest, unread_changes};
 ghost use Rattle.ctl_core.specs.Known.{HasSettled, IsEarly};
 ghost use Rattle.ctl_core.specs.Turns.{age, closing_for, feed, hear, look, look_each, open_conn, pass, pass_in, show, stir, turn, work};
 
@@ -74,7 +74,7 @@ fn hear<T: Tally>(
     requires { HasSettled known.old }
     ensures heard { OnOk result (known.new.world ≡ hear conn piece.now known.old.world) }
     ensures settled { OnOk result (HasSettled known.new) }
-    ensures left_out { all_changes conn (feed conn piece.now known.old.world) ≡ false → IsEarly known.old → T.count units.new ≡ T.count units.old }
+    ensures left_out { unread_changes conn (feed conn piece.now known.old.world) ≡ false → IsEarly known.old → T.count units.new ≡ T.count units.old }
 {
     feed(known, conn, piece)?;
     let most = known.world.conns.unread_len(conn);
