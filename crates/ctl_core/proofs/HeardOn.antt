@@ -1,9 +1,14 @@
 -- One frame more of those that are heard.
-use Rattle.std.proofs.Common.{◌≡◌, ℕ, zero, suc, ◌+◌, ◌-◌, ◌<◌, ◌≤◌, Bool, true, false, refl, sym, ap, ◌∙◌, arith}
+use Rattle.std.proofs.Common.{◌≡◌, ℕ, suc, ◌+◌, ◌-◌, ◌<◌, ◌≤◌, ◌&&◌, true, false, refl, sym, ap, ◌∙◌, arith}
+use Rattle.std.proofs.lemmas.Bool.{or_parts}
 use Rattle.ctl_world.specs.World.{World}
+use Rattle.ctl_core.specs.Changes.{any_changes, next_changes}
 use Rattle.ctl_core.specs.Hearing.{has_frame, hear_frames, hear_next}
 
 module _ (most i number : ℕ) (w : World) where
+  pub all_none : any_changes most number w ≡ false → any_changes (most - 0) number w ≡ false
+  all_none none = let all : most - 0 ≡ most = omega arith in ap (λ n. any_changes n number w) all ∙ none
+
   pub begun : hear_frames (most - 0) number w ≡ hear_frames most number w
   begun = let all : most - 0 ≡ most = omega arith in ap (λ n. hear_frames n number w) all
 
@@ -19,3 +24,14 @@ module _ (most i number : ℕ) (w : World) where
 
     pub heard_last : has_frame number w ≡ false → hear_frames (most - i) number w ≡ hear_next number w
     heard_last has = ap (λ n. hear_frames n number w) left ∙ (rw has refl)
+
+    -- where no frame changes anything, neither does the next one, nor one of those behind it
+    module _ (none : any_changes (most - i) number w ≡ false) where
+      parts : (next_changes number w ≡ false) × ((has_frame number w && any_changes (most - (i + 1)) number (hear_next number w)) ≡ false)
+      parts = or_parts (next_changes number w) (has_frame number w && any_changes (most - (i + 1)) number (hear_next number w)) (ap (λ n. any_changes n number w) (sym left) ∙ none)
+
+      pub next_none : next_changes number w ≡ false
+      next_none = parts.0
+
+      pub rest_none : has_frame number w ≡ true → any_changes (most - (i + 1)) number (hear_next number w) ≡ false
+      rest_none has = ap (λ b. b && any_changes (most - (i + 1)) number (hear_next number w)) (sym has) ∙ parts.1

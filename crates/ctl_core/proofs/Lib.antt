@@ -5,6 +5,7 @@ pub mod Ordered
 pub mod ReloadSteps
 pub mod Rests
 pub mod SaidTables
+pub mod Silence
 pub mod SoundFrames
 pub mod SoundGateways
 pub mod SoundReloads

@@ -1,13 +1,14 @@
 -- What rests, and stays settled, where nothing changes that a settling looks at.
-use Rattle.std.proofs.Common.{◌≡◌, ℕ, ◌<◌, max, List, [], ◌∷◌, refl, sym, ap, ◌∙◌, subst, arith}
+use Rattle.std.proofs.Common.{◌≡◌, ℕ, ◌<◌, ◌^◌, ◌-◌, max, List, [], ◌∷◌, refl, sym, ap, ◌∙◌, subst, arith}
 use Rattle.net_base.specs.declared.numbers.Moment.{Moment}
 use Rattle.ctl_world.specs.declared.conns.Conn.{Conn}
 use Rattle.conf_types.specs.Configuration.{Configuration}
 use Rattle.ctl_world.specs.Alike.{IsAlike, face}
 use Rattle.ctl_world.specs.Connections.{with_fed}
 use Rattle.ctl_world.specs.World.{IsSound, World, first}
-use Rattle.ctl_settle.specs.Rest.{AreInOrder, IsAtRest, NoneIsOver, RestsUntil}
+use Rattle.ctl_settle.specs.Rest.{AreInOrder, IsAtRest, NoneIsOver, RestsUntil, rests_until}
 use Rattle.ctl_settle.specs.Settling.{settle}
+use Rattle.ctl_settle.proofs.Until.{end_alike, until_stays}
 use Rattle.ctl_core.specs.declared.known.Known.{Known}
 use Rattle.ctl_core.specs.Known.{HasSettled}
 use Rattle.ctl_core.specs.Turns.{age, show}
@@ -24,7 +25,7 @@ left_out same until w rests less = sym (same w (rests w.moment.0 (omega arith) l
 -- what looks the same is settled as well
 pub still_settled : ((until : ℕ) (v w : World) → IsAlike v w → RestsUntil until w → RestsUntil until v) → (k : Known) (v : World) → HasSettled k
     → IsSound v → AreInOrder v → IsAlike v k.world → HasSettled (record k { world = v })
-still_settled rests k v settled sound order alike = record { sound = sound; in_order = order; rests = rests k.until v k.world alike settled.rests }
+still_settled rests k v settled sound order alike = record { sound = sound; in_order = order; rests = rests k.until v k.world alike settled.rests; until = settled.until ∙ sym (end_alike v k.world alike) }
 
 -- ---- the clock
 
@@ -44,6 +45,12 @@ module _ (rest : (v w : World) → IsAlike v w → IsAtRest w → IsAtRest v) (o
     shown : IsAtRest (show moment k.world) × NoneIsOver (show moment k.world)
     shown = settled.rests (max k.world.moment.0 moment) (omega arith) before
 
+    -- the same moment is next
+    pub moment_until : k.until ≡ rests_until v
+    moment_until =
+        settled.until
+        ∙ sym (end_alike v (show moment k.world) alike ∙ until_stays k.world (max k.world.moment.0 moment) (omega arith) (subst (λ (n : ℕ). max k.world.moment.0 moment < n) settled.until before))
+
     -- no host's time is over
     pub none_ages : age v ≡ v
     none_ages = let none = over v (show moment k.world) alike shown.1 in λ i. record v { hosts = record v.hosts { hosts = none i } }
@@ -53,11 +60,16 @@ module _ (rest : (v w : World) → IsAlike v w → IsAtRest w → IsAtRest v) (o
 
 -- ---- before anything happened
 
-pub first_settled : (w : World) (conf : Configuration) → w ≡ first conf → IsSound (first conf) → HasSettled (record { world = w; until = 0 })
+-- nothing is due, and nothing runs
+first_rests : (until : ℕ) (conf : Configuration) → RestsUntil until (first conf)
+first_rests until conf = λ m later before. (record { asks = refl; batches = λ dp runs c some. absurd (cc) }, refl)
+
+pub first_settled : (w : World) (conf : Configuration) → w ≡ first conf → IsSound (first conf) → HasSettled (record { world = w; until = 2 ^ 64 - 1 })
 first_settled w conf is sound = record {
   sound = subst IsSound (sym is) sound;
   in_order = subst AreInOrder (sym is) (record { numbers = tt; keys = tt });
-  rests = λ m later before. absurd (omega arith);
+  rests = subst (RestsUntil (2 ^ 64 - 1)) (sym is) (first_rests (2 ^ 64 - 1) conf);
+  until = ap rests_until (sym is);
 }
 
 -- what was said is nothing that a settling looks at
@@ -68,4 +80,5 @@ unsaid_settled k settled = record {
   rests = λ m later before.
       let at = settled.rests m later before in
       (record { asks = at.0.asks; batches = at.0.batches }, at.1);
+  until = settled.until;
 }

@@ -25,7 +25,7 @@ open_found number (d ∷ ds) is_there none =
       | inr other ↦ open_found number ds (rw other at is_there) (rw other at none)
     ]
 
-not_found : (number : ℕ) (cs : List Conn) → is_open cs number ≡ false → conn_with cs number ≡ None
+pub not_found : (number : ℕ) (cs : List Conn) → is_open cs number ≡ false → conn_with cs number ≡ None
 not_found number [] shut = refl
 not_found number (d ∷ ds) shut =
     elim (cases_Bool (has_number number d)) [

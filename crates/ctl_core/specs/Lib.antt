@@ -3,3 +3,4 @@ pub mod Known
 pub mod Reloading
 pub mod Story
 pub mod Turns
+pub mod Changes

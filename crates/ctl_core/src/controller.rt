@@ -1,8 +1,10 @@
-ghost use Rattle.std.specs.Prelude.{◌≡◌, ◌==◌, ◌&&◌, map, Some, None, IfOk, OnErr};
+ghost use Rattle.std.specs.Prelude.{◌≡◌, ◌==◌, ◌&&◌, ◌<◌, false, map, Some, None, IfOk, OnErr};
 ghost use Rattle.std.specs.List.{list_any};
 ghost use Rattle.std.specs.Option.{option_and_then, option_copied};
 ghost use Rattle.packet_way.specs.Present.{state_of};
 ghost use Rattle.ctl_world.specs.World.{first, is_at_work, now, World as Seen};
+ghost use Rattle.ctl_settle.specs.Rest.{rests_until};
+ghost use Rattle.ctl_core.specs.Changes.{latest, turn_changes};
 ghost use Rattle.ctl_core.specs.Turns.{turn};
 ghost use Rattle.ctl_core.specs.Story.{saying_of, tables_of};
 
@@ -125,7 +127,10 @@ impl Controller {
         let world = World::new(alloc, conf)?;
         Ok(Controller {
             alloc,
-            known: Known { world, until: 0 },
+            known: Known {
+                world,
+                until: u64::MAX,
+            },
             is_spent: false,
         })
     }
@@ -138,6 +143,7 @@ impl Controller {
         ensures spent { OnErr result (self.new ≡ None) }
         ensures stays_spent { self.old ≡ None → self.new ≡ None }
         ensures spent_says_nothing { IfOk result (λ _. self.old ≡ None → ⊥) }
+        ensures left_out { (w : Seen) → self.old ≡ Some w → turn_changes what.now w ≡ false → latest what.now w < rests_until w → T.count units.new ≡ T.count units.old }
     {
         if self.is_spent {
             return Err(AllocError);

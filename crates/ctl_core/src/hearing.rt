@@ -9,8 +9,9 @@ ghost use Rattle.ctl_world.specs.Ends.{close};
 ghost use Rattle.ctl_world.specs.Frames.{front};
 ghost use Rattle.ctl_world.specs.World.{IsSound};
 ghost use Rattle.ctl_settle.specs.Settling.{settle};
+ghost use Rattle.ctl_core.specs.Changes.{any_changes, frame_changes, heard_packet_changes, message_changes, next_changes, step_changes};
 ghost use Rattle.ctl_core.specs.Hearing.{echo, follow, has_frame, hear_frames, hear_message, hear_next, heard_in, packet, read, says, tell_version, turn_away, unread};
-ghost use Rattle.ctl_core.specs.Known.{HasSettled};
+ghost use Rattle.ctl_core.specs.Known.{HasSettled, IsEarly};
 
 use crate::gateways::begin;
 use crate::known::{Known, settle_anew, settle_where_due};
@@ -46,6 +47,7 @@ fn hear_packet(
 ) -> Result<bool, NoMemory>
     ensures done { OnOk result (world.new ≡ packet message.now conn dp world.old) }
     ensures alike { IfOk result (λ changed. changed ≡ false → IsAlike world.new world.old) }
+    ensures told { IfOk result (λ changed. changed ≡ heard_packet_changes message.now dp world.old) }
 {
     alike_worlds_run_alike();
     match (message, dp) {
@@ -126,6 +128,7 @@ fn follow(
 ) -> Result<bool, NoMemory>
     ensures done { OnOk result (world.new ≡ follow step message.now xid conn dp world.old) }
     ensures alike { IfOk result (λ changed. changed ≡ false → IsAlike world.new world.old) }
+    ensures told { IfOk result (λ changed. changed ≡ step_changes step message.now dp world.old) }
 {
     alike_worlds_run_alike();
     match step {
@@ -163,6 +166,7 @@ fn hear_message(
     requires { IsSound world.old }
     ensures heard { OnOk result (world.new ≡ hear_message message.now xid conn world.old) }
     ensures alike { IfOk result (λ changed. changed ≡ false → IsAlike world.new world.old) }
+    ensures told { IfOk result (λ changed. changed ≡ message_changes message.now xid conn world.old) }
 {
     alike_worlds_run_alike();
     a_sound_world_has_lost_nothing();
@@ -199,6 +203,7 @@ fn hear_frame(alloc: Global, world: &mut World, frame: &[u8], conn: u32) -> Resu
     requires { IsSound world.old }
     ensures heard { OnOk result (world.new ≡ heard_in (says frame.now) conn world.old) }
     ensures alike { IfOk result (λ changed. changed ≡ false → IsAlike world.new world.old) }
+    ensures told { IfOk result (λ changed. changed ≡ frame_changes (says frame.now) conn world.old) }
 {
     match read_message(alloc, frame)? {
         Some((message, xid)) => hear_message(alloc, world, &message, xid, conn),
@@ -215,6 +220,7 @@ fn read_front(alloc: Global, known: &mut Known, conn: u32) -> Result<Front, NoMe
     ensures front { IfOk result (λ made. made ≡ front (unread conn known.old.world)) }
     ensures read { OnOk result (known.new.world ≡ read conn known.old.world) }
     ensures settled { OnOk result (HasSettled known.new) }
+    ensures early { IsEarly known.old → OnOk result (IsEarly known.new) }
 {
     a_frame_leaves_it_sound();
     what_happens_keeps_connections_in_order();
@@ -234,6 +240,8 @@ fn hear_one<T: Tally>(
     requires { HasSettled known.old }
     ensures heard { OnOk result (known.new.world ≡ settle (heard_in (says frame.now) conn known.old.world)) }
     ensures settled { OnOk result (HasSettled known.new) }
+    ensures left_out { frame_changes (says frame.now) conn known.old.world ≡ false → IsEarly known.old → T.count units.new ≡ T.count units.old }
+    ensures early { frame_changes (says frame.now) conn known.old.world ≡ false → IsEarly known.old → OnOk result (IsEarly known.new) }
 {
     a_frame_leaves_it_sound();
     what_happens_keeps_connections_in_order();
@@ -273,6 +281,8 @@ fn hear_front<T: Tally>(
     ensures heard { OnOk result (known.new.world ≡ hear_next conn known.old.world) }
     ensures more { IfOk result (λ more. more ≡ has_frame conn known.old.world) }
     ensures settled { OnOk result (HasSettled known.new) }
+    ensures left_out { next_changes conn known.old.world ≡ false → IsEarly known.old → T.count units.new ≡ T.count units.old }
+    ensures early { next_changes conn known.old.world ≡ false → IsEarly known.old → OnOk result (IsEarly known.new) }
 {
     match read_front(alloc, known, conn)? {
         Front::Part => Ok(false),
@@ -298,6 +308,7 @@ pub(crate) fn hear_frames<T: Tally>(
     requires { HasSettled known.old }
     ensures heard { OnOk result (known.new.world ≡ hear_frames most conn known.old.world) }
     ensures settled { OnOk result (HasSettled known.new) }
+    ensures left_out { any_changes most conn known.old.world ≡ false → IsEarly known.old → T.count units.new ≡ T.count units.old }
 {
     for _ in 0..most {
         if !hear_front(alloc, known, conn, units)? {

@@ -1,10 +1,10 @@
 //! What is known, and how long a settling has nothing to say of it.
 
-ghost use Rattle.std.specs.Prelude.{◌≡◌, ◌<◌, false, OnOk};
+ghost use Rattle.std.specs.Prelude.{◌≡◌, false, OnOk};
 ghost use Rattle.ctl_world.specs.World.{IsSound};
 ghost use Rattle.ctl_settle.specs.Rest.{AreInOrder, RestsUntil, rests_until};
 ghost use Rattle.ctl_settle.specs.Settling.{settle};
-ghost use Rattle.ctl_core.specs.Known.{HasSettled};
+ghost use Rattle.ctl_core.specs.Known.{HasSettled, IsEarly};
 
 use conf_types::Tally;
 use ctl_settle::laws::what_rests_settles_as_it_is;
@@ -49,9 +49,11 @@ pub(crate) fn settle_where_due<T: Tally>(
     requires sound { IsSound known.old.world }
     requires in_order { AreInOrder known.old.world }
     requires rests { changed ≡ false → RestsUntil known.old.until known.old.world }
+    requires until { changed ≡ false → known.old.until ≡ rests_until known.old.world }
     ensures settled { OnOk result (known.new.world ≡ settle known.old.world) }
     ensures rests { OnOk result (HasSettled known.new) }
-    ensures left_out { changed ≡ false → known.old.world.moment.0 < known.old.until → T.count units.new ≡ T.count units.old }
+    ensures left_out { changed ≡ false → IsEarly known.old → T.count units.new ≡ T.count units.old }
+    ensures kept { changed ≡ false → IsEarly known.old → known.new ≡ known.old }
 {
     what_rests_settles_as_it_is();
     if changed || known.until <= known.world.moment.0 {

@@ -1,6 +1,6 @@
 //! What a new configuration does.
 
-ghost use Rattle.std.specs.Prelude.{◌≡◌, ◌++◌, ℕ, List, map, filter, false, Ok, Err, IfOk, OnOk};
+ghost use Rattle.std.specs.Prelude.{◌≡◌, ◌++◌, ℕ, List, map, filter, false, is_ok, Ok, Err, IfOk, OnOk};
 ghost use Rattle.std.specs.List.{filter_map};
 ghost use Rattle.conf_types.specs.Groups.{group_of};
 ghost use Rattle.ctl_world.specs.Alike.{IsAlike};
@@ -188,6 +188,7 @@ fn refuse(alloc: Global, world: &mut World, cause: &Text) -> Result<(), NoMemory
 pub(crate) fn reload(alloc: Global, world: &mut World, text: &[u8]) -> Result<bool, NoMemory>
     ensures reloaded { OnOk result (world.new ≡ reload (accepted text.now) world.old) }
     ensures alike { IfOk result (λ taken. taken ≡ false → IsAlike world.new world.old) }
+    ensures told { IfOk result (λ taken. taken ≡ is_ok (accepted text.now)) }
 {
     what_is_said_is_alike();
     match read_text(alloc, text)? {

@@ -1,9 +1,11 @@
 //! What happens, turn by turn.
 
-ghost use Rattle.std.specs.Prelude.{◌≡◌, map, false, OnOk, IfOk};
+ghost use Rattle.std.specs.Prelude.{◌≡◌, ◌<◌, map, max, false, OnOk, IfOk};
+ghost use Rattle.std.specs.List.{list_any};
 ghost use Rattle.fg_outside.specs.declared.hub.Happening.TheVariants.{Opened, Heard, Closed, Moment as Shown, Reload};
 ghost use Rattle.ctl_world.specs.Alike.{IsAlike};
-ghost use Rattle.ctl_core.specs.Known.{HasSettled};
+ghost use Rattle.ctl_core.specs.Changes.{changes, closes, falls_silent, latest, unread_changes};
+ghost use Rattle.ctl_core.specs.Known.{HasSettled, IsEarly};
 ghost use Rattle.ctl_core.specs.Turns.{age, closing_for, feed, hear, look, look_each, open_conn, pass, pass_in, show, stir, turn, work};
 
 use crate::hearing::{a_configuration_is_valid, hear_frames};
@@ -51,6 +53,7 @@ fn feed(known: &mut Known, conn: u32, piece: &[u8]) -> Result<(), NoMemory>
     requires { HasSettled known.old }
     ensures fed { OnOk result (known.new.world ≡ feed conn piece.now known.old.world) }
     ensures settled { OnOk result (HasSettled known.new) }
+    ensures early { IsEarly known.old → OnOk result (IsEarly known.new) }
 {
     what_comes_leaves_it_sound();
     what_happens_keeps_connections_in_order();
@@ -71,6 +74,7 @@ fn hear<T: Tally>(
     requires { HasSettled known.old }
     ensures heard { OnOk result (known.new.world ≡ hear conn piece.now known.old.world) }
     ensures settled { OnOk result (HasSettled known.new) }
+    ensures left_out { unread_changes conn (feed conn piece.now known.old.world) ≡ false → IsEarly known.old → T.count units.new ≡ T.count units.old }
 {
     feed(known, conn, piece)?;
     let most = known.world.conns.unread_len(conn);
@@ -92,6 +96,7 @@ fn closing_for(cause: EndCause) -> Closing
 fn stir(alloc: Global, world: &mut World, quiet: Quiet, conn: u32) -> Result<bool, NoMemory>
     ensures stirred { OnOk result (world.new ≡ stir quiet conn world.old) }
     ensures alike { IfOk result (λ closed. closed ≡ false → IsAlike world.new world.old) }
+    ensures told { IfOk result (λ closed. closed ≡ closes quiet) }
 {
     alike_worlds_run_alike();
     what_is_said_is_alike();
@@ -112,6 +117,7 @@ fn stir(alloc: Global, world: &mut World, quiet: Quiet, conn: u32) -> Result<boo
 fn look(alloc: Global, world: &mut World, conn: u32) -> Result<bool, NoMemory>
     ensures looked { OnOk result (world.new ≡ look conn world.old) }
     ensures alike { IfOk result (λ closed. closed ≡ false → IsAlike world.new world.old) }
+    ensures told { IfOk result (λ closed. closed ≡ falls_silent world.old conn) }
 {
     alike_worlds_run_alike();
     what_is_said_is_alike();
@@ -126,6 +132,7 @@ fn look(alloc: Global, world: &mut World, conn: u32) -> Result<bool, NoMemory>
 fn look_each(alloc: Global, world: &mut World, conns: &[u32]) -> Result<bool, NoMemory>
     ensures looked { OnOk result (world.new ≡ look_each conns.now world.old) }
     ensures alike { IfOk result (λ closed. closed ≡ false → IsAlike world.new world.old) }
+    ensures told { IfOk result (λ closed. closed ≡ list_any (falls_silent world.old) conns.now) }
 {
     alike_worlds_run_alike();
     match conns {
@@ -160,6 +167,7 @@ fn numbers(alloc: Global, conns: &[Conn]) -> Result<Vec<u32>, NoMemory>
 fn look_after(alloc: Global, world: &mut World, moment: u64) -> Result<bool, NoMemory>
     ensures looked { OnOk result (world.new ≡ look_each (map (λ c. c.number) world.old.conns) (show moment world.old)) }
     ensures alike { IfOk result (λ closed. closed ≡ false → IsAlike world.new (show moment world.old)) }
+    ensures told { IfOk result (λ closed. closed ≡ list_any (falls_silent (show moment world.old)) (map (λ c. c.number) world.old.conns)) }
 {
     world.moment = Moment(world.moment.0.max(moment));
     let numbers = numbers(alloc, world.conns.as_slice())?;
@@ -176,6 +184,7 @@ pub(crate) fn work<T: Tally>(
     requires { HasSettled known.old }
     ensures done { OnOk result (known.new.world ≡ work what.now known.old.world) }
     ensures settled { OnOk result (HasSettled known.new) }
+    ensures left_out { changes what.now known.old.world ≡ false → latest what.now known.old.world < known.old.until → T.count units.new ≡ T.count units.old }
 {
     match what {
         Happening::Opened(conn) => opened(alloc, known, *conn, units),
@@ -195,6 +204,7 @@ fn opened<T: Tally>(
     requires { HasSettled known.old }
     ensures done { OnOk result (known.new.world ≡ work (Opened conn) known.old.world) }
     ensures settled { OnOk result (HasSettled known.new) }
+    ensures left_out { changes (Opened conn) known.old.world ≡ false → IsEarly known.old → T.count units.new ≡ T.count units.old }
 {
     if known.world.conns.is_open(conn) {
         return Ok(());
@@ -215,6 +225,7 @@ fn heard<T: Tally>(
     requires { HasSettled known.old }
     ensures done { OnOk result (known.new.world ≡ work (Heard conn piece.now) known.old.world) }
     ensures settled { OnOk result (HasSettled known.new) }
+    ensures left_out { changes (Heard conn piece.now) known.old.world ≡ false → IsEarly known.old → T.count units.new ≡ T.count units.old }
 {
     if !known.world.conns.is_open(conn) {
         return Ok(());
@@ -232,6 +243,7 @@ fn closed<T: Tally>(
     requires { HasSettled known.old }
     ensures done { OnOk result (known.new.world ≡ work (Closed conn cause) known.old.world) }
     ensures settled { OnOk result (HasSettled known.new) }
+    ensures left_out { changes (Closed conn cause) known.old.world ≡ false → IsEarly known.old → T.count units.new ≡ T.count units.old }
 {
     if !known.world.conns.is_open(conn) {
         return Ok(());
@@ -253,6 +265,7 @@ fn passed<T: Tally>(
     requires { HasSettled known.old }
     ensures done { OnOk result (known.new.world ≡ work (Shown moment) known.old.world) }
     ensures settled { OnOk result (HasSettled known.new) }
+    ensures left_out { changes (Shown moment) known.old.world ≡ false → max known.old.world.moment.0 moment < known.old.until → T.count units.new ≡ T.count units.old }
 {
     a_configuration_is_valid(&known.world.conf);
     a_moment_leaves_it_sound();
@@ -276,6 +289,7 @@ fn reloaded<T: Tally>(
     requires { HasSettled known.old }
     ensures done { OnOk result (known.new.world ≡ work (Reload text.now) known.old.world) }
     ensures settled { OnOk result (HasSettled known.new) }
+    ensures left_out { changes (Reload text.now) known.old.world ≡ false → IsEarly known.old → T.count units.new ≡ T.count units.old }
 {
     a_configuration_is_valid(&known.world.conf);
     a_reload_leaves_it_sound();

@@ -1,10 +1,9 @@
-ghost use Rattle.std.specs.Prelude.{◌≡◌, ◌==◌, ◌&&◌, false, is_some, None, if◌then◌else◌, IfOk, OnOk};
-ghost use Rattle.std.specs.Option.{option_and_then};
-ghost use Rattle.conf_types.specs.Configuration.{vlan_with};
+ghost use Rattle.std.specs.Prelude.{◌≡◌, ◌==◌, ◌&&◌, false, is_some, IfOk, OnOk};
 ghost use Rattle.conf_types.specs.Lists.{is_same};
 ghost use Rattle.conf_types.specs.Networks.{is_neighbour_address};
 ghost use Rattle.conf_types.specs.Routing.{vips_of};
 ghost use Rattle.pkt_view.specs.Frame.{shown, shown_upper, HasFixedPart};
+ghost use Rattle.ctl_packets.specs.Changes.{gleaned, gleans, gleans_to, has_room_for_wanted};
 ghost use Rattle.ctl_packets.specs.Packets.{destination, glean, glean_to, is_for_gateway, is_resolved, network_vlan, want};
 
 use conf_types::{Conf, NeighRec, Vlan};
@@ -18,6 +17,7 @@ use std::alloc::Global;
 fn want(world: &mut World, group: DpId, vid: Vid, ip: Ip4) -> bool
     ensures done { world.new ≡ want group vid ip world.old }
     ensures same { result ≡ false → world.new ≡ world.old }
+    ensures told { result ≡ has_room_for_wanted group vid ip world.old }
 {
     match world.neighbours.want(group, vid, ip, world.moment) {
         Want::Added | Want::Known => true,
@@ -77,6 +77,7 @@ fn glean_to(
 ) -> Result<bool, NoMemory>
     ensures done { OnOk result (world.new ≡ glean_to group vid ip world.old) }
     ensures same { IfOk result (λ changed. changed ≡ false → world.new ≡ world.old) }
+    ensures told { IfOk result (λ changed. changed ≡ gleans_to group vid ip world.old) }
 {
     let Some(vid) = network_vlan(alloc, &world.conf, vid, ip)? else {
         return Ok(false);
@@ -115,7 +116,7 @@ fn destination(frame: &FrameView<'_>) -> Option<Ip4>
 /// The address that a frame of a VLAN looks for: that of its IPv4 packet, where it is for the gateway.
 fn gleaned(conf: &Conf, vid: Vid, frame: &FrameView<'_>) -> Option<Ip4>
     requires { HasFixedPart (shown_upper frame.now.upper) }
-    ensures { result ≡ option_and_then (λ v. if is_for_gateway v (shown frame.now) then destination (shown_upper frame.now.upper) else None) (vlan_with conf.now.vlans vid) }
+    ensures { result ≡ gleaned conf.now vid (shown frame.now) }
 {
     let vlan = conf.vlan(vid)?;
     if is_for_gateway(vlan, frame) {
@@ -137,6 +138,7 @@ pub(crate) fn glean(
     requires { HasFixedPart (shown_upper frame.now.upper) }
     ensures done { OnOk result (world.new ≡ glean dp vid (shown frame.now) world.old) }
     ensures same { IfOk result (λ changed. changed ≡ false → world.new ≡ world.old) }
+    ensures told { IfOk result (λ changed. changed ≡ gleans dp vid (shown frame.now) world.old) }
 {
     match gleaned(&world.conf, vid, frame) {
         Some(ip) => {

@@ -1,5 +1,6 @@
 ghost use Rattle.std.specs.Prelude.{◌≡◌, ◌≤◌, false};
 ghost use Rattle.pkt_view.specs.Frame.{shown};
+ghost use Rattle.ctl_packets.specs.Changes.{hears};
 ghost use Rattle.ctl_packets.specs.Packets.{hear, least_time};
 
 use conf_types::{Conf, Dp};
@@ -34,6 +35,7 @@ fn least_time(conf: &Conf, group: DpId, dps: &[Dp]) -> u32
 pub(crate) fn hear(world: &mut World, dp: DpId, vid: Vid, frame: &FrameView<'_>) -> bool
     ensures done { world.new ≡ hear dp vid (shown frame.now) world.old }
     ensures same { result ≡ false → world.new ≡ world.old }
+    ensures told { result ≡ hears dp vid (shown frame.now) world.old }
 {
     let Some(sender) = heard_sender(&world.conf, vid, frame) else {
         return false;

@@ -2,6 +2,7 @@ ghost use Rattle.std.specs.Prelude.{◌≡◌, List, false, IfOk, OnOk};
 ghost use Rattle.conf_types.specs.declared.state.HostRec.{HostRec};
 ghost use Rattle.conf_types.specs.Configuration.{Configuration};
 ghost use Rattle.host_learn.specs.Learning.{hosts_after};
+ghost use Rattle.ctl_packets.specs.Changes.{is_change, learns};
 ghost use Rattle.ctl_packets.specs.Packets.{learn};
 
 use conf_types::is_up;
@@ -12,7 +13,8 @@ use std::alloc::Global;
 
 /// Whether a host stands elsewhere or later than before, where this became of one that was heard.
 fn is_change(said: Learn) -> bool
-    ensures { result ≡ false → (conf : Configuration) (heard : HostRec) (hosts : List HostRec) → hosts_after conf heard hosts said ≡ hosts }
+    ensures told { result ≡ is_change said }
+    ensures same { result ≡ false → (conf : Configuration) (heard : HostRec) (hosts : List HostRec) → hosts_after conf heard hosts said ≡ hosts }
 {
     match said {
         Learn::Learned | Learn::Moved | Learn::Refreshed => true,
@@ -32,6 +34,7 @@ pub(crate) fn learn(
 ) -> Result<bool, NoMemory>
     ensures done { OnOk result (world.new ≡ learn dp port vid mac world.old) }
     ensures same { IfOk result (λ changed. changed ≡ false → world.new ≡ world.old) }
+    ensures told { IfOk result (λ changed. changed ≡ learns dp port vid mac world.old) }
 {
     let ups = world.ups(alloc)?;
     if !is_up(ups.as_slice(), dp, port) {

@@ -2,6 +2,7 @@ ghost use Rattle.std.specs.Prelude.{◌≡◌, false, IfOk, OnOk};
 ghost use Rattle.conf_types.specs.State.{is_running};
 ghost use Rattle.pkt_view.specs.Frame.{shown, shown_upper, HasFixedPart};
 ghost use Rattle.ctl_world.specs.Alike.{IsAlike};
+ghost use Rattle.ctl_packets.specs.Changes.{packet_changes, port_changes, table_changes};
 ghost use Rattle.ctl_packets.specs.Packets.{packet_by, packet_in, packet_of_table};
 
 use crate::gleaning::glean;
@@ -42,6 +43,7 @@ fn packet_of_table(
     requires { HasFixedPart (shown_upper frame.now.upper) }
     ensures done { OnOk result (world.new ≡ packet_of_table table conn dp port vid (shown frame.now) world.old) }
     ensures alike { IfOk result (λ changed. changed ≡ false → IsAlike world.new world.old) }
+    ensures told { IfOk result (λ changed. changed ≡ table_changes table dp port vid (shown frame.now) world.old) }
 {
     match table {
         SOURCES => learn(alloc, world, dp, port, vid, frame.src),
@@ -66,6 +68,7 @@ fn packet_by(
 ) -> Result<bool, NoMemory>
     ensures done { OnOk result (world.new ≡ packet_by packet.now conn dp world.old port) }
     ensures alike { IfOk result (λ changed. changed ≡ false → IsAlike world.new world.old) }
+    ensures told { IfOk result (λ changed. changed ≡ port_changes packet.now dp world.old port) }
 {
     let Some(frame) = view(packet.payload.as_slice()) else {
         return Ok(false);
@@ -97,6 +100,7 @@ pub fn packet_in(
 ) -> Result<bool, NoMemory>
     ensures done { OnOk result (world.new ≡ packet_in packet.now conn dp world.old) }
     ensures alike { IfOk result (λ changed. changed ≡ false → IsAlike world.new world.old) }
+    ensures told { IfOk result (λ changed. changed ≡ packet_changes packet.now dp world.old) }
 {
     let running = world.running(alloc)?;
     if packet.cookie != COOKIE || !is_running(running.as_slice(), dp) {

@@ -25,8 +25,9 @@ use Rattle.vlan_compile.specs.Destinations.{destinations}
 use Rattle.vlan_compile.specs.Sources.{elsewhere}
 use Rattle.cold_start.specs.Cold.{cold}
 use Rattle.neighbour_resolve.specs.Due.{is_due, never, said_of}
+use Rattle.ctl_world.specs.Alike.{IsAlike}
 use Rattle.ctl_world.specs.World.{World, now}
-use Rattle.ctl_settle.specs.Rest.{IsAtRest, NoneIsOver, RestsUntil, at_moment, host_until, rests_until}
+use Rattle.ctl_settle.specs.Rest.{IsAtRest, NoneIsOver, RestsUntil, at_moment, host_until, hosts_until, neighbours_until, rests_until}
 use Rattle.ctl_settle.specs.Settling.{wanted}
 
 -- ---- the least of a list
@@ -130,3 +131,34 @@ module _ (w : World) (rests : IsAtRest w) (m : ℕ) (from : w.moment.0 ≤ m) (b
 
 pub rests_so_long : (w : World) → IsAtRest w → RestsUntil (rests_until w) w
 rests_so_long w rests = λ m from before. (rests_on w rests m from before, over_none w rests m from before)
+
+-- ---- and the first moment stays the first one
+
+-- before its end, and before a later one where that is past, a host is as fresh as it was, so that the same moment is next
+end_stays : (moment m end over : ℕ) → moment ≤ m → (stays fresh : Bool) → nat_lt moment end ≡ fresh
+    → m < (if stays then never else if (stays || fresh) then end else over)
+    → (if stays then never else if (stays || nat_lt m end) then end else over) ≡ (if stays then never else if (stays || nat_lt moment end) then end else over)
+end_stays moment m end over from true fresh is before = refl
+end_stays moment m end over from false true is before = ap (λ b. if b then end else over) (lt-ltb m end before ∙ sym is)
+end_stays moment m end over from false false is before =
+    ap (λ b. if b then end else over) (le-ltb m end (omega (arith, ltb-false moment end is, from)) ∙ sym is)
+
+module _ (conf : Configuration) (moment m : ℕ) (from : moment ≤ m) where
+  hosts_end : (first : ℕ) (hosts : List HostRec) → AllByRecursion (λ h. m < host_until conf moment h) hosts
+      → fold (λ least h. min least (host_until conf m h)) first hosts ≡ fold (λ least h. min least (host_until conf moment h)) first hosts
+  hosts_end first [] before = refl
+  hosts_end first (h ∷ hosts) before =
+      let end : ℕ = sum_up_to_greatest h.learned.0 (fresh_for conf h.dp) in
+      let over : ℕ = sum_up_to_greatest h.learned.0 (fresh_for conf h.dp + 30000) in
+      let same : host_until conf m h ≡ host_until conf moment h =
+      end_stays moment m end over from (is_permanent conf h) (nat_lt moment end) refl before.0 in
+      ap (λ n. fold (λ least g. min least (host_until conf m g)) (min first n) hosts) same ∙ hosts_end (min first (host_until conf moment h)) hosts before.1
+
+pub until_stays : (w : World) (m : ℕ) → w.moment.0 ≤ m → m < rests_until w → rests_until (at_moment m w) ≡ rests_until w
+until_stays w m from before =
+    let hosts = least_each (host_until w.conf w.moment.0) m never w.hosts.hosts (omega (arith, before)) in
+    ap (λ n. min n (neighbours_until w.neighbours.neighbours)) (hosts_end w.conf w.moment.0 m from never w.hosts.hosts hosts)
+
+-- what looks the same to a settling has the same one
+pub end_alike : (v w : World) → IsAlike v w → rests_until v ≡ rests_until w
+end_alike v w alike = λ i. min (hosts_until (alike.conf i) (alike.moment i).0 (alike.hosts i).hosts) (neighbours_until (alike.neighbours i).neighbours)

@@ -1,4 +1,4 @@
-use Rattle.std.proofs.Common.{◌≡◌, Some, sym, ap, subst, ◌∙◌}
+use Rattle.std.proofs.Common.{◌≡◌, true, false, Some, refl, sym, ap, subst, ◌∙◌}
 use Rattle.std.specs.Option.{option_copied, option_map_or}
 use Rattle.std.proofs.lemmas.Result.{IfOk-weaker, on_ok_weaker}
 use Rattle.switch_session.specs.declared.state.Step.TheVariants.{Nothing}
@@ -7,7 +7,9 @@ use Rattle.ctl_world.specs.declared.conns.Conn.{Conn}
 use Rattle.ctl_world.specs.Alike.{IsAlike}
 use Rattle.ctl_world.specs.Connections.{change, conn_with, with_heard}
 use Rattle.ctl_world.specs.Ends.{forget_lost}
+use Rattle.ctl_world.specs.Staying.{leaves}
 use Rattle.ctl_world.specs.World.{World}
+use Rattle.ctl_core.specs.Changes.{step_changes}
 use Rattle.ctl_core.specs.Hearing.{follow}
 use Rattle.ctl_core.proofs.Stays.{nothing_lost, world_stays}
 use Rattle.ctl_core.proofs.hearing.hear_message.Goals as goal
@@ -31,7 +33,21 @@ returns-then-stays c =
     record {
       heard = rw at (on_ok_weaker c.follow.result (λ is. is ∙ ap (λ s. follow s m xid number d.dp v) step ∙ ap (follow (leads d.session.state m xid).1 m xid number d.dp) kept) c.follow.ensures.done);
       alike = IfOk-weaker c.follow.result _ _ (λ changed alike none. subst (IsAlike c.follow.new.world) (left ∙ put) (alike none)) c.follow.ensures.alike;
+      told =
+          let same_state : leaves d.session.state m xid ≡ true = (rw at at (sym c.stays-stays.ensures.exact)) ∙ c.if-stays.true in
+          rw at (rw same_state (IfOk-weaker c.follow.result _ _
+          (λ changed is. is ∙ ap (λ s. step_changes s m d.dp v) step ∙ ap (step_changes (leads d.session.state m xid).1 m d.dp) (left ∙ put)) c.follow.ensures.told));
     }
+
+-- the state of the connection changes
+pub returns-clause-told : goal.returns-clause-told
+returns-clause-told c =
+    let m = c.args.message.now in
+    let xid = c.args.xid in
+    let d : Conn = c.in-Some.found.now in
+    let at : conn_with c.args.world.now.conns c.args.conn ≡ Some d = sym c.get.ensures ∙ ap option_copied c.in-Some.is in
+    let other_state : leaves d.session.state m xid ≡ false = (rw at at (sym c.stays-stays.ensures.exact)) ∙ c.if-stays.false in
+    rw at (rw other_state refl)
 
 pub returns-clause-heard : goal.returns-clause-heard
 returns-clause-heard c =

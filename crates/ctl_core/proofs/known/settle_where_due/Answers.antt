@@ -8,6 +8,7 @@ returns g c =
     let rests = c.requires.rests c.if-changed.false in
     record {
       settled = left_out c.what_rests_settles_as_it_is.ensures k.until k.world rests c.if-known.false;
-      rests = record { sound = c.requires.sound; in_order = c.requires.in_order; rests = rests };
+      rests = record { sound = c.requires.sound; in_order = c.requires.in_order; rests = rests; until = c.requires.until c.if-changed.false };
       left_out = λ _ _. refl;
+      kept = λ _ _. refl;
     }

@@ -7,12 +7,17 @@ use Rattle.ctl_world.specs.declared.conns.Conn.{Conn}
 use Rattle.ctl_world.specs.Alike.{IsAlike}
 use Rattle.ctl_world.specs.Connections.{conn_with, with_looked}
 use Rattle.ctl_world.specs.World.{World}
+use Rattle.ctl_core.specs.Changes.{closes}
 use Rattle.ctl_core.specs.Turns.{stir}
+use Rattle.ctl_core.proofs.Silence.{closes_silent, shut_not_silent}
 use Rattle.ctl_core.proofs.TurnLooks.{look_not, look_open}
 use Rattle.ctl_core.proofs.turns.look.Goals as goal
 
 pub returns-then-not-is_open-clause-looked : goal.returns-then-not-is_open-clause-looked
 returns-then-not-is_open-clause-looked c = sym (look_not c.args.conn c.args.world.now (sym c.if-not-is_open.ensures))
+
+pub returns-then-not-is_open-clause-told : goal.returns-then-not-is_open-clause-told
+returns-then-not-is_open-clause-told c = sym (shut_not_silent c.args.conn c.args.world.now (sym c.if-not-is_open.ensures))
 
 pub returns-clause-looked : goal.returns-clause-looked
 returns-clause-looked c =
@@ -29,3 +34,8 @@ returns-clause-alike c =
     let looked : IsAlike left w =
     subst (λ cs. IsAlike (record w { conns = cs }) w) (sym c.look-quiet.ensures.noted) (c.what_is_said_is_alike.ensures.change c.args.conn w (with_looked w.moment) (λ k. refl)) in
     IfOk-weaker c.stir.result _ _ (λ closed alike none. c.alike_worlds_run_alike.ensures.through c.stir.new.world left w (alike none) looked) c.stir.ensures.alike
+
+pub returns-clause-told : goal.returns-clause-told
+returns-clause-told c =
+    let w : World = c.args.world.now in
+    IfOk-weaker c.stir.result _ _ (λ closed is. is ∙ ap closes c.look-quiet.ensures.due ∙ closes_silent w.moment (conn_with w.conns c.args.conn)) c.stir.ensures.told

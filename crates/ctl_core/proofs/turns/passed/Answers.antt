@@ -1,9 +1,9 @@
-use Rattle.std.proofs.Common.{◌≡◌, subst, sym, ap, ◌∙◌}
+use Rattle.std.proofs.Common.{◌≡◌, refl, subst, sym, ap, ◌∙◌}
 use Rattle.ctl_world.specs.World.{IsSound, World}
 use Rattle.ctl_settle.specs.Rest.{AreInOrder}
 use Rattle.ctl_settle.specs.Settling.{settle}
 use Rattle.ctl_core.specs.Turns.{age, pass}
-use Rattle.ctl_core.proofs.Rests.{moment_passes, moment_rests, none_ages}
+use Rattle.ctl_core.proofs.Rests.{moment_passes, moment_rests, moment_until, none_ages}
 use Rattle.ctl_core.proofs.turns.passed.Goals as goal
 
 pub returns-then-known : goal.returns-then-known
@@ -21,7 +21,9 @@ returns-then-known g c =
         sound = subst IsSound (sym passed) (c.a_moment_leaves_it_sound.ensures c.args.moment k.world c.a_configuration_is_valid.ensures c.requires.sound);
         in_order = subst AreInOrder (sym passed) (c.what_happens_keeps_connections_in_order.ensures.passed c.args.moment k.world c.requires.in_order);
         rests = moment_rests rest.rest rest.none_over rest.until same k c.requires c.args.moment v alike;
+        until = moment_until rest.rest rest.none_over rest.until same k c.requires c.args.moment v alike c.if-known.true;
       };
+      left_out = λ _ _. refl;
     }
 
 pub settle_anew-requires : goal.settle_anew-requires
