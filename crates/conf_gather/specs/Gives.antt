@@ -39,6 +39,12 @@ abbrev pub AbsencesTell : LoadRefused → (old new : ℕ) → Type 0
 AbsencesTell (Absent name) old new = Rose old new
 AbsencesTell _ old new = Unit {0}
 
+-- what it says of the name at which a read last failed or found no file: it is that of the file that wasn't read or wasn't there
+abbrev pub TellsRefused : LoadRefused → (refused : List ℕ) → Type 0
+TellsRefused (Read name) refused = refused ≡ name
+TellsRefused (Absent name) refused = refused ≡ name
+TellsRefused _ refused = Unit {0}
+
 -- a text or a name decides, or memory ran out: no read failed, and no file is missing
 abbrev pub IsWithin : LoadRefused → Type 0
 IsWithin (Read name) = ⊥

@@ -1,7 +1,7 @@
 ghost use Rattle.std.specs.Prelude.{◌≡◌, ◌≤◌, ℕ, List, Some, OnOk, IfErr, IsErrOf};
 ghost use Rattle.fg_outside.specs.Contents.{Contents};
 ghost use Rattle.fg_outside.specs.Counts.{Rose};
-ghost use Rattle.conf_gather.specs.Gives.{Gives, GivesTold, FaultsTell, AbsencesTell};
+ghost use Rattle.conf_gather.specs.Gives.{Gives, GivesTold, FaultsTell, AbsencesTell, TellsRefused};
 ghost use Rattle.conf_gather.specs.Gathered.{held_by, NamesUnread, each, gather, gathered, gathered_by};
 
 use crate::include::{Include, Role, includes_of};
@@ -31,6 +31,7 @@ fn gather_file<F: Files>(
     ensures faults { IfErr result (λ e. FaultsTell e (F.faults files.old) (F.faults files.new)) }
     ensures no_fault { OnOk result (F.faults files.new ≡ F.faults files.old) }
     ensures missing { IfErr result (λ e. AbsencesTell e (F.absences files.old) (F.absences files.new)) }
+    ensures refused { IfErr result (λ e. TellsRefused e (F.refused files.new)) }
     ensures absences { F.absences files.old ≤ F.absences files.new }
     ensures counted_faults { F.faults files.old ≤ F.faults files.new }
 {
@@ -65,6 +66,7 @@ fn gather_all<F: Files>(
     ensures faults { IfErr result (λ e. FaultsTell e (F.faults files.old) (F.faults files.new)) }
     ensures no_fault { OnOk result (F.faults files.new ≡ F.faults files.old) }
     ensures missing { IfErr result (λ e. AbsencesTell e (F.absences files.old) (F.absences files.new)) }
+    ensures refused { IfErr result (λ e. TellsRefused e (F.refused files.new)) }
     ensures absences { F.absences files.old ≤ F.absences files.new }
     ensures counted_faults { F.faults files.old ≤ F.faults files.new }
 {
@@ -93,6 +95,8 @@ pub fn gather<F: Files>(alloc: Global, files: &mut F, name: &str) -> Result<Tree
         → F.faults files.new ≡ F.faults files.old }
     ensures absent { (file : List ℕ) → IsErrOf result (LoadRefused.Absent file)
         → Rose (F.absences files.old) (F.absences files.new) }
+    ensures unread_file { (file : List ℕ) → IsErrOf result (LoadRefused.Read file) → F.refused files.new ≡ file }
+    ensures absent_file { (file : List ℕ) → IsErrOf result (LoadRefused.Absent file) → F.refused files.new ≡ file }
     ensures absences { F.absences files.old ≤ F.absences files.new }
     ensures counted_faults { F.faults files.old ≤ F.faults files.new }
     ensures contents { F.contents files.new ≡ F.contents files.old }

@@ -3,7 +3,7 @@
 ghost use Rattle.std.specs.Prelude.{◌≡◌, ◌≤◌, ℕ, List, IfOk, OnOk, IfErr, IsErrOf};
 ghost use Rattle.yaml_subset.specs.Reading.{read_of};
 ghost use Rattle.conf_shape.specs.Reads.{entries_of};
-ghost use Rattle.conf_gather.specs.Gives.{Gives, GivesTold, FaultsTell, AbsencesTell, IsWithin};
+ghost use Rattle.conf_gather.specs.Gives.{Gives, GivesTold, FaultsTell, AbsencesTell, TellsRefused, IsWithin};
 ghost use Rattle.conf_gather.specs.Gathered.{tree_of, text_tree, unread, fault_at, entries_fault, tree_fault, taken, was_reached};
 
 use crate::include::{Include, Role};
@@ -76,6 +76,7 @@ pub fn read_tree<F: Files>(
     ensures faults { IfErr result (λ e. FaultsTell e (F.faults files.old) (F.faults files.new)) }
     ensures no_fault { OnOk result (F.faults files.new ≡ F.faults files.old) }
     ensures missing { IfErr result (λ e. AbsencesTell e (F.absences files.old) (F.absences files.new)) }
+    ensures refused { IfErr result (λ e. TellsRefused e (F.refused files.new)) }
     ensures absences { F.absences files.old ≤ F.absences files.new }
     ensures counted_faults { F.faults files.old ≤ F.faults files.new }
 {

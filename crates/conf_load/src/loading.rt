@@ -48,6 +48,8 @@ pub fn load<F: Files>(alloc: Global, files: &mut F, name: &str) -> Result<Conf, 
         → F.faults files.new ≡ F.faults files.old }
     ensures absent { (file : List ℕ) → IsErrOf result (LoadRefused.Absent file)
         → Rose (F.absences files.old) (F.absences files.new) }
+    ensures unread_file { (file : List ℕ) → IsErrOf result (LoadRefused.Read file) → F.refused files.new ≡ file }
+    ensures absent_file { (file : List ℕ) → IsErrOf result (LoadRefused.Absent file) → F.refused files.new ≡ file }
     ensures absences { F.absences files.old ≤ F.absences files.new }
     ensures counted_faults { F.faults files.old ≤ F.faults files.new }
     ensures contents { F.contents files.new ≡ F.contents files.old }

@@ -22,7 +22,7 @@ pub fn answer_words<F: Files, O: Sink, E: Sink>(
     err: &mut E,
 ) -> (ExitCode, F)
     // One reply was given, and the process ends with its status.
-    ensures gives { IfOk words (λ words. Gives (meaning words) (F.contents files) (Rose (F.absences files) (F.absences result.1)) (Rose (F.faults files) (F.faults result.1))
+    ensures gives { IfOk words (λ words. Gives (meaning words) (F.contents files) (Rose (F.absences files) (F.absences result.1)) (Rose (F.faults files) (F.faults result.1)) (F.refused result.1)
         (exit_status result.0) (O.wrote out.old) (O.wrote out.new) (E.wrote err.old) (E.wrote err.new)
         (O.faults out.old) (O.faults out.new) (E.faults err.old) (E.faults err.new)) }
 

@@ -1,7 +1,8 @@
 -- What a run of `check` delivers, file by file.
-use Rattle.std.proofs.Common.{◌≡◌, ℕ, ◌-◌, ◌≤◌, inl, inr, List, [], ◌∷◌, map, length, take, drop, get_or, Option, Some, None, Ok, Err, refl, sym, ap, ◌∙◌, arith}
+use Rattle.std.proofs.Common.{◌≡◌, ◌⊎◌, ℕ, ◌-◌, ◌≤◌, inl, inr, List, [], ◌∷◌, map, length, take, drop, get_or, Option, Some, None, Ok, Err, refl, sym, ap, ◌∙◌, subst, arith}
 use Rattle.std.proofs.lemmas.Grind.{common_steps}
 use Rattle.std.specs.List.{AllByRecursion}
+use Rattle.std.specs.Prelude.{IsErrOf}
 use Rattle.fg_outside.specs.Contents.{Contents}
 use Rattle.fg_outside.specs.Counts.{Rose}
 use Rattle.fg_outside.specs.Wrote.{appended, AppendsFront}
@@ -22,17 +23,32 @@ File = List ℕ × Load
 
 -- ---- what loading tells
 
-pub memory_loads : (contents : Option Contents) (absence fault : Type 0) (name : List ℕ) → Loads contents absence fault name (Err Memory)
-memory_loads contents absence fault name = record { told = λ held told. tt; absent = λ file is. absurd cc; unread = λ file is. absurd cc }
+pub memory_loads : (contents : Option Contents) (absence fault : Type 0) (refused name : List ℕ) → Loads contents absence fault refused name (Err Memory)
+memory_loads contents absence fault refused name = record { told = λ held told. tt; absent = λ file is. absurd cc; unread = λ file is. absurd cc; named = λ file is. elim is [ inl none ↦ absurd cc | inr failed ↦ absurd cc ] }
+
+-- the file that a refusal names is the one that was refused
+pub loads_named : (made : Load) (refused : List ℕ) → ((file : List ℕ) → IsErrOf made (Absent file) → refused ≡ file) → ((file : List ℕ) → IsErrOf made (Read file) → refused ≡ file)
+    → (file : List ℕ) → IsErrOf made (Absent file) ⊎ IsErrOf made (Read file) → refused ≡ file
+loads_named made refused absent unread file (inl is) = absent file is
+loads_named made refused absent unread file (inr is) = unread file is
 
 -- what was counted by a part of a call was counted by the whole
 module _ (contents : Option Contents) (absence fault absence2 fault2 : Type 0) (f : absence → absence2) (g : fault → fault2) where
-  pub later : (name : List ℕ) (made : Load) → Loads contents absence fault name made → Loads contents absence2 fault2 name made
-  later name made loads = record { told = loads.told; absent = λ file is. f (loads.absent file is); unread = λ file is. g (loads.unread file is) }
+  later : (refused name : List ℕ) (made : Load) → Loads contents absence fault refused name made → Loads contents absence2 fault2 refused name made
+  later refused name made loads = record { told = loads.told; absent = λ file is. f (loads.absent file is); unread = λ file is. g (loads.unread file is); named = loads.named }
 
-  pub each_later : (files : List File) → AllByRecursion (λ file. Loads contents absence fault file.0 file.1) files → AllByRecursion (λ file. Loads contents absence2 fault2 file.0 file.1) files
-  each_later [] all = tt
-  each_later (file ∷ files) all = (later file.0 file.1 all.0, each_later files all.1)
+  -- a file that gave a configuration was refused by no read, whichever was refused since
+  pub accepted_later : (refused refused2 name : List ℕ) (conf : Configuration) → Loads contents absence fault refused name (Ok conf) → Loads contents absence2 fault2 refused2 name (Ok conf)
+  accepted_later refused refused2 name conf loads = record {
+    told = loads.told;
+    absent = λ file is. f (loads.absent file is);
+    unread = λ file is. g (loads.unread file is);
+    named = λ file is. elim is [ inl none ↦ absurd cc | inr failed ↦ absurd cc ];
+  }
+
+  pub each_later : (refused : List ℕ) (files : List File) → AllByRecursion (λ file. Loads contents absence fault refused file.0 file.1) files → AllByRecursion (λ file. Loads contents absence2 fault2 refused file.0 file.1) files
+  each_later refused [] all = tt
+  each_later refused (file ∷ files) all = (later refused file.0 file.1 all.0, each_later refused files all.1)
 
 -- ---- one file
 
@@ -67,21 +83,23 @@ module _ (o0 o1 o2 e0 e1 e2 : Option (List ℕ)) (m0 m1 m2 n0 n1 n2 : ℕ) (stat
   behind_delivered name conf more line quiet outs errs (inr front) =
       inr (front.0, AppendsFront-second o0 o1 o2 (json_line conf) more.out line front.1, rw quiet at front.2, elim front.3 [ inl rose ↦ inl (rw outs at rose) | inr rose ↦ inr (rw errs at rose) ])
 
-module _ (contents : Option Contents) (a0 a1 a2 f0 f1 f2 : ℕ) (o0 o1 o2 e0 e1 e2 : Option (List ℕ)) (m0 m1 m2 n0 n1 n2 : ℕ) (name : List ℕ) (names : List (List ℕ)) where
-  pub none_checked : Checks contents (Rose a0 a0) (Rose f0 f0) [] 0 o0 o0 e0 e0 m0 m0 n0 n0
+module _ (contents : Option Contents) (a0 a1 a2 f0 f1 f2 : ℕ) (o0 o1 o2 e0 e1 e2 : Option (List ℕ)) (m0 m1 m2 n0 n1 n2 : ℕ) (refused1 refused2 name : List ℕ) (names : List (List ℕ)) where
+  pub none_checked : Checks contents (Rose a0 a0) (Rose f0 f0) refused1 [] 0 o0 o0 e0 e0 m0 m0 n0 n0
   none_checked = ([], (refl, tt), inl (refl, sym (appended-nil o0), sym (appended-nil e0), refl, refl))
 
   -- a file whose line was written, and the others
-  pub next_checked : (status : ℕ) (made : Load) → Loads contents (Rose a0 a1) (Rose f0 f1) name made → GoesOn name made None o0 o1 e0 e1 m0 m1 n0 n1
+  pub next_checked : (status : ℕ) (made : Load) → Loads contents (Rose a0 a1) (Rose f0 f1) refused1 name made → GoesOn name made None o0 o1 e0 e1 m0 m1 n0 n1
       → a0 ≤ a1 → a1 ≤ a2 → f0 ≤ f1 → f1 ≤ f2
-      → Checks contents (Rose a1 a2) (Rose f1 f2) names status o1 o2 e1 e2 m1 m2 n1 n2 → Checks contents (Rose a0 a2) (Rose f0 f2) (name ∷ names) status o0 o2 e0 e2 m0 m2 n0 n2
+      → Checks contents (Rose a1 a2) (Rose f1 f2) refused2 names status o1 o2 e1 e2 m1 m2 n1 n2 → Checks contents (Rose a0 a2) (Rose f0 f2) refused2 (name ∷ names) status o0 o2 e0 e2 m0 m2 n0 n2
   next_checked status made loads (conf, is, line, quiet, outs, errs) le_a le_b le_f le_g (files, (are, all), delivers) = (
     (name, made) ∷ files,
     (
       ap (λ ns. name ∷ ns) are,
       (
-        later contents (Rose a0 a1) (Rose f0 f1) (Rose a0 a2) (Rose f0 f2) (λ r. Rose-later a0 a1 a2 r le_b) (λ r. Rose-later f0 f1 f2 r le_g) name made loads,
-        each_later contents (Rose a1 a2) (Rose f1 f2) (Rose a0 a2) (Rose f0 f2) (λ r. Rose-since a0 a1 a2 le_a r) (λ r. Rose-since f0 f1 f2 le_f r) files all,
+        subst (λ (l : Load). Loads contents (Rose a0 a2) (Rose f0 f2) refused2 name l) (sym is)
+            (accepted_later contents (Rose a0 a1) (Rose f0 f1) (Rose a0 a2) (Rose f0 f2) (λ r. Rose-later a0 a1 a2 r le_b) (λ r. Rose-later f0 f1 f2 r le_g) refused1 refused2 name conf
+            (subst (λ (l : Load). Loads contents (Rose a0 a1) (Rose f0 f1) refused1 name l) is loads)),
+        each_later contents (Rose a1 a2) (Rose f1 f2) (Rose a0 a2) (Rose f0 f2) (λ r. Rose-since a0 a1 a2 le_a r) (λ r. Rose-since f0 f1 f2 le_f r) refused2 files all,
       ),
     ),
     rw is (behind_delivered o0 o1 o2 e0 e1 e2 m0 m1 m2 n0 n1 n2 status name conf (check_answer files) line quiet outs errs delivers),
@@ -94,13 +112,13 @@ module _ (contents : Option Contents) (a0 a1 a2 f0 f1 f2 : ℕ) (o0 o1 o2 e0 e1 
   unloaded_named [] = refl
   unloaded_named (n ∷ ns) = ap (λ more. n ∷ more) (unloaded_named ns)
 
-  unloaded_loads : (ns : List (List ℕ)) → AllByRecursion (λ (file : File). Loads contents (Rose a0 a1) (Rose f0 f1) file.0 file.1) (unloaded ns)
+  unloaded_loads : (ns : List (List ℕ)) → AllByRecursion (λ (file : File). Loads contents (Rose a0 a1) (Rose f0 f1) refused1 file.0 file.1) (unloaded ns)
   unloaded_loads [] = tt
-  unloaded_loads (n ∷ ns) = (memory_loads contents (Rose a0 a1) (Rose f0 f1) n, unloaded_loads ns)
+  unloaded_loads (n ∷ ns) = (memory_loads contents (Rose a0 a1) (Rose f0 f1) refused1 n, unloaded_loads ns)
 
   -- a file that ended the run: the others weren't looked at
-  pub last_checked : (status : Status) (made : Load) → Loads contents (Rose a0 a1) (Rose f0 f1) name made → GoesOn name made (Some status) o0 o1 e0 e1 m0 m1 n0 n1
-      → Checks contents (Rose a0 a1) (Rose f0 f1) (name ∷ names) (number_of_status status) o0 o1 e0 e1 m0 m1 n0 n1
+  pub last_checked : (status : Status) (made : Load) → Loads contents (Rose a0 a1) (Rose f0 f1) refused1 name made → GoesOn name made (Some status) o0 o1 e0 e1 m0 m1 n0 n1
+      → Checks contents (Rose a0 a1) (Rose f0 f1) refused1 (name ∷ names) (number_of_status status) o0 o1 e0 e1 m0 m1 n0 n1
   last_checked status made loads goes = (
     (name, made) ∷ unloaded names,
     (ap (λ ns. name ∷ ns) (unloaded_named names), (loads, unloaded_loads names)),

@@ -32,9 +32,9 @@ refusal_undone config why = refusal_not 0 (λ e. omega arith) (λ e. omega arith
 pub refusal_unread_record : (config : List ℕ) (why : LoadRefused) → (refusal config why).status ≡ 5 → ⊥
 refusal_unread_record config why = refusal_not 5 (λ e. omega arith) (λ e. omega arith) (λ e. omega arith) config why
 
-module _ (contents : Option Contents) (absence fault : Type 0) where
+module _ (contents : Option Contents) (absence fault : Type 0) (refused : List ℕ) where
   -- a file is missing, or a read failed, where the status says so
-  pub refusal_unread : (config : List ℕ) (name : List ℕ) (why : LoadRefused) → Loads contents absence fault name (Err why) → (refusal config why).status ≡ 3 → absence ⊎ fault
+  pub refusal_unread : (config : List ℕ) (name : List ℕ) (why : LoadRefused) → Loads contents absence fault refused name (Err why) → (refusal config why).status ≡ 3 → absence ⊎ fault
   refusal_unread config name (Read file) loads s = inr (loads.unread file refl)
   refusal_unread config name (Absent file) loads s = inl (loads.absent file refl)
   refusal_unread config name (Yaml file at) loads s = absurd (omega (arith, s))

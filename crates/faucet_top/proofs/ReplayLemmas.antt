@@ -53,15 +53,15 @@ module _ (contents : Option Contents) (absence fault : Type 0) where
   end_unread name conf o0 o1 e0 e1 replayed.Memory replays s = absurd (omega (arith, s))
 
   -- a file is missing, or a read failed, where the status says so
-  pub replay_unread : (config recording : List ℕ) (made : Load) (a : Answer) → Loads contents absence fault config made → RepliesReplay contents absence fault config recording made a
+  pub replay_unread : (refused config recording : List ℕ) (made : Load) (a : Answer) → Loads contents absence fault refused config made → RepliesReplay contents absence fault config recording made a
       → a.status ≡ 3 → absence ⊎ fault
-  replay_unread config recording (Err why) a loads is s = refusal_unread contents absence fault config config why loads (sym (ap (λ (b : Answer). b.status) is) ∙ s)
-  replay_unread config recording (Ok conf) a loads (end, out, lines, unfailed, replays, by_file, is) s =
+  replay_unread refused config recording (Err why) a loads is s = refusal_unread contents absence fault refused config config why loads (sym (ap (λ (b : Answer). b.status) is) ∙ s)
+  replay_unread refused config recording (Ok conf) a loads (end, out, lines, unfailed, replays, by_file, is) s =
       end_unread recording conf (Some []) (Some out) (Some []) (Some lines) end replays (sym (ap (λ (b : Answer). b.status) is) ∙ s)
 
 -- ---- what is replied, where the files are told
 
-module _ (held : Contents) (absence fault : Type 0) where
+module _ (held : Contents) (absence fault : Type 0) (refused : List ℕ) where
   abbrev Wrote : (name : List ℕ) → Configuration → (out lines : List ℕ) → Replayed → Type 0
   Wrote name conf out lines end = Replays (Some held) name absence fault conf (Some []) (Some out) (Some []) (Some lines) end
 
@@ -90,7 +90,7 @@ module _ (held : Contents) (absence fault : Type 0) where
   same_refusal config why file is = subst (λ (l : Load). IsLoadedStatus config l file (refusal config why).status) (sym is) refl
 
   -- the refusal that the files give is told; the others end the run
-  refusal_told : (config : List ℕ) (why : LoadRefused) (file : Option (List ℕ)) → Loads (Some held) absence fault config (Err why)
+  refusal_told : (config : List ℕ) (why : LoadRefused) (file : Option (List ℕ)) → Loads (Some held) absence fault refused config (Err why)
       → StatusFor (refusal config why).status (IsLoadedStatus config (loaded (held 0) config) file) fault
   refusal_told config (Read name) file loads = inr (inr (inr (refl, loads.unread name refl)))
   refusal_told config Memory file loads = inr (inr (inl refl))
@@ -100,7 +100,7 @@ module _ (held : Contents) (absence fault : Type 0) where
   refusal_told config (IncludeDepth name) file loads = inl (same_refusal config (IncludeDepth name) file (loads.told held refl))
   refusal_told config (Absent name) file loads = inl (same_refusal config (Absent name) file (loads.told held refl))
 
-  pub replay_told : (config recording : List ℕ) (made : Load) (a : Answer) → Loads (Some held) absence fault config made → RepliesReplay (Some held) absence fault config recording made a
+  pub replay_told : (config recording : List ℕ) (made : Load) (a : Answer) → Loads (Some held) absence fault refused config made → RepliesReplay (Some held) absence fault config recording made a
       → StatusFor a.status (IsLoadedStatus config (loaded (held 0) config) (held 0 recording)) fault
   replay_told config recording (Err why) a loads is =
       subst (λ (b : Answer). StatusFor b.status (IsLoadedStatus config (loaded (held 0) config) (held 0 recording)) fault) (sym is) (refusal_told config why (held 0 recording) loads)
@@ -166,14 +166,14 @@ module _ (held : Contents) (absence fault : Type 0) where
       end_refused replayed.WriteFault replays by_file file is s said = absurd (omega (arith, s))
       end_refused replayed.Memory replays by_file file is s said = absurd (omega (arith, s))
 
-    pub replay_done : (made : Load) (a : Answer) → Loads (Some held) absence fault config made → RepliesReplay (Some held) absence fault config recording made a
+    pub replay_done : (made : Load) (a : Answer) → Loads (Some held) absence fault refused config made → RepliesReplay (Some held) absence fault config recording made a
         → a.status ≡ 0 → o1 ≡ appended o0 a.out → e1 ≡ appended e0 a.err → IsReplayed config recording (held 0) o0 o1 e0 e1
     replay_done (Err why) a loads is s wrote said = absurd (refusal_undone config why (sym (ap (λ (b : Answer). b.status) is) ∙ s))
     replay_done (Ok conf) a loads (end, out, lines, unfailed, replays, by_file, is) s wrote said =
         end_done conf out lines (loads.told held refl) (wrote ∙ ap (λ (b : Answer). appended o0 b.out) is) end replays by_file (held 0 recording) refl
         (sym (ap (λ (b : Answer). b.status) is) ∙ s) (said ∙ ap (λ (b : Answer). appended e0 b.err) is)
 
-    pub replay_refused : (made : Load) (a : Answer) → Loads (Some held) absence fault config made → RepliesReplay (Some held) absence fault config recording made a
+    pub replay_refused : (made : Load) (a : Answer) → Loads (Some held) absence fault refused config made → RepliesReplay (Some held) absence fault config recording made a
         → a.status ≡ 5 → o1 ≡ appended o0 a.out → e1 ≡ appended e0 a.err → IsReplayedTo config recording (held 0) o0 o1 e0 e1
     replay_refused (Err why) a loads is s wrote said = absurd (refusal_unread_record config why (sym (ap (λ (b : Answer). b.status) is) ∙ s))
     replay_refused (Ok conf) a loads (end, out, lines, unfailed, replays, by_file, is) s wrote said =

@@ -26,7 +26,7 @@ use Rattle.faucet_top.specs.Answer.{out_of_memory, refusal, last_line}
 use Rattle.faucet_top.specs.Ends.{Ends, status_after}
 use Rattle.faucet_top.specs.Given.{Loads, GoesByFile, Delivers, Gives}
 use Rattle.faucet_top.specs.Status.{number_of_status}
-use Rattle.faucet_top.proofs.CheckLemmas.{later}
+use Rattle.faucet_top.proofs.CheckLemmas.{accepted_later}
 use Rattle.faucet_top.proofs.ReplayLemmas.{number_after, ends_differ}
 
 -- ---- what is written on two streams, by what would be on empty ones
@@ -151,14 +151,14 @@ file_at_front contents name fault by_file = record {
 }
 
 module _ (contents : Option Contents) (a0 a1 a2 f0 f1 f2 : ℕ) (o0 o1 e0 e1 e2 : Option (List ℕ)) (m0 m1 n0 n1 n2 : ℕ) (config recording : List ℕ) (conf : Configuration) (end : Replayed) (ended : Status)
-    (le_a : a0 ≤ a1) (le_b : a1 ≤ a2) (le_f : f0 ≤ f1) (le_g : f1 ≤ f2) (le_n : n1 ≤ n2)
-    (loads : Loads contents (Rose a0 a1) (Rose f0 f1) config (Ok conf)) (by_file : GoesByFile contents recording (Rose f1 f2) end)
+    (le_a : a0 ≤ a1) (le_b : a1 ≤ a2) (le_f : f0 ≤ f1) (le_g : f1 ≤ f2) (le_n : n1 ≤ n2) (refused1 refused2 : List ℕ)
+    (loads : Loads contents (Rose a0 a1) (Rose f0 f1) refused1 config (Ok conf)) (by_file : GoesByFile contents recording (Rose f1 f2) end)
     (ends : Ends (status_after end) (last_line recording end) e1 e2 n1 n2 ended) where
   abbrev Given : Type 0
-  Given = Gives (Some (Replay config recording)) contents (Rose a0 a2) (Rose f0 f2) (number_of_status ended) o0 o1 e0 e2 m0 m1 n0 n2
+  Given = Gives (Some (Replay config recording)) contents (Rose a0 a2) (Rose f0 f2) refused2 (number_of_status ended) o0 o1 e0 e2 m0 m1 n0 n2
 
-  loads_later : Loads contents (Rose a0 a2) (Rose f0 f2) config (Ok conf)
-  loads_later = later contents (Rose a0 a1) (Rose f0 f1) (Rose a0 a2) (Rose f0 f2) (λ r. Rose-later a0 a1 a2 r le_b) (λ r. Rose-later f0 f1 f2 r le_g) config (Ok conf) loads
+  loads_later : Loads contents (Rose a0 a2) (Rose f0 f2) refused2 config (Ok conf)
+  loads_later = accepted_later contents (Rose a0 a1) (Rose f0 f1) (Rose a0 a2) (Rose f0 f2) (λ r. Rose-later a0 a1 a2 r le_b) (λ r. Rose-later f0 f1 f2 r le_g) refused1 refused2 config conf loads
 
   whole_given : end ≢ replayed.WriteFault → WritesThat contents recording (Rose a0 a2) (Rose f0 f2) conf o0 o1 e0 e1 end → m1 ≡ m0 → n1 ≡ n0 → Given
   whole_given unfailed (out, lines, writes, wrote, said) outs errs = (
@@ -197,8 +197,8 @@ module _ (contents : Option Contents) (a0 a1 a2 f0 f1 f2 : ℕ) (o0 o1 e0 e1 e2 
         | inr unfailed ↦ whole_given unfailed (wrote_that contents recording (Rose a0 a2) (Rose f0 f2) conf o0 o1 e0 e1 end unfailed since) (kept unfailed).0 (kept unfailed).1
       ]
 
-module _ (contents : Option Contents) (absence fault : Type 0) (o0 o1 e0 e1 : Option (List ℕ)) (m0 m1 n0 n1 : ℕ) where
+module _ (contents : Option Contents) (absence fault : Type 0) (refused : List ℕ) (o0 o1 e0 e1 : Option (List ℕ)) (m0 m1 n0 n1 : ℕ) where
   -- the configuration was refused, and that was the whole reply
-  pub refusal_given : (config recording : List ℕ) (why : LoadRefused) (status : ℕ) → Loads contents absence fault config (Err why)
-      → Delivers (refusal config why) status o0 o1 e0 e1 m0 m1 n0 n1 → Gives (Some (Replay config recording)) contents absence fault status o0 o1 e0 e1 m0 m1 n0 n1
+  pub refusal_given : (config recording : List ℕ) (why : LoadRefused) (status : ℕ) → Loads contents absence fault refused config (Err why)
+      → Delivers (refusal config why) status o0 o1 e0 e1 m0 m1 n0 n1 → Gives (Some (Replay config recording)) contents absence fault refused status o0 o1 e0 e1 m0 m1 n0 n1
   refusal_given config recording why status loads delivers = (refusal config why, inl (Err why, loads, refl), delivers)

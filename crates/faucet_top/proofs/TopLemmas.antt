@@ -42,24 +42,24 @@ plan_inner config dp (Ok (Some batch)) = (λ e. omega arith, λ e. omega arith)
 plan_inner config dp (Ok None) = (λ e. omega arith, λ e. omega arith)
 plan_inner config dp (Err why) = refusal_inner config why
 
-module _ (contents : Option Contents) (absence fault : Type 0) where
+module _ (contents : Option Contents) (absence fault : Type 0) (refused : List ℕ) where
   abbrev LoadsFile : File → Type 0
-  LoadsFile file = Loads contents absence fault file.0 file.1
+  LoadsFile file = Loads contents absence fault refused file.0 file.1
 
   check_unread : (files : List File) → AllByRecursion LoadsFile files → (check_answer files).status ≡ 3 → absence ⊎ fault
   check_unread [] all s = absurd (omega (arith, s))
   check_unread ((name, Ok conf) ∷ files) all s = check_unread files all.1 s
-  check_unread ((name, Err why) ∷ files) all s = refusal_unread contents absence fault name name why all.0 s
+  check_unread ((name, Err why) ∷ files) all s = refusal_unread contents absence fault refused name name why all.0 s
 
-  plan_unread : (config dp : List ℕ) (made : Load) → Loads contents absence fault config made → (plan_answer config dp (planned dp made)).status ≡ 3 → absence ⊎ fault
-  plan_unread config dp (Err why) loads s = refusal_unread contents absence fault config config why loads s
+  plan_unread : (config dp : List ℕ) (made : Load) → Loads contents absence fault refused config made → (plan_answer config dp (planned dp made)).status ≡ 3 → absence ⊎ fault
+  plan_unread config dp (Err why) loads s = refusal_unread contents absence fault refused config config why loads s
   plan_unread config dp (Ok conf) loads s = absurd (found (opening_of conf dp) s)
     where
       found : (batch : Option (List ℕ)) → (plan_answer config dp (Ok batch)).status ≡ 3 → ⊥
       found (Some batch) s = omega (arith, s)
       found None s = omega (arith, s)
 
-  job_inner : (job : Option Job) (a : Answer) → RepliesJob job contents absence fault a → ((a.status ≡ 1) → job ≡ None) × (a.status ≡ 4 → ⊥)
+  job_inner : (job : Option Job) (a : Answer) → RepliesJob job contents absence fault refused a → ((a.status ≡ 1) → job ≡ None) × (a.status ≡ 4 → ⊥)
   job_inner None a is = (λ s. refl, λ s. let at = ap (λ (b : Answer). b.status) is in omega (arith, at, s))
   job_inner (Some (Check names)) a reply =
       let at = ap (λ (b : Answer). b.status) reply.2 in
@@ -72,20 +72,20 @@ module _ (contents : Option Contents) (absence fault : Type 0) where
       let inner = replay_inner contents absence fault config recording reply.0 a reply.2 in
       (λ s. absurd (inner.0 s), inner.1)
 
-  job_unread : (job : Option Job) (a : Answer) → RepliesJob job contents absence fault a → a.status ≡ 3 → absence ⊎ fault
+  job_unread : (job : Option Job) (a : Answer) → RepliesJob job contents absence fault refused a → a.status ≡ 3 → absence ⊎ fault
   job_unread None a is s = let at = ap (λ (b : Answer). b.status) is in absurd (omega (arith, at, s))
   job_unread (Some (Check names)) a reply s = check_unread reply.0 (reply.1).1 (sym (ap (λ (b : Answer). b.status) reply.2) ∙ s)
   job_unread (Some (Plan config dp)) a reply s = plan_unread config dp reply.0 reply.1 (sym (ap (λ (b : Answer). b.status) reply.2) ∙ s)
-  job_unread (Some (Replay config recording)) a reply s = replay_unread contents absence fault config recording reply.0 a reply.1 reply.2 s
+  job_unread (Some (Replay config recording)) a reply s = replay_unread contents absence fault refused config recording reply.0 a reply.1 reply.2 s
 
 -- ---- what is replied, where the files are told
 
-module _ (held : Contents) (absence fault : Type 0) where
+module _ (held : Contents) (absence fault : Type 0) (refused : List ℕ) where
   abbrev given : List ℕ → Load
   given name = loaded (held 0) name
 
   abbrev IsLoaded : File → Type 0
-  IsLoaded file = Loads (Some held) absence fault file.0 file.1
+  IsLoaded file = Loads (Some held) absence fault refused file.0 file.1
 
   abbrev named : List File → List File
   named files = map (λ name. (name, given name)) (map (λ file. file.0) files)
@@ -94,7 +94,7 @@ module _ (held : Contents) (absence fault : Type 0) where
   same a b is = inl is
 
   -- the refusal that the files give is told; the others end the run
-  refused_told : (config name : List ℕ) (why : LoadRefused) → Loads (Some held) absence fault name (Err why) → (whole : Load → Answer) → ((e : LoadRefused) → whole (Err e) ≡ refusal config e)
+  refused_told : (config name : List ℕ) (why : LoadRefused) → Loads (Some held) absence fault refused name (Err why) → (whole : Load → Answer) → ((e : LoadRefused) → whole (Err e) ≡ refusal config e)
       → AnswersSoFar (refusal config why) (whole (given name)) fault
   refused_told config name (Read file) loads whole by = inr ((whole (given name)).out, refl, inr (refl, loads.unread file refl))
   refused_told config name Memory loads whole by = inr ((whole (given name)).out, refl, inl refl)
@@ -116,17 +116,17 @@ module _ (held : Contents) (absence fault : Type 0) where
       (behind_told (json_line conf) (check_answer files) (check_answer (named files)) (check_told files all.1))
   check_told ((name, Err why) ∷ files) all = refused_told name name why all.0 (λ l. check_step name l (check_answer (named files))) (λ e. refl)
 
-  plan_told : (config dp : List ℕ) (made : Load) → Loads (Some held) absence fault config made → AnswersSoFar (plan_answer config dp (planned dp made)) (plan_answer config dp (planned dp (given config))) fault
+  plan_told : (config dp : List ℕ) (made : Load) → Loads (Some held) absence fault refused config made → AnswersSoFar (plan_answer config dp (planned dp made)) (plan_answer config dp (planned dp (given config))) fault
   plan_told config dp (Ok conf) loads = inl (sym (ap (λ (l : Load). plan_answer config dp (planned dp l)) (loads.told held refl)))
   plan_told config dp (Err why) loads = refused_told config config why loads (λ l. plan_answer config dp (planned dp l)) (λ e. refl)
 
-  check_reply_told : (names : List (List ℕ)) (a : Answer) → RepliesJob (Some (Check names)) (Some held) absence fault a
+  check_reply_told : (names : List (List ℕ)) (a : Answer) → RepliesJob (Some (Check names)) (Some held) absence fault refused a
       → AnswersSoFar a (check_answer (map (λ name. (name, given name)) names)) fault
   check_reply_told names a reply =
       subst (λ (ns : List (List ℕ)). AnswersSoFar a (check_answer (map (λ name. (name, given name)) ns)) fault) (reply.1).0
       (subst (λ (b : Answer). AnswersSoFar b (check_answer (named reply.0)) fault) (sym reply.2) (check_told reply.0 (reply.1).1))
 
-  plan_reply_told : (config dp : List ℕ) (a : Answer) → RepliesJob (Some (Plan config dp)) (Some held) absence fault a
+  plan_reply_told : (config dp : List ℕ) (a : Answer) → RepliesJob (Some (Plan config dp)) (Some held) absence fault refused a
       → AnswersSoFar a (plan_answer config dp (planned dp (given config))) fault
   plan_reply_told config dp a reply =
       subst (λ (b : Answer). AnswersSoFar b (plan_answer config dp (planned dp (given config))) fault) (sym reply.2) (plan_told config dp reply.0 reply.1)
@@ -135,13 +135,13 @@ module _ (held : Contents) (absence fault : Type 0) where
   is_whole : (a x whole : Answer) → Some x ≡ Some whole → AnswersSoFar a x fault → AnswersSoFar a whole fault
   is_whole a x whole is told = subst (λ (b : Answer). AnswersSoFar a b fault) (ap (λ (o : Option Answer). unwrap_or o usage) is) told
 
-  job_told : (job : Option Job) (a whole : Answer) → job_answer job given ≡ Some whole → RepliesJob job (Some held) absence fault a → AnswersSoFar a whole fault
+  job_told : (job : Option Job) (a whole : Answer) → job_answer job given ≡ Some whole → RepliesJob job (Some held) absence fault refused a → AnswersSoFar a whole fault
   job_told None a whole is reply = is_whole a usage whole is (inl reply)
   job_told (Some (Check names)) a whole is reply = is_whole a (check_answer (map (λ name. (name, given name)) names)) whole is (check_reply_told names a reply)
   job_told (Some (Plan config dp)) a whole is reply = is_whole a (plan_answer config dp (planned dp (given config))) whole is (plan_reply_told config dp a reply)
   job_told (Some (Replay config recording)) a whole is reply = absurd cc
 
-  pub told_replied : (job : Option Job) (a whole : Answer) → job_answer job given ≡ Some whole → Replies job (Some held) absence fault a → AnswersSoFar a whole fault
+  pub told_replied : (job : Option Job) (a whole : Answer) → job_answer job given ≡ Some whole → Replies job (Some held) absence fault refused a → AnswersSoFar a whole fault
   told_replied job a whole is (inl reply) = job_told job a whole is reply
   told_replied job a whole is (inr memory) = inr (whole.out, ap (λ (b : Answer). b.out ++ whole.out) (sym memory), inl (ap (λ (b : Answer). b.status) memory))
 
@@ -150,13 +150,13 @@ module _ (held : Contents) (absence fault : Type 0) where
   status_told a b (inr (more, front, inl out)) = inr (inr (inl out))
   status_told a b (inr (more, front, inr failed)) = inr (inr (inr failed))
 
-  job_status : (job : Option Job) (a : Answer) → RepliesJob job (Some held) absence fault a → StatusFor a.status (IsStatusOf job (held 0)) fault
+  job_status : (job : Option Job) (a : Answer) → RepliesJob job (Some held) absence fault refused a → StatusFor a.status (IsStatusOf job (held 0)) fault
   job_status None a is = inl (ap (λ (b : Answer). b.status) is)
   job_status (Some (Check names)) a reply = status_told a (check_answer (map (λ name. (name, given name)) names)) (check_reply_told names a reply)
   job_status (Some (Plan config dp)) a reply = status_told a (plan_answer config dp (planned dp (given config))) (plan_reply_told config dp a reply)
-  job_status (Some (Replay config recording)) a reply = replay_told held absence fault config recording reply.0 a reply.1 reply.2
+  job_status (Some (Replay config recording)) a reply = replay_told held absence fault refused config recording reply.0 a reply.1 reply.2
 
-  reply_status : (job : Option Job) (a : Answer) → Replies job (Some held) absence fault a → StatusFor a.status (IsStatusOf job (held 0)) fault
+  reply_status : (job : Option Job) (a : Answer) → Replies job (Some held) absence fault refused a → StatusFor a.status (IsStatusOf job (held 0)) fault
   reply_status job a (inl reply) = job_status job a reply
   reply_status job a (inr memory) = inr (inr (inl (ap (λ (b : Answer). b.status) memory)))
 
@@ -170,7 +170,7 @@ module _ (held : Contents) (absence fault : Type 0) where
       (conf ∷ more.0, rw ((all.0).told held refl, more.1) refl, ap (λ l. json_line conf ++ l) more.2)
   accepted_all ((name, Err why) ∷ files) all s = absurd (refusal_undone name why s)
 
-  check_accepted : (names : List (List ℕ)) (a : Answer) (before after : Option (List ℕ)) → RepliesJob (Some (Check names)) (Some held) absence fault a → a.status ≡ 0 → after ≡ appended before a.out
+  check_accepted : (names : List (List ℕ)) (a : Answer) (before after : Option (List ℕ)) → RepliesJob (Some (Check names)) (Some held) absence fault refused a → a.status ≡ 0 → after ≡ appended before a.out
       → AreAccepted names (held 0) before after
   check_accepted names a before after reply s wrote =
       let all = accepted_all reply.0 (reply.1).1 (sym (ap (λ (b : Answer). b.status) reply.2) ∙ s) in
@@ -182,7 +182,7 @@ module _ (held : Contents) (absence fault : Type 0) where
 
   module _ (valid : (held : Held) (name : List ℕ) (conf : Configuration) → loaded held name ≡ Ok conf → IsValid conf)
       (opens : (conf : Configuration) (dp batch : List ℕ) → IsValid conf → opening_of conf dp ≡ Some batch → Opens conf dp batch) where
-    plan_opened : (config dp : List ℕ) (made : Load) (before after : Option (List ℕ)) → Loads (Some held) absence fault config made
+    plan_opened : (config dp : List ℕ) (made : Load) (before after : Option (List ℕ)) → Loads (Some held) absence fault refused config made
         → (plan_answer config dp (planned dp made)).status ≡ 0 → after ≡ appended before (plan_answer config dp (planned dp made)).out → IsOpened config dp (held 0) before after
     plan_opened config dp (Ok conf) before after loads s wrote = found (opening_of conf dp) refl s wrote
       where
@@ -193,15 +193,15 @@ module _ (held : Contents) (absence fault : Type 0) where
         found None is s wrote = absurd (omega (arith, s))
     plan_opened config dp (Err why) before after loads s wrote = absurd (refusal_undone config why s)
 
-    job_opened : (config dp : List ℕ) (a : Answer) (before after : Option (List ℕ)) → RepliesJob (Some (Plan config dp)) (Some held) absence fault a → a.status ≡ 0 → after ≡ appended before a.out
+    job_opened : (config dp : List ℕ) (a : Answer) (before after : Option (List ℕ)) → RepliesJob (Some (Plan config dp)) (Some held) absence fault refused a → a.status ≡ 0 → after ≡ appended before a.out
         → IsOpened config dp (held 0) before after
     job_opened config dp a before after reply s wrote =
         plan_opened config dp reply.0 before after reply.1 (sym (ap (λ (b : Answer). b.status) reply.2) ∙ s) (wrote ∙ ap (λ (b : Answer). appended before b.out) reply.2)
 
 -- ---- what a status says, where a reply was delivered
 
-module _ (job : Option Job) (contents : Option Contents) (absence fault : Type 0) (status : ℕ) (o0 o1 e0 e1 : Option (List ℕ)) (m0 m1 n0 n1 : ℕ)
-    (gives : Gives job contents absence fault status o0 o1 e0 e1 m0 m1 n0 n1) where
+module _ (job : Option Job) (contents : Option Contents) (absence fault : Type 0) (refused : List ℕ) (status : ℕ) (o0 o1 e0 e1 : Option (List ℕ)) (m0 m1 n0 n1 : ℕ)
+    (gives : Gives job contents absence fault refused status o0 o1 e0 e1 m0 m1 n0 n1) where
   a : Answer
   a = gives.0
 
@@ -223,7 +223,7 @@ module _ (job : Option Job) (contents : Option Contents) (absence fault : Type 0
       elim gives.2 [
         | inr front ↦ front.3
         | inl whole ↦ elim gives.1 [
-          | inl reply ↦ absurd ((job_inner contents absence fault job gives.0 reply).1 (sym whole.0 ∙ s))
+          | inl reply ↦ absurd ((job_inner contents absence fault refused job gives.0 reply).1 (sym whole.0 ∙ s))
           | inr out ↦ let eight = memory_status out in absurd (omega (arith, eight, whole.0, s))
         ]
       ]
@@ -232,7 +232,7 @@ module _ (job : Option Job) (contents : Option Contents) (absence fault : Type 0
   usage_only s =
       let one = (at 1 s (λ e. omega (arith, e))).0 in
       elim gives.1 [
-        | inl reply ↦ (job_inner contents absence fault job gives.0 reply).0 one
+        | inl reply ↦ (job_inner contents absence fault refused job gives.0 reply).0 one
         | inr out ↦ let eight = memory_status out in absurd (omega (arith, eight, one))
       ]
 
@@ -240,7 +240,7 @@ module _ (job : Option Job) (contents : Option Contents) (absence fault : Type 0
   unread_only s =
       let three = (at 3 s (λ e. omega (arith, e))).0 in
       elim gives.1 [
-        | inl reply ↦ job_unread contents absence fault job gives.0 reply three
+        | inl reply ↦ job_unread contents absence fault refused job gives.0 reply three
         | inr out ↦ let eight = memory_status out in absurd (omega (arith, eight, three))
       ]
 
@@ -249,43 +249,43 @@ module _ (job : Option Job) (contents : Option Contents) (absence fault : Type 0
       elim ended [
         | inr four ↦ inr (inl four)
         | inl same ↦ elim gives.1 [
-          | inl reply ↦ inl (same ∙ ap (λ (b : Answer). b.status) (subst (λ (j : Option Job). RepliesJob j contents absence fault gives.0) none reply))
+          | inl reply ↦ inl (same ∙ ap (λ (b : Answer). b.status) (subst (λ (j : Option Job). RepliesJob j contents absence fault refused gives.0) none reply))
           | inr out ↦ inr (inr (same ∙ memory_status out))
         ]
       ]
 
-  told_reply : (held : Contents) → contents ≡ Some held → Replies job (Some held) absence fault gives.0
-  told_reply held told = subst (λ (c : Option Contents). Replies job c absence fault gives.0) told gives.1
+  told_reply : (held : Contents) → contents ≡ Some held → Replies job (Some held) absence fault refused gives.0
+  told_reply held told = subst (λ (c : Option Contents). Replies job c absence fault refused gives.0) told gives.1
 
   pub told : (held : Contents) → contents ≡ Some held → StatusFor status (IsStatusOf job (held 0)) fault
   told held is =
       elim ended [
         | inr four ↦ inr (inl four)
-        | inl same ↦ subst (λ n. StatusFor n (IsStatusOf job (held 0)) fault) (sym same) (reply_status held absence fault job gives.0 (told_reply held is))
+        | inl same ↦ subst (λ n. StatusFor n (IsStatusOf job (held 0)) fault) (sym same) (reply_status held absence fault refused job gives.0 (told_reply held is))
       ]
 
   -- at a status other than 8 memory hasn't run out
-  job_reply : (held : Contents) → contents ≡ Some held → (n : ℕ) → (gives.0).status ≡ n → (n ≡ 8 → ⊥) → (j : Option Job) → job ≡ j → RepliesJob j (Some held) absence fault gives.0
+  job_reply : (held : Contents) → contents ≡ Some held → (n : ℕ) → (gives.0).status ≡ n → (n ≡ 8 → ⊥) → (j : Option Job) → job ≡ j → RepliesJob j (Some held) absence fault refused gives.0
   job_reply held is n s other j same =
       elim (told_reply held is) [
-        | inl reply ↦ subst (λ (k : Option Job). RepliesJob k (Some held) absence fault gives.0) same reply
+        | inl reply ↦ subst (λ (k : Option Job). RepliesJob k (Some held) absence fault refused gives.0) same reply
         | inr out ↦ absurd (other (sym s ∙ memory_status out))
       ]
 
-  done_reply : (held : Contents) → contents ≡ Some held → (gives.0).status ≡ 0 → (j : Option Job) → job ≡ j → RepliesJob j (Some held) absence fault gives.0
+  done_reply : (held : Contents) → contents ≡ Some held → (gives.0).status ≡ 0 → (j : Option Job) → job ≡ j → RepliesJob j (Some held) absence fault refused gives.0
   done_reply held is none j same = job_reply held is 0 none (λ e. omega arith) j same
 
   pub checked : (names : List (List ℕ)) (held : Contents) → job ≡ Some (Check names) → contents ≡ Some held → status ≡ 0 → AreAccepted names (held 0) o0 o1
   checked names held is told s =
       let done = at 0 s (λ e. omega (arith, e)) in
-      check_accepted held absence fault names gives.0 o0 o1 (done_reply held told done.0 (Some (Check names)) is) done.0 done.1
+      check_accepted held absence fault refused names gives.0 o0 o1 (done_reply held told done.0 (Some (Check names)) is) done.0 done.1
 
   pub opened : ((held : Held) (name : List ℕ) (conf : Configuration) → loaded held name ≡ Ok conf → IsValid conf)
       → ((conf : Configuration) (dp batch : List ℕ) → IsValid conf → opening_of conf dp ≡ Some batch → Opens conf dp batch)
       → (config dp : List ℕ) (held : Contents) → job ≡ Some (Plan config dp) → contents ≡ Some held → status ≡ 0 → IsOpened config dp (held 0) o0 o1
   opened valid opens config dp held is told s =
       let done = at 0 s (λ e. omega (arith, e)) in
-      job_opened held absence fault valid opens config dp gives.0 o0 o1 (done_reply held told done.0 (Some (Plan config dp)) is) done.0 done.1
+      job_opened held absence fault refused valid opens config dp gives.0 o0 o1 (done_reply held told done.0 (Some (Plan config dp)) is) done.0 done.1
 
   module _ (valid : (held : Held) (name : List ℕ) (conf : Configuration) → loaded held name ≡ Ok conf → IsValid conf)
       (right : (conf : Configuration) (story : List Happening) → IsValid conf → IsRight conf story) where
@@ -294,21 +294,21 @@ module _ (job : Option Job) (contents : Option Contents) (absence fault : Type 0
     replayed config recording held is told s =
         let done = at 0 s (λ e. omega (arith, e)) in
         let reply = done_reply held told done.0 (Some (Replay config recording)) is in
-        replay_done held absence fault valid right config recording o0 o1 e0 e1 reply.0 gives.0 reply.1 reply.2 done.0 done.1 done.2
+        replay_done held absence fault refused valid right config recording o0 o1 e0 e1 reply.0 gives.0 reply.1 reply.2 done.0 done.1 done.2
 
     pub refused_record : (config recording : List ℕ) (held : Contents) → job ≡ Some (Replay config recording) → contents ≡ Some held → status ≡ 5
         → IsReplayedTo config recording (held 0) o0 o1 e0 e1
     refused_record config recording held is told s =
         let five = at 5 s (λ e. omega (arith, e)) in
         let reply = job_reply held told 5 five.0 (λ e. omega arith) (Some (Replay config recording)) is in
-        replay_refused held absence fault valid right config recording o0 o1 e0 e1 reply.0 gives.0 reply.1 reply.2 five.0 five.1 five.2
+        replay_refused held absence fault refused valid right config recording o0 o1 e0 e1 reply.0 gives.0 reply.1 reply.2 five.0 five.1 five.2
 
 -- ---- the reply that was given
 
-module _ (contents : Option Contents) (absence fault : Type 0) (o0 o1 e0 e1 : Option (List ℕ)) (m0 m1 n0 n1 : ℕ) where
+module _ (contents : Option Contents) (absence fault : Type 0) (refused : List ℕ) (o0 o1 e0 e1 : Option (List ℕ)) (m0 m1 n0 n1 : ℕ) where
   -- a line on standard error was the whole reply
-  pub line_given : (job : Option Job) (a : Answer) (status ended : Status) → Replies job contents absence fault a → a.out ≡ [] → a.status ≡ number_of_status status → Ends status a.err e0 e1 n0 n1 ended
-      → Gives job contents absence fault (number_of_status ended) o0 o0 e0 e1 m0 m0 n0 n1
+  pub line_given : (job : Option Job) (a : Answer) (status ended : Status) → Replies job contents absence fault refused a → a.out ≡ [] → a.status ≡ number_of_status status → Ends status a.err e0 e1 n0 n1 ended
+      → Gives job contents absence fault refused (number_of_status ended) o0 o0 e0 e1 m0 m0 n0 n1
   line_given job a status ended reply none is ends = (
     a,
     reply,
@@ -319,18 +319,18 @@ module _ (contents : Option Contents) (absence fault : Type 0) (o0 o1 e0 e1 : Op
   )
 
   pub usage_given : (job : Option Job) (ended : Status) → job ≡ None → Ends statuses.Usage usage.err e0 e1 n0 n1 ended
-      → Gives job contents absence fault (number_of_status ended) o0 o0 e0 e1 m0 m0 n0 n1
+      → Gives job contents absence fault refused (number_of_status ended) o0 o0 e0 e1 m0 m0 n0 n1
   usage_given job ended none ends =
-      line_given job usage statuses.Usage ended (inl (subst (λ (j : Option Job). RepliesJob j contents absence fault usage) (sym none) refl)) refl refl ends
+      line_given job usage statuses.Usage ended (inl (subst (λ (j : Option Job). RepliesJob j contents absence fault refused usage) (sym none) refl)) refl refl ends
 
   pub memory_given : (job : Option Job) (ended : Status) → Ends statuses.Memory out_of_memory.err e0 e1 n0 n1 ended
-      → Gives job contents absence fault (number_of_status ended) o0 o0 e0 e1 m0 m0 n0 n1
+      → Gives job contents absence fault refused (number_of_status ended) o0 o0 e0 e1 m0 m0 n0 n1
   memory_given job ended ends = line_given job out_of_memory statuses.Memory ended (inr refl) refl refl ends
 
-  pub plan_given : (status : ℕ) (config dp : List ℕ) (made : Result (Option (List ℕ)) LoadRefused) → ((load : Load) × Loads contents absence fault config load × (made ≡ planned dp load))
-      → Delivers (plan_answer config dp made) status o0 o1 e0 e1 m0 m1 n0 n1 → Gives (Some (Plan config dp)) contents absence fault status o0 o1 e0 e1 m0 m1 n0 n1
+  pub plan_given : (status : ℕ) (config dp : List ℕ) (made : Result (Option (List ℕ)) LoadRefused) → ((load : Load) × Loads contents absence fault refused config load × (made ≡ planned dp load))
+      → Delivers (plan_answer config dp made) status o0 o1 e0 e1 m0 m1 n0 n1 → Gives (Some (Plan config dp)) contents absence fault refused status o0 o1 e0 e1 m0 m1 n0 n1
   plan_given status config dp made load delivers = (plan_answer config dp made, inl (load.0, load.1, ap (plan_answer config dp) load.2), delivers)
 
-  pub check_given : (status : ℕ) (names : List (List ℕ)) → Checks contents absence fault names status o0 o1 e0 e1 m0 m1 n0 n1
-      → Gives (Some (Check names)) contents absence fault status o0 o1 e0 e1 m0 m1 n0 n1
+  pub check_given : (status : ℕ) (names : List (List ℕ)) → Checks contents absence fault refused names status o0 o1 e0 e1 m0 m1 n0 n1
+      → Gives (Some (Check names)) contents absence fault refused status o0 o1 e0 e1 m0 m1 n0 n1
   check_given status names checks = (check_answer checks.0, inl (checks.0, checks.1, refl), checks.2)

@@ -33,15 +33,17 @@ use Rattle.faucet_top.specs.Status.{number_of_status}
 -- ---- which answer
 
 -- What loading a file of this name gave: what the files give, where they are told, unless a read failed or
--- memory ran out. A file was missing only where its absence was counted, and a read failed only where a fault was.
-pub record Loads (contents : Option Contents) (absence fault : Type 0) (name : List ℕ) (made : Load) : Type 0 where
+-- memory ran out. A file was missing only where its absence was counted, and a read failed only where a fault was; it is the
+-- file at which a read was last refused.
+pub record Loads (contents : Option Contents) (absence fault : Type 0) (refused : List ℕ) (name : List ℕ) (made : Load) : Type 0 where
   pub told : (held : Contents) → contents ≡ Some held → load.Gives made (loaded (held 0) name)
   pub absent : (file : List ℕ) → IsErrOf made (Absent file) → absence
   pub unread : (file : List ℕ) → IsErrOf made (Read file) → fault
+  pub named : (file : List ℕ) → IsErrOf made (Absent file) ⊎ IsErrOf made (Read file) → refused ≡ file
 
 -- files with these names were loaded, and this is what each gave
-abbrev pub EachLoads : Option Contents → (absence fault : Type 0) → List (List ℕ) → List (List ℕ × Load) → Type 0
-EachLoads contents absence fault names files = (map (λ file. file.0) files ≡ names) × AllByRecursion (λ file. Loads contents absence fault file.0 file.1) files
+abbrev pub EachLoads : Option Contents → (absence fault : Type 0) → (refused : List ℕ) → List (List ℕ) → List (List ℕ × Load) → Type 0
+EachLoads contents absence fault refused names files = (map (λ file. file.0) files ≡ names) × AllByRecursion (λ file. Loads contents absence fault refused file.0 file.1) files
 
 -- How a replay ended goes by whether the recording is there, where the files tell that.
 pub record GoesByFile (contents : Option Contents) (name : List ℕ) (fault : Type 0) (end : Replayed) : Type 0 where
@@ -59,15 +61,15 @@ RepliesReplay contents absence fault config recording (Ok conf) a =
     × (a ≡ record { out = out; err = lines ++ last_line recording end; status = number_of_status (status_after end) })
 
 -- the reply to a job, whatever fails: the answer for what the files gave
-abbrev pub RepliesJob : Option Job → Option Contents → (absence fault : Type 0) → Answer → Type 0
-RepliesJob None contents absence fault a = a ≡ usage
-RepliesJob (Some (Check names)) contents absence fault a = (files : List (List ℕ × Load)) × EachLoads contents absence fault names files × (a ≡ check_answer files)
-RepliesJob (Some (Plan config dp)) contents absence fault a = (made : Load) × Loads contents absence fault config made × (a ≡ plan_answer config dp (planned dp made))
-RepliesJob (Some (Replay config recording)) contents absence fault a = (made : Load) × Loads contents absence fault config made × RepliesReplay contents absence fault config recording made a
+abbrev pub RepliesJob : Option Job → Option Contents → (absence fault : Type 0) → (refused : List ℕ) → Answer → Type 0
+RepliesJob None contents absence fault refused a = a ≡ usage
+RepliesJob (Some (Check names)) contents absence fault refused a = (files : List (List ℕ × Load)) × EachLoads contents absence fault refused names files × (a ≡ check_answer files)
+RepliesJob (Some (Plan config dp)) contents absence fault refused a = (made : Load) × Loads contents absence fault refused config made × (a ≡ plan_answer config dp (planned dp made))
+RepliesJob (Some (Replay config recording)) contents absence fault refused a = (made : Load) × Loads contents absence fault refused config made × RepliesReplay contents absence fault config recording made a
 
 -- the same, or that memory ran out before the job was known or begun
-abbrev pub Replies : Option Job → Option Contents → (absence fault : Type 0) → Answer → Type 0
-Replies job contents absence fault a = RepliesJob job contents absence fault a ⊎ (a ≡ out_of_memory)
+abbrev pub Replies : Option Job → Option Contents → (absence fault : Type 0) → (refused : List ℕ) → Answer → Type 0
+Replies job contents absence fault refused a = RepliesJob job contents absence fault refused a ⊎ (a ≡ out_of_memory)
 
 -- the answer; or a front of it on standard output, since memory ran out or a read failed
 abbrev pub AnswersSoFar : (a whole : Answer) → (fault : Type 0) → Type 0
@@ -85,16 +87,16 @@ Delivers a status out_old out_new err_old err_new out_faults_old out_faults_new 
     × (Rose out_faults_old out_faults_new ⊎ Rose err_faults_old err_faults_new))
 
 -- one reply was delivered
-abbrev pub Gives : Option Job → Option Contents → (absence fault : Type 0) → (status : ℕ) → (out_old out_new err_old err_new : Option (List ℕ)) → (out_faults_old out_faults_new err_faults_old err_faults_new : ℕ) → Type 0
-Gives job contents absence fault status out_old out_new err_old err_new out_faults_old out_faults_new err_faults_old err_faults_new =
-    (a : Answer) × Replies job contents absence fault a × Delivers a status out_old out_new err_old err_new out_faults_old out_faults_new err_faults_old err_faults_new
+abbrev pub Gives : Option Job → Option Contents → (absence fault : Type 0) → (refused : List ℕ) → (status : ℕ) → (out_old out_new err_old err_new : Option (List ℕ)) → (out_faults_old out_faults_new err_faults_old err_faults_new : ℕ) → Type 0
+Gives job contents absence fault refused status out_old out_new err_old err_new out_faults_old out_faults_new err_faults_old err_faults_new =
+    (a : Answer) × Replies job contents absence fault refused a × Delivers a status out_old out_new err_old err_new out_faults_old out_faults_new err_faults_old err_faults_new
 
 -- ---- parts of a run
 
 -- files of these names were loaded in order, and the answer delivered
-abbrev pub Checks : Option Contents → (absence fault : Type 0) → (names : List (List ℕ)) → (status : ℕ) → (out_old out_new err_old err_new : Option (List ℕ)) → (out_faults_old out_faults_new err_faults_old err_faults_new : ℕ) → Type 0
-Checks contents absence fault names status out_old out_new err_old err_new out_faults_old out_faults_new err_faults_old err_faults_new =
-    (files : List (List ℕ × Load)) × EachLoads contents absence fault names files
+abbrev pub Checks : Option Contents → (absence fault : Type 0) → (refused : List ℕ) → (names : List (List ℕ)) → (status : ℕ) → (out_old out_new err_old err_new : Option (List ℕ)) → (out_faults_old out_faults_new err_faults_old err_faults_new : ℕ) → Type 0
+Checks contents absence fault refused names status out_old out_new err_old err_new out_faults_old out_faults_new err_faults_old err_faults_new =
+    (files : List (List ℕ × Load)) × EachLoads contents absence fault refused names files
     × Delivers (check_answer files) status out_old out_new err_old err_new out_faults_old out_faults_new err_faults_old err_faults_new
 
 -- one file's line was written; or the run ended there, whatever would have followed

@@ -31,7 +31,7 @@ fn check_file<F: Files, O: Sink, E: Sink>(
     err: &mut E,
 ) -> Option<Status>
     ensures checked { (made : Load)
-        × Loads (F.contents files.old) (Rose (F.absences files.old) (F.absences files.new)) (Rose (F.faults files.old) (F.faults files.new)) name.now made
+        × Loads (F.contents files.old) (Rose (F.absences files.old) (F.absences files.new)) (Rose (F.faults files.old) (F.faults files.new)) (F.refused files.new) name.now made
         × GoesOn name.now made result (O.wrote out.old) (O.wrote out.new) (E.wrote err.old) (E.wrote err.new)
         (O.faults out.old) (O.faults out.new) (E.faults err.old) (E.faults err.new) }
     ensures no_read_fault { result ≢ Some Status.Unread → result ≢ Some Status.WriteFault → F.faults files.new ≡ F.faults files.old }
@@ -64,7 +64,7 @@ pub fn check_files<F: Files, O: Sink, E: Sink>(
     out: &mut O,
     err: &mut E,
 ) -> Status
-    ensures checked { Checks (F.contents files.old) (Rose (F.absences files.old) (F.absences files.new)) (Rose (F.faults files.old) (F.faults files.new)) names.now
+    ensures checked { Checks (F.contents files.old) (Rose (F.absences files.old) (F.absences files.new)) (Rose (F.faults files.old) (F.faults files.new)) (F.refused files.new) names.now
         (number_of_status result) (O.wrote out.old) (O.wrote out.new) (E.wrote err.old) (E.wrote err.new)
         (O.faults out.old) (O.faults out.new) (E.faults err.old) (E.faults err.new) }
     ensures no_read_fault { result ≢ Status.Unread → result ≢ Status.WriteFault → F.faults files.new ≡ F.faults files.old }

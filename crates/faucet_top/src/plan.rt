@@ -20,7 +20,7 @@ pub fn make_plan<F: Files>(
     dp: &str,
 ) -> Result<Option<Bytes>, LoadRefused>
     ensures made { (made : Load)
-        × Loads (F.contents files.old) (Rose (F.absences files.old) (F.absences files.new)) (Rose (F.faults files.old) (F.faults files.new)) config.now made
+        × Loads (F.contents files.old) (Rose (F.absences files.old) (F.absences files.new)) (Rose (F.faults files.old) (F.faults files.new)) (F.refused files.new) config.now made
         × (result ≡ planned dp.now made) }
     ensures no_read_fault { ((file : List ℕ) → IsErrOf result (LoadRefused.Read file) → ⊥) → F.faults files.new ≡ F.faults files.old }
 

@@ -21,7 +21,7 @@ pub fn replay_recording<F: Files, O: Sink, E: Sink>(
     out: &mut O,
     err: &mut E,
 ) -> (Status, F)
-    ensures gives { Gives (Some (Replay config.now recording.now)) (F.contents files) (Rose (F.absences files) (F.absences result.1)) (Rose (F.faults files) (F.faults result.1))
+    ensures gives { Gives (Some (Replay config.now recording.now)) (F.contents files) (Rose (F.absences files) (F.absences result.1)) (Rose (F.faults files) (F.faults result.1)) (F.refused result.1)
         (number_of_status result.0) (O.wrote out.old) (O.wrote out.new) (E.wrote err.old) (E.wrote err.new)
         (O.faults out.old) (O.faults out.new) (E.faults err.old) (E.faults err.new) }
     ensures no_read_fault { result.0 ≢ Status.Unread → result.0 ≢ Status.WriteFault → F.faults files < 2 ^ 64 - 1 → F.faults result.1 ≡ F.faults files }

@@ -18,6 +18,9 @@ pub trait Files {
     /// How often a file wasn't there.
     ghost absences: { Self → ℕ };
 
+    /// The name at which a read last failed or found no file.
+    ghost refused: { Self → List ℕ };
+
     /// Reads bytes of the named file, from a place counted from 0, into the front of `buf`, and
     /// says how many; 0 for a buffer that isn't empty means that the file ends there. `None` where
     /// no file has the name.
@@ -36,13 +39,18 @@ pub trait Files {
         ensures found { IfOk result (λ got. OnSome got (absences self.new ≡ absences self.old)) }
         ensures untouched { OnErr result (absences self.new ≡ absences self.old) }
         ensures failed { OnErr result (Rose (faults self.old) (faults self.new)) }
-        ensures no_fault { OnOk result (faults self.new ≡ faults self.old) };
+        ensures no_fault { OnOk result (faults self.new ≡ faults self.old) }
+
+        ensures named { OnErr result (refused self.new ≡ name.now) }
+        ensures not_there { IfOk result (λ got. IfNone got (refused self.new ≡ name.now)) }
+        ensures not_refused { IfOk result (λ got. OnSome got (refused self.new ≡ refused self.old)) };
 
     /// Goes on to what the files hold next. It alone changes what they hold.
     fn refresh(&mut self)
         ensures contents { contents self.new ≡ refreshed (contents self.old) }
         ensures faults { faults self.new ≡ faults self.old }
-        ensures absences { absences self.new ≡ absences self.old };
+        ensures absences { absences self.new ≡ absences self.old }
+        ensures refused { refused self.new ≡ refused self.old };
 }
 
 /// Why a file wasn't read whole.
@@ -95,6 +103,10 @@ pub fn read_whole<F: Files>(
     ensures failed { IsErrOf result ReadRefused.Failed → Rose (F.faults files.old) (F.faults files.new) }
     ensures no_absence { (IsErrOf result ReadRefused.Absent → ⊥) → F.absences files.new ≡ F.absences files.old }
     ensures no_fault { (IsErrOf result ReadRefused.Failed → ⊥) → F.faults files.new ≡ F.faults files.old }
+    ensures named { IsErrOf result ReadRefused.Failed → F.refused files.new ≡ name.now }
+    ensures not_there { IsErrOf result ReadRefused.Absent → F.refused files.new ≡ name.now }
+    ensures not_refused { (IsErrOf result ReadRefused.Failed → ⊥) → (IsErrOf result ReadRefused.Absent → ⊥)
+        → F.refused files.new ≡ F.refused files.old }
 
     ensures contents { F.contents files.new ≡ F.contents files.old }
     ensures faults { F.faults files.old ≤ F.faults files.new }
@@ -134,6 +146,10 @@ fn read_piece<F: Files>(
     ensures failed { IsErrOf result ReadRefused.Failed → Rose (F.faults files.old) (F.faults files.new) }
     ensures no_absence { (IsErrOf result ReadRefused.Absent → ⊥) → F.absences files.new ≡ F.absences files.old }
     ensures no_fault { (IsErrOf result ReadRefused.Failed → ⊥) → F.faults files.new ≡ F.faults files.old }
+    ensures named { IsErrOf result ReadRefused.Failed → F.refused files.new ≡ name.now }
+    ensures not_there { IsErrOf result ReadRefused.Absent → F.refused files.new ≡ name.now }
+    ensures not_refused { (IsErrOf result ReadRefused.Failed → ⊥) → (IsErrOf result ReadRefused.Absent → ⊥)
+        → F.refused files.new ≡ F.refused files.old }
 
     ensures contents { F.contents files.new ≡ F.contents files.old }
     ensures faults { F.faults files.old ≤ F.faults files.new }

@@ -14,6 +14,7 @@ mod mem_files;
 mod mem_sink;
 mod mem_source;
 mod no_hub;
+mod refused_name;
 mod sink;
 mod source;
 
@@ -28,5 +29,6 @@ pub use mem_files::{FilesInMemory, MemFiles, SureFiles};
 pub use mem_sink::{MemSink, SinkInMemory, SureSink};
 pub use mem_source::{MemSource, SourceInMemory, SureSource};
 pub use no_hub::NoHub;
+pub use refused_name::RefusedName;
 pub use sink::{Sink, write_all};
 pub use source::Source;

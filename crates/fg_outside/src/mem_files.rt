@@ -4,12 +4,13 @@ ghost use Rattle.fg_outside.specs.Counts.{counted, Rose};
 ghost use Rattle.fg_outside.specs.Contents.{refreshed, Tells, ReadsAt};
 ghost use Rattle.fg_outside.specs.FaultPlan.{fresh};
 ghost use Rattle.fg_outside.specs.Folders.{contents_of};
-ghost use Rattle.fg_outside.specs.FilesInMemory.{held_in, absences_of, plan_of};
+ghost use Rattle.fg_outside.specs.FilesInMemory.{held_in, absences_of, refused_of, plan_of};
 
 use crate::fault::Failed;
 use crate::fault_plan::{CallNos, FailListed, FailNever, FaultPlan};
 use crate::files::Files;
 use crate::held::{Folders, HeldFile};
+use crate::refused_name::RefusedName;
 
 /// Files in memory, which tell what they hold.
 #[derive(Debug, Drop)]
@@ -17,6 +18,7 @@ pub struct FilesInMemory<P> {
     folders: Folders,
     at: usize,
     absences: u64,
+    refused: RefusedName,
     plan: P,
 }
 
@@ -39,6 +41,7 @@ impl FilesInMemory<FailListed> {
             folders,
             at: 0,
             absences: 0,
+            refused: RefusedName::of(&""),
             plan: FailListed::new(fail),
         }
     }
@@ -55,6 +58,7 @@ impl FilesInMemory<FailNever> {
             folders,
             at: 0,
             absences: 0,
+            refused: RefusedName::of(&""),
             plan: FailNever,
         }
     }
@@ -66,6 +70,8 @@ impl<P: FaultPlan> Files for FilesInMemory<P> {
     ghost faults = { λ files. P.faults (plan_of files) };
 
     ghost absences = { absences_of };
+
+    ghost refused = { refused_of };
 
     /// Fails exactly where the plan says so. Reads as much as the buffer has room for, which stays as
     /// it was behind what was read, and whole where nothing was.
@@ -86,6 +92,10 @@ impl<P: FaultPlan> Files for FilesInMemory<P> {
         ensures failed { OnErr result (Rose (P.faults (plan_of self.old)) (P.faults (plan_of self.new))) }
         ensures no_fault { OnOk result (P.faults (plan_of self.new) ≡ P.faults (plan_of self.old)) }
 
+        ensures named { OnErr result (refused_of self.new ≡ name.now) }
+        ensures not_there { IfOk result (λ got. IfNone got (refused_of self.new ≡ name.now)) }
+        ensures not_refused { IfOk result (λ got. OnSome got (refused_of self.new ≡ refused_of self.old)) }
+
         ensures one_absence { IfOk result (λ got. IfNone got (absences_of self.new ≡ counted (absences_of self.old))) }
         ensures one_fault { OnErr result (P.faults (plan_of self.new) ≡ counted (P.faults (plan_of self.old))) }
 
@@ -99,11 +109,13 @@ impl<P: FaultPlan> Files for FilesInMemory<P> {
         ensures plan { plan_of self.new ≡ P.after (plan_of self.old) }
     {
         if self.plan.next_call() {
+            self.refused = RefusedName::of(&name);
             return Err(Failed);
         }
         match file_at(&self.folders, self.at, name) {
             None => {
                 self.absences = self.absences.saturating_add(1);
+                self.refused = RefusedName::of(&name);
                 Ok(None)
             }
             Some(file) => Ok(Some(read_piece(file.bytes.as_slice(), from, buf))),
@@ -114,6 +126,7 @@ impl<P: FaultPlan> Files for FilesInMemory<P> {
         ensures contents { held_in self.new ≡ refreshed (held_in self.old) }
         ensures faults { P.faults (plan_of self.new) ≡ P.faults (plan_of self.old) }
         ensures absences { absences_of self.new ≡ absences_of self.old }
+        ensures refused { refused_of self.new ≡ refused_of self.old }
         ensures plan { plan_of self.new ≡ plan_of self.old }
     {
         if self.at < last_place(&self.folders) {

@@ -25,6 +25,10 @@ WentOn remaining before after n buf = Consumes (remaining before.file) (remainin
 abbrev pub last_of : {A F B : Type 0} → RealFiles A F B → Option (OpenAt F)
 last_of files = files.last
 
+-- the name at which a read of them last failed or found no file
+abbrev pub refused_of : {A F B : Type 0} → RealFiles A F B → List ℕ
+refused_of files = files.refused.name
+
 -- what a stream writes to
 abbrev pub writer_of : {W : Type 0} → Stream W → W
 writer_of stream = stream.writer

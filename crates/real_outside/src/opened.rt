@@ -1,4 +1,4 @@
-ghost use Rattle.std.specs.Prelude.{◌≤◌, ◌<◌, ◌≡◌, ◌+◌, ◌-◌, ◌^◌, ◌↔◌, true, min, length, Some, IfOk, IfSome};
+ghost use Rattle.std.specs.Prelude.{◌≤◌, ◌<◌, ◌≡◌, ◌+◌, ◌-◌, ◌^◌, ◌↔◌, true, min, length, Some, IfOk, IfSome, IsOkAnd};
 ghost use Rattle.real_outside.specs.Opened.{name_of, file_of, place_of, WentOn};
 
 use net_base::Text;
@@ -30,7 +30,7 @@ impl<F: Seek + Drop> OpenAt<F> {
         ensures place { IfOk result (λ opened. place_of opened ≡ place) }
         ensures moved { 0 < place → IfOk result (λ opened. IfSome (F.stream_position file)
             (λ _. F.stream_position (file_of opened) ≡ Some place)) }
-        ensures front { place ≡ 0 → IfOk result (λ opened. file_of opened ≡ file) }
+        ensures front { place ≡ 0 → IsOkAnd result (λ opened. file_of opened ≡ file) }
     {
         let mut file = file;
         if place > 0 {

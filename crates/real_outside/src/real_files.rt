@@ -2,10 +2,10 @@ ghost use Rattle.std.specs.Prelude.{◌≤◌, ◌<◌, ◌≡◌, ◌≢◌, �
 ghost use Rattle.std.specs.IoError.{error_kind};
 ghost use Rattle.fg_outside.specs.Contents.{Tells, ReadsAt};
 ghost use Rattle.fg_outside.specs.Counts.{Rose, counted};
-ghost use Rattle.real_outside.specs.Opened.{last_of, name_of, place_of, WentOn};
+ghost use Rattle.real_outside.specs.Opened.{last_of, refused_of, name_of, place_of, WentOn};
 
 use crate::opened::OpenAt;
-use fg_outside::{Failed, Files};
+use fg_outside::{Failed, Files, RefusedName};
 use net_base::Text;
 use std::io::{self, ErrorKind};
 use std::{fs, rt};
@@ -18,6 +18,7 @@ pub struct RealFiles<'a, R: rt::Files> {
     last: Option<OpenAt<R::File>>,
     faults: u64,
     absences: u64,
+    refused: RefusedName,
 }
 
 impl<'a, R: rt::Files + AllocGlobal> RealFiles<'a, R> {
@@ -31,6 +32,7 @@ impl<'a, R: rt::Files + AllocGlobal> RealFiles<'a, R> {
             last: None,
             faults: 0,
             absences: 0,
+            refused: RefusedName::of(&""),
         }
     }
 }
@@ -80,6 +82,7 @@ impl<R: rt::Files + AllocGlobal> RealFiles<'_, R> {
         ensures closed { OnErr result (last_of self.new ≡ None) }
         ensures faults { self.new.faults ≡ self.old.faults }
         ensures absences { self.new.absences ≡ self.old.absences }
+        ensures refused { refused_of self.new ≡ refused_of self.old }
     {
         let mut open = open_at(self.rt, self.last.take(), name, from)?;
         let n = open.read(buf)?;
@@ -87,8 +90,13 @@ impl<R: rt::Files + AllocGlobal> RealFiles<'_, R> {
         Ok(n)
     }
 
-    /// Counts an answer, and hands it on.
-    fn count(&mut self, answer: Result<Option<usize>, Failed>) -> Result<Option<usize>, Failed>
+    /// Counts an answer for the file of this name, keeps the name unless it was read, and hands the
+    /// answer on.
+    fn count(
+        &mut self,
+        name: &str,
+        answer: Result<Option<usize>, Failed>,
+    ) -> Result<Option<usize>, Failed>
         ensures answer { result ≡ answer }
         ensures failed { OnErr answer (self.new.faults ≡ counted self.old.faults) }
         ensures no_fault { OnOk answer (self.new.faults ≡ self.old.faults) }
@@ -96,13 +104,17 @@ impl<R: rt::Files + AllocGlobal> RealFiles<'_, R> {
         ensures found { answer ≢ Ok None → self.new.absences ≡ self.old.absences }
         ensures faults { self.old.faults ≤ self.new.faults }
         ensures absences { self.old.absences ≤ self.new.absences }
+        ensures named { OnErr answer (refused_of self.new ≡ name.now) }
+        ensures not_there { answer ≡ Ok None → refused_of self.new ≡ name.now }
+        ensures not_refused { IfOk answer (λ got. OnSome got (refused_of self.new ≡ refused_of self.old)) }
         ensures last { last_of self.new ≡ last_of self.old }
     {
         match answer {
-            Ok(Some(_)) => {}
+            Ok(Some(_)) => return answer,
             Ok(None) => self.absences = self.absences.saturating_add(1),
             Err(Failed) => self.faults = self.faults.saturating_add(1),
         }
+        self.refused = RefusedName::of(&name);
         answer
     }
 }
@@ -113,6 +125,8 @@ impl<R: rt::Files + AllocGlobal> Files for RealFiles<'_, R> {
     ghost faults = { λ f. f.faults };
 
     ghost absences = { λ f. f.absences };
+
+    ghost refused = { refused_of };
 
     /// These files tell nothing of what they hold, so the first two clauses, which are the trait's, bind
     /// nothing here.
@@ -130,6 +144,10 @@ impl<R: rt::Files + AllocGlobal> Files for RealFiles<'_, R> {
         ensures faults { self.old.faults ≤ self.new.faults }
         ensures absences { self.old.absences ≤ self.new.absences }
 
+        ensures named { OnErr result (refused_of self.new ≡ name.now) }
+        ensures not_there { IfOk result (λ got. IfNone got (refused_of self.new ≡ name.now)) }
+        ensures not_refused { IfOk result (λ got. OnSome got (refused_of self.new ≡ refused_of self.old)) }
+
         ensures name { IfOk result (λ got. OnSome got (IsSomeAnd (last_of self.new) (λ opened. name_of opened ≡ name.now))) }
         ensures place { IfOk result (λ got. IfSome got (λ n. IsSomeAnd (last_of self.new) (λ opened. place_of opened ≡ from + n))) }
         ensures bytes { IfSome (last_of self.old) (λ before. name_of before ≡ name.now → place_of before ≡ from
@@ -137,13 +155,14 @@ impl<R: rt::Files + AllocGlobal> Files for RealFiles<'_, R> {
             (λ after. WentOn R.File.remaining before after n buf.new)))) }
     {
         let read = self.read_from(name, from, buf);
-        self.count(outcome(read, from))
+        self.count(name, outcome(read, from))
     }
 
     fn refresh(&mut self)
         ensures closed { last_of self.new ≡ None }
         ensures faults { self.new.faults ≡ self.old.faults }
         ensures absences { self.new.absences ≡ self.old.absences }
+        ensures refused { refused_of self.new ≡ refused_of self.old }
     {
         self.last = None;
     }

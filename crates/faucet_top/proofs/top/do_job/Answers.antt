@@ -9,12 +9,12 @@ use Rattle.faucet_top.proofs.top.do_job.Goals as goal
 pub returns-in-Check-clause-gives : goal.returns-in-Check-clause-gives
 returns-in-Check-clause-gives g c =
     let is : c.args.job.now ≡ Check c.in-Check.names = grind (arith, common_steps) in
-    rw is (check_given (g.F.Files.contents c.args.files) _ _ _ _ _ _ _ _ _ _ (number_of_status c.check_files-status.result) c.in-Check.names (rw c.as_slice.ensures at c.check_files-status.ensures.checked))
+    rw is (check_given (g.F.Files.contents c.args.files) _ _ _ _ _ _ _ _ _ _ _ (number_of_status c.check_files-status.result) c.in-Check.names (rw c.as_slice.ensures at c.check_files-status.ensures.checked))
 
 pub returns-in-Plan-clause-gives : goal.returns-in-Plan-clause-gives
 returns-in-Plan-clause-gives g c =
     let is : c.args.job.now ≡ Plan c.in-Plan.config c.in-Plan.dp = grind (arith, common_steps) in
-    rw is (plan_given (g.F.Files.contents c.args.files) _ _ _ _ _ _ _ _ _ _ (number_of_status c.deliver_plan-status.result) c.in-Plan.config c.in-Plan.dp c.make_plan-made.result
+    rw is (plan_given (g.F.Files.contents c.args.files) _ _ _ _ _ _ _ _ _ _ _ (number_of_status c.deliver_plan-status.result) c.in-Plan.config c.in-Plan.dp c.make_plan-made.result
     (rw (c.as_str.ensures, c.as_str-in-Plan.ensures) at c.make_plan-made.ensures.made) (rw (c.as_str-in-Plan-2.ensures, c.as_str-in-Plan-3.ensures) at c.deliver_plan-status.ensures.answer))
 
 pub returns-in-Plan-clause-no_read_fault : goal.returns-in-Plan-clause-no_read_fault

@@ -9,6 +9,7 @@ invariant-loop-bytes g l =
     × (g.F.Files.contents l.files ≡ g.F.Files.contents l.initial.files)
     × (g.F.Files.faults l.files ≡ g.F.Files.faults l.initial.files)
     × (g.F.Files.absences l.files ≡ g.F.Files.absences l.initial.files)
+    × (g.F.Files.refused l.files ≡ g.F.Files.refused l.initial.files)
 
 abbrev pub decreases-loop-bytes : goal.decreases-loop-bytes
 decreases-loop-bytes g l = l.most - length l.bytes
