@@ -1,3 +1,3 @@
 pub mod FaultLaws
 pub mod Parsed
-mod Written
+pub mod Written

@@ -48,7 +48,7 @@ here_none (Some cause) e = absurd cc
 -- ---- keys
 
 -- behind other keys a key has the kind that it has alone, or is written twice
-abbrev IsSame : Result Kind ConfCause → Kind → Type 0
+abbrev pub IsSame : Result Kind ConfCause → Kind → Type 0
 IsSame found kind = (found ≡ Ok kind) ⊎ (found ≡ Err Duplicate)
 
 row_same : (keys : Keys) (number : Option ℕ) (earlier : List Key) (r : Option KeyRow) (kind : Kind) → row_kind keys number [] r ≡ Ok kind → IsSame (row_kind keys number earlier r) kind
@@ -76,7 +76,7 @@ named_same m earlier name kind e = by (list_any (has_text name) earlier)
     by true = inr refl
     by false = inl e
 
-same : (m : MapKind) (earlier : List Key) (name : List ℕ) (kind : Kind) → Takes m name kind → IsSame (under_key m earlier (key.Text name)) kind
+pub same : (m : MapKind) (earlier : List Key) (name : List ℕ) (kind : Kind) → Takes m name kind → IsSame (under_key m earlier (key.Text name)) kind
 same kinds.Datapaths earlier name kind e = named_same kinds.Datapaths earlier name kind e
 same kinds.Acls earlier name kind e = named_same kinds.Acls earlier name kind e
 same kinds.Routers earlier name kind e = named_same kinds.Routers earlier name kind e

@@ -1,8 +1,8 @@
 -- A tree with no fault, and its parts: the entries of a map, the value under a key, the items of a list.
-use Rattle.std.proofs.Common.{◌≡◌, ℕ, ◌+◌, Bool, true, false, List, [], ◌∷◌, ◌++◌, Option, Some, None, Result, Ok, Err, refl, sym, ap, ◌∙◌, inl, inr, ◌⊎◌, subst}
+use Rattle.std.proofs.Common.{◌≡◌, ℕ, ◌+◌, Bool, true, false, List, [], ◌∷◌, ◌++◌, Option, Some, None, Result, Ok, Err, refl, sym, ap, ◌∙◌, inl, inr, subst}
 use Rattle.std.specs.Prelude.{map, IfSome, if◌then◌else◌}
 use Rattle.std.specs.Fmt.{decimal}
-use Rattle.std.specs.List.{AllByRecursion, list_any}
+use Rattle.std.specs.List.{AllByRecursion}
 use Rattle.std.specs.Option.{option_map, option_map_or}
 use Rattle.std.specs.Str.{bytes_eq}
 use Rattle.std.proofs.lemmas.Slice.Eq.{bytes_eq-Decides}
@@ -15,18 +15,18 @@ use Rattle.yaml_subset.specs.declared.tree.Tree.TheOpen as tree
 use Rattle.yaml_subset.specs.declared.tree.Tree.TheFolds.{fold-roll-Tree}
 use Rattle.conf_shape.specs.declared.faults.Found.{Found}
 use Rattle.conf_shape.specs.declared.refused.ConfCause.{ConfCause}
-use Rattle.conf_shape.specs.declared.refused.ConfCause.TheVariants.{LeftOut, WrongType, Duplicate}
+use Rattle.conf_shape.specs.declared.refused.ConfCause.TheVariants.{WrongType}
 use Rattle.conf_shape.specs.declared.kinds.Kind.{Kind}
 use Rattle.conf_shape.specs.declared.kinds.Kind.TheVariants as kind_of
 use Rattle.conf_shape.specs.declared.kinds.MapKind.{MapKind}
 use Rattle.conf_shape.specs.declared.kinds.MapKind.TheVariants as maps
-use Rattle.conf_shape.specs.Keys.{KeyRow, Keys, keys_of}
 use Rattle.conf_shape.specs.Scalars.{flag_cause, number_cause, text_cause, item_kind, map_kind}
-use Rattle.conf_shape.specs.Sections.{key_text, is_key, canonical, row_at, spells, given, number_of, row_kind, text_kind, has_text, named_kind, named_once, under_key}
+use Rattle.conf_shape.specs.Sections.{key_text, is_key, under_key}
 use Rattle.conf_shape.specs.Faults.{Faults, Entry, here, under, item_faults, list_faults, value_faults, missing_in, map_faults, in_map, may_be_null, null_faults, tree_step, pair_step, faults_of, entry_of, first, told, first_fault}
 use Rattle.conf_shape.specs.Reads.{value_at, items_in, entries_in, items_of, entries_of}
 use Rattle.conf_shape.specs.Written.{IsRight, Takes}
 use Rattle.conf_shape.proofs.FaultLaws.{entry_pair}
+use Rattle.conf_shape.proofs.Written.{IsSame, same}
 
 -- ---- lists with no fault
 
@@ -131,43 +131,6 @@ each_right m P each earlier [] h = tt
 each_right m P each earlier (p ∷ ps) h = let e = entry_right m earlier p ps h in (each earlier p e.0, each_right m P each (earlier ++ p.key ∷ []) ps e.1)
 
 -- ---- the value under a name of the tables
-
--- behind other keys a key has the kind that it has alone, or is written twice
-abbrev IsSame : Result Kind ConfCause → Kind → Type 0
-IsSame found kind = (found ≡ Ok kind) ⊎ (found ≡ Err Duplicate)
-
-row_same : (keys : Keys) (number : Option ℕ) (earlier : List Key) (r : Option KeyRow) (kind : Kind) → row_kind keys number [] r ≡ Ok kind → IsSame (row_kind keys number earlier r) kind
-row_same keys number earlier None kind e = inl e
-row_same keys number earlier (Some r) kind e = by (list_any (spells keys.spellings r.key) earlier)
-  where
-    by : (twice : Bool) → IsSame (if twice then Err Duplicate else Ok (given number r.kind)) kind
-    by true = inr refl
-    by false = inl e
-
-text_same : (keys : Keys) (number : Option ℕ) (earlier : List Key) (text : List ℕ) (kind : Kind) → text_kind keys number [] text ≡ Ok kind → IsSame (text_kind keys number earlier text) kind
-text_same keys number earlier text kind e = by (list_any (λ name. bytes_eq name text) keys.left_out) e
-  where
-    row : Option KeyRow
-    row = row_at (canonical keys.spellings text) keys.rows
-
-    by : (left_out : Bool) → (if left_out then Err LeftOut else row_kind keys number [] row) ≡ Ok kind → IsSame (if left_out then Err LeftOut else row_kind keys number earlier row) kind
-    by true e = inl e
-    by false e = row_same keys number earlier row kind e
-
-named_same : (m : MapKind) (earlier : List Key) (name : List ℕ) (kind : Kind) → named_once m [] (key.Text name) ≡ Ok kind → IsSame (named_once m earlier (key.Text name)) kind
-named_same m earlier name kind e = by (list_any (has_text name) earlier)
-  where
-    by : (twice : Bool) → IsSame (if twice then Err Duplicate else named_kind name m) kind
-    by true = inr refl
-    by false = inl e
-
-same : (m : MapKind) (earlier : List Key) (name : List ℕ) (kind : Kind) → Takes m name kind → IsSame (under_key m earlier (key.Text name)) kind
-same maps.Datapaths earlier name kind e = named_same maps.Datapaths earlier name kind e
-same maps.Acls earlier name kind e = named_same maps.Acls earlier name kind e
-same maps.Routers earlier name kind e = named_same maps.Routers earlier name kind e
-same maps.Interfaces earlier name kind e = inl e
-same maps.Vlans earlier name kind e = inl e
-same m earlier name kind e = text_same (keys_of m) (number_of m) earlier name kind e
 
 as_that : (t : Tree) (found : Result Kind ConfCause) (kind : Kind) → IsSame found kind → HasKind t found → faults_of t kind ≡ []
 as_that t found kind (inl e) h = let is : h.0 ≡ kind = cc (h.1, e) in subst (λ k. faults_of t k ≡ []) is h.2
