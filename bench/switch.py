@@ -19,7 +19,8 @@ class Connection:
     def __init__(self):
         self.socket = socket.create_connection(("127.0.0.1", 6653))
         self.xid, self.errors, self.packets, self.parts, self.replied = 0x10000, [], [], [], set()
-        threading.Thread(target=self.read, daemon=True).start()
+        self.reader = threading.Thread(target=self.read, daemon=True)
+        self.reader.start()
         self.say(HELLO, b"")
         self.say(SET_CONFIG, struct.pack("!HH", 0, 0xFFFF))
 
@@ -55,6 +56,12 @@ class Connection:
                     self.replied.add(xid)
         except (EOFError, OSError):
             pass
+
+    def close(self):
+        """The reader ends first, so that it never reads what comes on a later socket of the same number."""
+        self.socket.shutdown(socket.SHUT_RDWR)
+        self.reader.join()
+        self.socket.close()
 
     def wait_for(self, xid):
         for _ in range(3000):
@@ -104,7 +111,7 @@ def open_one(data):
         data = data[length:]
     connection.wait_for(last)
     held = connection.held()
-    connection.socket.close()
+    connection.close()
     return sent, connection.errors, held
 
 
@@ -356,7 +363,7 @@ def answers(file):
         for port, data, _, _ in state["frames"]:
             put_in(port, data)
         left = collect(connection, state, passed)
-        connection.socket.close()
+        connection.close()
         other = 0
         for port, data, described, sent in state["frames"]:
             if not sorted(left[number_of(data)]) == sorted(described) == sorted(sent):
