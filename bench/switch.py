@@ -1,8 +1,8 @@
 """Holds what is sent of packets against a real switch: see switch.sh, which calls it.
 
 switch.py examples FAUCET EXAMPLES   opens each datapath of each example on the switch; it has to refuse nothing, and to hold what was sent
-switch.py frames N                   prints cases for the program plan_cases: states of datapaths, and N frames for each, by chance
-switch.py answers FILE               fills the switch with the entries of each state in what plan_cases answered, sends it the frames, and compares
+switch.py frames N                   prints cases for the program test_plans: states of datapaths, and N frames for each, by chance
+switch.py answers FILE               fills the switch with the entries of each state in what test_plans answered, sends it the frames, and compares
 """
 import collections, glob, json, os, random, socket, struct, subprocess, sys, threading, time
 
@@ -221,7 +221,7 @@ def frames(count):
             print(f"sends 1 {random.choice(ports)} {frame(number).hex()}")
 
 
-# ---- the entries that plan_cases prints, as messages (OpenFlow 1.3, 7.2.3 to 7.2.5 and 7.3.4.1)
+# ---- the entries that test_plans prints, as messages (OpenFlow 1.3, 7.2.3 to 7.2.5 and 7.3.4.1)
 
 FIELDS = {"in_port": (0, 4), "eth_dst": (3, 6), "eth_src": (4, 6), "eth_type": (5, 2), "vlan_vid": (6, 2), "vlan_pcp": (7, 1), "ip_proto": (10, 1), "ipv4_src": (11, 4), "ipv4_dst": (12, 4), "tcp_src": (13, 2), "tcp_dst": (14, 2), "udp_src": (15, 2), "udp_dst": (16, 2), "icmpv4_type": (19, 1), "icmpv4_code": (20, 1), "arp_op": (21, 2), "arp_spa": (22, 4), "arp_tpa": (23, 4)}
 
@@ -278,7 +278,7 @@ def add(line):
     return flow_mod(0, int(table[6:]), int(priority[9:]), b"".join(map(field, fields)), instructions)
 
 
-# ---- what plan_cases answered, and what the switch does
+# ---- what test_plans answered, and what the switch does
 
 
 def read_answers(file):
@@ -302,7 +302,7 @@ def read_answers(file):
 
 
 def shown(port, data):
-    """As plan_cases shows a packet that is sent: addresses, the VLANs of the tags, the time to live."""
+    """As test_plans shows a packet that is sent: addresses, the VLANs of the tags, the time to live."""
     text = ":".join(f"{b:02x}" for b in data[:6]) + " " + ":".join(f"{b:02x}" for b in data[6:12])
     at = 12
     while data[at : at + 2] == b"\x81\x00":

@@ -2,7 +2,7 @@
 # Holds the tables against a real switch: Open vSwitch, in user space and with no other network. It opens each datapath
 # of each example, which has to go without an error and leave just the entries that were sent. Then, for eight states of
 # datapaths, it sends frames made by chance, and compares what leaves by each port, and what the controller gets, with
-# the description and with the tables, as the program plan_cases answers. Status 1 where something differs. Needs
+# the description and with the tables, as the program test_plans answers. Status 1 where something differs. Needs
 # ovs-vswitchd, ovsdb-server and python3; port 6653 on 127.0.0.1 is to be free.
 # Usage: bench/switch.sh [FRAMES A STATE]
 set -eu
@@ -31,5 +31,5 @@ ovs-vswitchd --version | head -n 1
 
 python3 "$top/bench/switch.py" examples "$top/bin/faucet" "$top/examples"
 python3 "$top/bench/switch.py" frames "${1:-90}" >cases
-(cd "$top/crates/plan_cases" && rt run <"$OVS_RUNDIR/cases") >answers
+(cd "$top/crates/test_plans" && rt run <"$OVS_RUNDIR/cases") >answers
 python3 "$top/bench/switch.py" answers answers

@@ -15,7 +15,7 @@ use Rattle.plan_base.proofs.Each.{all_from, all_by}
 use Rattle.plan_units.specs.declared.unit.Unit.TheVariants as unit
 use Rattle.plan_units.specs.Facts.{found, some_passes}
 use Rattle.plan_units.specs.Units.{is_of_group, hosts_of}
-use Rattle.flow_runs.specs.Members.{of_all, in_mapped, in_filtered, all_mapped, all_filtered}
+use Rattle.law_runs.specs.Members.{of_all, in_mapped, in_filtered, all_mapped, all_filtered}
 use Rattle.cold_start.specs.Cold.{units_of}
 
 -- ---- tests of lists

@@ -5,7 +5,7 @@ use Rattle.of_match.specs.declared.entry.Entry.{Entry}
 use Rattle.of_match.specs.declared.packet.Packet.{Packet}
 use Rattle.of_match.specs.declared.packet.Sent.{Sent}
 use Rattle.of_match.specs.Pipeline.{IsBest, PipesFrom, misses, stops, goes}
-use Rattle.flow_runs.specs.Runs.{SendsJust}
+use Rattle.law_runs.specs.Runs.{SendsJust}
 
 module _ (es fs : List Entry) (there : (e : Entry) → Contains es e → Contains fs e) (back : (e : Entry) → Contains fs e → Contains es e) where
   best : (t port : ℕ) (p : Packet) (e : Entry) → IsBest es t port p e → IsBest fs t port p e

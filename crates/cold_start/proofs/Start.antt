@@ -12,8 +12,8 @@ use Rattle.of_match.specs.Settled.{SettlesInTurn}
 use Rattle.conf_types.specs.declared.datapath.Dp.{Dp}
 use Rattle.conf_types.specs.Configuration.{Configuration}
 use Rattle.conf_types.specs.State.{State}
-use Rattle.flow_runs.specs.Runs.{SendsJust}
-use Rattle.flow_runs.specs.Members.{of_all, all_by}
+use Rattle.law_runs.specs.Runs.{SendsJust}
+use Rattle.law_runs.specs.Members.{of_all, all_by}
 use Rattle.plan_base.specs.Accepted.{IsFlowEntry}
 use Rattle.plan_units.specs.Laws.{IsSetting}
 use Rattle.plan_units.specs.Units.{plan}

@@ -25,7 +25,7 @@ use Rattle.plan_units.specs.Facts.{found, none_found, apart_or_one, one_number, 
 use Rattle.plan_units.specs.Fixed.{fixed}
 use Rattle.plan_units.specs.Laws.{IsSetting}
 use Rattle.plan_units.specs.Units.{of_port, of_vlan, of_host, of_routes, is_of_group, hosts_of, entries, plan}
-use Rattle.flow_runs.specs.Members.{head_of, tail_of, of_all}
+use Rattle.law_runs.specs.Members.{head_of, tail_of, of_all}
 use Rattle.cold_start.specs.Cold.{units_of}
 use Rattle.cold_start.proofs.Lists.{kept_before, all_pass}
 use Rattle.cold_start.proofs.Owners.{Owner, Owned, owner, datapath as of_datapath, interface, vlan, host, routes, port_owned, vlan_owned, host_owned, routes_owned, fixed_owned}

@@ -14,7 +14,7 @@ ghost use Rattle.conf_types.specs.Configuration.{Configuration};
 ghost use Rattle.conf_types.specs.State.{State};
 ghost use Rattle.packet_way.specs.Description.{sends};
 ghost use Rattle.plan_base.specs.Accepted.{IsFlowEntry, HaveDistinctKeys};
-ghost use Rattle.flow_runs.specs.Runs.{SendsJust};
+ghost use Rattle.law_runs.specs.Runs.{SendsJust};
 ghost use Rattle.plan_units.specs.declared.unit.Unit.{Unit};
 ghost use Rattle.plan_units.specs.Laws.{IsSetting};
 ghost use Rattle.plan_units.specs.Units.{entries, plan};

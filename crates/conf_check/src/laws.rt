@@ -6,8 +6,8 @@ ghost use Rattle.conf_types.specs.Configuration.{Configuration};
 ghost use Rattle.conf_types.specs.Valid.{IsValid};
 ghost use Rattle.conf_check.specs.Accepted.{conf_of};
 
-use law_checked::laws::what_breaks_no_rule_is_valid;
-use law_ranges::laws::a_document_of_the_right_shape_is_in_range;
+use law_checks::valid::what_breaks_no_rule_is_valid;
+use law_checks::ranges::a_document_of_the_right_shape_is_in_range;
 
 /// What a document gives is valid.
 pub fn an_accepted_configuration_is_valid()

@@ -17,7 +17,7 @@ use Rattle.command_line.specs.declared.meaning.Job.{Job}
 use Rattle.command_line.specs.declared.meaning.Job.TheVariants.{Check, Plan, Replay}
 use Rattle.opening_batch.specs.Opened.{Opens}
 use Rattle.opening_batch.specs.Opening.{opening_of}
-use Rattle.story_laws.specs.Right.{IsRight}
+use Rattle.law_stories.specs.Right.{IsRight}
 use Rattle.faucet_top.specs.declared.deliver.Status.{Status}
 use Rattle.faucet_top.specs.declared.deliver.Status.TheVariants as statuses
 use Rattle.faucet_top.specs.Answer.{Answer, Load, usage, out_of_memory, refusal, behind, json_line, check_step, check_answer, planned, plan_answer, job_answer}

@@ -20,7 +20,7 @@ use Rattle.recording.specs.Refused.{IsRefused}
 use Rattle.recording.specs.Turns.{Closing, turns}
 use Rattle.recording.specs.Written.{written_records}
 use Rattle.ctl_world.specs.World.{first}
-use Rattle.story_laws.specs.Right.{IsRight}
+use Rattle.law_stories.specs.Right.{IsRight}
 use Rattle.ctl_drive.specs.Driving.{IsFront, lines_of, records_of}
 use Rattle.ctl_drive.specs.declared.replay.Replayed.{Replayed}
 use Rattle.ctl_drive.specs.declared.replay.Replayed.TheVariants as replayed

@@ -18,7 +18,7 @@ use fg_outside::{Files, Hub, Sink};
 use net_base::Names;
 use opening_batch::laws::an_opening_batch_opens_the_datapath;
 use std::alloc::Global;
-use story_laws::whatever_happens_is_right;
+use law_stories::whatever_happens_is_right;
 
 /// Does a job.
 fn do_job<F: Files, O: Sink, E: Sink>(

@@ -11,7 +11,7 @@ use Rattle.ctl_core.specs.Story.{behind, saying_of}
 use Rattle.ctl_core.specs.Turns.{turn, work}
 use Rattle.ctl_drive.specs.Driving.{line_by, lines_of, record_by, records_of}
 use Rattle.ctl_drive.proofs.Stories.{behind-push, lines-push}
-use Rattle.law_cuts.specs.Cuts.{known_only}
+use Rattle.law_recordings.specs.Pieces.{known_only}
 use Rattle.law_recordings.proofs.Closed.{closes_by, is_closed, is_closed-push}
 use Rattle.law_recordings.proofs.Told.{tell_on}
 

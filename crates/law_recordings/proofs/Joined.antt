@@ -9,8 +9,8 @@ use Rattle.ctl_world.specs.World.{World}
 use Rattle.ctl_core.specs.Story.{behind, saying_of}
 use Rattle.ctl_core.specs.Turns.{hear, turn}
 use Rattle.ctl_drive.specs.Driving.{line_by, lines_of, record_by, records_of}
-use Rattle.law_cuts.specs.Cuts.{known_only}
-use Rattle.law_cuts.proofs.Pieces.{known_so, said_so}
+use Rattle.law_recordings.specs.Pieces.{known_only}
+use Rattle.law_recordings.proofs.Pieces.{known_so, said_so}
 use Rattle.law_recordings.proofs.Closed.{closes-append, closes_by, closes_in, is_closed, is_closed-push, of-append}
 use Rattle.ctl_drive.proofs.Stories.{behind-push, lines-push}
 use Rattle.law_recordings.proofs.Alike.{Alike, lines_by, records-push, records_by}

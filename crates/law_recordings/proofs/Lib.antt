@@ -1,3 +1,12 @@
+pub mod Changes
+pub mod Touches
+pub mod Settles
+pub mod Packets
+pub mod Hears
+pub mod Fronts
+pub mod Frames
+pub mod Grown
+pub mod Pieces
 pub mod Closed
 pub mod Told
 pub mod Alike

@@ -2,6 +2,8 @@
 //! empty, and their contracts are the laws.
 #![tactic(auto)]
 
+pub mod bytes;
+
 ghost use Rattle.std.specs.Prelude.{◌≡◌, ℕ, List, Option, None};
 ghost use Rattle.fg_outside.specs.declared.hub.Happening.{Happening};
 ghost use Rattle.conf_types.specs.Configuration.{Configuration};

@@ -16,7 +16,7 @@ use Rattle.of13_codec.specs.declared.message.Message.TheVariants as messages
 use Rattle.of13_codec.specs.Messages.{flow_mod_target, flow_mod_terms, flow_mod_filter}
 use Rattle.of13_codec.specs.WellFormed.{IsFlowMod, FitsFrame}
 use Rattle.plan_base.specs.Accepted.{IsFlowEntry}
-use Rattle.law_lengths.specs.Short.{count_actions, IsShort}
+use Rattle.law_entries.specs.Short.{count_actions, IsShort}
 
 -- ---- what the codec says of lengths
 

@@ -21,10 +21,10 @@ use Rattle.of_match.specs.Settled.{SettlesInTurn}
 use Rattle.of_match.specs.Shaped.{IsShaped}
 use Rattle.packet_way.specs.Description.{sends}
 use Rattle.plan_base.specs.Accepted.{IsFlowEntry}
-use Rattle.flow_runs.specs.Runs.{SendsJust}
+use Rattle.law_runs.specs.Runs.{SendsJust}
 use Rattle.plan_units.specs.Laws.{IsSetting}
 use Rattle.plan_units.specs.Units.{plan}
-use Rattle.law_lengths.specs.Short.{IsShort}
+use Rattle.law_entries.specs.Short.{IsShort}
 use Rattle.cold_start.specs.Cold.{cold}
 use Rattle.of13_codec.specs.Messages.{written}
 use Rattle.of13_codec.specs.Spelling.{Spells}

@@ -8,7 +8,7 @@ use Rattle.of_match.specs.declared.packet.Packet.{Packet}
 use Rattle.of_match.specs.Settled.{SettlesInTurn}
 use Rattle.of_match.specs.Shaped.{IsShaped}
 use Rattle.packet_way.specs.Description.{sends}
-use Rattle.flow_runs.specs.Runs.{SendsJust}
+use Rattle.law_runs.specs.Runs.{SendsJust}
 use Rattle.cold_start.specs.Cold.{cold}
 use Rattle.of_wire.specs.Grammar.{Then}
 use Rattle.of13_codec.specs.Messages.{written}

@@ -13,9 +13,9 @@ pub fn an_opening_batch_opens_the_datapath()
 {
     of_wire::laws::parts_take_few_bytes();
     of13_codec::laws::written_message_is_spelled();
-    law_lengths::laws::each_entry_is_short();
+    law_entries::lengths::each_entry_is_short();
     cold_start::laws::a_cold_start_is_the_plan_in_key_order();
     cold_start::laws::a_switch_accepts_each_entry();
     cold_start::laws::a_switch_holds_the_cold_start();
-    cold_laws::laws::a_cold_start_sends_each_packet_as_described();
+    law_plans::cold::a_cold_start_sends_each_packet_as_described();
 }

@@ -17,7 +17,7 @@ use Rattle.of_match.specs.Hit.{agrees, hits, value_of, vid_value, outermost}
 use Rattle.of_match.specs.Shaped.{IsShaped, IsTag}
 use Rattle.conf_types.specs.Lists.{is_same}
 use Rattle.plan_base.specs.Fields.{in_port, eth_dst, eth_src, eth_type, vid_field, untagged}
-use Rattle.flow_runs.specs.Tests.{agrees_exact}
+use Rattle.law_runs.specs.Tests.{agrees_exact}
 
 -- ---- texts and addresses
 

@@ -21,7 +21,7 @@ use Rattle.conf_types.specs.Valid.{IsValid, IsMirror}
 use Rattle.packet_way.specs.Leaving.{copies, as_sent, without_tag}
 use Rattle.plan_base.specs.Actions.{out, to_ingress, pop_tag}
 use Rattle.plan_base.specs.Sending.{outs, mirrored, copied, sent}
-use Rattle.flow_runs.specs.Members.{of_all, all_by, all_filtered}
+use Rattle.law_runs.specs.Members.{of_all, all_by, all_filtered}
 use Rattle.plan_units.specs.Facts.{found, port_number, port_in, port_is, one_port}
 
 unequal : (m n : ℕ) → (m ≡ n → ⊥) → (m == n) ≡ false

@@ -11,7 +11,7 @@ use Rattle.conf_types.specs.Configuration.{Configuration, dp_with, port_with, vl
 use Rattle.conf_types.specs.Lists.{EachBefore}
 use Rattle.conf_types.specs.Valid.{IsValid, IsDatapath, IsVlan}
 use Rattle.conf_types.specs.Valid as conditions
-use Rattle.flow_runs.specs.Members.{head_of, tail_of, of_all}
+use Rattle.law_runs.specs.Members.{head_of, tail_of, of_all}
 
 -- ---- what is found
 

@@ -32,7 +32,7 @@ use Rattle.packet_way.specs.Source.{heard}
 use Rattle.packet_way.specs.Verdict.{acl_sends, is_allowed}
 use Rattle.plan_base.specs.Entries.{table_number}
 use Rattle.vlan_compile.specs.Admissions.{next_in}
-use Rattle.flow_runs.specs.Runs.{SendsJust}
+use Rattle.law_runs.specs.Runs.{SendsJust}
 use Rattle.plan_units.specs.Units.{plan}
 
 -- ---- of what the laws speak

@@ -17,7 +17,7 @@ use Rattle.conf_types.specs.State.{State, IsValidState, IsHost}
 use Rattle.conf_types.specs.Valid.{IsValid, IsDatapath, IsVlan, vlans_named}
 use Rattle.conf_types.specs.Valid as conditions
 use Rattle.vlan_compile.specs.Vlans.{native_vlan, tagged_vlans, vlans_of}
-use Rattle.flow_runs.specs.Members.{head_of, tail_of, of_all, in_front, behind}
+use Rattle.law_runs.specs.Members.{head_of, tail_of, of_all, in_front, behind}
 use Rattle.plan_units.specs.Facts.{found, some_passes}
 
 -- ---- the VLANs of an interface are the configuration's

@@ -15,7 +15,7 @@ use Rattle.of_match.specs.Hit.{hits}
 use Rattle.of_match.specs.Pipeline.{takes, sends_by, goes_on, actions_of, next_table}
 use Rattle.plan_base.specs.declared.table.Table.{Table}
 use Rattle.plan_base.specs.Entries.{table_number, leads_to, entry}
-use Rattle.flow_runs.specs.Decided.{Does, Follows}
+use Rattle.law_runs.specs.Decided.{Does, Follows}
 use Rattle.plan_units.specs.Tables.{AtTable}
 
 -- an entry that takes a packet in a table stands in it, and its match hits

@@ -39,7 +39,7 @@ use Rattle.vlan_compile.specs.Vlans.{native_vlan, tagged_vlans, vlans_of}
 use Rattle.route_compile.specs.Gateways.{has_gateway}
 use Rattle.route_compile.specs.Routes.{fib, item_entry, no_route}
 use Rattle.route_compile.specs.Vips.{vip_slice, arp_entry}
-use Rattle.flow_runs.specs.Members.{all_joined, all_mapped, all_flat, all_if, all_of_option, all_by}
+use Rattle.law_runs.specs.Members.{all_joined, all_mapped, all_flat, all_if, all_of_option, all_by}
 use Rattle.plan_units.specs.Fixed.{drops, bridge_drops, lldp_drops, broadcast_drops, spoofed_drops, drop, gateways, from_group, passes, fixed}
 use Rattle.plan_units.specs.Units.{of_port, of_vlan, of_host, of_routes, hosts_of, plan}
 

@@ -1,8 +1,0 @@
-pub mod Counts
-pub mod Targets
-pub mod RuleHits
-pub mod FirstRule
-pub mod AclsLead
-pub mod Families
-pub mod Ports
-pub mod VlanAcls

@@ -1,5 +1,0 @@
-use Rattle.law_acls.proofs.VlanAcls.{law}
-use Rattle.law_acls.proofs.laws.table_2_does_as_the_acls_of_vlans_say.Goals as goal
-
-pub returns : goal.returns
-returns c = λ conf now d setting. law conf now d setting

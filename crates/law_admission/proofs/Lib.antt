@@ -1,3 +1,0 @@
-pub mod Dropped
-pub mod Tags
-pub mod Admissions

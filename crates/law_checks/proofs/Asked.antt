@@ -1,0 +1,157 @@
+-- The fields of a rule say what its match keys ask for.
+use Rattle.std.proofs.Common.{◌≡◌, ℕ, pos, ◌≤◌, Bool, true, false, List, [], ◌∷◌, ◌++◌, Option, Some, None, refl, sym, ap, ◌∙◌, inl, inr, ◌⊎◌, subst, arith, eqb-true}
+use Rattle.std.specs.Prelude.{codes, IfSome, MatchOption, ◌==◌, if◌then◌else◌}
+use Rattle.std.specs.List.{AllByRecursion}
+use Rattle.std.specs.Option.{option_map}
+use Rattle.net_base.specs.declared.field.FieldId.{FieldId}
+use Rattle.net_base.specs.declared.field.FieldId.TheVariants.{EthDst, EthSrc, EthType, VlanVid, VlanPcp, IpProto, Ipv4Src, Ipv4Dst, TcpSrc, TcpDst, UdpSrc, UdpDst, Icmpv4Type, Icmpv4Code, ArpOp, ArpSpa, ArpTpa}
+use Rattle.net_base.specs.Field.{exact}
+use Rattle.net_base.specs.AddressReading.{◌>>=◌, spelled_mac, ip4_of, net4_of, cut_at}
+use Rattle.net_base.proofs.Addresses.{mac_ok, ip4_ok, net4_ok}
+use Rattle.yaml_subset.specs.declared.tree.Pair.{Pair}
+use Rattle.yaml_subset.specs.declared.tree.Tree.{Tree}
+use Rattle.yaml_subset.specs.declared.tree.Tree.TheOpen as tree
+use Rattle.conf_shape.specs.declared.kinds.Kind.{Kind}
+use Rattle.conf_shape.specs.declared.kinds.Kind.TheVariants.{One}
+use Rattle.conf_shape.specs.declared.kinds.Scalar.TheVariants.{Number, MaskedMac, Prefix}
+use Rattle.conf_shape.specs.declared.kinds.MapKind.TheVariants as maps
+use Rattle.conf_shape.specs.declared.kinds.Need.TheVariants.{Never}
+use Rattle.conf_shape.specs.declared.raw.RawField.{RawField}
+use Rattle.conf_shape.specs.Addresses.{mac_fault, masked_fault, masked_parts, other_cause, network_fault, address_or}
+use Rattle.conf_shape.specs.Keys.{Nothing, row, keys_of}
+use Rattle.conf_shape.specs.Sections.{row_at}
+use Rattle.conf_shape.specs.Faults.{faults_of}
+use Rattle.conf_shape.specs.Scalars.{within}
+use Rattle.conf_shape.specs.Values.{match_keys, number_field, mac_number, masked, mac_parts, mac_field, ip_field, text_field, field_in, field_of, spelled_at, raw_field, ahead, fields_by}
+use Rattle.conf_shape.specs.Written.{IsRight}
+use Rattle.law_checks.specs.Values.{IsText}
+use Rattle.law_checks.specs.Fields.{AsksNumber, AsksMac, AsksMaskedMac, AsksAddress, AsksPrefix, Asks, FieldSays, FieldsSay}
+use Rattle.law_checks.proofs.Values.{within_again, number_right, text_right}
+use Rattle.law_checks.proofs.Fields.{spelled_right}
+
+-- ---- values
+
+number_asks : (id : FieldId) (low high : ℕ) → high ≤ 0xffff → (t : Tree) → faults_of t (One (Number low high)) ≡ [] → AsksNumber id t (field_of id t)
+number_asks id low high small t h =
+    let r = number_right low high t h in
+    let read : within 0 0xffff (pos r.0) ≡ Some r.0 = within_again 0 0xffff r.0 (omega arith) (omega (arith, r.3)) in
+    (r.0, r.1, ap (field_in id) r.1 ∙ ap (option_map (number_field id)) read)
+
+cut_there : (mark : ℕ) (text : List ℕ) (parts : List ℕ × List ℕ) → cut_at mark text ≡ Some parts → text ≡ parts.0 ++ mark ∷ parts.1
+cut_there mark [] parts e = absurd cc
+cut_there mark (b ∷ bs) parts e = by (b == mark) refl (cut_at mark bs) e (cut_there mark bs)
+  where
+    by : (is : Bool) → (b == mark) ≡ is → (read : Option (List ℕ × List ℕ)) → (if is then Some ([], bs) else (read >>= λ cut. Some (b ∷ cut.0, cut.1))) ≡ Some parts → ((parts : List ℕ × List ℕ) → read ≡ Some parts → bs ≡ parts.0 ++ mark ∷ parts.1) → b ∷ bs ≡ parts.0 ++ mark ∷ parts.1
+    by true is read e later = let same : ([], bs) ≡ parts = cc in subst (λ (parts : List ℕ × List ℕ). b ∷ bs ≡ parts.0 ++ mark ∷ parts.1) same (ap (λ b. b ∷ bs) (eqb-true b mark is))
+    by false is None e later = absurd cc
+    by false is (Some cut) e later = let same : (b ∷ cut.0, cut.1) ≡ parts = cc in subst (λ (parts : List ℕ × List ℕ). b ∷ bs ≡ parts.0 ++ mark ∷ parts.1) same (ap (λ bs. b ∷ bs) (later cut refl))
+
+module _ (id : FieldId) where
+  mac_asks : ((text : List ℕ) → text_field id text ≡ mac_field id text) → (t : Tree) → faults_of t (One MaskedMac) ≡ [] → AsksMac id t (field_of id t) ⊎ AsksMaskedMac id t (field_of id t)
+  mac_asks by_mac t h =
+      let r = text_right MaskedMac (record { no_flag = refl; no_number = λ n. refl }) t h in
+      subst (λ asked. AsksMac id t asked ⊎ AsksMaskedMac id t asked) (sym (ap (field_in id) r.1 ∙ by_mac r.0)) (by r.0 r.1 (cut_at 47 r.0) refl r.2)
+    where
+      alone : (text : List ℕ) → IsText t text → (read : Option (List ℕ)) → spelled_mac text ≡ read → mac_fault read ≡ None → AsksMac id t (option_map (exact id) (mac_number read))
+      alone text is None e f = absurd cc
+      alone text is (Some mac) e f = record { text = text; mac = mac; is = is; spelled = mac_ok text mac e; field = refl }
+
+      two : (before behind : List ℕ) → IsText t (before ++ 47 ∷ behind) → (value mask : Option (List ℕ)) → spelled_mac before ≡ value → spelled_mac behind ≡ mask → masked_fault value mask ≡ None → AsksMaskedMac id t (masked id (mac_number value) (mac_number mask))
+      two before behind is (Some value) (Some mask) v m f = record { before = before; behind = behind; value = value; mask = mask; is = is; value_spelled = mac_ok before value v; mask_spelled = mac_ok behind mask m; field = refl }
+      two before behind is (Some value) None v m f = absurd cc
+      two before behind is None mask v m f = absurd cc
+
+      by : (text : List ℕ) → IsText t text → (o : Option (List ℕ × List ℕ)) → cut_at 47 text ≡ o → masked_parts text o ≡ None → AsksMac id t (mac_parts id text o) ⊎ AsksMaskedMac id t (mac_parts id text o)
+      by text is None e f = inl (alone text is (spelled_mac text) refl f)
+      by text is (Some parts) e f = inr (two parts.0 parts.1 (is ∙ ap tree.Text (cut_there 47 text parts e)) (spelled_mac parts.0) (spelled_mac parts.1) refl refl f)
+
+  ip_asks : ((text : List ℕ) → text_field id text ≡ ip_field id (ip4_of text) (net4_of text)) → (t : Tree) → faults_of t (One Prefix) ≡ [] → AsksAddress id t (field_of id t) ⊎ AsksPrefix id t (field_of id t)
+  ip_asks by_ip t h =
+      let r = text_right Prefix (record { no_flag = refl; no_number = λ n. refl }) t h in
+      subst (λ asked. AsksAddress id t asked ⊎ AsksPrefix id t asked) (sym (ap (field_in id) r.1 ∙ by_ip r.0)) (by r.0 r.1 (ip4_of r.0) (net4_of r.0) refl refl r.2)
+    where
+      by : (text : List ℕ) → IsText t text → (ip : Option ℕ) (net : Option (ℕ × ℕ)) → ip4_of text ≡ ip → net4_of text ≡ net → address_or (network_fault (other_cause text) net) ip ≡ None → AsksAddress id t (ip_field id ip net) ⊎ AsksPrefix id t (ip_field id ip net)
+      by text is (Some ip) net i n f = let ok = ip4_ok text ip i in inl (record { ip = ip; below = ok.1; is = is ∙ ap tree.Text ok.0; field = refl })
+      by text is None (Some net) i n f = let ok = net4_ok text net n in inr (record { ip = net.0; len = net.1; below = ok.1; short = ok.2; is = is ∙ ap tree.Text ok.0; field = refl })
+      by text is None None i n f = absurd cc
+
+-- ---- keys
+
+abbrev Told : List Pair → List ℕ × FieldId → Type 0
+Told pairs k = IfSome (spelled_at (keys_of maps.Rule).spellings k.0 pairs) (λ p. Asks k.1 p.value (field_of k.1 p.value))
+
+fields_told : (pairs : List Pair) (ks : List (List ℕ × FieldId)) → AllByRecursion (Told pairs) ks → FieldsSay ks pairs (fields_by (keys_of maps.Rule).spellings ks pairs)
+fields_told pairs [] all = refl
+fields_told pairs (k ∷ ks) all = by (spelled_at (keys_of maps.Rule).spellings k.0 pairs) all.0 (fields_told pairs ks all.1)
+  where
+    rest : List RawField
+    rest = fields_by (keys_of maps.Rule).spellings ks pairs
+
+    by : (o : Option Pair) → IfSome o (λ p. Asks k.1 p.value (field_of k.1 p.value)) → FieldsSay ks pairs rest → MatchOption o (FieldsSay ks pairs (ahead (raw_field k.1 o) rest)) (λ p. FieldSays k.1 p (FieldsSay ks pairs) (ahead (raw_field k.1 o) rest))
+    by None h more = more
+    by (Some p) h more = (field_of k.1 p.value, h, rest, refl, more)
+
+module _ (pairs : List Pair) (right : IsRight maps.Rule pairs) where
+  told : (name : List ℕ) (id : FieldId) (kind : Kind) → row_at name (keys_of maps.Rule).rows ≡ Some (row name kind Never Nothing) → ((t : Tree) → faults_of t kind ≡ [] → Asks id t (field_of id t)) → Told pairs (name, id)
+  told name id kind at each = by (spelled_at (keys_of maps.Rule).spellings name pairs) (spelled_right name (row name kind Never Nothing) at [] pairs right)
+    where
+      by : (o : Option Pair) → IfSome o (λ p. faults_of p.value kind ≡ []) → IfSome o (λ p. Asks id p.value (field_of id p.value))
+      by None h = tt
+      by (Some p) h = each p.value h
+
+  every_told : AllByRecursion (Told pairs) match_keys
+  every_told = (
+    told (codes "eth_src") EthSrc (One MaskedMac) refl (mac_asks EthSrc (λ text. refl)),
+    (
+      told (codes "eth_dst") EthDst (One MaskedMac) refl (mac_asks EthDst (λ text. refl)),
+      (
+        told (codes "eth_type") EthType (One (Number 0 0xffff)) refl (number_asks EthType 0 0xffff (omega arith)),
+        (
+          told (codes "vlan_vid") VlanVid (One (Number 1 4094)) refl (number_asks VlanVid 1 4094 (omega arith)),
+          (
+            told (codes "vlan_pcp") VlanPcp (One (Number 0 7)) refl (number_asks VlanPcp 0 7 (omega arith)),
+            (
+              told (codes "ip_proto") IpProto (One (Number 0 255)) refl (number_asks IpProto 0 255 (omega arith)),
+              (
+                told (codes "ipv4_src") Ipv4Src (One Prefix) refl (ip_asks Ipv4Src (λ text. refl)),
+                (
+                  told (codes "ipv4_dst") Ipv4Dst (One Prefix) refl (ip_asks Ipv4Dst (λ text. refl)),
+                  (
+                    told (codes "tcp_src") TcpSrc (One (Number 0 0xffff)) refl (number_asks TcpSrc 0 0xffff (omega arith)),
+                    (
+                      told (codes "tcp_dst") TcpDst (One (Number 0 0xffff)) refl (number_asks TcpDst 0 0xffff (omega arith)),
+                      (
+                        told (codes "udp_src") UdpSrc (One (Number 0 0xffff)) refl (number_asks UdpSrc 0 0xffff (omega arith)),
+                        (
+                          told (codes "udp_dst") UdpDst (One (Number 0 0xffff)) refl (number_asks UdpDst 0 0xffff (omega arith)),
+                          (
+                            told (codes "icmpv4_type") Icmpv4Type (One (Number 0 255)) refl (number_asks Icmpv4Type 0 255 (omega arith)),
+                            (
+                              told (codes "icmpv4_code") Icmpv4Code (One (Number 0 255)) refl (number_asks Icmpv4Code 0 255 (omega arith)),
+                              (
+                                told (codes "arp_op") ArpOp (One (Number 0 0xffff)) refl (number_asks ArpOp 0 0xffff (omega arith)),
+                                (
+                                  told (codes "arp_spa") ArpSpa (One Prefix) refl (ip_asks ArpSpa (λ text. refl)),
+                                  (
+                                    told (codes "arp_tpa") ArpTpa (One Prefix) refl (ip_asks ArpTpa (λ text. refl)),
+                                    tt,
+                                  ),
+                                ),
+                              ),
+                            ),
+                          ),
+                        ),
+                      ),
+                    ),
+                  ),
+                ),
+              ),
+            ),
+          ),
+        ),
+      ),
+    ),
+  )
+
+  pub fields_say : FieldsSay match_keys pairs (fields_by (keys_of maps.Rule).spellings match_keys pairs)
+  fields_say = fields_told pairs match_keys every_told

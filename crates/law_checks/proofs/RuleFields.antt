@@ -1,0 +1,112 @@
+-- A rule that is in range and lacks no field is valid: its fields make a match.
+use Rattle.std.specs.Prelude.{◌≡◌, ℕ, ◌+◌, ◌-◌, ◌^◌, ◌<◌, ◌≤◌, Bool, true, false, List, [], ◌∷◌, map, Option, Some, None, IfSome, IsTrue, nat_lt}
+use Rattle.std.specs.List.{AllByRecursion, flat_map, list_any}
+use Rattle.std.specs.Option.{option_map_or}
+use Rattle.std.proofs.Common.{refl, sym, subst, arith}
+use Rattle.std.proofs.lemmas.Nat.{and_le_r, pow_pos}
+use Rattle.net_base.specs.declared.field.Field.{Field}
+use Rattle.net_base.specs.declared.field.FieldId.{FieldId}
+use Rattle.net_base.specs.declared.field.FieldId.TheVariants.{InPort, EthDst, EthSrc, EthType, VlanVid, VlanPcp, IpProto, Ipv4Src, Ipv4Dst, TcpSrc, TcpDst, UdpSrc, UdpDst, Icmpv4Type, Icmpv4Code, ArpOp, ArpSpa, ArpTpa}
+use Rattle.net_base.specs.declared.field.Prerequisite.{Prerequisite}
+use Rattle.net_base.specs.FieldId.{number_of, prerequisite_of, all_ones}
+use Rattle.net_base.specs.WellFormed.{Fits, AreAscending, has_prerequisite, meets}
+use Rattle.conf_types.specs.Lists.{EachBefore}
+use Rattle.conf_types.specs.RuleFields.{MayAsk, IsNumber, IsMacMask, IsPrefix}
+use Rattle.conf_types.specs.Valid.{IsRule, NamesPort}
+use Rattle.conf_shape.specs.declared.raw.RawField.{RawField}
+use Rattle.conf_shape.specs.declared.raw.RawOutput.{RawOutput}
+use Rattle.conf_shape.specs.declared.raw.RawRule.{RawRule}
+use Rattle.conf_resolve.specs.InOrder.{in_order}
+use Rattle.conf_resolve.specs.InRange.{OutputIsInRange, RuleIsInRange}
+use Rattle.conf_resolve.specs.Resolved.{items_of, ports_of, rule_of, to_list}
+use Rattle.law_checks.proofs.Members.{IsIn, of_all, all_by, all_mapped, all_joined, all_flat, of_mapped, some_of, any_by, before_mapped, before_both}
+use Rattle.law_checks.proofs.Orders.{of_order, into_order, all_ordered, each_ordered, sorted, number_order, rises_apart}
+
+-- ---- what a field may be asked for has as many bytes as the field
+
+record IsWithin (most : ℕ) (f : Field) : Type 0 where
+  value : f.value ≤ most
+  mask : f.mask ≤ most
+
+of_number : (least most bound : ℕ) (f : Field) → most ≤ bound → all_ones f.id ≤ bound → IsNumber least most f → IsWithin bound f
+of_number least most bound f le ones is = record { value = omega (arith, is.to); mask = omega (arith, is.whole) }
+
+of_mac : (f : Field) → IsMacMask f → IsWithin (2 ^ 48 - 1) f
+of_mac f is = record { value = subst (λ v. v ≤ 2 ^ 48 - 1) is.within (omega (arith, and_le_r f.value f.mask, is.most)); mask = omega (arith, is.most) }
+
+of_prefix : (f : Field) → IsPrefix f → IsWithin (2 ^ 32 - 1) f
+of_prefix f is = record { value = omega (arith, is.most); mask = omega (arith, is.mask, pow_pos is.host_bits) }
+
+within : (id : FieldId) (f : Field) → all_ones f.id ≤ all_ones id → MayAsk id f → IsWithin (all_ones id) f
+within InPort f ones is = absurd is
+within EthDst f ones is = of_mac f is
+within EthSrc f ones is = of_mac f is
+within EthType f ones is = of_number 0 0xffff 65535 f (omega arith) ones is
+within VlanVid f ones is = of_number (0x1000 + 1) (0x1000 + 4094) 65535 f (omega arith) ones is
+within VlanPcp f ones is = of_number 0 7 255 f (omega arith) ones is
+within IpProto f ones is = of_number 0 255 255 f (omega arith) ones is
+within Ipv4Src f ones is = of_prefix f is
+within Ipv4Dst f ones is = of_prefix f is
+within TcpSrc f ones is = of_number 0 65535 65535 f (omega arith) ones is
+within TcpDst f ones is = of_number 0 65535 65535 f (omega arith) ones is
+within UdpSrc f ones is = of_number 0 65535 65535 f (omega arith) ones is
+within UdpDst f ones is = of_number 0 65535 65535 f (omega arith) ones is
+within Icmpv4Type f ones is = of_number 0 255 255 f (omega arith) ones is
+within Icmpv4Code f ones is = of_number 0 255 255 f (omega arith) ones is
+within ArpOp f ones is = of_number 0 65535 65535 f (omega arith) ones is
+within ArpSpa f ones is = of_prefix f is
+within ArpTpa f ones is = of_prefix f is
+
+fits : (f : Field) → MayAsk f.id f → Fits f
+fits f is = let w = within f.id f (omega arith) is in record { value = w.value; mask = w.mask }
+
+-- ---- in order
+
+ascending : (fs : List Field) → EachBefore (λ (f g : Field). number_of f.id < number_of g.id) fs → AreAscending fs
+ascending [] r = tt
+ascending (f ∷ fs) r = (r.0, ascending fs r.1)
+
+-- what stands somewhere stands there in another order
+still_asked : (before : Field → Field → Bool) (fs : List Field) (id : FieldId) → has_prerequisite id fs ≡ true → has_prerequisite id (in_order before fs) ≡ true
+still_asked before fs id = by (prerequisite_of id)
+  where
+    by : (o : Option Prerequisite) → option_map_or (λ p. list_any (meets p) fs) o true ≡ true → option_map_or (λ p. list_any (meets p) (in_order before fs)) o true ≡ true
+    by None is = refl
+    by (Some p) is = let m = some_of (meets p) fs is in any_by (meets p) (in_order before fs) m.0 (into_order before fs m.0 m.1) m.2
+
+-- ---- the ports that are named by their numbers
+
+of_option : {A : Type 0} (P : A → Type 0) (o : Option A) → IfSome o P → AllByRecursion P (to_list o)
+of_option P None h = tt
+of_option P (Some x) h = (h, tt)
+
+ports_in_range : (o : RawOutput) → OutputIsInRange o → AllByRecursion NamesPort (ports_of o)
+ports_in_range o range = all_joined NamesPort (to_list o.port) o.ports (of_option NamesPort o.port range.port) range.ports
+
+-- ---- the rule
+
+pub rule_valid : (r : RawRule) → RuleIsInRange r → ((f : RawField) → IsIn r.fields f → has_prerequisite f.field.id (map (λ g. g.field) r.fields) ≡ true) → IsRule (rule_of r)
+rule_valid r range asked = record {
+  fields = record {
+    ascending = ascending (in_order before fields) (before_both (λ (f g : Field). nat_lt (number_of g.id) (number_of f.id) ≡ false) (λ f g. number_of f.id ≡ number_of g.id → ⊥) (λ f g. number_of f.id < number_of g.id) (in_order before fields)
+        (sorted before (number_order (λ (f : Field). number_of f.id)) fields)
+        (each_ordered (λ (f g : Field). number_of f.id ≡ number_of g.id → ⊥) before fields (λ f g other same. other (sym same)) (before_mapped (λ (f g : Field). number_of f.id ≡ number_of g.id → ⊥) (λ (f : RawField). f.field) r.fields range.once))
+        (λ f g not other. rises_apart (number_of f.id) (number_of g.id) not other));
+    fitting = all_by Fits (in_order before fields) (λ f i. fits f (of_all (λ (f : Field). MayAsk f.id f) (in_order before fields) each f i));
+    prerequisites = all_by (λ f. IsTrue (has_prerequisite f.id (in_order before fields))) (in_order before fields) (λ f i.
+        let m = of_mapped (λ (f : RawField). f.field) r.fields f (of_order before fields f i) in
+        still_asked before fields f.id (subst (λ (g : Field). has_prerequisite g.id fields ≡ true) m.2 (asked m.0 m.1)));
+  };
+  each = each;
+  ports = all_joined NamesPort (to_list r.mirror) (flat_map ports_of (items_of r.output)) (of_option NamesPort r.mirror range.mirror)
+      (all_flat NamesPort ports_of (items_of r.output) (all_by (λ o. AllByRecursion NamesPort (ports_of o)) (items_of r.output) (λ o i. ports_in_range o (of_all OutputIsInRange (items_of r.output) range.output o i))));
+}
+  where
+    fields : List Field
+    fields = map (λ f. f.field) r.fields
+
+    before : Field → Field → Bool
+    before f g = nat_lt (number_of f.id) (number_of g.id)
+
+    each : AllByRecursion (λ (f : Field). MayAsk f.id f) (in_order (λ f g. nat_lt (number_of f.id) (number_of g.id)) (map (λ f. f.field) r.fields))
+    each = all_ordered (λ (f : Field). MayAsk f.id f) (λ f g. nat_lt (number_of f.id) (number_of g.id)) (map (λ f. f.field) r.fields) (all_mapped (λ (f : Field). MayAsk f.id f) (λ (f : RawField). f.field) r.fields range.each)

@@ -1,0 +1,356 @@
+-- A raw configuration says what its document says, part by part, the least first.
+use Rattle.std.proofs.Common.{◌≡◌, ℕ, ◌-◌, ◌^◌, ◌≤◌, Bool, true, false, List, [], ◌∷◌, Option, Some, None, Ok, refl, sym, subst, arith}
+use Rattle.std.specs.Prelude.{map, codes, IfSome, IsSomeAnd, MatchOption, unwrap_or, option_and_then}
+use Rattle.std.specs.Option.{option_map, option_map_or}
+use Rattle.net_base.specs.AddressReading.{spelled_mac, pair_at, next_at}
+use Rattle.yaml_subset.specs.declared.tree.Key.{Key}
+use Rattle.yaml_subset.specs.declared.tree.Pair.{Pair}
+use Rattle.yaml_subset.specs.declared.tree.Tree.{Tree, out-Tree}
+use Rattle.conf_types.specs.declared.acl.PortRef.TheVariants as port_refs
+use Rattle.conf_types.specs.declared.vlan.Route.{Route}
+use Rattle.conf_shape.specs.declared.refused.ConfCause.TheVariants.{OutOfRange}
+use Rattle.conf_shape.specs.declared.kinds.Kind.{Kind}
+use Rattle.conf_shape.specs.declared.kinds.Kind.TheVariants.{One, Several, OneOrSeveral, Given, Map, Maps, MapOrMaps}
+use Rattle.conf_shape.specs.declared.kinds.MapKind.{MapKind}
+use Rattle.conf_shape.specs.declared.kinds.MapKind.TheVariants as maps
+use Rattle.conf_shape.specs.declared.kinds.Need.TheVariants.{Always, UnlessNumbered}
+use Rattle.conf_shape.specs.declared.kinds.Scalar.{Scalar}
+use Rattle.conf_shape.specs.declared.kinds.Scalar.TheVariants.{Flag, Number, Name, Words, Label, Reference, Permission, StationMac, Vip, Destination, Gateway}
+use Rattle.conf_shape.specs.declared.raw.OneOrList.TheVariants as several
+use Rattle.conf_shape.specs.declared.raw.RawConf.{RawConf}
+use Rattle.conf_shape.specs.declared.raw.RawOutput.{RawOutput}
+use Rattle.conf_shape.specs.declared.raw.RawRouter.{RawRouter}
+use Rattle.conf_shape.specs.declared.raw.RawRule.{RawRule}
+use Rattle.conf_shape.specs.declared.raw.RawStackEnd.{RawStackEnd}
+use Rattle.conf_shape.specs.Faults.{faults_of, first_fault}
+use Rattle.conf_shape.specs.Keys.{Nothing, OwnKey, row, keys_of}
+use Rattle.conf_shape.specs.Raw.{acls_at, names_by, port_flags, port_with, port_of_entry, drop_flags, datapath_with, datapath_of_entry, vip_of, route_of, mac_at, vlan_with, vlan_of_entry, output_of, rule_with, rule_of, acl_of_entry, router_of_entry, raw_of}
+use Rattle.conf_shape.specs.Reads.{value_at, flag_of, permission_of, number_of, text_of, words_of, items_of, entries_of, words_at, entries_at, option_at, list_at, one_or_list_of, default_of, default_flag, default_number, default_text, flag_at, number_at, text_at, label_of, port_of, vlan_of}
+use Rattle.conf_shape.specs.Sections.{key_text, row_at, named_kind, number_or_name}
+use Rattle.conf_shape.specs.Values.{mac_of, net_of, ip_of}
+use Rattle.conf_shape.specs.Written.{IsRight, Takes, IsTextAlone}
+use Rattle.law_checks.specs.Values as says
+use Rattle.law_checks.specs.Values.{IsFlag, IsNumber, IsText, IsPermission, IsLabelOf, IsVlanOf, IsPortOf, IsMac, IsAddress, IsNetwork, Each, IsList, IsOneOrList, IsMap, AreMaps, Needed, IsNumbered}
+use Rattle.law_checks.specs.Says.{NamesSay, AclNamesSay, PortFlagsSay, StackEndSays, PortSays, DropFlagsSay, PrioritySays, DpSays, RouteSays, RouteItemSays, VlanSays, OutputSays, ActionsSay, RuleSays, RuleItemSays, AclSays, RouterSays, TopSays, Says}
+use Rattle.law_checks.proofs.Right.{document_fine, each_right, value_right}
+use Rattle.law_checks.proofs.Values.{named_right}
+use Rattle.law_checks.proofs.Ranges.{port_takes, vlan_takes, once_right}
+use Rattle.law_checks.proofs.Asked.{fields_say}
+use Rattle.law_checks.proofs.Stands.{stands, is_there, needed_there, flag_stands, number_stands, option_number_stands, text_stands, permission_stands, label_stands, vlan_stands, port_stands, mac_stands, vip_stands, destination_stands, gateway_stands, each_map, list_stands, map_stands, ports_stand, maps_stand, IsRightBy, numbered_stands, numbered_found}
+
+-- ---- keys
+
+-- what stands under a key that always stands
+needed : {A : Type 0} (m : MapKind) (name : List ℕ) (kind : Kind) → row_at name (keys_of m).rows ≡ Some (row name kind Always Nothing) → Takes m name kind
+    → (P : Tree → A → Type 0) (read : Option Tree → A) → ((t : Tree) → faults_of t kind ≡ [] → P t (read (Some t))) → (pairs : List Pair) → IsRight m pairs → Needed name pairs (λ t. P t (read (value_at name pairs)))
+needed m name kind at takes P read some pairs right = is_there P kind read some (value_at name pairs) (needed_there m (row name kind Always Nothing) at refl pairs right) (value_right m name kind takes pairs right)
+
+module _ (m : MapKind) (name : List ℕ) (pairs : List Pair) where
+  flag_says : (default : Bool) → default_flag (default_of m name) ≡ default → IfSome (value_at name pairs) (λ t. faults_of t (One Flag) ≡ []) → says.Given name pairs (flag_at m name pairs ≡ default) (λ t. IsFlag t (flag_at m name pairs))
+  flag_says default is h = stands IsFlag (One Flag) (λ o. unwrap_or (option_and_then flag_of o) (default_flag (default_of m name))) default is (flag_stands (default_flag (default_of m name))) (value_at name pairs) h
+
+  number_says : (low high default : ℕ) → high ≤ 2 ^ 32 - 1 → default_number (default_of m name) ≡ default → IfSome (value_at name pairs) (λ t. faults_of t (One (Number low high)) ≡ []) → says.Given name pairs (number_at m name pairs ≡ default) (λ t. IsNumber t (number_at m name pairs))
+  number_says low high default small is h =
+      stands IsNumber (One (Number low high)) (λ o. unwrap_or (option_and_then (number_of 0 (2 ^ 32 - 1)) o) (default_number (default_of m name))) default is (number_stands low high (2 ^ 32 - 1) (default_number (default_of m name)) small) (value_at name pairs) h
+
+  text_says : (s : Scalar) (own default : List ℕ) → IsTextAlone s → default_text own (default_of m name) ≡ default → IfSome (value_at name pairs) (λ t. faults_of t (One s) ≡ []) → says.Given name pairs (text_at m name own pairs ≡ default) (λ t. IsText t (text_at m name own pairs))
+  text_says s own default alone is h = stands IsText (One s) (λ o. unwrap_or (option_and_then text_of o) (default_text own (default_of m name))) default is (text_stands s alone (default_text own (default_of m name))) (value_at name pairs) h
+
+names_say : (m : MapKind) (key : Key) (pairs : List Pair) → ((own : List ℕ) → default_text own (default_of m (codes "name")) ≡ own) → ((own : List ℕ) → default_text own (default_of m (codes "description")) ≡ own)
+    → IfSome (value_at (codes "name") pairs) (λ t. faults_of t (One Name) ≡ []) → IfSome (value_at (codes "description") pairs) (λ t. faults_of t (One Name) ≡ []) → NamesSay key pairs (names_by m (key_text key) pairs)
+names_say m key pairs own_key own_name name description = record {
+  key_is = refl;
+  has_name = refl;
+  name = text_says m (codes "name") pairs Name (key_text key) (key_text key) (record { no_flag = refl; no_number = λ n. refl }) (own_key (key_text key)) name;
+  description =
+      let own : List ℕ = (names_by m (key_text key) pairs).name in
+      text_says m (codes "description") pairs Name own own (record { no_flag = refl; no_number = λ n. refl }) (own_name own) description;
+}
+
+acls_say : (pairs : List Pair) → IfSome (value_at (codes "acl_in") pairs) (λ t. faults_of t (One Label) ≡ []) → IfSome (value_at (codes "acls_in") pairs) (λ t. faults_of t (Several Label) ≡ []) → AclNamesSay pairs (acls_at pairs)
+acls_say pairs one list = record {
+  one = stands (λ t name. IsSomeAnd name (IsLabelOf (out-Tree t))) (One Label) (option_map label_of) None refl label_stands (value_at (codes "acl_in") pairs) one;
+  list = stands (λ t names. IsSomeAnd names (IsList (λ item. IsLabelOf (out-Tree item)) t)) (Several Label) (option_map (λ t. map label_of (items_of t))) None refl
+      (list_stands (λ item. IsLabelOf (out-Tree item)) label_of (One Label) label_stands (Several Label) refl refl refl) (value_at (codes "acls_in") pairs) list;
+}
+
+vlans_stand : (t : Tree) → faults_of t (Several (Reference 1 4094)) ≡ [] → IsList (λ item. IsVlanOf (out-Tree item)) t (map vlan_of (items_of t))
+vlans_stand t h = list_stands (λ item. IsVlanOf (out-Tree item)) vlan_of (One (Reference 1 4094)) vlan_stands (Several (Reference 1 4094)) refl refl refl t h
+
+-- ---- interfaces
+
+abbrev end_with : List Pair → RawStackEnd
+end_with pairs = record { dp = words_at (codes "dp") pairs; port = unwrap_or (option_at port_of (codes "port") pairs) (port_refs.Name []) }
+
+end_says : (pairs : List Pair) → IsRight maps.PortStack pairs → StackEndSays pairs (end_with pairs)
+end_says pairs right = record {
+  dp = needed maps.PortStack (codes "dp") (One Words) refl refl IsText (λ o. option_map_or words_of o []) (text_stands Words (record { no_flag = refl; no_number = λ n. refl }) []) pairs right;
+  port = needed maps.PortStack (codes "port") (One (Reference 1 0xffffff00)) refl refl (λ t. IsPortOf (out-Tree t)) (λ o. unwrap_or (option_map port_of o) (port_refs.Name [])) port_stands pairs right;
+}
+
+module _ (number : Option ℕ) (pairs : List Pair) (right : IsRight (maps.Interface number) pairs) where
+  port_takes_one : (name : List ℕ) (s : Scalar) → Takes (maps.Interface None) name (One s) → ((n : ℕ) → Takes (maps.Interface (Some n)) name (One s)) → IfSome (value_at name pairs) (λ t. faults_of t (One s) ≡ [])
+  port_takes_one name s none some = port_takes number name (One s) none some pairs right
+
+  port_flags_say : PortFlagsSay pairs (port_flags pairs)
+  unfolding default_of
+  port_flags_say = record {
+    enabled = flag_says (maps.Interface None) (codes "enabled") pairs true refl (port_takes_one (codes "enabled") Flag refl (λ n. refl));
+    unicast_flood = flag_says (maps.Interface None) (codes "unicast_flood") pairs true refl (port_takes_one (codes "unicast_flood") Flag refl (λ n. refl));
+    opstatus_reconf = flag_says (maps.Interface None) (codes "opstatus_reconf") pairs true refl (port_takes_one (codes "opstatus_reconf") Flag refl (λ n. refl));
+    output_only = flag_says (maps.Interface None) (codes "output_only") pairs false refl (port_takes_one (codes "output_only") Flag refl (λ n. refl));
+    hairpin = flag_says (maps.Interface None) (codes "hairpin") pairs false refl (port_takes_one (codes "hairpin") Flag refl (λ n. refl));
+    permanent_learn = flag_says (maps.Interface None) (codes "permanent_learn") pairs false refl (port_takes_one (codes "permanent_learn") Flag refl (λ n. refl));
+  }
+
+  port_names_say : (key : Key) → NamesSay key pairs (names_by (maps.Interface None) (key_text key) pairs)
+  unfolding default_of
+  port_names_say key = names_say (maps.Interface None) key pairs (λ own. refl) (λ own. refl) (port_takes_one (codes "name") Name refl (λ n. refl)) (port_takes_one (codes "description") Name refl (λ n. refl))
+
+  port_hosts_say : says.Given (codes "max_hosts") pairs (number_at (maps.Interface None) (codes "max_hosts") pairs ≡ 255) (λ t. IsNumber t (number_at (maps.Interface None) (codes "max_hosts") pairs))
+  unfolding default_of
+  port_hosts_say = number_says (maps.Interface None) (codes "max_hosts") pairs 1 16384 255 (omega arith) refl (port_takes_one (codes "max_hosts") (Number 1 16384) refl (λ n. refl))
+
+port_number_right : (number : Option ℕ) (pairs : List Pair) → IsRight (maps.Interface number) pairs → IsRightBy 1 0xffffff00 number (value_at (codes "number") pairs)
+port_number_right None pairs right = (needed_there (maps.Interface None) (row (codes "number") (Given 1 0xffffff00) UnlessNumbered OwnKey) refl refl pairs right, value_right (maps.Interface None) (codes "number") (Given 1 0xffffff00) refl pairs right)
+port_number_right (Some n) pairs right = value_right (maps.Interface (Some n)) (codes "number") (One (Number n n)) refl pairs right
+
+port_says : (key : Key) (number : Option ℕ) → number_or_name 1 0xffffff00 key ≡ Ok number → (pairs : List Pair) → IsRight (maps.Interface number) pairs → PortSays key pairs (port_with key pairs)
+port_says key number found pairs right = record {
+  names = port_names_say number pairs right key;
+  has_number = refl;
+  number = numbered_stands 1 0xffffff00 key number found (value_at (codes "number") pairs) (port_number_right number pairs right);
+  flags = port_flags_say number pairs right;
+  native = stands (λ t native. IsSomeAnd native (IsVlanOf (out-Tree t))) (One (Reference 1 4094)) (option_map vlan_of) None refl vlan_stands (value_at (codes "native_vlan") pairs) (port_takes_one number pairs right (codes "native_vlan") (Reference 1 4094) refl (λ n. refl));
+  tagged = stands (IsList (λ item. IsVlanOf (out-Tree item))) (Several (Reference 1 4094)) (λ o. map vlan_of (option_map_or items_of o [])) [] refl vlans_stand
+      (value_at (codes "tagged_vlans") pairs) (port_takes number (codes "tagged_vlans") (Several (Reference 1 4094)) refl (λ n. refl) pairs right);
+  acls = acls_say pairs (port_takes_one number pairs right (codes "acl_in") Label refl (λ n. refl)) (port_takes number (codes "acls_in") (Several Label) refl (λ n. refl) pairs right);
+  max_hosts = port_hosts_say number pairs right;
+  mirror = stands (IsOneOrList (λ item. IsPortOf (out-Tree item))) (OneOrSeveral (Reference 1 0xffffff00)) (λ o. option_map_or (one_or_list_of port_of) o (several.List [])) (several.List []) refl ports_stand
+      (value_at (codes "mirror") pairs) (port_takes number (codes "mirror") (OneOrSeveral (Reference 1 0xffffff00)) refl (λ n. refl) pairs right);
+  stack = stands (λ t end. IsSomeAnd end (IsMap StackEndSays t)) (Map maps.PortStack) (option_map (λ t. end_with (entries_of t))) None refl (map_stands StackEndSays maps.PortStack end_with end_says) (value_at (codes "stack") pairs) (port_takes number (codes "stack") (Map maps.PortStack) refl (λ n. refl) pairs right);
+}
+
+ports_say : (pairs : List Pair) → IsRight maps.Interfaces pairs → AreMaps PortSays pairs (map port_of_entry pairs)
+ports_say pairs right =
+    each_map (λ p port. IsMap (PortSays p.key) p.value port) port_of_entry pairs
+    (each_right maps.Interfaces (λ p. IsMap (PortSays p.key) p.value (port_of_entry p)) (λ earlier p h.
+    let k = numbered_found 1 0xffffff00 maps.Interface p.key h.0 h.1 in
+    map_stands (PortSays p.key) (maps.Interface k.0) (port_with p.key) (port_says p.key k.0 k.1) p.value (subst (λ kind. faults_of p.value kind ≡ []) k.2 h.2)) [] pairs right)
+
+-- ---- datapaths
+
+priority_says : (pairs : List Pair) → IsRight maps.DatapathStack pairs → PrioritySays pairs (option_and_then (number_of 0 (2 ^ 32 - 1)) (value_at (codes "priority") pairs))
+priority_says pairs right =
+    stands (λ t priority. IsSomeAnd priority (IsNumber t)) (One (Number 0 (2 ^ 32 - 1))) (option_and_then (number_of 0 (2 ^ 32 - 1))) None refl (option_number_stands (2 ^ 32 - 1)) (value_at (codes "priority") pairs)
+    (value_right maps.DatapathStack (codes "priority") (One (Number 0 (2 ^ 32 - 1))) refl pairs right)
+
+module _ (pairs : List Pair) (right : IsRight maps.Datapath pairs) where
+  dp_takes : (name : List ℕ) (s : Scalar) → Takes maps.Datapath name (One s) → IfSome (value_at name pairs) (λ t. faults_of t (One s) ≡ [])
+  dp_takes name s takes = value_right maps.Datapath name (One s) takes pairs right
+
+  drops_say : DropFlagsSay pairs (drop_flags pairs)
+  unfolding default_of
+  drops_say = record {
+    spoofed = flag_says maps.Datapath (codes "drop_spoofed_faucet_mac") pairs true refl (dp_takes (codes "drop_spoofed_faucet_mac") Flag refl);
+    broadcast = flag_says maps.Datapath (codes "drop_broadcast_source_address") pairs true refl (dp_takes (codes "drop_broadcast_source_address") Flag refl);
+    bpdu = flag_says maps.Datapath (codes "drop_bpdu") pairs true refl (dp_takes (codes "drop_bpdu") Flag refl);
+    lldp = flag_says maps.Datapath (codes "drop_lldp") pairs true refl (dp_takes (codes "drop_lldp") Flag refl);
+  }
+
+  dp_names_say : (key : Key) → NamesSay key pairs (names_by maps.Datapath (key_text key) pairs)
+  unfolding default_of
+  dp_names_say key = names_say maps.Datapath key pairs (λ own. refl) (λ own. refl) (dp_takes (codes "name") Name refl) (dp_takes (codes "description") Name refl)
+
+  dp_hardware : says.Given (codes "hardware") pairs (text_at maps.Datapath (codes "hardware") [] pairs ≡ codes "Open vSwitch") (λ t. IsText t (text_at maps.Datapath (codes "hardware") [] pairs))
+  unfolding default_of
+  dp_hardware = text_says maps.Datapath (codes "hardware") pairs Words [] (codes "Open vSwitch") (record { no_flag = refl; no_number = λ n. refl }) refl (dp_takes (codes "hardware") Words refl)
+
+  dp_timeout_says : says.Given (codes "timeout") pairs (number_at maps.Datapath (codes "timeout") pairs ≡ 300) (λ t. IsNumber t (number_at maps.Datapath (codes "timeout") pairs))
+  unfolding default_of
+  dp_timeout_says = number_says maps.Datapath (codes "timeout") pairs 1 604800 300 (omega arith) refl (dp_takes (codes "timeout") (Number 1 604800) refl)
+
+  dp_arp_timeout_says : says.Given (codes "arp_neighbor_timeout") pairs (number_at maps.Datapath (codes "arp_neighbor_timeout") pairs ≡ 30) (λ t. IsNumber t (number_at maps.Datapath (codes "arp_neighbor_timeout") pairs))
+  unfolding default_of
+  dp_arp_timeout_says = number_says maps.Datapath (codes "arp_neighbor_timeout") pairs 1 604800 30 (omega arith) refl (dp_takes (codes "arp_neighbor_timeout") (Number 1 604800) refl)
+
+dp_says : (key : Key) (pairs : List Pair) → IsRight maps.Datapath pairs → DpSays key pairs (datapath_with key pairs)
+dp_says key pairs right = record {
+  names = dp_names_say pairs right key;
+  id = needed maps.Datapath (codes "dp_id") (One (Number 0 (2 ^ 64 - 1))) refl refl IsNumber (λ o. unwrap_or (option_and_then (number_of 0 (2 ^ 64 - 1)) o) 0) (number_stands 0 (2 ^ 64 - 1) (2 ^ 64 - 1) 0 (omega arith)) pairs right;
+  hardware = dp_hardware pairs right;
+  timeout = dp_timeout_says pairs right;
+  arp_timeout = dp_arp_timeout_says pairs right;
+  stack_priority = stands (IsMap PrioritySays) (Map maps.DatapathStack) (λ o. option_and_then (number_of 0 (2 ^ 32 - 1)) (value_at (codes "priority") (option_map_or entries_of o []))) None refl
+      (map_stands PrioritySays maps.DatapathStack (λ pairs. option_and_then (number_of 0 (2 ^ 32 - 1)) (value_at (codes "priority") pairs)) priority_says) (value_at (codes "stack") pairs) (value_right maps.Datapath (codes "stack") (Map maps.DatapathStack) refl pairs right);
+  drops = drops_say pairs right;
+  ports = needed maps.Datapath (codes "interfaces") (Map maps.Interfaces) refl refl (IsMap (AreMaps PortSays)) (λ o. map port_of_entry (option_map_or entries_of o [])) (map_stands (AreMaps PortSays) maps.Interfaces (map port_of_entry) ports_say) pairs right;
+}
+
+dps_say : (pairs : List Pair) → IsRight maps.Datapaths pairs → AreMaps DpSays pairs (map datapath_of_entry pairs)
+dps_say pairs right =
+    each_map (λ p dp. IsMap (DpSays p.key) p.value dp) datapath_of_entry pairs
+    (each_right maps.Datapaths (λ p. IsMap (DpSays p.key) p.value (datapath_of_entry p)) (λ earlier p h.
+    let k = named_right (key_text p.key) (Map maps.Datapath) OutOfRange h.0 (once_right maps.Datapaths earlier p.key h.0 h.1).1 in
+    map_stands (DpSays p.key) maps.Datapath (datapath_with p.key) (dp_says p.key) p.value (subst (λ kind. faults_of p.value kind ≡ []) (sym k.0) h.2)) [] pairs right)
+
+-- ---- VLANs
+
+abbrev route_with : List Pair → Route
+route_with pairs = record { dst = net_of (words_at (codes "ip_dst") pairs); gw = ip_of (words_at (codes "ip_gw") pairs) }
+
+route_says : (pairs : List Pair) → IsRight maps.Route pairs → RouteSays pairs (route_with pairs)
+route_says pairs right = record {
+  dst = needed maps.Route (codes "ip_dst") (One Destination) refl refl IsNetwork (λ o. net_of (option_map_or words_of o [])) destination_stands pairs right;
+  gw = needed maps.Route (codes "ip_gw") (One Gateway) refl refl IsAddress (λ o. ip_of (option_map_or words_of o [])) gateway_stands pairs right;
+}
+
+route_item_says : (pairs : List Pair) → IsRight maps.RouteItem pairs → RouteItemSays pairs (route_with (entries_at (codes "route") pairs))
+route_item_says pairs right =
+    needed maps.RouteItem (codes "route") (Map maps.Route) refl refl (IsMap RouteSays) (λ o. route_with (option_map_or entries_of o [])) (map_stands RouteSays maps.Route route_with route_says) pairs right
+
+own_bytes : (mac_of (default_text [] (default_of (maps.Vlan None) (codes "faucet_mac")))).0 ≡ 0x0e ∷ 0 ∷ 0 ∷ 0 ∷ 0 ∷ 1 ∷ []
+unfolding default_of spelled_mac pair_at next_at
+own_bytes = refl
+
+mac_given : (other : List ℕ) → (mac_of other).0 ≡ 0x0e ∷ 0 ∷ 0 ∷ 0 ∷ 0 ∷ 1 ∷ [] → (o : Option Tree) → IfSome o (λ t. faults_of t (One StationMac) ≡ [])
+    → MatchOption o ((mac_of (unwrap_or (option_and_then text_of o) other)).0 ≡ 0x0e ∷ 0 ∷ 0 ∷ 0 ∷ 0 ∷ 1 ∷ []) (λ t. IsMac t (mac_of (unwrap_or (option_and_then text_of o) other)))
+mac_given other is None h = is
+mac_given other is (Some t) h = mac_stands other t h
+
+module _ (number : Option ℕ) (pairs : List Pair) (right : IsRight (maps.Vlan number) pairs) where
+  vlan_takes_one : (name : List ℕ) (s : Scalar) → Takes (maps.Vlan None) name (One s) → ((n : ℕ) → Takes (maps.Vlan (Some n)) name (One s)) → IfSome (value_at name pairs) (λ t. faults_of t (One s) ≡ [])
+  vlan_takes_one name s none some = vlan_takes number name (One s) none some pairs right
+
+  vlan_names_say : (key : Key) → NamesSay key pairs (names_by (maps.Vlan None) (key_text key) pairs)
+  unfolding default_of
+  vlan_names_say key = names_say (maps.Vlan None) key pairs (λ own. refl) (λ own. refl) (vlan_takes_one (codes "name") Name refl (λ n. refl)) (vlan_takes_one (codes "description") Name refl (λ n. refl))
+
+  vlan_hosts_say : says.Given (codes "max_hosts") pairs (number_at (maps.Vlan None) (codes "max_hosts") pairs ≡ 255) (λ t. IsNumber t (number_at (maps.Vlan None) (codes "max_hosts") pairs))
+  unfolding default_of
+  vlan_hosts_say = number_says (maps.Vlan None) (codes "max_hosts") pairs 1 16384 255 (omega arith) refl (vlan_takes_one (codes "max_hosts") (Number 1 16384) refl (λ n. refl))
+
+  vlan_flood_says : says.Given (codes "unicast_flood") pairs (flag_at (maps.Vlan None) (codes "unicast_flood") pairs ≡ true) (λ t. IsFlag t (flag_at (maps.Vlan None) (codes "unicast_flood") pairs))
+  unfolding default_of
+  vlan_flood_says = flag_says (maps.Vlan None) (codes "unicast_flood") pairs true refl (vlan_takes_one (codes "unicast_flood") Flag refl (λ n. refl))
+
+  vlan_mac_says : says.Given (codes "faucet_mac") pairs ((mac_at pairs).0 ≡ 0x0e ∷ 0 ∷ 0 ∷ 0 ∷ 0 ∷ 1 ∷ []) (λ t. IsMac t (mac_at pairs))
+  vlan_mac_says =
+      mac_given (default_text [] (default_of (maps.Vlan None) (codes "faucet_mac"))) own_bytes (value_at (codes "faucet_mac") pairs) (vlan_takes_one (codes "faucet_mac") StationMac refl (λ n. refl))
+
+vlan_number_right : (number : Option ℕ) (pairs : List Pair) → IsRight (maps.Vlan number) pairs → IsRightBy 1 4094 number (value_at (codes "vid") pairs)
+vlan_number_right None pairs right = (needed_there (maps.Vlan None) (row (codes "vid") (Given 1 4094) UnlessNumbered OwnKey) refl refl pairs right, value_right (maps.Vlan None) (codes "vid") (Given 1 4094) refl pairs right)
+vlan_number_right (Some n) pairs right = value_right (maps.Vlan (Some n)) (codes "vid") (One (Number n n)) refl pairs right
+
+vlan_says : (key : Key) (number : Option ℕ) → number_or_name 1 4094 key ≡ Ok number → (pairs : List Pair) → IsRight (maps.Vlan number) pairs → VlanSays key pairs (vlan_with key pairs)
+vlan_says key number found pairs right = record {
+  names = vlan_names_say number pairs right key;
+  has_vid = refl;
+  vid = numbered_stands 1 4094 key number found (value_at (codes "vid") pairs) (vlan_number_right number pairs right);
+  acls = acls_say pairs (vlan_takes_one number pairs right (codes "acl_in") Label refl (λ n. refl)) (vlan_takes number (codes "acls_in") (Several Label) refl (λ n. refl) pairs right);
+  mac = vlan_mac_says number pairs right;
+  vips = stands (IsList IsNetwork) (Several Vip) (λ o. map vip_of (option_map_or items_of o [])) [] refl (list_stands IsNetwork vip_of (One Vip) vip_stands (Several Vip) refl refl refl)
+      (value_at (codes "faucet_vips") pairs) (vlan_takes number (codes "faucet_vips") (Several Vip) refl (λ n. refl) pairs right);
+  routes = stands (IsList (IsMap RouteItemSays)) (Maps maps.RouteItem) (λ o. map route_of (option_map_or items_of o [])) [] refl
+      (list_stands (IsMap RouteItemSays) route_of (Map maps.RouteItem) (map_stands RouteItemSays maps.RouteItem (λ pairs. route_with (entries_at (codes "route") pairs)) route_item_says) (Maps maps.RouteItem) refl refl refl)
+      (value_at (codes "routes") pairs) (vlan_takes number (codes "routes") (Maps maps.RouteItem) refl (λ n. refl) pairs right);
+  max_hosts = vlan_hosts_say number pairs right;
+  unicast_flood = vlan_flood_says number pairs right;
+}
+
+vlans_say : (pairs : List Pair) → IsRight maps.Vlans pairs → AreMaps VlanSays pairs (map vlan_of_entry pairs)
+vlans_say pairs right =
+    each_map (λ p vlan. IsMap (VlanSays p.key) p.value vlan) vlan_of_entry pairs
+    (each_right maps.Vlans (λ p. IsMap (VlanSays p.key) p.value (vlan_of_entry p)) (λ earlier p h.
+    let k = numbered_found 1 4094 maps.Vlan p.key h.0 h.1 in
+    map_stands (VlanSays p.key) (maps.Vlan k.0) (vlan_with p.key) (vlan_says p.key k.0 k.1) p.value (subst (λ kind. faults_of p.value kind ≡ []) k.2 h.2)) [] pairs right)
+
+-- ---- ACLs and routers
+
+abbrev output_with : List Pair → RawOutput
+output_with pairs = record { port = option_at port_of (codes "port") pairs; ports = list_at port_of (codes "ports") pairs }
+
+output_says : (pairs : List Pair) → IsRight maps.Output pairs → OutputSays pairs (output_with pairs)
+output_says pairs right = record {
+  port = stands (λ t port. IsSomeAnd port (IsPortOf (out-Tree t))) (One (Reference 1 0xffffff00)) (option_map port_of) None refl port_stands (value_at (codes "port") pairs) (value_right maps.Output (codes "port") (One (Reference 1 0xffffff00)) refl pairs right);
+  ports = stands (IsList (λ item. IsPortOf (out-Tree item))) (Several (Reference 1 0xffffff00)) (λ o. map port_of (option_map_or items_of o [])) [] refl
+      (list_stands (λ item. IsPortOf (out-Tree item)) port_of (One (Reference 1 0xffffff00)) port_stands (Several (Reference 1 0xffffff00)) refl refl refl)
+      (value_at (codes "ports") pairs) (value_right maps.Output (codes "ports") (Several (Reference 1 0xffffff00)) refl pairs right);
+}
+
+allow_given : (other : Bool) → other ≡ false → (o : Option Tree) → IfSome o (λ t. faults_of t (One Permission) ≡ []) → MatchOption o (unwrap_or (option_and_then permission_of o) other ≡ false) (λ t. IsPermission (out-Tree t) (unwrap_or (option_and_then permission_of o) other))
+allow_given other is o h = subst (λ other. MatchOption o (unwrap_or (option_and_then permission_of o) other ≡ false) (λ t. IsPermission (out-Tree t) (unwrap_or (option_and_then permission_of o) other))) (sym is)
+    (stands (λ t allow. IsPermission (out-Tree t) allow) (One Permission) (λ o. unwrap_or (option_and_then permission_of o) false) false refl permission_stands o h)
+
+denied : default_flag (default_of maps.Actions (codes "allow")) ≡ false
+unfolding default_of
+denied = refl
+
+actions_say : (pairs actions : List Pair) → IsRight maps.Actions actions → ActionsSay actions (rule_with pairs actions)
+actions_say pairs actions right = record {
+  allow = allow_given (default_flag (default_of maps.Actions (codes "allow"))) denied (value_at (codes "allow") actions) (value_right maps.Actions (codes "allow") (One Permission) refl actions right);
+  mirror = stands (λ t port. IsSomeAnd port (IsPortOf (out-Tree t))) (One (Reference 1 0xffffff00)) (option_map port_of) None refl port_stands (value_at (codes "mirror") actions) (value_right maps.Actions (codes "mirror") (One (Reference 1 0xffffff00)) refl actions right);
+  output = stands (IsOneOrList (IsMap OutputSays)) (MapOrMaps maps.Output) (λ o. option_map_or (one_or_list_of output_of) o (several.List [])) (several.List []) refl (maps_stand OutputSays maps.Output output_with refl output_says)
+      (value_at (codes "output") actions) (value_right maps.Actions (codes "output") (MapOrMaps maps.Output) refl actions right);
+}
+
+abbrev rule_in : List Pair → RawRule
+rule_in pairs = rule_with pairs (entries_at (codes "actions") pairs)
+
+rule_says : (pairs : List Pair) → IsRight maps.Rule pairs → RuleSays pairs (rule_in pairs)
+rule_says pairs right = record {
+  fields = fields_say pairs right;
+  actions = needed maps.Rule (codes "actions") (Map maps.Actions) refl refl (IsMap ActionsSay) (λ o. rule_with pairs (option_map_or entries_of o [])) (map_stands ActionsSay maps.Actions (rule_with pairs) (actions_say pairs)) pairs right;
+}
+
+rule_item_says : (pairs : List Pair) → IsRight maps.RuleItem pairs → RuleItemSays pairs (rule_in (entries_at (codes "rule") pairs))
+rule_item_says pairs right = needed maps.RuleItem (codes "rule") (Map maps.Rule) refl refl (IsMap RuleSays) (λ o. rule_in (option_map_or entries_of o [])) (map_stands RuleSays maps.Rule rule_in rule_says) pairs right
+
+acl_says : (p : Pair) (kind : Kind) → named_kind (key_text p.key) maps.Acls ≡ Ok kind → faults_of p.value kind ≡ [] → AclSays p (acl_of_entry p)
+acl_says p kind e h =
+    let is : kind ≡ Maps maps.RuleItem = cc in
+    record {
+      name = refl;
+      rules = list_stands (IsMap RuleItemSays) rule_of (Map maps.RuleItem) (map_stands RuleItemSays maps.RuleItem (λ pairs. rule_in (entries_at (codes "rule") pairs)) rule_item_says) (Maps maps.RuleItem) refl refl refl p.value (subst (λ kind. faults_of p.value kind ≡ []) is h);
+    }
+
+acls_each : (pairs : List Pair) → IsRight maps.Acls pairs → Each AclSays pairs (map acl_of_entry pairs)
+acls_each pairs right = each_map AclSays acl_of_entry pairs (each_right maps.Acls (λ p. AclSays p (acl_of_entry p)) (λ earlier p h. acl_says p h.0 (once_right maps.Acls earlier p.key h.0 h.1).1 h.2) [] pairs right)
+
+abbrev router_with : Key → List Pair → RawRouter
+router_with key pairs = record { name = key_text key; vlans = list_at vlan_of (codes "vlans") pairs }
+
+router_says : (key : Key) (pairs : List Pair) → IsRight maps.Router pairs → RouterSays key pairs (router_with key pairs)
+router_says key pairs right = record {
+  name = refl;
+  vlans = needed maps.Router (codes "vlans") (Several (Reference 1 4094)) refl refl (IsList (λ item. IsVlanOf (out-Tree item))) (λ o. map vlan_of (option_map_or items_of o [])) vlans_stand pairs right;
+}
+
+router_entry : (p : Pair) (kind : Kind) → named_kind (key_text p.key) maps.Routers ≡ Ok kind → faults_of p.value kind ≡ [] → IsMap (RouterSays p.key) p.value (router_of_entry p)
+router_entry p kind e h = let is : kind ≡ Map maps.Router = cc in map_stands (RouterSays p.key) maps.Router (router_with p.key) (router_says p.key) p.value (subst (λ kind. faults_of p.value kind ≡ []) is h)
+
+routers_say : (pairs : List Pair) → IsRight maps.Routers pairs → AreMaps RouterSays pairs (map router_of_entry pairs)
+routers_say pairs right =
+    each_map (λ p router. IsMap (RouterSays p.key) p.value router) router_of_entry pairs
+    (each_right maps.Routers (λ p. IsMap (RouterSays p.key) p.value (router_of_entry p)) (λ earlier p h. router_entry p h.0 (once_right maps.Routers earlier p.key h.0 h.1).1 h.2) [] pairs right)
+
+-- ---- the whole
+
+abbrev raw_with : List Pair → RawConf
+raw_with pairs = record {
+  dps = map datapath_of_entry (entries_at (codes "dps") pairs);
+  vlans = map vlan_of_entry (entries_at (codes "vlans") pairs);
+  acls = map acl_of_entry (entries_at (codes "acls") pairs);
+  routers = map router_of_entry (entries_at (codes "routers") pairs);
+}
+
+top_says : (pairs : List Pair) → IsRight maps.Top pairs → TopSays pairs (raw_with pairs)
+top_says pairs right = record {
+  dps = needed maps.Top (codes "dps") (Map maps.Datapaths) refl refl (IsMap (AreMaps DpSays)) (λ o. map datapath_of_entry (option_map_or entries_of o [])) (map_stands (AreMaps DpSays) maps.Datapaths (map datapath_of_entry) dps_say) pairs right;
+  vlans = stands (IsMap (AreMaps VlanSays)) (Map maps.Vlans) (λ o. map vlan_of_entry (option_map_or entries_of o [])) [] refl (map_stands (AreMaps VlanSays) maps.Vlans (map vlan_of_entry) vlans_say) (value_at (codes "vlans") pairs) (value_right maps.Top (codes "vlans") (Map maps.Vlans) refl pairs right);
+  acls = stands (IsMap (Each AclSays)) (Map maps.Acls) (λ o. map acl_of_entry (option_map_or entries_of o [])) [] refl (map_stands (Each AclSays) maps.Acls (map acl_of_entry) acls_each) (value_at (codes "acls") pairs) (value_right maps.Top (codes "acls") (Map maps.Acls) refl pairs right);
+  routers = stands (IsMap (AreMaps RouterSays)) (Map maps.Routers) (λ o. map router_of_entry (option_map_or entries_of o [])) [] refl (map_stands (AreMaps RouterSays) maps.Routers (map router_of_entry) routers_say) (value_at (codes "routers") pairs) (value_right maps.Top (codes "routers") (Map maps.Routers) refl pairs right);
+}
+
+pub document_says : (t : Tree) → first_fault t ≡ None → Says t (raw_of t)
+document_says t none = map_stands TopSays maps.Top raw_with top_says t (document_fine t none)

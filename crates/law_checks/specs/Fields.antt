@@ -1,0 +1,75 @@
+-- What the fields of a rule say of its match keys.
+use Rattle.std.specs.Prelude.{◌≡◌, ℕ, ◌+◌, ◌^◌, ◌<◌, ◌≤◌, ◌==◌, ◌⊎◌, if◌then◌else◌, List, [], ◌∷◌, ◌++◌, Option, Some, None, MatchOption}
+use Rattle.net_base.specs.declared.field.Field.{Field}
+use Rattle.net_base.specs.declared.field.FieldId.{FieldId}
+use Rattle.net_base.specs.declared.field.FieldId.TheVariants.{EthDst, EthSrc, Ipv4Src, Ipv4Dst, ArpSpa, ArpTpa}
+use Rattle.net_base.specs.Address.{SpellsMac, mac_value, ip4_text, net4_text}
+use Rattle.net_base.specs.Field.{exact, prefix}
+use Rattle.yaml_subset.specs.declared.tree.Pair.{Pair}
+use Rattle.yaml_subset.specs.declared.tree.Tree.{Tree}
+use Rattle.conf_shape.specs.declared.kinds.MapKind.TheVariants.{Rule}
+use Rattle.conf_shape.specs.declared.raw.RawField.{RawField}
+use Rattle.conf_shape.specs.Keys.{keys_of}
+use Rattle.conf_shape.specs.Sections.{key_text}
+use Rattle.conf_shape.specs.Values.{tag_bit, spelled_at, raw_field_or, ahead}
+use Rattle.law_checks.specs.Values.{IsNumber, IsText}
+
+-- ---- the field that a value asks for
+
+-- a whole number, and of a VLAN the bit that says that there is a tag
+abbrev pub AsksNumber : FieldId → Tree → Option Field → Type 0
+AsksNumber id t asked = (n : ℕ) × IsNumber t n × (asked ≡ Some (exact id (tag_bit id + n)))
+
+pub record AsksMac (id : FieldId) (t : Tree) (asked : Option Field) : Type 0 where
+  pub text : List ℕ
+  pub mac : List ℕ
+  pub is : IsText t text
+  pub spelled : SpellsMac text mac
+  pub field : asked ≡ Some (exact id (mac_value (record { 0 = mac })))
+
+-- a value and a mask around a slash; a mask of zero leaves the field out
+pub record AsksMaskedMac (id : FieldId) (t : Tree) (asked : Option Field) : Type 0 where
+  pub before : List ℕ
+  pub behind : List ℕ
+  pub value : List ℕ
+  pub mask : List ℕ
+  pub is : IsText t (before ++ 47 ∷ behind)
+  pub value_spelled : SpellsMac before value
+  pub mask_spelled : SpellsMac behind mask
+  pub field : asked ≡ (if mac_value (record { 0 = mask }) == 0 then None else Some (record { id = id; value = mac_value (record { 0 = value }); mask = mac_value (record { 0 = mask }) }))
+
+pub record AsksAddress (id : FieldId) (t : Tree) (asked : Option Field) : Type 0 where
+  pub ip : ℕ
+  pub below : ip < 2 ^ 32
+  pub is : IsText t (ip4_text ip)
+  pub field : asked ≡ Some (exact id ip)
+
+-- a length of zero leaves the field out
+pub record AsksPrefix (id : FieldId) (t : Tree) (asked : Option Field) : Type 0 where
+  pub ip : ℕ
+  pub len : ℕ
+  pub below : ip < 2 ^ 32
+  pub short : len ≤ 32
+  pub is : IsText t (net4_text ip len)
+  pub field : asked ≡ (if len == 0 then None else Some (prefix id ip len))
+
+abbrev pub Asks : FieldId → Tree → Option Field → Type 0
+Asks EthSrc t asked = AsksMac EthSrc t asked ⊎ AsksMaskedMac EthSrc t asked
+Asks EthDst t asked = AsksMac EthDst t asked ⊎ AsksMaskedMac EthDst t asked
+Asks Ipv4Src t asked = AsksAddress Ipv4Src t asked ⊎ AsksPrefix Ipv4Src t asked
+Asks Ipv4Dst t asked = AsksAddress Ipv4Dst t asked ⊎ AsksPrefix Ipv4Dst t asked
+Asks ArpSpa t asked = AsksAddress ArpSpa t asked ⊎ AsksPrefix ArpSpa t asked
+Asks ArpTpa t asked = AsksAddress ArpTpa t asked ⊎ AsksPrefix ArpTpa t asked
+Asks id t asked = AsksNumber id t asked
+
+-- ---- the fields
+
+-- what the first key says, where it is written in any of its spellings: the field that its value asks for
+-- stands in front, under the key as it is spelled
+abbrev pub FieldSays : FieldId → Pair → (List RawField → Type 0) → List RawField → Type 0
+FieldSays id p others fields = (asked : Option Field) × Asks id p.value asked × (rest : List RawField) × (fields ≡ ahead (raw_field_or (key_text p.key) asked) rest) × others rest
+
+-- key by key; a key that isn't written has no field
+abbrev pub FieldsSay : List (List ℕ × FieldId) → List Pair → List RawField → Type 0
+FieldsSay [] pairs fields = fields ≡ []
+FieldsSay (k ∷ ks) pairs fields = MatchOption (spelled_at (keys_of Rule).spellings k.0 pairs) (FieldsSay ks pairs fields) (λ p. FieldSays k.1 p (FieldsSay ks pairs) fields)

@@ -1,0 +1,4 @@
+pub mod Fields
+pub mod Says
+pub mod Values
+pub mod Resolves

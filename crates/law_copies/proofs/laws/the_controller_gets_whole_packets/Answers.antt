@@ -1,8 +1,0 @@
-use Rattle.law_copies.proofs.Plan.{plan_whole, cold_whole}
-use Rattle.law_copies.proofs.laws.the_controller_gets_whole_packets.Goals as goal
-
-pub returns-clause-plan : goal.returns-clause-plan
-returns-clause-plan c = λ conf now d setting. plan_whole conf now d setting
-
-pub returns-clause-cold : goal.returns-clause-cold
-returns-clause-cold c = λ conf now d setting. cold_whole conf now d setting

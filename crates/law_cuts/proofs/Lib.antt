@@ -1,9 +1,0 @@
-pub mod Changes
-pub mod Touches
-pub mod Settles
-pub mod Packets
-pub mod Hears
-pub mod Fronts
-pub mod Frames
-pub mod Grown
-pub mod Pieces

@@ -1,2 +1,0 @@
-pub mod Hops
-pub mod Destinations

@@ -1,5 +1,0 @@
-use Rattle.law_destinations.proofs.Destinations.{law}
-use Rattle.law_destinations.proofs.laws.table_7_sends_where_the_destination_is.Goals as goal
-
-pub returns : goal.returns
-returns c = λ conf now d setting. law conf now d setting

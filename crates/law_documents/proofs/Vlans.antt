@@ -1,0 +1,144 @@
+-- The VLANs that are checked, each where it is written or where a number names it.
+use Rattle.std.specs.Prelude.{◌≡◌, ℕ, ◌⊎◌, Bool, true, false, if◌then◌else◌, List, [], ◌∷◌, ◌++◌, map, codes, nat_lt, Option, None, Some, IsSomeAnd}
+use Rattle.std.specs.Fmt.{decimal}
+use Rattle.std.specs.List.{flat_map, enumerate_from}
+use Rattle.std.specs.Option.{option_map_or}
+use Rattle.std.proofs.Common.{inl, inr, refl, sym, ap, subst}
+use Rattle.yaml_subset.specs.declared.tree.Pair.{Pair}
+use Rattle.yaml_subset.specs.declared.tree.Tree.{Tree, out-Tree}
+use Rattle.yaml_subset.specs.declared.tree.Tree.TheOpen.{Tree-F}
+use Rattle.yaml_subset.specs.declared.tree.Tree.TheOpen as tree
+use Rattle.conf_types.specs.Lists.{is_among}
+use Rattle.conf_shape.specs.declared.raw.VlanRef.{VlanRef}
+use Rattle.conf_shape.specs.declared.raw.VlanRef.TheVariants.{Vid, Name}
+use Rattle.conf_shape.specs.declared.raw.RawPort.{RawPort}
+use Rattle.conf_shape.specs.declared.raw.RawDp.{RawDp}
+use Rattle.conf_shape.specs.declared.raw.RawVlan.{RawVlan}
+use Rattle.conf_shape.specs.declared.raw.RawRouter.{RawRouter}
+use Rattle.conf_shape.specs.declared.raw.RawConf.{RawConf}
+use Rattle.conf_resolve.specs.declared.ordered.PlacedVlan.{PlacedVlan}
+use Rattle.conf_resolve.specs.InOrder.{vlan_site, port_site, router_site, dps_in_order, routers_in_order, made_vlan, by_number, by_numbers, of_port, of_router, named_by_dps, named_by_routers, named, further, written, vlans_in_order}
+use Rattle.conf_resolve.specs.Resolved.{to_list}
+use Rattle.conf_rules.specs.Names.{native_at, tagged_at, routed_at}
+use Rattle.conf_rules.specs.Places.{nth, each_at}
+use Rattle.law_checks.specs.Says.{Says, VlanSays, PortSays, RouterSays}
+use Rattle.law_checks.specs.Values.{IsVlanOf, IsList, IsMap}
+use Rattle.law_checks.proofs.Members.{IsIn, of_joined, of_mapped, of_flat, in_flat}
+use Rattle.law_checks.proofs.Orders.{of_order}
+use Rattle.law_documents.specs.Forms.{IsScalar}
+use Rattle.law_documents.proofs.Leads.{Reaches, there, HasKey, as_given, in_key, in_option, in_map}
+use Rattle.law_documents.proofs.Parts.{IsPart, dp_leads, router_leads}
+
+-- ---- the names of VLANs that interfaces and routers give
+
+-- a tree that names the VLAN
+abbrev pub VlanAt : Tree → VlanRef → Type 0
+VlanAt u ref = IsVlanOf (out-Tree u) ref
+
+pub vlan_scalar : (x : Tree-F Tree Pair) (ref : VlanRef) → IsVlanOf x ref → IsScalar x
+vlan_scalar (tree.Int n) ref is = tt
+vlan_scalar (tree.Text text) ref is = tt
+vlan_scalar tree.Null ref is = absurd is
+vlan_scalar (tree.Bool flag) ref is = absurd is
+vlan_scalar (tree.List items) ref is = absurd is
+vlan_scalar (tree.Map pairs) ref is = absurd is
+
+abbrev pub IsMade : RawVlan → Type 0
+IsMade v = (vid : ℕ) × (v ≡ made_vlan vid)
+
+module _ (t : Tree) where
+  module _ (d : RawDp) (p : RawPort) (at : Reaches t (port_site d p) (IsPart PortSays p)) where
+    pub native_leads : (item : List (List ℕ) × VlanRef) → IsIn (native_at d p) item → Reaches t item.0 (λ u. VlanAt u item.1)
+    native_leads = in_option t (port_site d p) (codes "native_vlan") VlanAt p.native
+        (there t (port_site d p) (IsPart PortSays p) (HasKey (codes "native_vlan") (p.native ≡ None) (λ v. IsSomeAnd p.native (VlanAt v))) at (λ u h. (h.1.0, h.1.1, h.1.2.native)))
+
+    pub tagged_leads : (item : List (List ℕ) × VlanRef) → IsIn (tagged_at d p) item → Reaches t item.0 (λ u. VlanAt u item.1)
+    tagged_leads = in_key t (port_site d p) (codes "tagged_vlans") VlanAt p.tagged
+        (there t (port_site d p) (IsPart PortSays p) (HasKey (codes "tagged_vlans") (p.tagged ≡ []) (λ v. IsList VlanAt v p.tagged)) at (λ u h. (h.1.0, h.1.1, h.1.2.tagged)))
+
+  pub routed_leads : (r : RawRouter) → Reaches t (router_site r) (IsPart RouterSays r) → (item : List (List ℕ) × VlanRef) → IsIn (routed_at r) item → Reaches t item.0 (λ u. VlanAt u item.1)
+  routed_leads r at = in_key t (router_site r) (codes "vlans") VlanAt r.vlans
+      (there t (router_site r) (IsPart RouterSays r) (HasKey (codes "vlans") (r.vlans ≡ []) (λ v. IsList VlanAt v r.vlans)) at (λ u h.
+      as_given u (codes "vlans") (λ v. IsList VlanAt v r.vlans) (r.vlans ≡ []) h.1.0 h.1.1 h.1.2.vlans))
+
+  -- ---- VLANs that numbers name
+
+  -- one is made where a number stands
+  abbrev pub MadeLeads : PlacedVlan → Type 0
+  MadeLeads v = Reaches t v.site (λ u. IsScalar (out-Tree u)) × IsMade v.vlan
+
+  made_leads : (site : List (List ℕ)) (ref : VlanRef) (v : PlacedVlan) → Reaches t site (λ u. VlanAt u ref) → IsIn (by_number site ref) v → MadeLeads v
+  made_leads site (Name name) v r i = absurd i
+  made_leads site (Vid vid) v r (inr i) = absurd i
+  made_leads site (Vid vid) v r (inl e) = (
+    subst (λ (v : PlacedVlan). Reaches t v.site (λ u. IsScalar (out-Tree u))) e (there t site (λ u. VlanAt u (Vid vid)) (λ u. IsScalar (out-Tree u)) r (λ u is. vlan_scalar (out-Tree u) (Vid vid) is)),
+    (vid, ap (λ (v : PlacedVlan). v.vlan) (sym e)),
+  )
+
+  of_option : (site : List (List ℕ)) (o : Option VlanRef) (v : PlacedVlan) → ((item : List (List ℕ) × VlanRef) → IsIn (map (λ name. (site, name)) (to_list o)) item → Reaches t item.0 (λ u. VlanAt u item.1)) → IsIn (option_map_or (by_number site) o []) v → MadeLeads v
+  of_option site None v r i = absurd i
+  of_option site (Some ref) v r i = made_leads site ref v (r (site, ref) (inl refl)) i
+
+  of_list : (site : List (List ℕ)) (refs : List VlanRef) (v : PlacedVlan) → ((item : List (List ℕ) × VlanRef) → IsIn (each_at site refs) item → Reaches t item.0 (λ u. VlanAt u item.1)) → IsIn (by_numbers site refs) v → MadeLeads v
+  of_list site refs v r i =
+      let m = of_flat (λ (item : ℕ × VlanRef). by_number (site ++ decimal item.0 ∷ []) item.1) (enumerate_from 0 refs) v i in
+      let item : List (List ℕ) × VlanRef = (nth site m.0.0, m.0.1) in
+      made_leads (nth site m.0.0) m.0.1 v (r item (in_flat (λ (item : ℕ × VlanRef). (nth site item.0, item.1) ∷ []) (enumerate_from 0 refs) m.0 item m.1 (inl refl))) m.2
+
+-- ---- all of them
+
+of_further : (vids : List ℕ) (vs : List PlacedVlan) (w : PlacedVlan) → IsIn (further vids vs) w → IsIn vs w
+of_further vids [] w i = i
+of_further vids (v ∷ more) w i = by (is_among vids v.vlan.vid) (λ j. of_further vids more w j) (λ j. of_further (v.vlan.vid ∷ vids) more w j) i
+  where
+    by : (b : Bool) → (IsIn (further vids more) w → IsIn more w) → (IsIn (further (v.vlan.vid ∷ vids) more) w → IsIn more w) → IsIn (if b then further vids more else v ∷ further (v.vlan.vid ∷ vids) more) w → IsIn (v ∷ more) w
+    by true f g j = inr (f j)
+    by false f g (inl e) = inl e
+    by false f g (inr j) = inr (g j)
+
+-- one that is written
+pub record IsOne (raw : RawConf) (v : PlacedVlan) : Type 0 where
+  pub vlan : RawVlan
+  pub among : IsIn raw.vlans vlan
+  pub is : written vlan ≡ v
+
+-- a tree where a VLAN is written, or one that names it by its number
+abbrev pub IsVlan : RawVlan → Tree → Type 0
+IsVlan v u = IsPart VlanSays v u ⊎ (IsScalar (out-Tree u) × IsMade v)
+
+module _ (t : Tree) (raw : RawConf) (says : Says t raw) where
+  named_leads : (v : PlacedVlan) → IsIn (named (dps_in_order raw) (routers_in_order raw)) v → MadeLeads t v
+  named_leads v i = by (of_joined (named_by_dps (dps_in_order raw)) (named_by_routers (routers_in_order raw)) v i)
+    where
+      of_one : (d : RawDp) (p : RawPort) → Reaches t (port_site d p) (IsPart PortSays p) → IsIn (option_map_or (by_number (port_site d p ++ codes "native_vlan" ∷ [])) p.native []) v ⊎ IsIn (by_numbers (port_site d p ++ codes "tagged_vlans" ∷ []) p.tagged) v → MadeLeads t v
+      of_one d p at (inl j) = of_option t (port_site d p ++ codes "native_vlan" ∷ []) p.native v (native_leads t d p at) j
+      of_one d p at (inr j) = of_list t (port_site d p ++ codes "tagged_vlans" ∷ []) p.tagged v (tagged_leads t d p at) j
+
+      by : IsIn (named_by_dps (dps_in_order raw)) v ⊎ IsIn (named_by_routers (routers_in_order raw)) v → MadeLeads t v
+      by (inl j) =
+          let m = of_flat (λ (d : RawDp). flat_map (of_port d) d.ports) (dps_in_order raw) v j in
+          let n = of_flat (of_port m.0) m.0.ports v m.2 in
+          of_one m.0 n.0 ((dp_leads t raw says m.0 m.1).port n.0 n.1) (of_joined (option_map_or (by_number (port_site m.0 n.0 ++ codes "native_vlan" ∷ [])) n.0.native []) (by_numbers (port_site m.0 n.0 ++ codes "tagged_vlans" ∷ []) n.0.tagged) v n.2)
+      by (inr j) =
+          let m = of_flat of_router (routers_in_order raw) v j in
+          of_list t (router_site m.0 ++ codes "vlans" ∷ []) m.0.vlans v (routed_leads t m.0 (router_leads t raw says m.0 m.1)) m.2
+
+  abbrev made_vlans : List PlacedVlan
+  made_vlans = further (map (λ (v : RawVlan). v.vid) raw.vlans) (named (dps_in_order raw) (routers_in_order raw))
+
+  pub written_or_made : (v : PlacedVlan) → IsIn (vlans_in_order raw) v → IsOne raw v ⊎ MadeLeads t v
+  written_or_made v i = by (of_joined (map written raw.vlans) made_vlans v (of_order (λ (v w : PlacedVlan). nat_lt v.vlan.vid w.vlan.vid) (map written raw.vlans ++ made_vlans) v i))
+    where
+      by : IsIn (map written raw.vlans) v ⊎ IsIn made_vlans v → IsOne raw v ⊎ MadeLeads t v
+      by (inl j) = let m = of_mapped written raw.vlans v j in inl (record { vlan = m.0; among = m.1; is = m.2 })
+      by (inr j) = inr (named_leads v (of_further (map (λ (v : RawVlan). v.vid) raw.vlans) (named (dps_in_order raw) (routers_in_order raw)) v j))
+
+  raw_vlan : (v : RawVlan) → IsIn raw.vlans v → Reaches t (vlan_site v) (IsPart VlanSays v)
+  raw_vlan = in_map (λ p (v : RawVlan). IsMap (VlanSays p.key) p.value v) (λ v. v.names.key) (IsPart VlanSays) (λ p v r. r.2.names.key_is) (λ p v r. (p.key, r)) t [] (codes "vlans") raw.vlans (t, refl, (says.0, says.1, says.2.vlans))
+
+  pub vlan_leads : (v : PlacedVlan) → IsIn (vlans_in_order raw) v → Reaches t v.site (IsVlan v.vlan)
+  vlan_leads v i = by (written_or_made v i)
+    where
+      by : IsOne raw v ⊎ MadeLeads t v → Reaches t v.site (IsVlan v.vlan)
+      by (inl one) = subst (λ (v : PlacedVlan). Reaches t v.site (IsVlan v.vlan)) one.is (there t (vlan_site one.vlan) (IsPart VlanSays one.vlan) (IsVlan one.vlan) (raw_vlan one.vlan one.among) (λ u h. inl h))
+      by (inr made) = there t v.site (λ u. IsScalar (out-Tree u)) (IsVlan v.vlan) made.0 (λ u is. inr (is, made.1))

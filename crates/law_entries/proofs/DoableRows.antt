@@ -1,0 +1,346 @@
+-- Each row of the tables can be done.
+use Rattle.std.specs.Prelude.{◌≡◌, ℕ, ◌+◌, ◌<◌, ◌==◌, ◌&&◌, ◌||◌, not, Bool, true, false, List, [], ◌∷◌, ◌++◌, map, filter, length, Option, Some, None, option_to_list, if◌then◌else◌}
+use Rattle.std.specs.List.{AllByRecursion, filter_map, cons_option, enumerate_from, list_any}
+use Rattle.std.specs.Option.{option_map, option_map_or}
+use Rattle.std.proofs.Common.{refl, arith, subst}
+use Rattle.std.proofs.lemmas.Option.{none-some, same_Some}
+use Rattle.net_base.specs.declared.address.Ip4.{Ip4}
+use Rattle.net_base.specs.declared.address.Mac.{Mac}
+use Rattle.net_base.specs.declared.field.Field.{Field}
+use Rattle.net_base.specs.declared.numbers.DpId.{DpId}
+use Rattle.net_base.specs.Numbers.{IsVid}
+use Rattle.of_match.specs.declared.action.Action.{Action}
+use Rattle.of_match.specs.declared.entry.Entry.{Entry}
+use Rattle.stack_paths.specs.Chosen.{hop_of}
+use Rattle.stack_paths.specs.Stack.{Stack}
+use Rattle.conf_types.specs.declared.acl.Rule.{Rule}
+use Rattle.conf_types.specs.declared.datapath.Dp.{Dp}
+use Rattle.conf_types.specs.declared.datapath.Port.{Port}
+use Rattle.conf_types.specs.declared.state.HostRec.{HostRec}
+use Rattle.conf_types.specs.declared.state.NeighRec.{NeighRec}
+use Rattle.conf_types.specs.declared.vlan.Vlan.{Vlan}
+use Rattle.conf_types.specs.Attached.{rules_of}
+use Rattle.conf_types.specs.Configuration.{Configuration, port_with, vlan_with}
+use Rattle.conf_types.specs.Groups.{group_of}
+use Rattle.conf_types.specs.Membership.{is_accepting, is_stack, is_native_in, has_edge_member, mirrors_of}
+use Rattle.conf_types.specs.Routing.{routing_set}
+use Rattle.conf_types.specs.State.{is_permanent, is_stale}
+use Rattle.conf_types.specs.Valid.{IsValid}
+use Rattle.packet_way.specs.declared.routes.RouteItem.{RouteItem}
+use Rattle.packet_way.specs.declared.routes.Target.{Target}
+use Rattle.packet_way.specs.declared.routes.Target.TheVariants.{Gateway, Hop, Network}
+use Rattle.packet_way.specs.Routes.{mac_of_neighbour, vip_item, resolved, hop_item, neighbour_item, network_item, route_item, items_of, route_list}
+use Rattle.plan_base.specs.declared.table.Table.{Table}
+use Rattle.plan_base.specs.declared.table.Table.TheVariants as table
+use Rattle.plan_base.specs.Actions.{out, to_controller, to_ingress, push_tag, set_vid, set_eth_src, set_eth_dst, dec_ttl}
+use Rattle.plan_base.specs.Entries.{table_number, leads_to, entry}
+use Rattle.plan_base.specs.Fields.{in_port, eth_src, eth_dst, vid_field, untagged, group_src, ipv4_dst}
+use Rattle.plan_base.specs.Sending.{mirrored, copied, sent}
+use Rattle.plan_base.proofs.Each.{all_from, all_filter_map}
+use Rattle.acl_compile.specs.declared.place.Place.{Place}
+use Rattle.acl_compile.specs.declared.place.Place.TheVariants.{AtPort, AtVlan}
+use Rattle.acl_compile.specs.Places.{table_at, next_at, field_at}
+use Rattle.acl_compile.specs.Rows.{rule_priority, rule_entry, rule_entry_for, rule_fields, denial}
+use Rattle.acl_compile.specs.Slices.{acl_entries, rule_entries, port_acl, vlan_acl, port_entry, has_acls}
+use Rattle.acl_compile.specs.Targets.{targets}
+use Rattle.vlan_compile.specs.declared.flood.Flood.{Flood}
+use Rattle.vlan_compile.specs.declared.flood.Flood.TheVariants.{Group, Unicast}
+use Rattle.vlan_compile.specs.declared.flood.Ingress.{Ingress}
+use Rattle.vlan_compile.specs.declared.flood.Ingress.TheVariants.{Any, At}
+use Rattle.vlan_compile.specs.Admissions.{admissions, from_stacks, from_edges, from_stack, without_tag, with_tag, next_in}
+use Rattle.vlan_compile.specs.Destinations.{destinations, at_port, over_stack, sent_back}
+use Rattle.vlan_compile.specs.Floods.{floods, floods_to, flood_entry, flood_actions, flood_priority, from_fields, to_fields, has_flooded, is_apart, is_in, flooded, by_each, by_port, popped}
+use Rattle.vlan_compile.specs.Misses.{misses, miss, has_host, is_full}
+use Rattle.vlan_compile.specs.Sources.{sources, at_its_port, elsewhere, heard_copies}
+use Rattle.vlan_compile.specs.Vlans.{native_vlan, tagged_vlans, vlans_of}
+use Rattle.vlan_compile.proofs.Valid.{native_numbered, vlan_numbered}
+use Rattle.route_compile.specs.Gateways.{has_gateway}
+use Rattle.route_compile.specs.Routes.{ipv4_for, item_fields, fib, item_entry, led_to, no_route}
+use Rattle.route_compile.specs.Vips.{vip_slice, arp_entry, echo_entry, heard_entry, end_entry}
+use Rattle.law_runs.specs.Members.{all_joined, all_mapped, all_flat, all_by}
+use Rattle.plan_units.specs.Fixed.{drops, bridge_drops, lldp_drops, broadcast_drops, drop, gateways, from_group, passes, fixed}
+use Rattle.law_entries.specs.Doable.{tags_asked, asks_for_tag, AreDoable, CanBeDone}
+use Rattle.law_entries.proofs.WholeParts.{all_when}
+use Rattle.law_entries.proofs.DoableParts.{IsLater, IsOutput, made, tagged, before_vid, asks_among, each, of_option, outputs_first, outputs, popped_first, sent_done, outs_are, numbers_are, copied_are}
+
+-- an entry that ends
+ends : (t : Table) (priority : ℕ) (fields : List Field) → CanBeDone (entry t priority fields [])
+ends t priority fields = made t priority fields [] None tt tt
+
+-- one that only leads on
+passes_on : (t : Table) (priority : ℕ) (fields : List Field) (u : Table) → table_number t < table_number u → CanBeDone (entry t priority fields (leads_to [] (Some u)))
+passes_on t priority fields u later = made t priority fields [] (Some u) later tt
+
+-- one that hands the packet to the controller alone
+handed : (t : Table) (priority : ℕ) (fields : List Field) → CanBeDone (entry t priority fields (leads_to (to_controller ∷ []) None))
+handed t priority fields = made t priority fields (to_controller ∷ []) None tt (outputs fields (tags_asked fields) (to_controller ∷ []) (tt, tt))
+
+-- ---- tables 0 and 2
+
+module _ (d : Dp) (at : Place) where
+  later_at : (b : Bool) → IsLater (table_at at) (if b then Some (next_at at) else None)
+  later_at false = tt
+  later_at true = by at
+    where
+      by : (place : Place) → table_number (table_at place) < table_number (next_at place)
+      by (AtPort number) = omega arith
+      by (AtVlan vid) = omega arith
+
+  rule_done : (priority : ℕ) (rule : Rule) (fields : List Field) → CanBeDone (rule_entry_for at d priority rule fields)
+  rule_done priority rule fields =
+      made (table_at at) priority fields (map out (targets at d rule)) (if rule.allow then Some (next_at at) else None) (later_at rule.allow) (outputs fields (tags_asked fields) (map out (targets at d rule)) (numbers_are (targets at d rule)))
+
+  of_rule : (priority : ℕ) (rule : Rule) (o : Option (List Field)) (more : List Entry) → AllByRecursion CanBeDone more
+      → AllByRecursion CanBeDone (cons_option (option_map (rule_entry_for at d priority rule) o) more)
+  of_rule priority rule None more all = all
+  of_rule priority rule (Some fields) more all = (rule_done priority rule fields, all)
+
+  of_rules : (n : ℕ) (rules : List Rule) → AllByRecursion CanBeDone (filter_map (λ numbered. rule_entry at d (rule_priority numbered.0) numbered.1) (enumerate_from n rules))
+  of_rules n [] = tt
+  of_rules n (rule ∷ more) = of_rule (rule_priority n) rule (rule_fields at rule.fields) _ (of_rules (n + 1) more)
+
+  of_acls : (conf : Configuration) (acls : List (List ℕ)) → AllByRecursion CanBeDone (acl_entries at conf d acls)
+  of_acls conf acls = all_joined CanBeDone (rule_entries at d (rules_of conf acls)) (denial at ∷ []) (of_rules 0 (rules_of conf acls)) (ends (table_at at) 1 (field_at at ∷ []), tt)
+
+module _ (conf : Configuration) (d : Dp) where
+  pub port_acl_done : (i : Port) → AllByRecursion CanBeDone (port_acl conf d i)
+  port_acl_done i = by (is_accepting i && has_acls i.acls)
+    where
+      by : (b : Bool) → AllByRecursion CanBeDone (if b then acl_entries (AtPort i.no) conf d i.acls else if is_accepting i || is_stack i then port_entry i.no ∷ [] else [])
+      by true = of_acls d (AtPort i.no) conf i.acls
+      by false = all_when CanBeDone (is_accepting i || is_stack i) (port_entry i.no ∷ []) (passes_on table.PortAcl 1 (in_port i.no ∷ []) table.Admission (omega arith), tt)
+
+  pub vlan_acl_done : (v : Vlan) → AllByRecursion CanBeDone (vlan_acl conf d v)
+  vlan_acl_done v = all_when CanBeDone (has_acls v.acls && has_edge_member d v.vid) (acl_entries (AtVlan v.vid) conf d v.acls) (of_acls d (AtVlan v.vid) conf v.acls)
+
+  -- ---- table 1
+
+  later_in : (v : Vlan) → table_number table.Admission < table_number (next_in v)
+  later_in v = by (length v.acls == 0)
+    where
+      by : (b : Bool) → table_number table.Admission < table_number (if b then table.Source else table.VlanAcl)
+      by true = omega arith
+      by false = omega arith
+
+  module _ (i : Port) where
+    copies_are : AllByRecursion IsOutput (mirrored d i.no)
+    copies_are = outs_are (mirrors_of d i.no)
+
+    -- the tag is pushed before its VLAN is set
+    without_tag_done : (v : Vlan) → IsVid v.vid → CanBeDone (without_tag d i v)
+    without_tag_done v is =
+        let fields = in_port i.no ∷ untagged ∷ [] in
+        made table.Admission 20 fields (mirrored d i.no ++ push_tag ∷ set_vid v.vid ∷ []) (Some (next_in v)) (later_in v)
+        (outputs_first fields (tags_asked fields) (mirrored d i.no) (push_tag ∷ set_vid v.vid ∷ []) copies_are
+        (record { pushes = refl; sets = tt; values = tt; lowers = tt; pops = tt }, (record { pushes = tt; sets = omega arith; values = before_vid v.vid is; lowers = tt; pops = tt }, tt)))
+
+    with_tag_done : (v : Vlan) → CanBeDone (with_tag d i v)
+    with_tag_done v =
+        let fields = in_port i.no ∷ vid_field v.vid ∷ [] in
+        made table.Admission 20 fields (mirrored d i.no) (Some (next_in v)) (later_in v) (outputs fields (tags_asked fields) (mirrored d i.no) copies_are)
+
+    pub admissions_done : IsValid conf → AllByRecursion CanBeDone (admissions conf d i)
+    admissions_done valid =
+        all_joined CanBeDone (from_stacks conf i) (from_edges conf d i)
+        (all_when CanBeDone (is_stack i) (map (from_stack i) conf.vlans)
+        (each (from_stack i) (λ v. passes_on table.Admission 40 (in_port i.no ∷ vid_field v.vid ∷ []) table.Destination (omega arith)) conf.vlans))
+        (all_when CanBeDone (is_accepting i) (option_to_list (option_map (without_tag d i) (native_vlan conf i)) ++ map (with_tag d i) (tagged_vlans conf i))
+        (all_joined CanBeDone (option_to_list (option_map (without_tag d i) (native_vlan conf i))) (map (with_tag d i) (tagged_vlans conf i))
+        (of_option (without_tag d i) (native_vlan conf i) (λ v e. without_tag_done v (native_numbered conf valid i v e))) (each (with_tag d i) with_tag_done (tagged_vlans conf i))))
+
+    -- ---- table 3
+
+    miss_done : (hosts : List HostRec) (v : Vlan) → CanBeDone (miss conf hosts d i v)
+    miss_done hosts v = by (i.permanent_learn && has_host hosts d.id i.no v.vid) (is_full conf hosts d i v)
+      where
+        fields : List Field
+        fields = in_port i.no ∷ vid_field v.vid ∷ []
+
+        by : (kept full : Bool)
+            → CanBeDone (entry table.Source 10 fields (if kept then leads_to [] None else if full then leads_to [] (Some table.Ipv4Route) else leads_to (to_controller ∷ []) (Some table.Ipv4Route)))
+        by true full = ends table.Source 10 fields
+        by false true = passes_on table.Source 10 fields table.Ipv4Route (omega arith)
+        by false false = made table.Source 10 fields (to_controller ∷ []) (Some table.Ipv4Route) (omega arith) (outputs fields (tags_asked fields) (to_controller ∷ []) (tt, tt))
+
+    pub misses_done : (hosts : List HostRec) → AllByRecursion CanBeDone (misses conf d i hosts)
+    misses_done hosts = all_when CanBeDone (is_accepting i) (map (miss conf hosts d i) (vlans_of conf i)) (each (miss conf hosts d i) (miss_done hosts) (vlans_of conf i))
+
+  pub sources_done : (h : HostRec) (moment : ℕ) → AllByRecursion CanBeDone (sources conf d h moment)
+  sources_done h moment =
+      all_joined CanBeDone (if h.dp.0 == d.id.0 then at_its_port conf moment h ∷ [] else []) (if is_permanent conf h then elsewhere h ∷ [] else [])
+      (all_when CanBeDone (h.dp.0 == d.id.0) (at_its_port conf moment h ∷ []) (
+        made table.Source 30 fields (heard_copies conf moment h) (Some table.Ipv4Route) (omega arith)
+            (outputs fields (tags_asked fields) (heard_copies conf moment h) (all_when IsOutput (is_stale conf moment h) (to_controller ∷ []) (tt, tt))),
+        tt,
+      ))
+      (all_when CanBeDone (is_permanent conf h) (elsewhere h ∷ []) (ends table.Source 20 (eth_src h.mac ∷ vid_field h.vid ∷ []), tt))
+    where
+      fields : List Field
+      fields = in_port h.port ∷ eth_src h.mac ∷ vid_field h.vid ∷ []
+
+  -- ---- table 7
+
+  pub destinations_done : (h : HostRec) → IsVid h.vid → (stack : Stack) → AllByRecursion CanBeDone (destinations d h stack)
+  destinations_done h is stack = by (h.dp.0 == d.id.0)
+    where
+      fields : List Field
+      fields = eth_dst h.mac ∷ vid_field h.vid ∷ []
+
+      back : (q : Port) (b : Bool) → AreDoable (in_port q.no ∷ fields) 1 (if b then sent d h.vid q to_ingress else [])
+      back q true = sent_done (in_port q.no ∷ fields) d h.vid q to_ingress (copied_are d q.no to_ingress tt)
+      back q false = tt
+
+      here : (o : Option Port) → AllByRecursion CanBeDone (option_map_or (at_port d h) o [])
+      here None = tt
+      here (Some q) = (
+        tagged table.Destination 20 (in_port q.no ∷ fields) (sent_back d q h) None tt (asks_among h.vid is []) (back q q.hairpin),
+        (tagged table.Destination 10 fields (sent d h.vid q (out q.no)) None tt (asks_among h.vid is []) (sent_done fields d h.vid q (out q.no) (copied_are d q.no (out q.no) tt)), tt),
+      )
+
+      by : (b : Bool) → AllByRecursion CanBeDone (if b then option_map_or (at_port d h) (port_with d.ports h.port) [] else option_to_list (option_map (over_stack h) (hop_of stack d.id h.dp)))
+      by true = here (port_with d.ports h.port)
+      by false = of_option (over_stack h) (hop_of stack d.id h.dp) (λ hop e. made table.Destination 10 fields (out hop ∷ []) None tt (outputs fields (tags_asked fields) (out hop ∷ []) (tt, tt)))
+
+  -- ---- table 8
+
+  by_port_is : (from : Ingress) (number : ℕ) → IsOutput (by_port from number)
+  by_port_is Any number = tt
+  by_port_is (At ingress) number = by (number == ingress)
+    where
+      by : (b : Bool) → IsOutput (if b then to_ingress else out number)
+      by true = tt
+      by false = tt
+
+  by_each_are : (from : Ingress) (ports : List Port) → AllByRecursion IsOutput (by_each d from ports)
+  by_each_are from ports =
+      all_flat IsOutput (λ (q : Port). copied d q.no (by_port from q.no)) ports
+      (all_by (λ (q : Port). AllByRecursion IsOutput (copied d q.no (by_port from q.no))) ports (λ q c. copied_are d q.no (by_port from q.no) (by_port_is from q.no)))
+
+  popped_done : (fields : List Field) (actions : List Action) → AllByRecursion IsOutput actions → AreDoable fields 1 (popped actions)
+  popped_done fields [] are = tt
+  popped_done fields (a ∷ more) are = popped_first fields (a ∷ more) are
+
+  module _ (stack : Stack) (v : Vlan) (is : IsVid v.vid) where
+    flood_done : (flood : Flood) (from : Ingress) → CanBeDone (flood_entry stack d v flood from)
+    flood_done flood from = tagged table.Flood (flood_priority flood from) fields (flood_actions stack d v flood from) None tt (asked from flood) (by (is_in flood v))
+      where
+        fields : List Field
+        fields = from_fields from ++ to_fields flood v.vid
+
+        asked : (i : Ingress) (f : Flood) → list_any asks_for_tag (from_fields i ++ to_fields f v.vid) ≡ true
+        asked Any Group = asks_among v.vid is []
+        asked Any Unicast = asks_among v.vid is []
+        asked (At ingress) Group = asks_among v.vid is []
+        asked (At ingress) Unicast = asks_among v.vid is []
+
+        tags : List Action
+        tags = by_each d from (filter (λ q. not (is_native_in q v.vid)) (flooded stack d v flood from))
+
+        native : List Action
+        native = by_each d from (filter (λ q. is_native_in q v.vid) (flooded stack d v flood from))
+
+        by : (b : Bool) → AreDoable fields 1 (if b then tags ++ popped native else [])
+        by true = outputs_first fields 1 tags (popped native) (by_each_are from _) (popped_done fields native (by_each_are from _))
+        by false = tt
+
+    floods_to_done : (flood : Flood) → AllByRecursion CanBeDone (floods_to stack d v flood)
+    floods_to_done flood =
+        all_joined CanBeDone (if has_flooded stack d v then flood_entry stack d v flood Any ∷ [] else []) (map (λ i. flood_entry stack d v flood (At i.no)) (filter (is_apart d v) d.ports))
+        (all_when CanBeDone (has_flooded stack d v) (flood_entry stack d v flood Any ∷ []) (flood_done flood Any, tt))
+        (each (λ (i : Port). flood_entry stack d v flood (At i.no)) (λ i. flood_done flood (At i.no)) (filter (is_apart d v) d.ports))
+
+    pub floods_done : AllByRecursion CanBeDone (floods d v stack)
+    floods_done = all_joined CanBeDone (floods_to stack d v Unicast) (floods_to stack d v Group) (floods_to_done Unicast) (floods_to_done Group)
+
+-- ---- table 4
+
+abbrev InVlan : Target → Type 0
+InVlan Gateway = Unit {0}
+InVlan (Hop vid gateway mac) = IsVid vid
+InVlan Network = Unit {0}
+
+-- a packet goes on in a VLAN of the configuration
+abbrev GoesInVlan : RouteItem → Type 0
+GoesInVlan item = InVlan item.to
+
+module _ (neighbours : List NeighRec) (group : DpId) where
+  hop : (w : Vlan) → IsVid w.vid → (ip : Ip4) (len : ℕ) (o : Option Mac) (item : RouteItem) → option_map (hop_item w ip len) o ≡ Some item → GoesInVlan item
+  hop w is ip len None item e = absurd (none-some item e)
+  hop w is ip len (Some mac) item e = subst GoesInVlan (same_Some (hop_item w ip len mac) item e) is
+
+  in_vlans : (w : Vlan) → IsVid w.vid → AllByRecursion GoesInVlan (items_of neighbours group w)
+  in_vlans w is =
+      all_joined GoesInVlan _ _ (all_joined GoesInVlan _ _ (all_joined GoesInVlan _ _
+      (all_mapped GoesInVlan vip_item w.vips (all_by (λ vip. GoesInVlan (vip_item vip)) w.vips (λ vip c. tt)))
+      (all_filter_map (neighbour_item group w) GoesInVlan neighbours
+      (all_by (λ n. (item : RouteItem) → neighbour_item group w n ≡ Some item → GoesInVlan item) neighbours (λ n c item e. hop w is n.ip 32 (resolved group w n) item e))))
+      (all_mapped GoesInVlan network_item w.vips (all_by (λ vip. GoesInVlan (network_item vip)) w.vips (λ vip c. tt))))
+      (all_filter_map (route_item neighbours group w) GoesInVlan w.routes
+      (all_by (λ r. (item : RouteItem) → route_item neighbours group w r ≡ Some item → GoesInVlan item) w.routes (λ r c item e. hop w is r.dst.ip r.dst.len (mac_of_neighbour neighbours group w.vid r.gw.0) item e)))
+
+  items_in_vlans : (conf : Configuration) → IsValid conf → (vid : ℕ) → AllByRecursion GoesInVlan (route_list conf neighbours group vid)
+  unfolding route_list
+  items_in_vlans conf valid vid =
+      all_flat GoesInVlan (λ u. option_map_or (items_of neighbours group) (vlan_with conf.vlans u) []) (routing_set conf vid)
+      (all_by (λ u. AllByRecursion GoesInVlan (option_map_or (items_of neighbours group) (vlan_with conf.vlans u) [])) (routing_set conf vid) (λ u c. one u (vlan_with conf.vlans u) refl))
+    where
+      one : (u : ℕ) (o : Option Vlan) → vlan_with conf.vlans u ≡ o → AllByRecursion GoesInVlan (option_map_or (items_of neighbours group) o [])
+      one u None e = tt
+      one u (Some w) e = in_vlans w (vlan_numbered conf valid u w e)
+
+module _ (v : Vlan) (is : IsVid v.vid) where
+  item_done : (item : RouteItem) → GoesInVlan item → CanBeDone (item_entry v item)
+  item_done item = by item.to
+    where
+      fields : List Field
+      fields = item_fields v item
+
+      by : (to : Target) → InVlan to → CanBeDone (entry table.Ipv4Route (10 + item.len) fields (led_to to))
+      by Gateway there = passes_on table.Ipv4Route (10 + item.len) fields table.Vip (omega arith)
+      by (Hop vid gateway mac) there =
+          tagged table.Ipv4Route (10 + item.len) fields (set_eth_src gateway ∷ set_eth_dst mac ∷ set_vid vid ∷ dec_ttl ∷ []) (Some table.Destination) (omega arith) (asks_among v.vid is (cons_option (ipv4_dst item.ip.0 item.len) [])) (
+            record { pushes = tt; sets = tt; values = tt; lowers = tt; pops = tt },
+            (
+              record { pushes = tt; sets = tt; values = tt; lowers = tt; pops = tt },
+              (record { pushes = tt; sets = omega arith; values = before_vid vid there; lowers = tt; pops = tt }, (record { pushes = tt; sets = tt; values = tt; lowers = refl; pops = tt }, tt)),
+            ),
+          )
+      by Network there = handed table.Ipv4Route (10 + item.len) fields
+
+  pub fib_done : (conf : Configuration) → IsValid conf → (neighbours : List NeighRec) (d : Dp) → AllByRecursion CanBeDone (fib conf neighbours d v)
+  fib_done conf valid neighbours d =
+      let items = route_list conf neighbours (group_of conf d.id) v.vid in
+      all_when CanBeDone (has_gateway d v) (map (item_entry v) items ++ no_route v ∷ [])
+      (all_joined CanBeDone (map (item_entry v) items) (no_route v ∷ [])
+      (all_mapped CanBeDone (item_entry v) items (all_from {P = GoesInVlan} {Q = λ (item : RouteItem). CanBeDone (item_entry v item)} (λ item there. item_done item there) items (items_in_vlans neighbours (group_of conf d.id) conf valid v.vid)))
+      (ends table.Ipv4Route 9 (ipv4_for v), tt))
+
+-- ---- table 6
+
+pub vips_done : (d : Dp) (v : Vlan) → AllByRecursion CanBeDone (vip_slice d v)
+vips_done d v =
+    all_when CanBeDone (has_gateway d v) (map (arp_entry v) v.vips ++ echo_entry v ∷ heard_entry v ∷ end_entry v ∷ [])
+    (all_joined CanBeDone (map (arp_entry v) v.vips) (echo_entry v ∷ heard_entry v ∷ end_entry v ∷ []) (each (arp_entry v) (λ vip. handed table.Vip 30 (arp_entry v vip).key.fields) v.vips)
+    (handed table.Vip 30 (echo_entry v).key.fields, (handed table.Vip 20 (heard_entry v).key.fields, (ends table.Vip 10 (end_entry v).key.fields, tt))))
+
+-- ---- what stands once
+
+drop_done : (priority : ℕ) (f : Field) → CanBeDone (drop priority f)
+drop_done priority f = ends table.Admission priority (f ∷ [])
+
+drops_done : (conf : Configuration) (d : Dp) → AllByRecursion CanBeDone (drops conf d)
+drops_done conf d =
+    all_joined CanBeDone (bridge_drops d) _ (all_when CanBeDone d.drop_bpdu _ (drop_done 33 _, (drop_done 33 _, tt)))
+    (all_joined CanBeDone (lldp_drops d) _ (all_when CanBeDone d.drop_lldp _ (drop_done 32 _, tt))
+    (all_joined CanBeDone (broadcast_drops d) _ (all_when CanBeDone d.drop_broadcast _ (drop_done 31 _, tt))
+    (all_when CanBeDone d.drop_spoofed _ (each (λ mac. drop 30 (eth_src mac)) (λ mac. drop_done 30 (eth_src mac)) (gateways conf)))))
+
+pub fixed_done : (conf : Configuration) (d : Dp) → AllByRecursion CanBeDone (fixed conf d)
+fixed_done conf d =
+    all_joined CanBeDone (drops conf d) (from_group ∷ passes) (drops_done conf d) (
+      passes_on table.Source 40 (group_src ∷ []) table.Ipv4Route (omega arith),
+      (
+        passes_on table.Ipv4Route 0 [] table.Ipv6Route (omega arith),
+        (passes_on table.Ipv6Route 0 [] table.Vip (omega arith), (passes_on table.Vip 0 [] table.Destination (omega arith), (passes_on table.Destination 0 [] table.Flood (omega arith), tt))),
+      ),
+    )

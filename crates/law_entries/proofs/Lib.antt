@@ -1,0 +1,15 @@
+pub mod ShortCounts
+pub mod ShortFields
+pub mod ShortParts
+pub mod ShortAcls
+pub mod ShortVlans
+pub mod ShortRoutes
+pub mod ShortPlan
+pub mod WholeParts
+pub mod WholeAcls
+pub mod WholeVlans
+pub mod WholeRoutes
+pub mod WholePlan
+pub mod DoableParts
+pub mod DoableRows
+pub mod DoablePlan

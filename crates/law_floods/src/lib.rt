@@ -1,4 +1,0 @@
-//! That table 8 of a plan floods a packet as the configuration describes.
-#![tactic(auto)]
-
-pub mod laws;

@@ -1,7 +1,0 @@
-pub mod Counts
-pub mod Fields
-pub mod Parts
-pub mod Acls
-pub mod Vlans
-pub mod Routes
-pub mod Plan

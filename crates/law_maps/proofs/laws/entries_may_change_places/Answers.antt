@@ -1,5 +1,0 @@
-use Rattle.law_maps.proofs.Back.{same_back, swapped}
-use Rattle.law_maps.proofs.laws.entries_may_change_places.Goals as goal
-
-pub returns : goal.returns
-returns c = record { side_by_side = λ before p q behind. swapped before p q behind; both_ways = λ t u same. same_back t u same }

@@ -1,5 +1,0 @@
-use Rattle.law_maps.proofs.Law.{law}
-use Rattle.law_maps.proofs.laws.the_order_of_entries_changes_no_configuration.Goals as goal
-
-pub returns : goal.returns
-returns c = λ t u conf same. law c.an_accepted_configuration_is_valid.ensures t u conf same

@@ -1,4 +1,0 @@
-//! That the order in which the entries of maps are written doesn't matter.
-#![tactic(auto)]
-
-pub mod laws;

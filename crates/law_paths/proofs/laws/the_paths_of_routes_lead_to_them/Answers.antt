@@ -1,5 +1,0 @@
-use Rattle.law_paths.proofs.Law.{routing_law}
-use Rattle.law_paths.proofs.laws.the_paths_of_routes_lead_to_them.Goals as goal
-
-pub returns : goal.returns
-returns c = λ t none. routing_law t none

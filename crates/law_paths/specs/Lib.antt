@@ -1,4 +1,0 @@
-pub mod Leads
-pub mod Forms
-pub mod Rules
-pub mod Shape

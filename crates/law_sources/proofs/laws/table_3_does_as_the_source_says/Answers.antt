@@ -1,5 +1,0 @@
-use Rattle.law_sources.proofs.Sources.{law}
-use Rattle.law_sources.proofs.laws.table_3_does_as_the_source_says.Goals as goal
-
-pub returns : goal.returns
-returns c = λ conf now d setting. law conf now d setting

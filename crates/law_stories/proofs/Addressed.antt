@@ -1,0 +1,381 @@
+-- The addresses of the hosts and neighbours that were learned are Ethernet addresses, where what was heard is bytes.
+use Rattle.std.proofs.Common.{nat_lt, ◌<◌, filter, not, ◌≡◌, ℕ, ◌==◌, ◌&&◌, Bool, true, false, Option, Some, None, List, [], ◌∷◌, Result, Ok, Err, map, refl, sym, subst, if◌then◌else◌}
+use Rattle.std.specs.List.{list_any}
+use Rattle.std.specs.Option.{option_map, option_map_or}
+use Rattle.net_base.specs.declared.address.Ip4.{Ip4}
+use Rattle.net_base.specs.declared.address.Mac.{Mac}
+use Rattle.net_base.specs.declared.numbers.DpId.{DpId}
+use Rattle.of_match.specs.InPort.{in_port}
+use Rattle.conf_types.specs.declared.state.HostRec.{HostRec}
+use Rattle.conf_types.specs.declared.vlan.Vlan.{Vlan}
+use Rattle.conf_types.specs.Configuration.{Configuration, vlan_with}
+use Rattle.conf_types.specs.Groups.{group_of}
+use Rattle.conf_types.specs.Links.{is_up}
+use Rattle.conf_types.specs.State.{is_running}
+use Rattle.host_learn.specs.Learning.{learned}
+use Rattle.of13_codec.specs.declared.message.Message.{Message}
+use Rattle.of13_codec.specs.declared.message.Message.TheVariants as messages
+use Rattle.of13_codec.specs.declared.packet_in.PacketIn.{PacketIn}
+use Rattle.pkt_view.specs.Frame.{FrameParts, parts}
+use Rattle.flow_messages.specs.Messages.{delete_all}
+use Rattle.neighbour_resolve.specs.Answers.{answer}
+use Rattle.neighbour_resolve.specs.Asks.{in_order}
+use Rattle.neighbour_resolve.specs.Counted.{counted_vid}
+use Rattle.neighbour_resolve.specs.Hearing.{heard_sender}
+use Rattle.switch_session.specs.declared.closing.Closing.{Closing}
+use Rattle.switch_session.specs.declared.closing.Closing.TheVariants.{BadFrame, Replaced, Silent, UnknownDp, WrongVersion}
+use Rattle.switch_session.specs.declared.quiet.Quiet.{Quiet}
+use Rattle.switch_session.specs.declared.quiet.Quiet.TheVariants as quiet
+use Rattle.switch_session.specs.declared.state.Step.{Step}
+use Rattle.switch_session.specs.declared.state.Step.TheVariants as steps
+use Rattle.switch_session.specs.Connections.{due_at, opened}
+use Rattle.switch_session.specs.Stages.{leads}
+use Rattle.ctl_world.specs.declared.conns.Conn.{Conn}
+use Rattle.ctl_world.specs.Connections.{change, conn_of, conn_with, put, with_asked, with_dp, with_fed, with_heard, with_looked, with_said}
+use Rattle.ctl_world.specs.Ends.{close, ended, forget_lost}
+use Rattle.ctl_world.specs.Frames.{with_read}
+use Rattle.ctl_world.specs.Saying.{ask, packet_out, say, say_by}
+use Rattle.ctl_world.specs.World.{World, running, ups}
+use Rattle.ctl_packets.specs.Packets.{destination, glean, glean_at, glean_in, glean_to, hear as hear_packet, hear_from, is_for_gateway, is_resolved, learn, network_vlan, outgoing, packet_at, packet_by, packet_in, packet_of_table, reply, want}
+use Rattle.ctl_core.specs.Hearing.{begin, echo, follow, hear_message, hear_on, heard_in, introduce, packet, read, replace, take_dp, turn_away, unfit, want_gateways, want_in}
+use Rattle.ctl_core.specs.Reloading.{close_each, close_of, reload, renew, vanished, want_all, want_each}
+use Rattle.ctl_core.specs.Turns.{feed, look, look_each, look_on, open_conn, pass, show, stir}
+use Rattle.std.specs.Prelude.{IfSome}
+use Rattle.std.specs.List.{AllByRecursion, cons_option, filter_map}
+use Rattle.net_base.specs.Address.{IsSixBytes, is_group}
+use Rattle.net_base.specs.declared.numbers.Moment.{Moment}
+use Rattle.conf_types.specs.declared.state.NeighRec.{NeighRec}
+use Rattle.conf_types.specs.declared.vlan.Route.{Route}
+use Rattle.conf_types.specs.Configuration.{dp_with}
+use Rattle.conf_types.specs.Lists.{is_same}
+use Rattle.conf_types.specs.Networks.{is_neighbour_address}
+use Rattle.conf_types.specs.Routing.{vips_of}
+use Rattle.host_learn.specs.declared.learn.Learn.{Learn}
+use Rattle.host_learn.specs.declared.learn.Learn.TheVariants as learns
+use Rattle.host_learn.specs.Learning.{hosts_after, is_heard, is_in_place}
+use Rattle.host_learn.specs.Learning as learning
+use Rattle.host_learn.proofs.KeptParts.{kept_part}
+use Rattle.host_learn.proofs.Lists.{all_part, all_push}
+use Rattle.law_checks.proofs.Orders.{same_texts}
+use Rattle.neighbour_resolve.specs.declared.hearing.Sender.{Sender}
+use Rattle.neighbour_resolve.specs.declared.neighbour.Want.{Want}
+use Rattle.neighbour_resolve.specs.declared.neighbour.Want.TheVariants as wants
+use Rattle.neighbour_resolve.specs.Due.{next}
+use Rattle.neighbour_resolve.specs.Hearing.{upper_sender}
+use Rattle.neighbour_resolve.specs.Kept.{last_of_each, may_stay, regrouped}
+use Rattle.neighbour_resolve.specs.Table.{Table as Neighbours, after_told, gives_way, neighbours_after, resolved, stays, unresolved}
+use Rattle.neighbour_resolve.specs.Table as table
+use Rattle.of_match.proofs.AfterOrder.{all_append, all_filter}
+use Rattle.pkt_view.specs.Frame.{UpperParts, Unknown, Arp, V4}
+use Rattle.ctl_world.specs.Connections.{has_number, without}
+use Rattle.ctl_core.specs.Hearing.{want_gateways, want_routes}
+use Rattle.law_stories.proofs.PacketBytes.{AreBytes, HasBytes, behind_bytes, source_six}
+
+abbrev pub IsHost : HostRec → Type 0
+IsHost h = IsSixBytes h.mac.0
+
+abbrev pub IsNeighbour : NeighRec → Type 0
+IsNeighbour n = IfSome n.mac (λ mac. IsSixBytes mac.0)
+
+abbrev pub IsRead : Conn → Type 0
+IsRead c = AreBytes c.session.unread
+
+-- and what is still to be read is bytes
+abbrev pub IsAddressed : World → Type 0
+IsAddressed w = AllByRecursion IsHost w.hosts.hosts × AllByRecursion IsNeighbour w.neighbours.neighbours × AllByRecursion IsRead w.conns
+
+-- ---- connections
+
+changed_read : (f : Conn → Conn) → ((c : Conn) → IsRead c → IsRead (f c)) → (number : ℕ) (conns : List Conn) → AllByRecursion IsRead conns → AllByRecursion IsRead (change number f conns)
+changed_read f kept number [] all = tt
+changed_read f kept number (c ∷ cs) all =
+    elim (has_number number c) as (λ b. AllByRecursion IsRead (if b then f c ∷ cs else c ∷ change number f cs)) [
+      | true ↦ (kept c all.0, all.1)
+      | false ↦ (all.0, changed_read f kept number cs all.1)
+    ]
+
+pub changed : (f : Conn → Conn) → ((c : Conn) → IsRead c → IsRead (f c)) → (number : ℕ) (w : World) → IsAddressed w → IsAddressed (record w { conns = change number f w.conns })
+changed f kept number w is = (is.0, is.1, changed_read f kept number w.conns is.2)
+
+pub said_addressed : (number : ℕ) (m : Message) (w : World) → IsAddressed w → IsAddressed (say number m w)
+said_addressed number m w known =
+    elim (conn_with w.conns number) as (λ o. IsAddressed (option_map_or (say_by with_said m w) o w)) [
+      | Some c ↦ changed with_said (λ d all. all) c.number w known
+      | None ↦ known
+    ]
+
+pub asked_addressed : (number : ℕ) (m : Message) (w : World) → IsAddressed w → IsAddressed (ask number m w)
+asked_addressed number m w known =
+    elim (conn_with w.conns number) as (λ o. IsAddressed (option_map_or (say_by with_asked m w) o w)) [
+      | Some c ↦ changed with_asked (λ d all. all) c.number w known
+      | None ↦ known
+    ]
+
+forgotten : (w : World) → IsAddressed w → IsAddressed (forget_lost w)
+forgotten w is = (all_filter IsHost _ w.hosts.hosts is.0, all_filter IsNeighbour _ w.neighbours.neighbours is.1, is.2)
+
+pub close_addressed : (cause : Closing) (number : ℕ) (w : World) → IsAddressed w → IsAddressed (close cause number w)
+close_addressed cause number w is = forgotten (record w { conns = without number w.conns }) (is.0, is.1, all_filter IsRead _ w.conns is.2)
+
+pub ended_addressed : (cause : Closing) (number : ℕ) (w : World) → IsAddressed w → IsAddressed (ended cause number w)
+ended_addressed cause number w is = forgotten (record w { conns = without number w.conns }) (is.0, is.1, all_filter IsRead _ w.conns is.2)
+
+take_addressed : (number : ℕ) (dp : DpId) (w : World) → IsAddressed w → IsAddressed (take_dp number dp w)
+take_addressed number dp w is = forgotten (record w { conns = change number (with_dp dp) w.conns }) (changed (with_dp dp) (λ d all. all) number w is)
+
+-- ---- hosts and neighbours
+
+hosts_learned : (conf : Configuration) (heard : HostRec) → IsHost heard → (hosts : List HostRec) → AllByRecursion IsHost hosts → (l : Learn) → AllByRecursion IsHost (hosts_after conf heard hosts l)
+hosts_learned conf heard six hosts all learns.Learned = all_push IsHost hosts heard all six
+hosts_learned conf heard six hosts all learns.Moved =
+    all_push IsHost (filter (λ host. not (is_heard conf heard host)) hosts) heard (all_filter IsHost _ hosts all) six
+hosts_learned conf heard six hosts all learns.Refreshed = each hosts all
+  where
+    each : (hs : List HostRec) → AllByRecursion IsHost hs → AllByRecursion IsHost (map (λ host. if is_in_place heard host then record host { learned = heard.learned } else host) hs)
+    each [] all = tt
+    each (h ∷ hs) all =
+        (elim (is_in_place heard h) as (λ b. IsHost (if b then record h { learned = heard.learned } else h)) [ true ↦ all.0 | false ↦ all.0 ], each hs all.1)
+hosts_learned conf heard six hosts all learns.Full = all
+hosts_learned conf heard six hosts all learns.NotLearnable = all
+
+neighbours_told : (keep : NeighRec → Bool) (n : NeighRec) → IsNeighbour n → (ns : List NeighRec) → AllByRecursion IsNeighbour ns → (t : Want) → AllByRecursion IsNeighbour (neighbours_after keep n ns t)
+neighbours_told keep n six ns all wants.Added = all_push IsNeighbour ns n all six
+neighbours_told keep n six ns all wants.Full = all
+neighbours_told keep n six ns all wants.Known = each ns all
+  where
+    each : (ms : List NeighRec) → AllByRecursion IsNeighbour ms → AllByRecursion IsNeighbour (map (λ m. if gives_way keep n m then n else m) ms)
+    each [] all = tt
+    each (m ∷ ms) all = (elim (gives_way keep n m) as (λ b. IsNeighbour (if b then n else m)) [ true ↦ six | false ↦ all.0 ], each ms all.1)
+
+table_told : (keep : NeighRec → Bool) (n : NeighRec) → IsNeighbour n → (t : Neighbours) → AllByRecursion IsNeighbour t.neighbours → AllByRecursion IsNeighbour (after_told keep n t).neighbours
+table_told keep n six t all = neighbours_told keep n six t.neighbours all (table.answer t n)
+
+with_any : {A : Type 0} (f : A → World) (o : Option A) (w : World) → ((a : A) → IsAddressed (f a)) → IsAddressed w → IsAddressed (option_map_or f o w)
+with_any f (Some a) w each none = each a
+with_any f None w each none = none
+
+either : (b : Bool) (v w : World) → IsAddressed v → IsAddressed w → IsAddressed (if b then v else w)
+either true v w here there = here
+either false v w here there = there
+
+-- ---- packets
+
+glean_in_addressed : (group : DpId) (ip : Ip4) (w : World) (vid : ℕ) → IsAddressed w → IsAddressed (glean_in group ip w vid)
+glean_in_addressed group ip w vid known = either (is_resolved w.neighbours.neighbours group vid ip.0) w (want group vid ip w) known (known.0, table_told (stays true) (unresolved group vid ip w.moment) tt w.neighbours known.1, known.2)
+
+glean_to_addressed : (group : DpId) (vid : ℕ) (ip : Ip4) (w : World) → IsAddressed w → IsAddressed (glean_to group vid ip w)
+glean_to_addressed group vid ip w known = with_any (glean_in group ip w) (network_vlan w.conf vid ip.0) w (λ v. glean_in_addressed group ip w v known) known
+
+glean_at_addressed : (dp : DpId) (frame : FrameParts) (w : World) (v : Vlan) → IsAddressed w → IsAddressed (glean_at dp frame w v)
+glean_at_addressed dp frame w v known =
+    let to : Ip4 → World = λ ip. glean_to (group_of w.conf dp) v.vid ip w in
+    either (is_for_gateway v frame) (option_map_or to (destination frame.upper) w) w
+    (with_any to (destination frame.upper) w (λ ip. glean_to_addressed (group_of w.conf dp) v.vid ip w known) known) known
+
+glean_addressed : (dp : DpId) (vid : ℕ) (frame : FrameParts) (w : World) → IsAddressed w → IsAddressed (glean dp vid frame w)
+glean_addressed dp vid frame w known = with_any (glean_at dp frame w) (vlan_with w.conf.vlans vid) w (λ v. glean_at_addressed dp frame w v known) known
+
+learn_addressed : (dp : DpId) (port vid : ℕ) (mac : Mac) → IsSixBytes mac.0 → (w : World) → IsAddressed w → IsAddressed (learn dp port vid mac w)
+learn_addressed dp port vid mac six w known =
+    let heard : HostRec = record { dp = dp; port = port; vid = vid; mac = mac; learned = w.moment } in
+    either (is_up (ups w) dp port) (record w { hosts = learned w.conf w.hosts heard }) w
+    (hosts_learned w.conf heard six w.hosts.hosts known.0 (learning.answer w.conf w.hosts heard), known.1, known.2) known
+
+sender_six : (conf : Configuration) (vid : ℕ) (src : Mac) → IsSixBytes src.0 → (upper : UpperParts) → IfSome (upper_sender conf vid src upper) (λ s. IsSixBytes s.mac.0)
+sender_six conf vid src six Unknown = tt
+sender_six conf vid src six (V4 header payload) = tt
+sender_six conf vid src six (Arp op sha spa tha tpa) = by (is_neighbour_address (vips_of conf vid) spa.0 && not (is_group sha)) (is_same sha.0 src.0) refl
+  where
+    by : (b same : Bool) → is_same sha.0 src.0 ≡ same → IfSome {T = Sender} (if b && same then Some (record { ip = spa; mac = sha }) else None) (λ s. IsSixBytes s.mac.0)
+    by false same is = tt
+    by true false is = tt
+    by true true is = subst IsSixBytes (sym (same_texts sha.0 src.0 is)) six
+
+hear_addressed : (dp : DpId) (vid : ℕ) (frame : FrameParts) → IsSixBytes frame.src.0 → (w : World) → IsAddressed w → IsAddressed (hear_packet dp vid frame w)
+hear_addressed dp vid frame six w known = by (heard_sender w.conf vid frame) (sender_six w.conf vid frame.src six frame.upper)
+  where
+    by : (o : Option Sender) → IfSome o (λ s. IsSixBytes s.mac.0) → IsAddressed (option_map_or (hear_from dp vid w) o w)
+    by None is = known
+    by (Some s) is = (known.0, table_told (stays false) _ is w.neighbours known.1, known.2)
+
+reply_addressed : (number : ℕ) (dp : DpId) (port vid : ℕ) (frame : FrameParts) (w : World) → IsAddressed w → IsAddressed (reply number dp port vid frame w)
+reply_addressed number dp port vid frame w known =
+    with_any (λ out. say number (packet_out out) w) (outgoing w.conf dp port vid (answer w.conf dp port frame)) w (λ out. said_addressed number (packet_out out) w known) known
+
+table_addressed : (table number : ℕ) (dp : DpId) (port vid : ℕ) (frame : FrameParts) → IsSixBytes frame.src.0 → (w : World) → IsAddressed w → IsAddressed (packet_of_table table number dp port vid frame w)
+table_addressed table number dp port vid frame six w known =
+    let learned : World = learn dp port vid frame.src w in
+    let gleaned : World = glean dp vid frame w in
+    let answered : World = reply number dp port vid frame (hear_packet dp vid frame w) in
+    either (table == 3) learned (if table == 4 then gleaned else if table == 6 then answered else w) (learn_addressed dp port vid frame.src six w known)
+    (either (table == 4) gleaned (if table == 6 then answered else w) (glean_addressed dp vid frame w known)
+    (either (table == 6) answered w (reply_addressed number dp port vid frame (hear_packet dp vid frame w) (hear_addressed dp vid frame six w known)) known))
+
+at_addressed : (m : PacketIn) (number : ℕ) (dp : DpId) (w : World) (port : ℕ) (frame : FrameParts) → IsSixBytes frame.src.0 → IsAddressed w → IsAddressed (packet_at m number dp w port frame)
+at_addressed m number dp w port frame six known =
+    with_any (λ vid. packet_of_table m.table number dp port vid frame w) (counted_vid w.conf dp port frame) w (λ vid. table_addressed m.table number dp port vid frame six w known) known
+
+by_addressed : (m : PacketIn) (number : ℕ) (dp : DpId) (w : World) (port : ℕ) → AreBytes m.payload → IsAddressed w → IsAddressed (packet_by m number dp w port)
+by_addressed m number dp w port bytes known = by (parts m.payload) (source_six m.payload bytes)
+  where
+    by : (o : Option FrameParts) → IfSome o (λ frame. IsSixBytes frame.src.0) → IsAddressed (option_map_or (packet_at m number dp w port) o w)
+    by None is = known
+    by (Some frame) is = at_addressed m number dp w port frame is known
+
+packet_in_addressed : (m : PacketIn) (number : ℕ) (dp : DpId) (w : World) → AreBytes m.payload → IsAddressed w → IsAddressed (packet_in m number dp w)
+packet_in_addressed m number dp w bytes known =
+    either (m.cookie == 0x5adc15c0 && is_running (running w) dp) (option_map_or (packet_by m number dp w) (in_port m.fields) w) w
+    (with_any (packet_by m number dp w) (in_port m.fields) w (λ port. by_addressed m number dp w port bytes known) known) known
+
+packet_addressed : (m : Message) → HasBytes m → (number : ℕ) (dp : Option DpId) (w : World) → IsAddressed w → IsAddressed (packet m number dp w)
+packet_addressed (messages.PacketIn m) bytes number (Some dp) w known = packet_in_addressed m number dp w bytes known
+packet_addressed m bytes number dp w known = known
+
+-- ---- gateways
+
+routes_told : (group : DpId) (vid : ℕ) (routes : List Route) (moment : Moment) (t : Neighbours) → AllByRecursion IsNeighbour t.neighbours → AllByRecursion IsNeighbour (want_routes group vid routes moment t).neighbours
+routes_told group vid [] moment t all = all
+routes_told group vid (r ∷ rs) moment t all =
+    routes_told group vid rs moment (after_told (stays true) (unresolved group vid r.gw moment) t) (table_told (stays true) (unresolved group vid r.gw moment) tt t all)
+
+gateways_told : (group : DpId) (vlans : List Vlan) (moment : Moment) (t : Neighbours) → AllByRecursion IsNeighbour t.neighbours → AllByRecursion IsNeighbour (want_gateways group vlans moment t).neighbours
+gateways_told group [] moment t all = all
+gateways_told group (v ∷ vs) moment t all = gateways_told group vs moment (want_routes group v.vid v.routes moment t) (routes_told group v.vid v.routes moment t all)
+
+want_addressed : (group : DpId) (w : World) → IsAddressed w → IsAddressed (want_in group w)
+want_addressed group w known =
+    either (list_any (λ dp. (group_of w.conf dp).0 == group.0) (running w)) (record w { neighbours = want_gateways group w.conf.vlans w.moment w.neighbours }) w
+    (known.0, gateways_told group w.conf.vlans w.moment w.neighbours known.1, known.2) known
+
+-- ---- one message
+
+replace_addressed : (dp : DpId) (w : World) → IsAddressed w → IsAddressed (replace dp w)
+replace_addressed dp w known = with_any (λ (c : Conn). close Replaced c.number w) (conn_of w.conns dp) w (λ c. close_addressed Replaced c.number w known) known
+
+introduce_addressed : (number : ℕ) (dp : DpId) (cause : Option Closing) (w : World) → IsAddressed w → IsAddressed (introduce number dp cause w)
+introduce_addressed number dp (Some cause) w known = close_addressed cause number w known
+introduce_addressed number dp None w known =
+    asked_addressed number messages.PortDescRequest (take_dp number dp (replace dp w)) (take_addressed number dp (replace dp w) (replace_addressed dp w known))
+
+begin_addressed : (dp : Option DpId) (w : World) → IsAddressed w → IsAddressed (begin dp w)
+begin_addressed None w known = known
+begin_addressed (Some dp) w known = want_addressed (group_of w.conf dp) w known
+
+echo_addressed : (m : Message) (number xid : ℕ) (w : World) → IsAddressed w → IsAddressed (echo m number xid w)
+echo_addressed (messages.EchoRequest payload) number xid w known = known
+echo_addressed m number xid w known = known
+
+turn_away_addressed : (cause : Closing) (number xid : ℕ) (w : World) → IsAddressed w → IsAddressed (turn_away cause number xid w)
+turn_away_addressed WrongVersion number xid w known = close_addressed WrongVersion number w known
+turn_away_addressed cause number xid w known = close_addressed cause number w known
+
+follow_addressed : (step : Step) (m : Message) → HasBytes m → (xid number : ℕ) (dp : Option DpId) (w : World) → IsAddressed w → IsAddressed (follow step m xid number dp w)
+follow_addressed steps.Nothing m bytes xid number dp w known = known
+follow_addressed steps.AskFeatures m bytes xid number dp w known = said_addressed number messages.FeaturesRequest w known
+follow_addressed (steps.Features id n_tables auxiliary) m bytes xid number dp w known = introduce_addressed number id (unfit w.conf id n_tables auxiliary) w known
+follow_addressed steps.PortsKnown m bytes xid number dp w known = asked_addressed number messages.BarrierRequest (say number delete_all w) (said_addressed number delete_all w known)
+follow_addressed steps.Wiped m bytes xid number dp w known = begin_addressed dp w known
+follow_addressed steps.Settled m bytes xid number dp w known = known
+follow_addressed (steps.PortChanged port) m bytes xid number dp w known = known
+follow_addressed steps.Packet m bytes xid number dp w known = packet_addressed m bytes number dp w known
+follow_addressed steps.Echo m bytes xid number dp w known = echo_addressed m number xid w known
+follow_addressed (steps.Close cause) m bytes xid number dp w known = turn_away_addressed cause number xid w known
+
+hear_on_addressed : (m : Message) → HasBytes m → (xid number : ℕ) (w : World) (c : Conn) → IsAddressed w → IsAddressed (hear_on m xid number w c)
+hear_on_addressed m bytes xid number w c known =
+    let v : World = record w { conns = change number (with_heard m xid) w.conns } in
+    follow_addressed (leads c.session.state m xid).1 m bytes xid number c.dp (forget_lost v) (forgotten v (changed (with_heard m xid) (λ d all. all) number w known))
+
+hear_message_addressed : (m : Message) → HasBytes m → (xid number : ℕ) (w : World) → IsAddressed w → IsAddressed (hear_message m xid number w)
+hear_message_addressed m bytes xid number w known = with_any (hear_on m xid number w) (conn_with w.conns number) w (λ c. hear_on_addressed m bytes xid number w c known) known
+
+pub heard_addressed : (heard : Option (Message × ℕ)) → IfSome heard (λ s. HasBytes s.0) → (number : ℕ) (w : World) → IsAddressed w → IsAddressed (heard_in heard number w)
+heard_addressed (Some heard) bytes number w known = hear_message_addressed heard.0 bytes heard.1 number w known
+heard_addressed None bytes number w known = close_addressed BadFrame number w known
+
+pub read_addressed : (number : ℕ) (w : World) → IsAddressed w → IsAddressed (read number w)
+read_addressed number w known = changed with_read (λ c all. behind_bytes c.session.unread all) number w known
+
+-- ---- what opens and what comes
+
+-- ---- the clock
+
+stir_addressed : (due : Quiet) (number : ℕ) (w : World) → IsAddressed w → IsAddressed (stir due number w)
+stir_addressed quiet.Well number w known = known
+stir_addressed quiet.Echo number w known = said_addressed number (messages.EchoRequest []) w known
+stir_addressed quiet.Silent number w known = close_addressed Silent number w known
+
+look_on_addressed : (w : World) (c : Conn) → IsAddressed w → IsAddressed (look_on w c)
+look_on_addressed w c known =
+    stir_addressed (due_at c.session w.moment) c.number (record w { conns = change c.number (with_looked w.moment) w.conns }) (changed (with_looked w.moment) (λ d all. all) c.number w known)
+
+look_addressed : (number : ℕ) (w : World) → IsAddressed w → IsAddressed (look number w)
+look_addressed number w known = with_any (look_on w) (conn_with w.conns number) w (λ c. look_on_addressed w c known) known
+
+each_addressed : (numbers : List ℕ) (w : World) → IsAddressed w → IsAddressed (look_each numbers w)
+each_addressed [] w known = known
+each_addressed (number ∷ numbers) w known = each_addressed numbers (look number w) (look_addressed number w known)
+
+pub pass_addressed : (moment : ℕ) (w : World) → IsAddressed w → IsAddressed (pass moment w)
+pass_addressed moment w known =
+    let is = each_addressed (map (λ (c : Conn). c.number) w.conns) (show moment w) known in
+    (all_filter IsHost _ (look_each (map (λ (c : Conn). c.number) w.conns) (show moment w)).hosts.hosts is.0, is.1, is.2)
+
+pub feed_addressed : (number : ℕ) (piece : List ℕ) (w : World) → AreBytes piece → IsAddressed w → IsAddressed (feed number piece w)
+feed_addressed number [] w bytes known = changed (with_fed [] w.moment) (λ c all. all) number w known
+feed_addressed number (byte ∷ piece) w bytes known =
+    changed (with_fed (byte ∷ piece) w.moment) (λ c all. all_append (λ b. b < 256) c.session.unread (byte ∷ piece) all bytes) number w known
+
+put_read : (c : Conn) (conns : List Conn) → IsRead c → AllByRecursion IsRead conns → AllByRecursion IsRead (put c conns)
+put_read c [] here all = (here, tt)
+put_read c (d ∷ ds) here all =
+    elim (nat_lt c.number d.number) as (λ b. AllByRecursion IsRead (if b then c ∷ d ∷ ds else d ∷ put c ds)) [ true ↦ (here, all) | false ↦ (all.0, put_read c ds here all.1) ]
+
+pub open_addressed : (number : ℕ) (w : World) → IsAddressed w → IsAddressed (open_conn number w)
+open_addressed number w known =
+    let c : Conn = record { number = number; session = opened w.moment; dp = None; sent = [] } in
+    said_addressed number (messages.Hello 4 (Some 16)) (record w { conns = put c w.conns }) (known.0, known.1, put_read c w.conns tt known.2)
+
+-- ---- a reload
+
+close_of_addressed : (dp : DpId) (w : World) → IsAddressed w → IsAddressed (close_of dp w)
+close_of_addressed dp w known = with_any (λ (c : Conn). close UnknownDp c.number w) (conn_of w.conns dp) w (λ c. close_addressed UnknownDp c.number w known) known
+
+close_each_addressed : (dps : List DpId) (w : World) → IsAddressed w → IsAddressed (close_each dps w)
+close_each_addressed [] w known = known
+close_each_addressed (dp ∷ dps) w known = close_each_addressed dps (close_of dp w) (close_of_addressed dp w known)
+
+want_each_addressed : (groups : List DpId) (w : World) → IsAddressed w → IsAddressed (want_each groups w)
+want_each_addressed [] w known = known
+want_each_addressed (group ∷ groups) w known = want_each_addressed groups (want_in group w) (want_addressed group w known)
+
+want_all_addressed : (w : World) → IsAddressed w → IsAddressed (want_all w)
+want_all_addressed w known = want_each_addressed (in_order (map (group_of w.conf) (running w))) w known
+
+last_six : (ns : List NeighRec) → AllByRecursion IsNeighbour ns → AllByRecursion IsNeighbour (last_of_each ns)
+last_six [] all = tt
+last_six (n ∷ ns) all =
+    elim (list_any (table.is_same n) ns) as (λ b. AllByRecursion IsNeighbour (if b then last_of_each ns else n ∷ last_of_each ns)) [ true ↦ last_six ns all.1 | false ↦ (all.0, last_six ns all.1) ]
+
+regrouped_six : (conf : Configuration) (ns : List NeighRec) → AllByRecursion IsNeighbour ns → AllByRecursion IsNeighbour (filter_map (regrouped conf) ns)
+regrouped_six conf [] all = tt
+regrouped_six conf (n ∷ ns) all =
+    elim (dp_with conf.dps n.group) as (λ o. AllByRecursion IsNeighbour (cons_option (option_map (λ d. record n { group = group_of conf d.id }) o) (filter_map (regrouped conf) ns))) [
+      | Some d ↦ (all.0, regrouped_six conf ns all.1)
+      | None ↦ regrouped_six conf ns all.1
+    ]
+
+renew_addressed : (next : Configuration) (w : World) → IsAddressed w → IsAddressed (renew next w)
+renew_addressed next w known =
+    let v : World = record w { conf = next } in (
+      all_part IsHost _ w.hosts.hosts known.0 (kept_part next (ups v) w.moment.0 w.hosts),
+      last_six (filter (may_stay next (running v)) (filter_map (regrouped next) w.neighbours.neighbours))
+          (all_filter IsNeighbour (may_stay next (running v)) (filter_map (regrouped next) w.neighbours.neighbours) (regrouped_six next w.neighbours.neighbours known.1)),
+      known.2,
+    )
+
+pub reload_addressed : (text : Result Configuration (List ℕ)) (w : World) → IsAddressed w → IsAddressed (reload text w)
+reload_addressed (Ok next) w known =
+    let left : World = close_each (vanished next w.conns) w in
+    want_all_addressed (renew next left) (renew_addressed next left (close_each_addressed (vanished next w.conns) w known))
+reload_addressed (Err cause) w known = known

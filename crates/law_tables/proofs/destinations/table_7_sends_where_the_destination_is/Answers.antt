@@ -1,0 +1,5 @@
+use Rattle.law_tables.proofs.Destinations.{law}
+use Rattle.law_tables.proofs.destinations.table_7_sends_where_the_destination_is.Goals as goal
+
+pub returns : goal.returns
+returns c = λ conf now d setting. law conf now d setting

@@ -1,0 +1,46 @@
+//! Cases of recordings: each line of the input is a case, and is printed with its answer; an empty line,
+//! and one that begins with `#`, is printed as it is. `records DIGITS..` are the bytes of the recording from
+//! there on, and `turns WORD..` is what becomes of it.
+#![tactic(auto)]
+
+mod turns;
+mod worked;
+
+use test_lines::{Answers, answered, bytes_of};
+use net_base::{Bytes, NoMemory};
+use std::alloc::Global;
+use std::io;
+use turns::write_turns;
+
+/// The bytes of the recording that the lines speak of.
+#[derive(Drop)]
+struct Bench {
+    records: Bytes,
+}
+
+impl Answers for Bench {
+    fn answer(&mut self, alloc: Global, line: &str) -> Result<String, NoMemory> {
+        let mut out = String::new(alloc);
+        match line.split_once(' ').unwrap_or(("", "")) {
+            ("records", text) => self.records = bytes_of(alloc, text)?,
+            ("turns", text) => {
+                out.push_str(" => ")?;
+                write_turns(&mut out, alloc, self.records.as_slice(), text)?;
+            }
+            _ => {}
+        }
+        Ok(out)
+    }
+}
+
+fn main(rt: HostRuntime) -> io::Result<()> {
+    let table = io::read_to_string(rt.alloc(), rt.stdin())?;
+    let text = answered(
+        rt.alloc(),
+        &mut Bench {
+            records: Bytes::new(rt.alloc()),
+        },
+        table.as_str(),
+    )?;
+    print!(rt; "{text}")
+}

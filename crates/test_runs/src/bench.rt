@@ -1,0 +1,108 @@
+//! The files that the runs see, and what fails in them.
+
+use crate::runs::{refuse, run};
+use test_lines::{Answers, bytes_of, unescaped, write_repeated};
+use fg_outside::{CallNos, Folder, Folders, HeldFile, HeldFiles, MemFiles};
+use net_base::{NoMemory, Text, TryCopy};
+use std::alloc::Global;
+
+/// Which calls of a run fail, numbered from 1 on, and how many bytes standard output holds.
+#[derive(Clone, Copy, Debug)]
+pub struct Outside {
+    pub read: u64,
+    pub out: u64,
+    pub err: u64,
+    pub room: usize,
+}
+
+/// Nothing fails, and there is room.
+const SURE: Outside = Outside {
+    read: 0,
+    out: 0,
+    err: 0,
+    room: 100_000,
+};
+
+/// The files of the lines before, and what fails in the next run.
+#[derive(Drop)]
+pub struct Bench {
+    held: HeldFiles,
+    outside: Outside,
+}
+
+/// A file of a line with its name, a space and its text.
+fn file(alloc: Global, line: &str) -> Result<HeldFile, NoMemory> {
+    let (name, text) = line.split_once(' ').unwrap_or((line, ""));
+    let mut whole = String::new(alloc);
+    write_repeated(&mut whole, text)?;
+    Ok(HeldFile {
+        name: Text::from_str(alloc, name)?,
+        bytes: unescaped(alloc, whole.as_str())?,
+    })
+}
+
+/// A file of a line with its name and its bytes, as words of hexadecimal digits; of a word that is none
+/// nothing.
+fn bytes_file(alloc: Global, line: &str) -> Result<HeldFile, NoMemory> {
+    let (name, digits) = line.split_once(' ').unwrap_or((line, ""));
+    Ok(HeldFile {
+        name: Text::from_str(alloc, name)?,
+        bytes: bytes_of(alloc, digits)?,
+    })
+}
+
+impl Bench {
+    /// No file, and nothing fails.
+    pub fn new(alloc: Global) -> Bench {
+        Bench {
+            held: HeldFiles::new(alloc),
+            outside: SURE,
+        }
+    }
+
+    fn files(&self, alloc: Global) -> Result<MemFiles, NoMemory> {
+        let mut folders = Folders::new(alloc);
+        folders.push(Folder {
+            held: self.held.copy(alloc)?,
+        })?;
+        Ok(MemFiles::new(folders, CallNos::from_slice(alloc, &[self.outside.read])?))
+    }
+
+    /// Takes what fails in the next run: `read N`, `out N`, `err N` or `room N`.
+    fn take_fault(&mut self, fault: &str) {
+        let (what, number) = fault.split_once(' ').unwrap_or((fault, ""));
+        let number = number.parse::<u64>().unwrap_or(0);
+        match what {
+            "read" => self.outside.read = number,
+            "out" => self.outside.out = number,
+            "err" => self.outside.err = number,
+            _ => self.outside.room = number as usize,
+        }
+    }
+
+    /// What fails in this run, and nothing in the next.
+    fn take_outside(&mut self) -> Outside {
+        let outside = self.outside;
+        self.outside = SURE;
+        outside
+    }
+}
+
+impl Answers for Bench {
+    /// Of a run its status and what it wrote.
+    fn answer(&mut self, alloc: Global, line: &str) -> Result<String, NoMemory> {
+        match line.split_once(' ').unwrap_or((line, "")) {
+            ("file", file_line) => self.held.push(file(alloc, file_line)?)?,
+            ("hex", file_line) => self.held.push(bytes_file(alloc, file_line)?)?,
+            ("no", "files") => self.held = HeldFiles::new(alloc),
+            ("fail", fault) => self.take_fault(fault),
+            ("run", words) => {
+                let files = self.files(alloc)?;
+                return run(alloc, words, files, self.take_outside());
+            }
+            ("no", "memory") => return refuse(alloc, self.take_outside()),
+            _ => {}
+        }
+        Ok(String::new(alloc))
+    }
+}

@@ -1,0 +1,16 @@
+//! Cases of the whole program, over files and streams in memory. Each line of the input is printed as it
+//! is; behind a run stand its status and what was written.
+#![tactic(auto)]
+
+mod bench;
+mod runs;
+
+use bench::Bench;
+use test_lines::answered;
+use std::io;
+
+fn main(rt: HostRuntime) -> io::Result<()> {
+    let table = io::read_to_string(rt.alloc(), rt.stdin())?;
+    let text = answered(rt.alloc(), &mut Bench::new(rt.alloc()), table.as_str())?;
+    print!(rt; "{text}")
+}

@@ -1,0 +1,48 @@
+//! Cases of messages, of their parts and of sessions. Each line of the input is a case, and is printed with
+//! its answer; an empty line, and one that begins with `#`, is printed as it is. Bytes stand in hexadecimal
+//! digits, and `«COUNT:PIECE»` for the piece so many times.
+#![tactic(auto)]
+
+mod messages;
+mod parts;
+mod sessions;
+mod worked;
+
+use test_lines::{Answers, answered, bytes_of};
+use net_base::NoMemory;
+use std::alloc::Global;
+use std::io;
+
+/// Each case stands alone.
+#[derive(Drop)]
+struct Alone;
+
+/// Writes what is said of a case.
+fn write_answer(out: &mut String, alloc: Global, kind: &str, text: &str) -> Result<(), NoMemory> {
+    match kind {
+        "session" => return sessions::write_session(out, alloc, text),
+        "closings" => return sessions::write_closings(out),
+        _ => {}
+    }
+    let bytes = bytes_of(alloc, text)?;
+    match kind {
+        "message" => messages::write_message(out, alloc, bytes.as_slice()),
+        "stream" => sessions::write_stream(out, alloc, bytes.as_slice()),
+        _ => parts::write_part(out, alloc, kind, bytes.as_slice()),
+    }
+}
+
+impl Answers for Alone {
+    fn answer(&mut self, alloc: Global, line: &str) -> Result<String, NoMemory> {
+        let (kind, text) = line.split_once(' ').unwrap_or((line, ""));
+        let mut out = String::from_str(alloc, " => ")?;
+        write_answer(&mut out, alloc, kind, text)?;
+        Ok(out)
+    }
+}
+
+fn main(rt: HostRuntime) -> io::Result<()> {
+    let table = io::read_to_string(rt.alloc(), rt.stdin())?;
+    let text = answered(rt.alloc(), &mut Alone, table.as_str())?;
+    print!(rt; "{text}")
+}
