@@ -1,7 +1,6 @@
-ghost use Rattle.std.specs.Prelude.{◌≡◌, Some, None, IfSome, IfNone};
+ghost use Rattle.std.specs.Prelude.{◌≡◌, IfSome, IfNone};
 ghost use Rattle.net_base.specs.declared.field.FieldId.{FieldId};
-ghost use Rattle.net_base.specs.declared.field.Prerequisite.TheVariants.{Exactly};
-ghost use Rattle.net_base.specs.FieldId.{row, row_of, number_of, byte_len_of, prerequisite_of, all_ones};
+ghost use Rattle.net_base.specs.FieldId.{seen_row, row_of, all_fields, number_of, bits_of, byte_len_of, may_be_masked, prerequisites_of, all_ones};
 ghost use Rattle.net_base.specs.Field.{exact, bits, prefix};
 
 use crate::items::Items;
@@ -32,85 +31,117 @@ pub enum FieldId {
     ArpTpa,
 }
 
-/// What a field of a match asks of the match that it stands in (OpenFlow 1.3, 7.2.3.6).
+/// What a field of a match may ask of the match that it stands in (OpenFlow 1.3, 7.2.3.6).
 #[derive(Clone, Copy, Debug, PartialEq, Eq)]
 pub enum Prerequisite {
     /// A VLAN identifier that isn't 0, whatever its mask.
     Tagged,
     /// The field with just this value, no bit of it masked out.
-    Exactly {
-        id: FieldId,
-        value: u128,
-    },
-    /// The field with one of these two values, no bit of it masked out.
-    Either {
-        id: FieldId,
-        first: u128,
-        second: u128,
-    },
+    Exactly { id: FieldId, value: u128 },
 }
 
 /// A row of the table of fields (OpenFlow 1.3, 7.2.3.7, table 12).
-#[derive(Clone, Copy, Debug, PartialEq, Eq)]
+#[derive(Clone, Copy)]
 pub struct FieldRow {
     /// The field's number (`oxm_ofb_match_fields`).
     pub number: u8,
+    /// How many bits a value has.
+    pub bits: usize,
     /// How many bytes a value takes in a match.
     pub byte_len: usize,
-    /// What the field asks of its match; `None` where it asks nothing.
-    pub prerequisite: Option<Prerequisite>,
+    /// Whether a mask may leave out bits of a value.
+    pub may_be_masked: bool,
+    /// What the match has to have: one of these, or nothing where there are none.
+    pub prerequisites: &'static [Prerequisite],
 }
 
-impl FieldRow {
-    fn free(number: u8, byte_len: usize) -> FieldRow
-        ensures { result ≡ row number byte_len None }
-    {
+macro_rules! row {
+    ($number:literal, $bits:expr, $byte_len:literal, $may_be_masked:literal, $prerequisites:expr) => {
         FieldRow {
-            number,
-            byte_len,
-            prerequisite: None,
+            number: $number,
+            bits: $bits,
+            byte_len: $byte_len,
+            may_be_masked: $may_be_masked,
+            prerequisites: $prerequisites,
         }
-    }
+    };
+}
 
-    fn asks(number: u8, byte_len: usize, id: FieldId, value: u128) -> FieldRow
-        ensures { result ≡ row number byte_len (Some (Exactly id value)) }
-    {
-        FieldRow {
-            number,
-            byte_len,
-            prerequisite: Some(Prerequisite::Exactly { id, value }),
+macro_rules! exactly {
+    ($id:ident, $value:literal) => {
+        Prerequisite::Exactly {
+            id: FieldId::$id,
+            value: $value,
         }
-    }
+    };
+}
+
+// The headers that fields ask for.
+const TAG: [Prerequisite; 1] = [Prerequisite::Tagged];
+
+const IPV4: [Prerequisite; 1] = [exactly!(EthType, 0x0800)];
+
+const ARP: [Prerequisite; 1] = [exactly!(EthType, 0x0806)];
+
+const ICMPV4: [Prerequisite; 1] = [exactly!(IpProto, 1)];
+
+const TCP: [Prerequisite; 1] = [exactly!(IpProto, 6)];
+
+const UDP: [Prerequisite; 1] = [exactly!(IpProto, 17)];
+
+/// Every field, by number.
+const ALL_FIELDS: [FieldId; 18] = [
+    FieldId::InPort,
+    FieldId::EthDst,
+    FieldId::EthSrc,
+    FieldId::EthType,
+    FieldId::VlanVid,
+    FieldId::VlanPcp,
+    FieldId::IpProto,
+    FieldId::Ipv4Src,
+    FieldId::Ipv4Dst,
+    FieldId::TcpSrc,
+    FieldId::TcpDst,
+    FieldId::UdpSrc,
+    FieldId::UdpDst,
+    FieldId::Icmpv4Type,
+    FieldId::Icmpv4Code,
+    FieldId::ArpOp,
+    FieldId::ArpSpa,
+    FieldId::ArpTpa,
+];
+
+/// Every field, by number.
+pub fn all_fields() -> &'static [FieldId]
+    ensures { result.now ≡ all_fields }
+{
+    &ALL_FIELDS
 }
 
 impl FieldId {
     /// The field's row in the table of fields.
     pub fn row(self) -> FieldRow
-        ensures { result ≡ row_of self }
+        ensures { seen_row result ≡ row_of self }
     {
         match self {
-            FieldId::InPort => FieldRow::free(0, 4),
-            FieldId::EthDst => FieldRow::free(3, 6),
-            FieldId::EthSrc => FieldRow::free(4, 6),
-            FieldId::EthType => FieldRow::free(5, 2),
-            FieldId::VlanVid => FieldRow::free(6, 2),
-            FieldId::VlanPcp => FieldRow {
-                number: 7,
-                byte_len: 1,
-                prerequisite: Some(Prerequisite::Tagged),
-            },
-            FieldId::IpProto => FieldRow::asks(10, 1, FieldId::EthType, 0x0800),
-            FieldId::Ipv4Src => FieldRow::asks(11, 4, FieldId::EthType, 0x0800),
-            FieldId::Ipv4Dst => FieldRow::asks(12, 4, FieldId::EthType, 0x0800),
-            FieldId::TcpSrc => FieldRow::asks(13, 2, FieldId::IpProto, 6),
-            FieldId::TcpDst => FieldRow::asks(14, 2, FieldId::IpProto, 6),
-            FieldId::UdpSrc => FieldRow::asks(15, 2, FieldId::IpProto, 17),
-            FieldId::UdpDst => FieldRow::asks(16, 2, FieldId::IpProto, 17),
-            FieldId::Icmpv4Type => FieldRow::asks(19, 1, FieldId::IpProto, 1),
-            FieldId::Icmpv4Code => FieldRow::asks(20, 1, FieldId::IpProto, 1),
-            FieldId::ArpOp => FieldRow::asks(21, 2, FieldId::EthType, 0x0806),
-            FieldId::ArpSpa => FieldRow::asks(22, 4, FieldId::EthType, 0x0806),
-            FieldId::ArpTpa => FieldRow::asks(23, 4, FieldId::EthType, 0x0806),
+            FieldId::InPort => row!(0, 32, 4, false, &[]),
+            FieldId::EthDst => row!(3, 48, 6, true, &[]),
+            FieldId::EthSrc => row!(4, 48, 6, true, &[]),
+            FieldId::EthType => row!(5, 16, 2, false, &[]),
+            FieldId::VlanVid => row!(6, 12 + 1, 2, true, &[]),
+            FieldId::VlanPcp => row!(7, 3, 1, false, &TAG),
+            FieldId::IpProto => row!(10, 8, 1, false, &IPV4),
+            FieldId::Ipv4Src => row!(11, 32, 4, true, &IPV4),
+            FieldId::Ipv4Dst => row!(12, 32, 4, true, &IPV4),
+            FieldId::TcpSrc => row!(13, 16, 2, false, &TCP),
+            FieldId::TcpDst => row!(14, 16, 2, false, &TCP),
+            FieldId::UdpSrc => row!(15, 16, 2, false, &UDP),
+            FieldId::UdpDst => row!(16, 16, 2, false, &UDP),
+            FieldId::Icmpv4Type => row!(19, 8, 1, false, &ICMPV4),
+            FieldId::Icmpv4Code => row!(20, 8, 1, false, &ICMPV4),
+            FieldId::ArpOp => row!(21, 16, 2, false, &ARP),
+            FieldId::ArpSpa => row!(22, 32, 4, true, &ARP),
+            FieldId::ArpTpa => row!(23, 32, 4, true, &ARP),
         }
     }
 
@@ -121,6 +152,13 @@ impl FieldId {
         self.row().number
     }
 
+    /// How many bits a value of the field has.
+    pub fn bits(self) -> usize
+        ensures { result ≡ bits_of self }
+    {
+        self.row().bits
+    }
+
     /// How many bytes a value of the field takes in a match.
     pub fn byte_len(self) -> usize
         ensures { result ≡ byte_len_of self }
@@ -128,44 +166,36 @@ impl FieldId {
         self.row().byte_len
     }
 
-    /// What the field asks of the match that it stands in; `None` where it asks nothing.
-    pub fn prerequisite(self) -> Option<Prerequisite>
-        ensures { result ≡ prerequisite_of self }
+    /// Whether a mask may leave out bits of the field.
+    pub fn may_be_masked(self) -> bool
+        ensures { result ≡ may_be_masked self }
     {
-        self.row().prerequisite
+        self.row().may_be_masked
     }
-}
 
-impl FieldId {
+    /// What the field asks of the match that it stands in: one of these, or nothing where there
+    /// are none.
+    pub fn prerequisites(self) -> &'static [Prerequisite]
+        ensures { result.now ≡ prerequisites_of self }
+    {
+        self.row().prerequisites
+    }
+
     /// The field with this number; `None` exactly where no field has it.
     pub fn of_number(number: u8) -> Option<FieldId>
         ensures found { IfSome result (λ id. number_of id ≡ number) }
         ensures none { IfNone result ((id : FieldId) → number_of id ≡ number → ⊥) }
     {
-        match number {
-            0 => Some(FieldId::InPort),
-            3 => Some(FieldId::EthDst),
-            4 => Some(FieldId::EthSrc),
-            5 => Some(FieldId::EthType),
-            6 => Some(FieldId::VlanVid),
-            7 => Some(FieldId::VlanPcp),
-            10 => Some(FieldId::IpProto),
-            11 => Some(FieldId::Ipv4Src),
-            12 => Some(FieldId::Ipv4Dst),
-            13 => Some(FieldId::TcpSrc),
-            14 => Some(FieldId::TcpDst),
-            15 => Some(FieldId::UdpSrc),
-            16 => Some(FieldId::UdpDst),
-            19 => Some(FieldId::Icmpv4Type),
-            20 => Some(FieldId::Icmpv4Code),
-            21 => Some(FieldId::ArpOp),
-            22 => Some(FieldId::ArpSpa),
-            23 => Some(FieldId::ArpTpa),
-            _ => None,
+        for id in all_fields() {
+            if id.number() == number {
+                return Some(*id);
+            }
         }
+        None
     }
 
     /// The mask that leaves no bit of the field out.
+    #[tactic(auto, using(crate::proofs::Rows::one_byte, crate::proofs::Rows::most_bytes))]
     pub fn all_ones(self) -> u128
         ensures { result ≡ all_ones self }
     {

@@ -1,9 +1,10 @@
 //! Laws of the definitions: each function is empty, and its contract is the law.
 
-ghost use Rattle.std.specs.Prelude.{◌≡◌, ◌<◌, ◌≤◌, ◌^◌, ◌-◌, ◌/◌, ◌↔◌, Bool, true, List, ℕ, length, bit_and};
+ghost use Rattle.std.specs.Prelude.{◌≡◌, ◌<◌, ◌≤◌, ◌^◌, ◌-◌, ◌/◌, ◌↔◌, Bool, true, List, ℕ, length, map, bit_and, Contains};
 ghost use Rattle.net_base.specs.declared.address.Mac.{Mac};
 ghost use Rattle.net_base.specs.declared.field.FieldId.{FieldId};
-ghost use Rattle.net_base.specs.FieldId.{number_of};
+ghost use Rattle.net_base.specs.FieldId.{all_fields, number_of, IsInBounds};
+ghost use Rattle.std.specs.List.Sorted.{IsStrictlyIncreasing};
 ghost use Rattle.net_base.specs.Field.{prefix};
 ghost use Rattle.std.specs.Cmp.Lexicographic.{pointwise};
 ghost use Rattle.net_base.specs.Address.{SpellsMac, mac_text, ip4_text, net4_text, IsSixBytes, mac_value, mac_of};
@@ -36,7 +37,21 @@ pub fn a_mac_is_its_value()
     ensures there { (value : ℕ) → value < 2 ^ 48 → mac_value (mac_of value) ≡ value }
 {}
 
+/// Each field stands in the list of all fields, once, since their numbers ascend there.
+#[tactic(auto, using(crate::proofs::Rows::is_listed, crate::proofs::Rows::numbers_ascend))]
+pub fn every_field_is_listed()
+    ensures listed { (id : FieldId) → Contains all_fields id }
+    ensures ascending { IsStrictlyIncreasing (map number_of all_fields) }
+{}
+
+/// Each row of the table of fields is within its bounds.
+#[tactic(auto, using(crate::proofs::Rows::in_bounds))]
+pub fn each_row_is_in_bounds()
+    ensures { (id : FieldId) → IsInBounds id }
+{}
+
 /// No two fields have one number.
+#[tactic(auto, using(crate::proofs::Rows::same_field))]
 pub fn a_number_has_one_field()
     ensures { (a b : FieldId) → number_of a ≡ number_of b → a ≡ b }
 {}

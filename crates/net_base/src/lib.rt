@@ -15,7 +15,7 @@ mod try_copy;
 mod well_formed;
 
 pub use address::{GROUP_BIT, Ip4, Mac};
-pub use field::{Field, FieldId, FieldRow, Fields, Prerequisite};
+pub use field::{Field, FieldId, FieldRow, Fields, Prerequisite, all_fields};
 pub use items::{Bytes, Items};
 pub use net4::Net4;
 pub use numbers::{DpId, Moment, PortNo, Vid};
