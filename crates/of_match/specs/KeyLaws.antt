@@ -1,6 +1,6 @@
 -- The order of keys is total, and keys that it doesn't tell apart are equal.
-use Rattle.std.specs.Prelude.{◌≡◌, ℕ, [], ◌∷◌, ◌==◌, if◌then◌else◌, refl}
-use Rattle.std.proofs.Common.{ap, sym, ◌∙◌, true≢false}
+use Rattle.std.specs.Prelude.{◌≡◌, ℕ, [], ◌∷◌, refl}
+use Rattle.std.proofs.Common.{ap, sym, true≢false}
 use Rattle.std.specs.declared.cmp.Ordering.{Ordering}
 use Rattle.std.specs.declared.cmp.Ordering.TheVariants.{Less, Equal, Greater}
 use Rattle.std.specs.Ordering.{nat_cmp, bool_cmp, ordering_then, is_eq, eq_by_cmp, as_partial_cmp}
@@ -9,9 +9,8 @@ use Rattle.std.specs.Cmp.Lexicographic.{slice_cmp}
 use Rattle.std.proofs.lemmas.Cmp.{then_total, on_total, nat_cmp_total, lists_total, eq_by_cmp_equiv}
 use Rattle.std.proofs.lemmas.Map.Lookups.{CmpEqualImpliesEq, exact_unsigned}
 use Rattle.net_base.specs.declared.field.Field.{Field}
-use Rattle.net_base.specs.declared.field.FieldId.{FieldId}
-use Rattle.net_base.specs.declared.field.FieldId.TheVariants.{InPort, EthDst, EthSrc, EthType, VlanVid, VlanPcp, IpProto, Ipv4Src, Ipv4Dst, TcpSrc, TcpDst, UdpSrc, UdpDst, Icmpv4Type, Icmpv4Code, ArpOp, ArpSpa, ArpTpa}
 use Rattle.net_base.specs.FieldId.{number_of}
+use Rattle.net_base.proofs.Rows.{same_field}
 use Rattle.of_match.specs.declared.entry.Key.{Key}
 use Rattle.of_match.specs.KeyOrder.{is_masked, match_len, field_cmp, match_cmp, key_cmp}
 
@@ -51,40 +50,12 @@ exact_lists R exact (x ∷ xs) (y ∷ ys) e =
     let k = both_equal (R x y) (slice_cmp R xs ys) e in
     λ i. exact x y k.0 i ∷ exact_lists R exact xs ys k.1 i
 
--- the field with a number
-abbrev field_at : ℕ → FieldId
-field_at n =
-    if n == 0 then InPort else (if n == 3 then EthDst else (if n == 4 then EthSrc else (if n == 5 then EthType else (if n == 6 then VlanVid else (if n == 7 then VlanPcp else (if n == 10 then IpProto else (if n == 11 then Ipv4Src else (if n == 12 then Ipv4Dst else (if n == 13 then TcpSrc else (if n == 14 then TcpDst else (if n == 15 then UdpSrc else (if n == 16 then UdpDst else (if n == 19 then Icmpv4Type else (if n == 20 then Icmpv4Code else (if n == 21 then ArpOp else (if n == 22 then ArpSpa else ArpTpa))))))))))))))))
-
-field_at-number : (f : FieldId) → field_at (number_of f) ≡ f
-field_at-number InPort = refl
-field_at-number EthDst = refl
-field_at-number EthSrc = refl
-field_at-number EthType = refl
-field_at-number VlanVid = refl
-field_at-number VlanPcp = refl
-field_at-number IpProto = refl
-field_at-number Ipv4Src = refl
-field_at-number Ipv4Dst = refl
-field_at-number TcpSrc = refl
-field_at-number TcpDst = refl
-field_at-number UdpSrc = refl
-field_at-number UdpDst = refl
-field_at-number Icmpv4Type = refl
-field_at-number Icmpv4Code = refl
-field_at-number ArpOp = refl
-field_at-number ArpSpa = refl
-field_at-number ArpTpa = refl
-
-pub exact_numbers : (f g : FieldId) → number_of f ≡ number_of g → f ≡ g
-exact_numbers f g e = sym (field_at-number f) ∙ ap field_at e ∙ field_at-number g
-
 pub exact_fields : CmpEqualImpliesEq field_cmp
 exact_fields a b e =
     let k = both_equal (nat_cmp (number_of a.id) (number_of b.id)) _ e in
     let m = both_equal (bool_cmp (is_masked a) (is_masked b)) _ k.1 in
     let v = both_equal (nat_cmp a.value b.value) (nat_cmp a.mask b.mask) m.1 in
-    λ i. record { id = exact_numbers a.id b.id (exact_unsigned _ _ k.0) i; value = exact_unsigned a.value b.value v.0 i; mask = exact_unsigned a.mask b.mask v.1 i }
+    λ i. record { id = same_field a.id b.id (exact_unsigned _ _ k.0) i; value = exact_unsigned a.value b.value v.0 i; mask = exact_unsigned a.mask b.mask v.1 i }
 
 pub exact_matches : CmpEqualImpliesEq match_cmp
 exact_matches a b e = exact_lists field_cmp exact_fields a b (both_equal (nat_cmp (match_len a) (match_len b)) (slice_cmp field_cmp a b) e).1

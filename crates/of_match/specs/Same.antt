@@ -9,6 +9,7 @@ use Rattle.std.proofs.lemmas.Bool.Decides.{Decides-and, Decides-eqb}
 use Rattle.std.proofs.lemmas.Slice.Eq.{slice_eq-Decides}
 use Rattle.net_base.specs.declared.field.Field.{Field}
 use Rattle.net_base.specs.FieldId.{number_of}
+use Rattle.net_base.proofs.Rows.{same_field}
 use Rattle.of_match.specs.declared.action.Action.{Action}
 use Rattle.of_match.specs.declared.action.Action.TheVariants.{Output, PushVlan, PopVlan, DecTtl, Set}
 use Rattle.of_match.specs.declared.action.Instr.{Instr}
@@ -16,7 +17,7 @@ use Rattle.of_match.specs.declared.action.Instr.TheVariants.{Goto, Apply}
 use Rattle.of_match.specs.declared.entry.Key.{Key}
 use Rattle.of_match.specs.declared.entry.Entry.{Entry}
 use Rattle.of_match.specs.KeyOrder.{key_cmp}
-use Rattle.of_match.specs.KeyLaws.{exact_numbers, exact_keys, key_equivalence}
+use Rattle.of_match.specs.KeyLaws.{exact_keys, key_equivalence}
 
 abbrev pub field_same : Field → Field → Bool
 field_same f g = (number_of f.id == number_of g.id) && (f.value == g.value && f.mask == g.mask)
@@ -42,7 +43,7 @@ entry_same e f = eq_by_cmp key_cmp e.key f.key && pointwise instr_same e.instrs 
 pub field_exact : (f g : Field) → Decides (field_same f g) (f ≡ g)
 field_exact f g =
     let d = Decides-and _ _ (Decides-eqb (number_of f.id) (number_of g.id)) (Decides-and _ _ (Decides-eqb f.value g.value) (Decides-eqb f.mask g.mask)) in (
-      λ t. (let e = d.0 t in λ i. record { id = exact_numbers f.id g.id e.0 i; value = e.1.0 i; mask = e.1.1 i }),
+      λ t. (let e = d.0 t in λ i. record { id = same_field f.id g.id e.0 i; value = e.1.0 i; mask = e.1.1 i }),
       λ e. d.1 (ap (λ (h : Field). number_of h.id) e, (ap (λ (h : Field). h.value) e, ap (λ (h : Field). h.mask) e)),
     )
 

@@ -13,9 +13,10 @@ pub fn is_masked(field: &Field) -> bool
 }
 
 // How many bytes a field takes in a match.
+#[tactic(auto, using(net_base::proofs::Rows::most_bytes))]
 fn field_len(field: &Field) -> usize
     ensures exact { result ≡ field_len field.now }
-    ensures small { result ≤ 16 }
+    ensures small { result ≤ 36 }
 {
     if is_masked(field) {
         4 + 2 * field.id.byte_len()
