@@ -6,6 +6,7 @@ use Rattle.byteorder.specs.Endian.{big_from}
 use Rattle.net_base.specs.declared.field.FieldId.{FieldId}
 use Rattle.net_base.specs.declared.field.FieldId.TheVariants.{InPort}
 use Rattle.net_base.specs.FieldId.{byte_len_of}
+use Rattle.net_base.proofs.Rows.{same_field}
 use Rattle.of_match.specs.declared.action.Action.{Action}
 use Rattle.of_match.specs.declared.action.Action.TheVariants.{Output, PushVlan, PopVlan, DecTtl, Set}
 use Rattle.of_wire.specs.declared.fault.PartFault.{PartFault}
@@ -19,7 +20,7 @@ use Rattle.of_wire.specs.Answers.{Gives, fault_at}
 use Rattle.of_wire.specs.Reading.{◌>>=◌, padding_at, field_named, has_mask, payload_len, field_value, sized_at, set_named, set_at, output_at, push_at, bare_at, action_of, action_at, action_step, actions_at}
 use Rattle.of_wire.specs.Faults.{ComesFirst, EndsEarly, type_of, IsSized, NamesNone, Names, SetFault, no_room, set_length, set_unknown, set_mask, set_value, set_padding, ActionFault, unknown_action, action_length, in_set, EachAction, WrongAction, ActionsFault, FaultInActions, FaultInActionsAt, OrShort, Behind, EndsIn, CutsOff, TellsFirst, SpelledOrFaulty}
 use Rattle.of_wire.proofs.Grammars.{AreBytes}
-use Rattle.of_wire.proofs.FieldNames.{named, unnamed, same_id}
+use Rattle.of_wire.proofs.FieldNames.{named, unnamed}
 use Rattle.of_wire.specs.Spelling.{SpellsAction, SpellsActions}
 use Rattle.of_wire.proofs.Chosen.{one_answer}
 use Rattle.of_wire.proofs.SetLaws.{set_front, action_complete, step_complete}
@@ -157,7 +158,7 @@ only_padding bytes id s name plain size q d (set_length h ne) = absurd (ne s.pad
 only_padding bytes id s name plain size q d (set_unknown h n) = absurd (n id name.0 name.1)
 only_padding bytes id s name plain size q d (set_mask h other n m) = absurd (plain m)
 only_padding bytes id s name plain size q d (set_value h other n v) =
-    let same : id ≡ other = same_id id other (sym name.1 ∙ n.1) in
+    let same : id ≡ other = same_field id other (sym name.1 ∙ n.1) in
     absurd (v (size ∙ ap byte_len_of same))
 only_padding bytes id s name plain size q d (set_padding h place low high there bit) = record { cause = refl; low = low; high = high; there = there; bit = bit }
 

@@ -1,15 +1,16 @@
 -- Fields in ascending order stay as they are, and what a field asks for stands before it.
 use Rattle.std.proofs.Common.{◌≡◌, ℕ, suc, ◌≤◌, ◌<◌, Bool, true, false, ◌||◌, eqb, ltb, List, [], ◌∷◌, ◌++◌, length, Some, None, refl, sym, ap, ◌∙◌, arith}
-use Rattle.std.specs.List.{AllByRecursion, list_any, position_or_len}
-use Rattle.std.proofs.lemmas.Bool.{le-ltb, ne_eqb, and_left, or_from, cond-false}
+use Rattle.std.specs.List.{AllByRecursion, list_any, list_all, position_or_len}
+use Rattle.std.proofs.lemmas.Bool.{le-ltb, ltb-true, ne_eqb, and_parts, and_left, or_from, cond-false}
 use Rattle.std.proofs.lemmas.List.Folds.{list_any-append}
 use Rattle.net_base.specs.declared.field.Field.{Field}
 use Rattle.net_base.specs.declared.field.FieldId.{FieldId}
-use Rattle.net_base.specs.declared.field.FieldId.TheVariants.{InPort, EthDst, EthSrc, EthType, VlanVid, VlanPcp, IpProto, Ipv4Src, Ipv4Dst, TcpSrc, TcpDst, UdpSrc, UdpDst, Icmpv4Type, Icmpv4Code, ArpOp, ArpSpa, ArpTpa}
-use Rattle.net_base.specs.FieldId.{number_of}
+use Rattle.net_base.specs.declared.field.FieldId.TheVariants.{VlanVid}
+use Rattle.net_base.specs.FieldId.{number_of, prerequisites_of}
 use Rattle.net_base.specs.declared.field.Prerequisite.{Prerequisite}
-use Rattle.net_base.specs.declared.field.Prerequisite.TheVariants.{Tagged, Exactly, Either}
-use Rattle.net_base.specs.WellFormed.{is_whole, meets, has_prerequisite}
+use Rattle.net_base.specs.declared.field.Prerequisite.TheVariants.{Tagged, Exactly}
+use Rattle.net_base.specs.WellFormed.{is_whole, meets, meets_one, has_one, has_prerequisite}
+use Rattle.net_base.proofs.Rows.{every_field}
 use Rattle.of_wire.specs.Spelling.{placed, placed_at, first_above, stands}
 
 abbrev pub AreBelow : ℕ → List Field → Type 0
@@ -59,7 +60,6 @@ stands_not id (g ∷ fields) h = or_from _ _ (ne_eqb _ _ (λ e. omega (arith, e,
 abbrev asked : Prerequisite → ℕ
 asked Tagged = number_of VlanVid
 asked (Exactly id value) = number_of id
-asked (Either id first second) = number_of id
 
 not_whole : (id : FieldId) (f : Field) → number_of id < number_of f.id → is_whole id f ≡ false
 not_whole id f h = and_left (eqb (number_of f.id) (number_of id)) _ (ne_eqb _ _ (λ e. omega (arith, e, h)))
@@ -67,36 +67,31 @@ not_whole id f h = and_left (eqb (number_of f.id) (number_of id)) _ (ne_eqb _ _ 
 meets_not : (p : Prerequisite) (f : Field) → asked p < number_of f.id → meets p f ≡ false
 meets_not Tagged f h = and_left (eqb (number_of f.id) (number_of VlanVid)) _ (ne_eqb _ _ (λ e. omega (arith, e, h)))
 meets_not (Exactly id value) f h = and_left (is_whole id f) _ (not_whole id f h)
-meets_not (Either id first second) f h = and_left (is_whole id f) _ (not_whole id f h)
 
-none_meets : (p : Prerequisite) (n : ℕ) (fields : List Field) → asked p < n → AreFrom n fields → list_any (meets p) fields ≡ false
-none_meets p n [] k h = refl
-none_meets p n (g ∷ fields) k h = or_from _ _ (meets_not p g (omega (arith, h.0))) (none_meets p n fields k h.1)
+-- all that is asked for has a number below this one
+abbrev are_below : ℕ → List Prerequisite → Bool
+are_below n ps = list_all (λ p. ltb (asked p) n) ps
+
+one_not : (ps : List Prerequisite) (n : ℕ) (f : Field) → are_below n ps ≡ true → n ≤ number_of f.id → meets_one ps f ≡ false
+one_not [] n f low h = refl
+one_not (p ∷ ps) n f low h =
+    let parts = and_parts (ltb (asked p) n) (are_below n ps) low in
+    let less = ltb-true (asked p) n parts.0 in
+    or_from _ _ (meets_not p f (omega (arith, less, h))) (one_not ps n f parts.1 h)
+
+none_meets : (ps : List Prerequisite) (n : ℕ) (fields : List Field) → are_below n ps ≡ true → AreFrom n fields → list_any (meets_one ps) fields ≡ false
+none_meets ps n [] low h = refl
+none_meets ps n (g ∷ fields) low h = or_from _ _ (one_not ps n g low h.0) (none_meets ps n fields low h.1)
 
 or_left_is : (a b : Bool) → (a || b) ≡ true → b ≡ false → a ≡ true
 or_left_is true b e k = refl
 or_left_is false b e k = sym k ∙ e
 
-met_before : (p : Prerequisite) (n : ℕ) (before rest : List Field) → asked p < n → AreFrom n rest → list_any (meets p) (before ++ rest) ≡ true → list_any (meets p) before ≡ true
-met_before p n before rest k h e = or_left_is _ _ (sym (list_any-append (meets p) before rest) ∙ e) (none_meets p n rest k h)
+met_before : (ps : List Prerequisite) (n : ℕ) (before rest : List Field) → are_below n ps ≡ true → AreFrom n rest → has_one ps (before ++ rest) ≡ true → has_one ps before ≡ true
+met_before [] n before rest low h e = refl
+met_before (p ∷ ps) n before rest low h e = or_left_is _ _ (sym (list_any-append (meets_one (p ∷ ps)) before rest) ∙ e) (none_meets (p ∷ ps) n rest low h)
 
 -- what a field asks for has a lower number, so it stands before it
 pub prerequisite_before : (id : FieldId) (before rest : List Field) → AreFrom (number_of id) rest → has_prerequisite id (before ++ rest) ≡ true → has_prerequisite id before ≡ true
-prerequisite_before InPort before rest h e = refl
-prerequisite_before EthDst before rest h e = refl
-prerequisite_before EthSrc before rest h e = refl
-prerequisite_before EthType before rest h e = refl
-prerequisite_before VlanVid before rest h e = refl
-prerequisite_before VlanPcp before rest h e = met_before Tagged 7 before rest (omega arith) h e
-prerequisite_before IpProto before rest h e = met_before (Exactly EthType 0x0800) 10 before rest (omega arith) h e
-prerequisite_before Ipv4Src before rest h e = met_before (Exactly EthType 0x0800) 11 before rest (omega arith) h e
-prerequisite_before Ipv4Dst before rest h e = met_before (Exactly EthType 0x0800) 12 before rest (omega arith) h e
-prerequisite_before TcpSrc before rest h e = met_before (Exactly IpProto 6) 13 before rest (omega arith) h e
-prerequisite_before TcpDst before rest h e = met_before (Exactly IpProto 6) 14 before rest (omega arith) h e
-prerequisite_before UdpSrc before rest h e = met_before (Exactly IpProto 17) 15 before rest (omega arith) h e
-prerequisite_before UdpDst before rest h e = met_before (Exactly IpProto 17) 16 before rest (omega arith) h e
-prerequisite_before Icmpv4Type before rest h e = met_before (Exactly IpProto 1) 19 before rest (omega arith) h e
-prerequisite_before Icmpv4Code before rest h e = met_before (Exactly IpProto 1) 20 before rest (omega arith) h e
-prerequisite_before ArpOp before rest h e = met_before (Exactly EthType 0x0806) 21 before rest (omega arith) h e
-prerequisite_before ArpSpa before rest h e = met_before (Exactly EthType 0x0806) 22 before rest (omega arith) h e
-prerequisite_before ArpTpa before rest h e = met_before (Exactly EthType 0x0806) 23 before rest (omega arith) h e
+prerequisite_before id before rest h e =
+    met_before (prerequisites_of id) (number_of id) before rest (every_field (λ id. are_below (number_of id) (prerequisites_of id)) refl id) h e

@@ -6,6 +6,7 @@ use Rattle.net_base.specs.declared.field.Field.{Field}
 use Rattle.net_base.specs.declared.field.FieldId.{FieldId}
 use Rattle.net_base.specs.FieldId.{byte_len_of}
 use Rattle.net_base.specs.WellFormed.{has_prerequisite}
+use Rattle.net_base.proofs.Rows.{same_field}
 use Rattle.of_wire.specs.declared.fault.PartFault.{PartFault}
 use Rattle.of_wire.specs.declared.fault.PartCause.{PartCause}
 use Rattle.of_wire.specs.declared.fault.PartCause.TheVariants.{BadClass, BadLength, Repeated, Prerequisite}
@@ -16,7 +17,7 @@ use Rattle.of_wire.specs.Spelling.{stands, placed, known, MayStand, SpellsItem, 
 use Rattle.of_wire.specs.Faults.{ComesFirst, NamesNone, Names, FieldEndsEarly, FieldFault, unknown_field, field_again, unprepared, value_length, mask_length}
 use Rattle.of_wire.proofs.Grammars.{AreBytes, number_again}
 use Rattle.of_wire.proofs.Joining.{Part}
-use Rattle.of_wire.proofs.FieldNames.{named, unnamed, unnamed_again, same_id}
+use Rattle.of_wire.proofs.FieldNames.{named, unnamed, unnamed_again}
 use Rattle.of_wire.proofs.FieldOrder.{view, stands_in_order, prerequisites_in_order}
 use Rattle.of_wire.proofs.FieldLaws.{plain_again, masked_again, known_part, unknown_part, step_complete}
 use Rattle.of_wire.proofs.Verdicts.{Steps}
@@ -80,7 +81,7 @@ repeated_first strict before bytes id name q d (value_length h other n e l) = in
 repeated_first strict before bytes id name q d (mask_length h other n e l) = inl (omega arith)
 
 same_name : (bytes : List ℕ) (id other : FieldId) → Names 0 id bytes → Names 0 other bytes → other ≡ id
-same_name bytes id other n m = same_id other id (sym m.1 ∙ n.1)
+same_name bytes id other n m = same_field other id (sym m.1 ∙ n.1)
 
 prerequisite_first : (strict : Bool) (before : List (Option Field)) (bytes : List ℕ) (id : FieldId) → Names 0 id bytes → stands id (known before) ≡ false
     → (q : ℕ) (d : PartCause) → FieldFault strict before bytes q d → ComesFirst 0 Prerequisite q d

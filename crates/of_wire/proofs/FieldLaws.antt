@@ -6,12 +6,13 @@ use Rattle.net_base.specs.declared.field.Field.{Field}
 use Rattle.net_base.specs.declared.field.FieldId.{FieldId}
 use Rattle.net_base.specs.FieldId.{number_of, byte_len_of, all_ones}
 use Rattle.net_base.specs.WellFormed.{has_prerequisite}
+use Rattle.net_base.proofs.Rows.{one_byte}
 use Rattle.of_wire.specs.declared.fault.PartFault.{PartFault}
 use Rattle.of_wire.specs.Numbers.{number_in}
 use Rattle.of_wire.specs.Reading.{field_named, has_mask, payload_len, wanted_len, field_value, known_field, known_step, unknown_step, field_step}
 use Rattle.of_wire.specs.Spelling.{stands, placed, SpellsPlain, SpellsMasked, SpellsField, SpellsUnknown, SpellsItem, MayStand, known}
 use Rattle.of_wire.proofs.Grammars.{AreBytes, bytes_take, has_number, number_then, number_again, number_ends, number_of_take, number_of_front}
-use Rattle.of_wire.proofs.FieldNames.{named, named_again, unnamed, unnamed_again, one_byte}
+use Rattle.of_wire.proofs.FieldNames.{named, named_again, unnamed, unnamed_again}
 use Rattle.of_wire.proofs.FieldOrder.{view, view_some, view_none, stands_in_order, prerequisites_in_order}
 use Rattle.of_wire.proofs.Joining.{Part, IsRead}
 

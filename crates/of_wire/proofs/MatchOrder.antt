@@ -18,11 +18,10 @@ use Rattle.net_base.specs.declared.field.Field.{Field}
 use Rattle.net_base.specs.declared.field.FieldId.{FieldId}
 use Rattle.net_base.specs.FieldId.{number_of, byte_len_of, all_ones}
 use Rattle.of_match.specs.KeyOrder.{is_masked, field_len, field_cmp, match_cmp}
-use Rattle.of_match.specs.KeyLaws.{exact_numbers}
 use Rattle.net_base.specs.WellFormed.{Fits, AreAscending, IsWellFormed}
+use Rattle.net_base.proofs.Rows.{same_field, low_number}
 use Rattle.of_wire.specs.Parts.{number, field_bytes, match_bytes}
 use Rattle.of_wire.proofs.Bounds.{ascending_fit}
-use Rattle.of_wire.proofs.FieldNames.{low_number}
 use Rattle.of_wire.proofs.Lengths.{number_length, field_plain, field_masked}
 
 abbrev lex : List ℕ → List ℕ → Ordering
@@ -228,7 +227,7 @@ module _ (f g : Field) (fits_f : Fits f) (fits_g : Fits g) (p q : List ℕ) wher
           → lex (tail_of m (byte_len_of f.id) f.value f.mask ++ p) (tail_of n (byte_len_of g.id) g.value g.mask ++ q) ≡ ordering_then (ordering_then (nat_cmp f.value g.value) (nat_cmp f.mask g.mask)) (lex p q)
       alike same =
           let both = equal_parts (nat_cmp (number_of f.id) (number_of g.id)) (bool_cmp m n) same in
-          let id : f.id ≡ g.id = exact_numbers f.id g.id (cmp_same (number_of f.id) (number_of g.id) both.0) in
+          let id : f.id ≡ g.id = same_field f.id g.id (cmp_same (number_of f.id) (number_of g.id) both.0) in
           let flag : m ≡ n = bools m n both.1 in
           let fit : (x : ℕ) → x ≤ all_ones g.id → x ≤ 2 ^ (8 * byte_len_of f.id) - 1 = λ x le. subst (λ (i : FieldId). x ≤ 2 ^ (8 * byte_len_of i) - 1) (sym id) le in
           (λ i. lex (tail_of m (byte_len_of f.id) f.value f.mask ++ p) (tail_of (sym flag i) (byte_len_of (sym id i)) g.value g.mask ++ q))

@@ -13,6 +13,7 @@ use Rattle.of_match.specs.declared.action.Action.TheVariants.{Output, PushVlan, 
 use Rattle.of_match.specs.declared.action.Instr.{Instr}
 use Rattle.of_match.specs.declared.action.Instr.TheVariants.{Goto, Apply}
 use Rattle.net_base.specs.WellFormed.{Fits, AreAscending, has_prerequisite}
+use Rattle.net_base.proofs.Rows.{most_bytes, low_number}
 use Rattle.of_wire.specs.Parts.{number, zeros, up_to_8, field_bytes, match_bytes, set_bytes, action_bytes, instr_bytes}
 use Rattle.of_wire.specs.Grammar.{Then, ◌▷◌, Number, Ignored, Zeros, Joined}
 use Rattle.of_wire.specs.Spelling.{SpellsPlain, SpellsMasked, SpellsField, SpellsItem, SpellsAnyMatch, SpellsSet, SpellsAction, SpellsActions, SpellsInstr, SpellsInstrs, MayStand, known, in_order, in_order_onto}
@@ -20,7 +21,6 @@ use Rattle.of_match.specs.WellFormed.{IsAction, AreApplied, AreInstrs}
 use Rattle.of_wire.specs.WellFormed.{IsMatch, IsMatchSeen}
 use Rattle.of_wire.proofs.Bounds.{ascending_fit}
 use Rattle.of_wire.proofs.Lengths.{number_length}
-use Rattle.of_wire.proofs.FieldNames.{most_bytes, low_number}
 use Rattle.of_wire.proofs.FieldOrder.{known_some}
 use Rattle.of_wire.proofs.Ascending.{AreBelow, AreFrom, below_push, from_above, placed_last, stands_not, prerequisite_before}
 

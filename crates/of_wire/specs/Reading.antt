@@ -2,10 +2,10 @@
 -- public calls answer is fixed by Spelling and Faults alone. A fault's place counts from the first
 -- byte of what the part stands in, so `at` is the place of the first byte given here.
 use Rattle.std.specs.Prelude.{ℕ, zero, suc, ◌+◌, ◌-◌, ◌*◌, ◌/◌, ◌%◌, min, Bool, not, ◌&&◌, ◌||◌, ◌==◌, nat_lt, if◌then◌else◌, List, [], ◌∷◌, ◌++◌, length, take, drop, position, Option, Some, None, slice_range, Result, Ok, Err}
+use Rattle.std.specs.List.{find}
 use Rattle.net_base.specs.declared.field.Field.{Field}
 use Rattle.net_base.specs.declared.field.FieldId.{FieldId}
-use Rattle.net_base.specs.declared.field.FieldId.TheVariants.{InPort, EthDst, EthSrc, EthType, VlanVid, VlanPcp, IpProto, Ipv4Src, Ipv4Dst, TcpSrc, TcpDst, UdpSrc, UdpDst, Icmpv4Type, Icmpv4Code, ArpOp, ArpSpa, ArpTpa}
-use Rattle.net_base.specs.FieldId.{number_of, byte_len_of, all_ones}
+use Rattle.net_base.specs.FieldId.{all_fields, number_of, byte_len_of, all_ones}
 use Rattle.of_match.specs.declared.action.Action.{Action}
 use Rattle.of_match.specs.declared.action.Action.TheVariants.{Output, PushVlan, PopVlan, DecTtl, Set}
 use Rattle.of_match.specs.declared.action.Instr.{Instr}
@@ -52,17 +52,9 @@ padding_at past at from to bytes =
 
 -- ---- matches (7.2.3)
 
--- the fields that are known (7.2.3.7), and the one with a number
-abbrev pub all_fields : List FieldId
-all_fields =
-    InPort ∷ EthDst ∷ EthSrc ∷ EthType ∷ VlanVid ∷ VlanPcp ∷ IpProto ∷ Ipv4Src ∷ Ipv4Dst ∷ TcpSrc ∷ TcpDst ∷ UdpSrc ∷ UdpDst ∷ Icmpv4Type ∷ Icmpv4Code ∷ ArpOp ∷ ArpSpa ∷ ArpTpa ∷ []
-
-abbrev pub numbered_among : ℕ → List FieldId → Option FieldId
-numbered_among n [] = None
-numbered_among n (id ∷ more) = if number_of id == n then Some id else numbered_among n more
-
+-- the field with a number (7.2.3.7)
 unfoldable pub field_numbered : ℕ → Option FieldId
-field_numbered n = numbered_among n all_fields
+field_numbered n = find (λ id. number_of id == n) all_fields
 
 -- the field that a header names (7.2.3.2): of the class of basic fields, by its number
 unfoldable pub field_named : List ℕ → Option FieldId

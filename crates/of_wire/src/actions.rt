@@ -97,7 +97,7 @@ pub fn put_actions(actions: &[Action], out: &mut Bytes) -> Result<(), NoMemory>
 #[tactic(auto, using(crate::proofs::Lengths::output_length, crate::proofs::Lengths::push_length, crate::proofs::Lengths::bare_length, crate::proofs::Lengths::set_length))]
 fn action_len(action: &Action) -> usize
     ensures exact { result ≡ length (action_bytes action.now) }
-    ensures most { result ≤ 24 }
+    ensures most { result ≤ 40 }
 {
     match action {
         Action::Output { .. } => 16,
@@ -109,7 +109,7 @@ fn action_len(action: &Action) -> usize
 /// How many bytes actions take.
 pub fn actions_len(actions: &[Action]) -> u128
     ensures exact { result ≡ length (flat_map action_bytes actions.now) }
-    ensures most { result ≤ 24 * length actions.now }
+    ensures most { result ≤ 40 * length actions.now }
 {
     let mut total = 0;
     for action in actions {

@@ -34,12 +34,14 @@ pub fn bytes_spell_one_list()
     ensures instrs { (a b : List Instr) (bytes : List ℕ) → SpellsInstrs a bytes → SpellsInstrs b bytes → a ≡ b }
 {}
 
-/// A number takes the bytes that it is given; a field takes at most 16 bytes, an action at most 24.
+/// A number takes the bytes that it is given; a field takes at most 36 bytes, an action at most 40,
+/// and 24 where it is one that a switch accepts, since what it sets has no mask then.
 pub fn parts_take_few_bytes()
     ensures number { (len value : ℕ) → length (number len value) ≡ len }
-    ensures fields { (fields : List Field) → length (flat_map field_bytes fields) ≤ 16 * length fields }
-    ensures in_a_match { (fields : List Field) → length (match_bytes fields) ≤ 11 + 16 * length fields }
-    ensures actions { (actions : List Action) → length (flat_map action_bytes actions) ≤ 24 * length actions }
+    ensures fields { (fields : List Field) → length (flat_map field_bytes fields) ≤ 36 * length fields }
+    ensures in_a_match { (fields : List Field) → length (match_bytes fields) ≤ 11 + 36 * length fields }
+    ensures actions { (actions : List Action) → length (flat_map action_bytes actions) ≤ 40 * length actions }
+    ensures accepted { (actions : List Action) → AllByRecursion IsAction actions → length (flat_map action_bytes actions) ≤ 24 * length actions }
 {}
 
 /// The fields that a match spells ascend by number, and are the known ones among what stands in its

@@ -58,10 +58,10 @@ fn put_fields(fields: &[Field], out: &mut Bytes) -> Result<(), NoMemory>
 }
 
 /// How many bytes a field takes.
-#[tactic(auto, using(crate::proofs::Lengths::field_plain, crate::proofs::Lengths::field_masked))]
+#[tactic(auto, using(crate::proofs::Lengths::field_plain, crate::proofs::Lengths::field_masked, net_base::proofs::Rows::most_bytes))]
 pub fn field_len(field: &Field) -> usize
     ensures exact { result ≡ length (field_bytes field.now) }
-    ensures most { result ≤ 16 }
+    ensures most { result ≤ 36 }
 {
     let len = field.id.byte_len();
     if field.mask == field.id.all_ones() {

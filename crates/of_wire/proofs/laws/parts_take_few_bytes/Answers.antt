@@ -1,4 +1,4 @@
-use Rattle.of_wire.proofs.Bounds.{fields_most, match_most, actions_most}
+use Rattle.of_wire.proofs.Bounds.{fields_most, match_most, actions_most, sent_actions_most}
 use Rattle.of_wire.proofs.Lengths.{number_length}
 use Rattle.of_wire.proofs.laws.parts_take_few_bytes.Goals as goal
 
@@ -13,3 +13,6 @@ returns-clause-in_a_match c = match_most
 
 pub returns-clause-actions : goal.returns-clause-actions
 returns-clause-actions c = actions_most
+
+pub returns-clause-accepted : goal.returns-clause-accepted
+returns-clause-accepted c = sent_actions_most
