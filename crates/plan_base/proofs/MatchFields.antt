@@ -1,5 +1,5 @@
 -- The words of matches are fields that a switch accepts, and so is a match of such fields.
-use Rattle.std.proofs.Common.{◌≡◌, ℕ, ◌-◌, ◌*◌, ◌/◌, ◌^◌, ◌<◌, ◌≤◌, ◌⊎◌, true, List, refl, ap, ◌∙◌, inl, inr, arith, lit<, lit≤}
+use Rattle.std.proofs.Common.{◌≡◌, ℕ, ◌-◌, ◌*◌, ◌/◌, ◌^◌, ◌<◌, ◌≤◌, ◌⊎◌, true, List, refl, ap, ◌∙◌, inl, inr, arith, lit<}
 use Rattle.std.specs.Prelude.{bit_and, IsTrue}
 use Rattle.std.specs.List.{AllByRecursion}
 use Rattle.std.proofs.Math.Nat.{div-mul-le_self, mul-div_cancel, mod-eq_of_lt, pow-le-pow_right}
@@ -11,23 +11,19 @@ use Rattle.net_base.specs.declared.field.FieldId.{FieldId}
 use Rattle.net_base.specs.declared.field.FieldId.TheVariants.{InPort, EthDst, EthSrc, EthType, VlanVid, IpProto, Ipv4Dst, Icmpv4Type, ArpTpa}
 use Rattle.net_base.specs.Address.{IsSixBytes}
 use Rattle.net_base.specs.Field.{exact, prefix}
-use Rattle.net_base.specs.FieldId.{all_ones, byte_len_of}
+use Rattle.net_base.specs.FieldId.{bits_of, byte_len_of, may_be_masked, all_ones}
 use Rattle.net_base.specs.Numbers.{IsVid, IsPortNo}
 use Rattle.net_base.specs.WellFormed.{Fits, AreAscending, IsWellFormed, has_prerequisite}
 use Rattle.net_base.proofs.Macs.{mac_below}
+use Rattle.net_base.proofs.Rows.{in_bounds}
 use Rattle.plan_base.specs.Fields.{in_port, eth_dst, eth_src, group_dst, group_src, eth_type, vid_field, untagged, ip_proto, icmpv4_type, arp_tpa}
-use Rattle.plan_base.specs.MatchFields.{bits_of, may_be_masked, IsMatchField}
+use Rattle.plan_base.specs.MatchFields.{IsMatchField}
 use Rattle.plan_base.proofs.Each.{all_from}
 
 -- ---- bits and bytes
 
--- the bits of a field are in its bytes
-bits_in_bytes : (id : FieldId) → bits_of id ≤ 8 * byte_len_of id
-bits_in_bytes InPort = lit≤ tt
-bits_in_bytes id = lit≤ tt
-
 bits_below : (id : FieldId) → 2 ^ bits_of id ≤ 2 ^ (8 * byte_len_of id)
-bits_below id = pow-le-pow_right {n = 2} (lit< tt) (bits_in_bytes id)
+bits_below id = pow-le-pow_right {n = 2} (lit< tt) (in_bounds id).bits
 
 pub fits : (f : Field) → IsMatchField f → Fits f
 fits f h = record { value = omega (arith, h.bits, bits_below f.id); mask = of_mask h.mask }
@@ -85,8 +81,8 @@ pub is_group_src : IsMatchField group_src
 is_group_src = record { bits = lit< tt; within = refl; mask = inr (refl, lit< tt) }
 
 -- a prefix's mask leaves an address without host bits as it is
-pub without_host_bits : (value k : ℕ) → k ≤ 32 → value < 2 ^ 32 → value / 2 ^ k * 2 ^ k ≡ value → bit_and value (2 ^ 32 - 2 ^ k) ≡ value
-without_host_bits value k within fits none = and_high_mask 32 k within value fits ∙ none
+pub without_host_bits : (bits value k : ℕ) → k ≤ bits → value < 2 ^ bits → value / 2 ^ k * 2 ^ k ≡ value → bit_and value (2 ^ bits - 2 ^ k) ≡ value
+without_host_bits bits value k within fits none = and_high_mask bits k within value fits ∙ none
 
 pub is_prefix_field : (ip len : ℕ) → ip < 2 ^ 32 → IsMatchField (prefix Ipv4Dst ip len)
 is_prefix_field ip len h =
@@ -96,7 +92,7 @@ is_prefix_field ip len h =
     let below : ip / size * size < 2 ^ 32 = omega (arith, div-mul-le_self ip size) in
     record {
       bits = below;
-      within = without_host_bits (ip / size * size) k (omega arith) below (ap (λ n. n * size) (mul-div_cancel (ip / size) some));
+      within = without_host_bits 32 (ip / size * size) k (omega arith) below (ap (λ n. n * size) (mul-div_cancel (ip / size) some));
       mask = inr (refl, omega arith);
     }
 
