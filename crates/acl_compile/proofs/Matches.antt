@@ -1,27 +1,28 @@
 -- Matches of the rules of ACLs are matches that a switch accepts.
-use Rattle.std.proofs.Common.{◌≡◌, ℕ, ◌+◌, ◌-◌, ◌*◌, ◌/◌, ◌^◌, ◌<◌, ◌≤◌, ◌==◌, ◌&&◌, ◌||◌, not, nat_lt, Bool, true, false, cond, if◌then◌else◌, Option, Some, None, List, [], ◌∷◌, ◌++◌, map, filter, find, refl, sym, ap, ◌∙◌, arith, lit<, lit≤, inl, inr}
+use Rattle.std.proofs.Common.{◌≡◌, ℕ, ◌+◌, ◌-◌, ◌*◌, ◌/◌, ◌^◌, ◌<◌, ◌≤◌, ◌==◌, ◌&&◌, ◌||◌, not, nat_lt, Bool, true, false, cond, if◌then◌else◌, Option, Some, None, List, [], ◌∷◌, ◌++◌, map, filter, find, refl, sym, ap, ◌∙◌, arith, lit<, lit≤, inl, inr, ◌⊎◌}
 use Rattle.std.specs.Prelude.{Contains, IsTrue, bit_and}
-use Rattle.std.specs.List.{AllByRecursion, list_any, filter_map, flat_map, enumerate_from}
+use Rattle.std.specs.List.{AllByRecursion, list_any, list_all, filter_map, flat_map, enumerate_from}
 use Rattle.std.specs.Option.{option_map, option_map_or, option_and_then}
-use Rattle.std.proofs.lemmas.Bool.{cases_Bool, eqb-true, ltb-true, and_parts}
+use Rattle.std.proofs.lemmas.Bool.{cases_Bool, eqb-true, ltb-true, and_parts, or_cases, true≢false}
 use Rattle.std.proofs.lemmas.Bool.Decides.{nat_tests}
 use Rattle.std.proofs.lemmas.Nat.{pow_pos, and_le_r, shr_split}
 use Rattle.std.proofs.lemmas.List.Folds.{list_any-append}
 use Rattle.std.proofs.lemmas.Map.Views.{any-filter_same}
 use Rattle.net_base.specs.declared.field.Field.{Field}
 use Rattle.net_base.specs.declared.field.FieldId.{FieldId}
-use Rattle.net_base.specs.declared.field.FieldId.TheVariants.{InPort, EthDst, EthSrc, EthType, VlanVid, VlanPcp, IpProto, Ipv4Src, Ipv4Dst, TcpSrc, TcpDst, UdpSrc, UdpDst, Icmpv4Type, Icmpv4Code, ArpOp, ArpSpa, ArpTpa}
+use Rattle.net_base.specs.declared.field.FieldId.TheVariants.{InPort, VlanVid}
 use Rattle.net_base.specs.declared.field.Prerequisite.{Prerequisite}
-use Rattle.net_base.specs.declared.field.Prerequisite.TheVariants.{Tagged, Exactly, Either}
-use Rattle.net_base.specs.FieldId.{number_of, prerequisite_of, all_ones}
+use Rattle.net_base.specs.declared.field.Prerequisite.TheVariants.{Tagged, Exactly}
+use Rattle.net_base.specs.FieldId.{number_of, bits_of, may_be_masked, prerequisites_of, all_ones}
 use Rattle.net_base.specs.Numbers.{IsVid, IsPortNo}
-use Rattle.net_base.specs.WellFormed.{AreAscending, IsWellFormed, meets, has_prerequisite}
+use Rattle.net_base.specs.WellFormed.{AreAscending, IsWellFormed, meets, meets_one, has_one, has_prerequisite}
+use Rattle.net_base.proofs.Rows.{every_field}
 use Rattle.of_match.proofs.AfterOrder.{all_pass}
-use Rattle.conf_types.specs.RuleFields.{IsNumber, IsMacMask, IsPrefix, MayAsk}
+use Rattle.conf_types.specs.RuleFields.{IsNumber, IsMasked, IsPrefix, IsAddress, MayAskBits, MayAsk}
 use Rattle.conf_types.specs.declared.acl.Rule.{Rule}
 use Rattle.conf_types.specs.Valid.{IsRule}
 use Rattle.plan_base.specs.Fields.{in_port, vid_field}
-use Rattle.plan_base.specs.MatchFields.{bits_of, may_be_masked, IsMatchField}
+use Rattle.plan_base.specs.MatchFields.{IsMatchField}
 use Rattle.plan_base.proofs.Each.{all_from, all_append, all_filter}
 use Rattle.plan_base.proofs.MatchFields.{is_in_port, is_vid_field, whole_field, without_host_bits, AreFields, are_fields}
 use Rattle.acl_compile.specs.Rows.{with_vid}
@@ -31,30 +32,34 @@ use Rattle.acl_compile.specs.Rows.{with_vid}
 number_asked : (least most : ℕ) (f : Field) → IsNumber least most f → most < 2 ^ bits_of f.id → IsMatchField f
 number_asked least most f h less = whole_field f (omega (arith, h.to)) h.whole
 
-mac_asked : (f : Field) → IsMacMask f → bits_of f.id ≡ 48 → may_be_masked f.id ≡ true → IsMatchField f
-mac_asked f h bits may =
-    let less : f.value < 2 ^ 48 = omega (arith, h.most, h.within, and_le_r f.value f.mask) in
-    record { bits = rw bits less; within = h.within; mask = inr (may, rw bits h.most) }
+masked_asked : (bits : ℕ) (f : Field) → IsMasked bits f → bits_of f.id ≡ bits → may_be_masked f.id ≡ true → IsMatchField f
+masked_asked bits f h same may =
+    let less : f.value < 2 ^ bits = omega (arith, h.most, h.within, and_le_r f.value f.mask) in
+    record { bits = rw same less; within = h.within; mask = inr (may, rw same h.most) }
 
-prefix_asked : (f : Field) → IsPrefix f → bits_of f.id ≡ 32 → may_be_masked f.id ≡ true → IsMatchField f
-prefix_asked f h bits may =
+prefix_asked : (bits : ℕ) (f : Field) → IsPrefix bits f → bits_of f.id ≡ bits → may_be_masked f.id ≡ true → IsMatchField f
+prefix_asked bits f h same may =
     let some : 0 < 2 ^ h.host_bits = pow_pos h.host_bits in
+    let all : 0 < 2 ^ bits = pow_pos bits in
     let none : f.value / 2 ^ h.host_bits * 2 ^ h.host_bits ≡ f.value = omega (arith, shr_split f.value h.host_bits, h.zeros) in
     record {
-      bits = rw bits h.most;
-      within = ap (bit_and f.value) h.mask ∙ without_host_bits f.value h.host_bits (omega (arith, h.long)) h.most none;
-      mask = inr (may, rw bits (omega (arith, h.mask)));
+      bits = rw same h.most;
+      within = ap (bit_and f.value) h.mask ∙ without_host_bits bits f.value h.host_bits (omega (arith, h.long)) h.most none;
+      mask = inr (may, rw same (omega (arith, h.mask, some, all)));
     }
+
+address_asked : (is_mac : Bool) (bits : ℕ) (f : Field) → IsAddress is_mac bits f → bits_of f.id ≡ bits → may_be_masked f.id ≡ true → IsMatchField f
+address_asked true bits f h same may = masked_asked bits f h same may
+address_asked false bits f h same may = prefix_asked bits f h same may
+
+bits_asked : (bits : ℕ) (may : Bool) (f : Field) → MayAskBits bits may f → bits_of f.id ≡ bits → may_be_masked f.id ≡ may → IsMatchField f
+bits_asked bits true f h same may = address_asked (bits == 48) bits f h same may
+bits_asked bits false f h same may = let some = pow_pos bits in number_asked 0 (2 ^ bits - 1) f h (rw same (omega (arith, some)))
 
 is_asked : (id : FieldId) (f : Field) → f.id ≡ id → MayAsk id f → IsMatchField f
 is_asked InPort f e h = absurd h
-is_asked EthDst f e h = mac_asked f h (ap bits_of e) (ap may_be_masked e)
-is_asked EthSrc f e h = mac_asked f h (ap bits_of e) (ap may_be_masked e)
-is_asked Ipv4Src f e h = prefix_asked f h (ap bits_of e) (ap may_be_masked e)
-is_asked Ipv4Dst f e h = prefix_asked f h (ap bits_of e) (ap may_be_masked e)
-is_asked ArpSpa f e h = prefix_asked f h (ap bits_of e) (ap may_be_masked e)
-is_asked ArpTpa f e h = prefix_asked f h (ap bits_of e) (ap may_be_masked e)
-is_asked id f e h = number_asked _ _ f h (rw e (lit< tt))
+is_asked VlanVid f e h = number_asked _ _ f h (rw e (lit< tt))
+is_asked id f e h = bits_asked (bits_of id) (may_be_masked id) f h (ap bits_of e) (ap may_be_masked e)
 
 pub are_match_fields : (rule : Rule) → IsRule rule → AllByRecursion IsMatchField rule.fields
 are_match_fields rule h = all_from {P = λ (f : Field). MayAsk f.id f} {Q = IsMatchField} (λ f asked. is_asked f.id f refl asked) rule.fields h.each
@@ -66,11 +71,11 @@ asks_no_port InPort f h = absurd h
 asks_no_port id f h = lit< tt
 
 -- what a field asks for stays met where a field is added
-still_asked : (o : Option Prerequisite) (g : Field) (fields : List Field) → option_map_or (λ p. list_any (meets p) fields) o true ≡ true → option_map_or (λ p. list_any (meets p) (g ∷ fields)) o true ≡ true
-still_asked None g fields h = refl
-still_asked (Some p) g fields h = either (meets p g) h
+still_asked : (asked : List Prerequisite) (g : Field) (fields : List Field) → has_one asked fields ≡ true → has_one asked (g ∷ fields) ≡ true
+still_asked [] g fields h = refl
+still_asked (p ∷ asked) g fields h = either (meets_one (p ∷ asked) g) h
   where
-    either : (b : Bool) → list_any (meets p) fields ≡ true → (b || list_any (meets p) fields) ≡ true
+    either : (b : Bool) → list_any (meets_one (p ∷ asked)) fields ≡ true → (b || list_any (meets_one (p ∷ asked)) fields) ≡ true
     either true e = refl
     either false e = e
 
@@ -79,7 +84,7 @@ with_port number rule port h =
     are_fields _
     (all_from {P = λ (f : Field). MayAsk f.id f} {Q = λ (f : Field). 0 < number_of f.id} (λ f asked. asks_no_port f.id f asked) rule.fields h.each, h.fields.ascending)
     (is_in_port number port, are_match_fields rule h)
-    (refl, all_from {P = λ (f : Field). IsTrue (has_prerequisite f.id rule.fields)} {Q = λ (f : Field). IsTrue (has_prerequisite f.id (in_port number ∷ rule.fields))} (λ f met. still_asked (prerequisite_of f.id) (in_port number) rule.fields met) rule.fields h.fields.prerequisites)
+    (refl, all_from {P = λ (f : Field). IsTrue (has_prerequisite f.id rule.fields)} {Q = λ (f : Field). IsTrue (has_prerequisite f.id (in_port number ∷ rule.fields))} (λ f met. still_asked (prerequisites_of f.id) (in_port number) rule.fields met) rule.fields h.fields.prerequisites)
 
 -- ---- the tag of a VLAN, among what the rule asks for
 
@@ -101,20 +106,29 @@ ascending_joined g (f ∷ more) others h low k = (
 )
 
 -- what is asked for is a tag, or no field of the tag's number
-abbrev IsOther : Option Prerequisite → Type 0
-IsOther None = Unit {0}
-IsOther (Some Tagged) = Unit {0}
-IsOther (Some (Exactly id value)) = (nat_lt (number_of id) 6 || nat_lt 6 (number_of id)) ≡ true
-IsOther (Some (Either id first second)) = ⊥
+abbrev is_other : Prerequisite → Bool
+is_other Tagged = true
+is_other (Exactly id value) = nat_lt (number_of id) 6 || nat_lt 6 (number_of id)
 
-asks_others : (id : FieldId) → IsOther (prerequisite_of id)
-asks_others InPort = tt
-asks_others EthDst = tt
-asks_others EthSrc = tt
-asks_others EthType = tt
-asks_others VlanVid = tt
-asks_others VlanPcp = tt
-asks_others id = refl
+asks_others : (id : FieldId) → list_all is_other (prerequisites_of id) ≡ true
+asks_others id = every_field (λ id. list_all is_other (prerequisites_of id)) refl id
+
+-- one of several is met where the first is, or one of the others
+or_swap : (a b c d : Bool) → ((a || b) || (c || d)) ≡ ((a || c) || (b || d))
+or_swap true b c d = refl
+or_swap false true true d = refl
+or_swap false true false d = refl
+or_swap false false c d = refl
+
+met_apart : (p : Prerequisite) (asked : List Prerequisite) (fields : List Field) → list_any (meets_one (p ∷ asked)) fields ≡ (list_any (meets p) fields || list_any (meets_one asked) fields)
+met_apart p asked [] = refl
+met_apart p asked (f ∷ fields) =
+    ap (λ b. (meets p f || meets_one asked f) || b) (met_apart p asked fields)
+    ∙ or_swap (meets p f) (meets_one asked f) (list_any (meets p) fields) (list_any (meets_one asked) fields)
+
+none_meets : (fields : List Field) → list_any (meets_one []) fields ≡ false
+none_meets [] = refl
+none_meets (f ∷ fields) = none_meets fields
 
 module _ (vid : ℕ) (fields : List Field) where
   abbrev low : Field → Bool
@@ -143,13 +157,12 @@ module _ (vid : ℕ) (fields : List Field) where
   same_number : (id : FieldId) (value : ℕ) (f : Field) → meets (Exactly id value) f ≡ true → number_of f.id ≡ number_of id
   same_number id value f h = eqb-true (number_of f.id) (number_of id) (and_parts (number_of f.id == number_of id) (f.mask == all_ones id) (and_parts (number_of f.id == number_of id && f.mask == all_ones id) (f.value == value) h).0).0
 
-  among : (o : Option Prerequisite) → IsOther o → option_map_or (λ p. list_any (meets p) fields) o true ≡ true → option_map_or (λ p. list_any (meets p) (with_vid vid fields)) o true ≡ true
-  among None other h = refl
-  among (Some Tagged) other h =
+  among_one : (p : Prerequisite) → is_other p ≡ true → list_any (meets p) fields ≡ true → list_any (meets p) (with_vid vid fields) ≡ true
+  among_one Tagged other h =
       list_any-append (meets Tagged) (filter low fields) (vid_field vid ∷ filter high fields)
       ∙ ap (λ b. list_any (meets Tagged) (filter low fields) || (b || list_any (meets Tagged) (filter high fields))) is_tag
       ∙ or_right (list_any (meets Tagged) (filter low fields)) true refl
-  among (Some (Exactly id value)) other h =
+  among_one (Exactly id value) other h =
       let test = meets (Exactly id value) in
       let before : list_any test (filter low fields) ≡ (nat_lt (number_of id) 6 && list_any test fields) = any-filter_same test low (nat_lt (number_of id) 6) (λ f is. ap (λ n. nat_lt n 6) (same_number id value f is)) fields in
       let behind : list_any test (filter high fields) ≡ (nat_lt 6 (number_of id) && list_any test fields) = any-filter_same test high (nat_lt 6 (number_of id)) (λ f is. ap (λ n. nat_lt 6 n) (same_number id value f is)) fields in
@@ -157,7 +170,22 @@ module _ (vid : ℕ) (fields : List Field) where
       ∙ ap (λ b. b || (test (vid_field vid) || list_any test (filter high fields))) before
       ∙ ap (λ b. (nat_lt (number_of id) 6 && list_any test fields) || (test (vid_field vid) || b)) behind
       ∙ either_is (nat_lt (number_of id) 6) (nat_lt 6 (number_of id)) (list_any test fields) (test (vid_field vid)) other h
-  among (Some (Either id first second)) other h = absurd other
+
+  among_any : (asked : List Prerequisite) → list_all is_other asked ≡ true → list_any (meets_one asked) fields ≡ true → list_any (meets_one asked) (with_vid vid fields) ≡ true
+  among_any [] other h = absurd (true≢false (sym h ∙ none_meets fields))
+  among_any (p ∷ asked) other h =
+      let others = and_parts (is_other p) (list_all is_other asked) other in
+      met_apart p asked (with_vid vid fields)
+      ∙ by (among_one p others.0) (among_any asked others.1) (or_cases (list_any (meets p) fields) (list_any (meets_one asked) fields) (sym (met_apart p asked fields) ∙ h))
+    where
+      by : (list_any (meets p) fields ≡ true → list_any (meets p) (with_vid vid fields) ≡ true) → (list_any (meets_one asked) fields ≡ true → list_any (meets_one asked) (with_vid vid fields) ≡ true)
+          → (list_any (meets p) fields ≡ true) ⊎ (list_any (meets_one asked) fields ≡ true) → (list_any (meets p) (with_vid vid fields) || list_any (meets_one asked) (with_vid vid fields)) ≡ true
+      by first more (inl this) = ap (λ b. b || list_any (meets_one asked) (with_vid vid fields)) (first this)
+      by first more (inr that) = or_right (list_any (meets p) (with_vid vid fields)) _ (more that)
+
+  among : (asked : List Prerequisite) → list_all is_other asked ≡ true → has_one asked fields ≡ true → has_one asked (with_vid vid fields) ≡ true
+  among [] other h = refl
+  among (p ∷ asked) other h = among_any (p ∷ asked) other h
 
   all_passing : (P : Field → Type 0) (p : Field → Bool) → ((f : Field) → p f ≡ true → P f) → AllByRecursion P (filter p fields)
   all_passing P p h = all_from {P = λ (f : Field). p f ≡ true} {Q = P} (λ f is. h f is) (filter p fields) (all_pass p fields)
@@ -175,4 +203,4 @@ module _ (vid : ℕ) (fields : List Field) where
       (all_append Met (filter low fields) (vid_field vid ∷ filter high fields) (all_filter Met low fields met) (refl, all_filter Met high fields met))
     where
       met : AllByRecursion (λ f. IsTrue (has_prerequisite f.id (with_vid vid fields))) fields
-      met = all_from {P = λ (f : Field). IsTrue (has_prerequisite f.id fields)} {Q = λ (f : Field). IsTrue (has_prerequisite f.id (with_vid vid fields))} (λ f is. among (prerequisite_of f.id) (asks_others f.id) is) fields h.prerequisites
+      met = all_from {P = λ (f : Field). IsTrue (has_prerequisite f.id fields)} {Q = λ (f : Field). IsTrue (has_prerequisite f.id (with_vid vid fields))} (λ f is. among (prerequisites_of f.id) (asks_others f.id) is) fields h.prerequisites
