@@ -51,17 +51,29 @@ is_permanent conf host = option_map_or (λ p. p.permanent_learn) (port_at conf h
 abbrev pub fresh_for : Configuration → DpId → ℕ
 fresh_for conf dp = option_map_or (λ d. d.timeout * 1000) (dp_with conf.dps dp) 0
 
+-- how long a host that is stale is kept, in milliseconds
+abbrev pub stale_for : ℕ
+stale_for = 30000
+
+-- the moment at which a host of a datapath that was last heard at this one turns stale
+abbrev pub stale_at : Configuration → DpId → (heard : ℕ) → ℕ
+stale_at conf dp heard = sum_up_to_greatest heard (fresh_for conf dp)
+
+-- and the one at which it is to be forgotten, where its port doesn't keep it for good
+abbrev pub forgotten_at : Configuration → DpId → (heard : ℕ) → ℕ
+forgotten_at conf dp heard = sum_up_to_greatest heard (fresh_for conf dp + stale_for)
+
 -- the host was heard within its datapath's timeout, or stays for good
 abbrev pub is_fresh : Configuration → ℕ → HostRec → Bool
-is_fresh conf moment host = is_permanent conf host || nat_lt moment (sum_up_to_greatest host.learned.0 (fresh_for conf host.dp))
+is_fresh conf moment host = is_permanent conf host || nat_lt moment (stale_at conf host.dp host.learned.0)
 
 -- every other host in the list is stale
 abbrev pub is_stale : Configuration → ℕ → HostRec → Bool
 is_stale conf moment host = not (is_fresh conf moment host)
 
--- a host that has been stale for 30 seconds is to be forgotten
+-- a host that has been stale for that long is to be forgotten
 abbrev pub is_to_forget : Configuration → ℕ → HostRec → Bool
-is_to_forget conf moment host = not (is_permanent conf host) && nat_le (sum_up_to_greatest host.learned.0 (fresh_for conf host.dp + 30000)) moment
+is_to_forget conf moment host = not (is_permanent conf host) && nat_le (forgotten_at conf host.dp host.learned.0) moment
 
 -- ---- how many hosts may be learned; stale ones count
 

@@ -1,5 +1,5 @@
 -- Until the first host turns stale or is to be forgotten, or a neighbour is due, what rests goes on resting.
-use Rattle.std.proofs.Common.{◌≡◌, ℕ, ◌+◌, ◌<◌, ◌≤◌, ◌==◌, ◌&&◌, ◌||◌, ◌++◌, Bool, true, false, cond, not, Option, Some, None, List, [], ◌∷◌, map, filter, find, nat_lt, nat_le, refl, inl, inr, sym, ap, ◌∙◌, arith, if◌then◌else◌}
+use Rattle.std.proofs.Common.{◌≡◌, ℕ, ◌<◌, ◌≤◌, ◌==◌, ◌&&◌, ◌||◌, ◌++◌, Bool, true, false, cond, not, Option, Some, None, List, [], ◌∷◌, map, filter, find, nat_lt, nat_le, refl, inl, inr, sym, ap, ◌∙◌, arith, if◌then◌else◌}
 use Rattle.std.specs.Prelude.{min}
 use Rattle.std.specs.List.{AllByRecursion, flat_map, fold}
 use Rattle.std.specs.Option.{option_map, option_map_or}
@@ -12,8 +12,7 @@ use Rattle.conf_types.specs.declared.datapath.Dp.{Dp}
 use Rattle.conf_types.specs.declared.state.HostRec.{HostRec}
 use Rattle.conf_types.specs.declared.state.NeighRec.{NeighRec}
 use Rattle.conf_types.specs.Configuration.{Configuration, dp_with}
-use Rattle.conf_types.specs.Count.{sum_up_to_greatest}
-use Rattle.conf_types.specs.State.{State, fresh_for, is_permanent, is_stale, is_to_forget}
+use Rattle.conf_types.specs.State.{State, forgotten_at, is_permanent, is_stale, is_to_forget, stale_at}
 use Rattle.packet_way.specs.Known.{stack_of}
 use Rattle.plan_base.specs.declared.table.Table.TheVariants.{Source, Ipv4Route}
 use Rattle.plan_base.specs.Actions.{to_controller}
@@ -56,8 +55,8 @@ fresh_by moment m end over from order false false is before =
 module _ (conf : Configuration) (moment m : ℕ) (from : moment ≤ m) where
   as_fresh : (h : HostRec) → m < host_until conf moment h → (is_stale conf m h ≡ is_stale conf moment h) × (not (is_to_forget conf m h) ≡ true)
   as_fresh h =
-      let end : ℕ = sum_up_to_greatest h.learned.0 (fresh_for conf h.dp) in
-      let over : ℕ = sum_up_to_greatest h.learned.0 (fresh_for conf h.dp + 30000) in
+      let end : ℕ = stale_at conf h.dp h.learned.0 in
+      let over : ℕ = forgotten_at conf h.dp h.learned.0 in
       fresh_by moment m end over from (omega arith) (is_permanent conf h) (nat_lt moment end) refl
 
   -- ---- the entries look at the moment by nothing else
@@ -148,8 +147,8 @@ module _ (conf : Configuration) (moment m : ℕ) (from : moment ≤ m) where
       → fold (λ least h. min least (host_until conf m h)) first hosts ≡ fold (λ least h. min least (host_until conf moment h)) first hosts
   hosts_end first [] before = refl
   hosts_end first (h ∷ hosts) before =
-      let end : ℕ = sum_up_to_greatest h.learned.0 (fresh_for conf h.dp) in
-      let over : ℕ = sum_up_to_greatest h.learned.0 (fresh_for conf h.dp + 30000) in
+      let end : ℕ = stale_at conf h.dp h.learned.0 in
+      let over : ℕ = forgotten_at conf h.dp h.learned.0 in
       let same : host_until conf m h ≡ host_until conf moment h =
       end_stays moment m end over from (is_permanent conf h) (nat_lt moment end) refl before.0 in
       ap (λ n. fold (λ least g. min least (host_until conf m g)) (min first n) hosts) same ∙ hosts_end (min first (host_until conf moment h)) hosts before.1

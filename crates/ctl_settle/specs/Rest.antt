@@ -1,14 +1,13 @@
 -- When a settling has nothing to say, and until when.
-use Rattle.std.specs.Prelude.{◌≡◌, ◌⊎◌, ◌≤◌, ◌<◌, ◌+◌, ℕ, true, List, None, Some, is_some, min, not, filter, if◌then◌else◌}
+use Rattle.std.specs.Prelude.{◌≡◌, ◌⊎◌, ◌≤◌, ◌<◌, ℕ, true, List, None, Some, is_some, min, not, filter, if◌then◌else◌}
 use Rattle.std.specs.List.{AllByRecursion, fold}
 use Rattle.net_base.specs.declared.numbers.DpId.{DpId}
 use Rattle.of_match.specs.FlowTables.{IsInKeyOrder}
 use Rattle.conf_types.specs.declared.state.HostRec.{HostRec}
 use Rattle.conf_types.specs.declared.state.NeighRec.{NeighRec}
 use Rattle.conf_types.specs.Configuration.{Configuration}
-use Rattle.conf_types.specs.Count.{sum_up_to_greatest}
 use Rattle.conf_types.specs.Lists.{EachBefore}
-use Rattle.conf_types.specs.State.{fresh_for, is_fresh, is_permanent, is_running, is_to_forget}
+use Rattle.conf_types.specs.State.{forgotten_at, is_fresh, is_permanent, is_running, is_to_forget, stale_at}
 use Rattle.neighbour_resolve.specs.Due.{never, said}
 use Rattle.ctl_world.specs.declared.conns.Conn.{Conn}
 use Rattle.ctl_world.specs.Connections.{conn_of}
@@ -38,8 +37,8 @@ RestsUntil moment w = (m : ℕ) → w.moment.0 ≤ m → m < moment → IsAtRest
 abbrev pub host_until : Configuration → (moment : ℕ) → HostRec → ℕ
 host_until conf moment h =
     if is_permanent conf h then never
-    else if is_fresh conf moment h then sum_up_to_greatest h.learned.0 (fresh_for conf h.dp)
-    else sum_up_to_greatest h.learned.0 (fresh_for conf h.dp + 30000)
+    else if is_fresh conf moment h then stale_at conf h.dp h.learned.0
+    else forgotten_at conf h.dp h.learned.0
 
 -- the least of all of them
 abbrev pub hosts_until : Configuration → (moment : ℕ) → List HostRec → ℕ

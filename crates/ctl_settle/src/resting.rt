@@ -1,28 +1,13 @@
-ghost use Rattle.std.specs.Prelude.{◌≡◌, ◌<◌, ◌^◌, IfOk};
-ghost use Rattle.conf_types.specs.State.{fresh_for};
+ghost use Rattle.std.specs.Prelude.{◌≡◌, IfOk};
 ghost use Rattle.ctl_settle.specs.Rest.{IsAtRest, RestsUntil, host_until, hosts_until, neighbours_until, rests_until};
 
 use conf_types::{Conf, HostRec, NeighRec};
 use ctl_world::World;
-use net_base::{DpId, Moment, NoMemory};
+use net_base::{Moment, NoMemory};
 use std::alloc::Global;
 
 /// The greatest moment, which never comes.
 const NEVER: u64 = u64::MAX;
-
-/// Milliseconds after which a host that is stale is to be forgotten.
-const STALE_FOR: u64 = 30_000;
-
-/// How long a host of a datapath is fresh, in milliseconds.
-fn fresh_for(conf: &Conf, dp: DpId) -> u64
-    ensures exact { result ≡ fresh_for conf.now dp }
-    ensures small { result < 2 ^ 43 }
-{
-    match conf.dp(dp) {
-        Some(dp) => u64::from(dp.timeout) * 1000,
-        None => 0,
-    }
-}
 
 /// The moment at which a host turns stale, or of one that is stale the moment at which it is to be forgotten.
 fn host_until(conf: &Conf, now: Moment, host: &HostRec) -> u64
@@ -31,12 +16,12 @@ fn host_until(conf: &Conf, now: Moment, host: &HostRec) -> u64
     if conf.is_permanent(host) {
         return NEVER;
     }
-    let fresh_for = fresh_for(conf, host.dp);
-    if conf.is_fresh(now, host) {
-        host.learned.0.saturating_add(fresh_for)
+    let moment = if conf.is_fresh(now, host) {
+        conf.stale_at(host.dp, host.learned)
     } else {
-        host.learned.0.saturating_add(fresh_for + STALE_FOR)
-    }
+        conf.forgotten_at(host.dp, host.learned)
+    };
+    moment.0
 }
 
 fn hosts_until(conf: &Conf, now: Moment, hosts: &[HostRec]) -> u64
