@@ -38,6 +38,8 @@ of_document() {
         /^## / { map = ""; next }
         /^### / { map = toupper(substr($0, 5)); gsub(" ", "_", map); next }
         map == "" { next }
+        # Prose between the tables names keys too.
+        !/^(\| `|Left out: |Other spellings: )/ { next }
         /^\| `/ {
             given = $0
             sub(/ *\|$/, "", given)
