@@ -1,6 +1,6 @@
 -- What a document gives: a configuration, or the first place where it is wrong.
 use Rattle.std.specs.Prelude.{◌≡◌, ℕ, List, Option, Some, None, Result, Ok, Err}
-use Rattle.yaml_subset.specs.declared.tree.Tree.{Tree}
+use Rattle.yaml_tree.specs.declared.tree.Tree.{Tree}
 use Rattle.yaml_subset.specs.Grammar.{Reads}
 use Rattle.yaml_subset.specs.TextFault.{IsFault}
 use Rattle.conf_types.specs.Configuration.{Configuration}

@@ -6,11 +6,11 @@ use conf_resolve::{arrange, resolve};
 use conf_rules::find_fault;
 use conf_shape::{ConfFault, ConfRefused, RawConf, shape};
 use conf_types::Conf;
-use law_checks::valid::what_breaks_no_rule_is_valid;
 use law_checks::ranges::a_document_of_the_right_shape_is_in_range;
+use law_checks::valid::what_breaks_no_rule_is_valid;
 use net_base::NoMemory;
 use std::alloc::Global;
-use yaml_subset::Tree;
+use yaml_tree::Tree;
 
 /// What a raw configuration gives: a configuration, or the first rule that is broken.
 fn checked(alloc: Global, raw: &RawConf) -> Result<Result<Conf, ConfFault>, NoMemory>

@@ -1,5 +1,5 @@
 ghost use Rattle.std.specs.Prelude.{◌≡◌, ℕ, List, Ok, IfOk, IfErr};
-ghost use Rattle.yaml_subset.specs.declared.tree.Tree.{Tree};
+ghost use Rattle.yaml_tree.specs.declared.tree.Tree.{Tree};
 ghost use Rattle.yaml_subset.specs.Grammar.{Reads};
 ghost use Rattle.conf_types.specs.Valid.{IsValid};
 
@@ -8,7 +8,8 @@ use crate::laws::an_accepted_configuration_is_valid;
 use conf_shape::{ConfFault, ConfRefused};
 use conf_types::Conf;
 use std::alloc::Global;
-use yaml_subset::{Tree, YamlFault, YamlRefused, read_yaml};
+use yaml_subset::{YamlFault, YamlRefused, read_yaml};
+use yaml_tree::Tree;
 
 /// Why a text gives no configuration.
 #[derive(Debug, Drop)]

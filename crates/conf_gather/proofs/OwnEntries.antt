@@ -5,11 +5,11 @@ use Rattle.std.specs.List.{AllByRecursion}
 use Rattle.std.specs.Option.{option_map, option_map_or, option_or}
 use Rattle.std.proofs.lemmas.Bool.{cond-true, cond-false}
 use Rattle.std.proofs.lemmas.List.{append-nil, append_assoc}
-use Rattle.yaml_subset.specs.declared.tree.Key.{Key}
-use Rattle.yaml_subset.specs.declared.tree.Pair.{Pair}
-use Rattle.yaml_subset.specs.declared.tree.Tree.{Tree, out-Tree, out-roll-Tree}
-use Rattle.yaml_subset.specs.declared.tree.Tree.TheVariants as trees
-use Rattle.yaml_subset.specs.declared.tree.Tree.TheOpen as open_tree
+use Rattle.yaml_tree.specs.declared.tree.Key.{Key}
+use Rattle.yaml_tree.specs.declared.tree.Pair.{Pair}
+use Rattle.yaml_tree.specs.declared.tree.Tree.{Tree, out-Tree, out-roll-Tree}
+use Rattle.yaml_tree.specs.declared.tree.Tree.TheVariants as trees
+use Rattle.yaml_tree.specs.declared.tree.Tree.TheOpen as open_tree
 use Rattle.yaml_subset.specs.Grammar.{Reads}
 use Rattle.yaml_subset.proofs.SoundTrees.{PairsWithin}
 use Rattle.yaml_subset.proofs.SoundBlocks.{text_sound}

@@ -8,7 +8,7 @@ use Rattle.yaml_subset.specs.Reading.{read_of, fault_at}
 use Rattle.yaml_subset.specs.TextFault.{IsFault, HasTreeOrItsFault}
 use Rattle.yaml_subset.specs.declared.fault.YamlCause.TheVariants.{TooLong}
 use Rattle.yaml_subset.specs.declared.fault.YamlFault.{YamlFault}
-use Rattle.yaml_subset.specs.declared.tree.Tree.{Tree}
+use Rattle.yaml_tree.specs.declared.tree.Tree.{Tree}
 use Rattle.yaml_subset.proofs.GrammarLaws.{by_grammar, one_tree}
 use Rattle.yaml_subset.proofs.TextFaults.{text_told, text_tells, tree_or_its_fault}
 

@@ -8,13 +8,13 @@ use Rattle.std.proofs.lemmas.Bool.Decides.{Decides-int_eq}
 use Rattle.std.proofs.lemmas.Slice.Eq.{bytes_eq-Decides}
 use Rattle.std.proofs.lemmas.List.{append-nil, append_assoc}
 use Rattle.std.proofs.lemmas.Option.{none-some}
-use Rattle.yaml_subset.specs.declared.tree.Key.{Key}
-use Rattle.yaml_subset.specs.declared.tree.Key.TheVariants as keys
-use Rattle.yaml_subset.specs.declared.tree.Pair.{Pair}
-use Rattle.yaml_subset.specs.declared.tree.Tree.{Tree, out-Tree, roll-Tree, roll-out-Tree}
-use Rattle.yaml_subset.specs.declared.tree.Tree.TheVariants as trees
-use Rattle.yaml_subset.specs.declared.tree.Tree.TheOpen.{Tree-F}
-use Rattle.yaml_subset.specs.declared.tree.Tree.TheOpen as open_tree
+use Rattle.yaml_tree.specs.declared.tree.Key.{Key}
+use Rattle.yaml_tree.specs.declared.tree.Key.TheVariants as keys
+use Rattle.yaml_tree.specs.declared.tree.Pair.{Pair}
+use Rattle.yaml_tree.specs.declared.tree.Tree.{Tree, out-Tree, roll-Tree, roll-out-Tree}
+use Rattle.yaml_tree.specs.declared.tree.Tree.TheVariants as trees
+use Rattle.yaml_tree.specs.declared.tree.Tree.TheOpen.{Tree-F}
+use Rattle.yaml_tree.specs.declared.tree.Tree.TheOpen as open_tree
 use Rattle.yaml_subset.specs.declared.fault.YamlFault.{YamlFault}
 use Rattle.yaml_subset.specs.Entries.{key_eq, has_key}
 use Rattle.yaml_subset.specs.Levels.{levels}

@@ -7,9 +7,9 @@ use Rattle.fg_outside.specs.Contents.{Contents}
 use Rattle.fg_outside.specs.declared.files.ReadRefused.{ReadRefused}
 use Rattle.fg_outside.specs.declared.files.ReadRefused.TheVariants as reads
 use Rattle.yaml_subset.specs.declared.fault.YamlFault.{YamlFault}
-use Rattle.yaml_subset.specs.declared.tree.Pair.{Pair}
-use Rattle.yaml_subset.specs.declared.tree.Tree.{Tree}
-use Rattle.yaml_subset.specs.declared.tree.Tree.TheVariants as tree
+use Rattle.yaml_tree.specs.declared.tree.Pair.{Pair}
+use Rattle.yaml_tree.specs.declared.tree.Tree.{Tree}
+use Rattle.yaml_tree.specs.declared.tree.Tree.TheVariants as tree
 use Rattle.yaml_subset.specs.Reading.{read_of}
 use Rattle.conf_shape.specs.declared.refused.ConfCause.{ConfCause}
 use Rattle.conf_shape.specs.declared.refused.ConfCause.TheVariants.{WrongType, Duplicate}

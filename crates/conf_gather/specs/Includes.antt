@@ -1,7 +1,7 @@
 -- The files that a file includes.
 use Rattle.std.specs.Prelude.{ℕ, ◌||◌, Bool, true, false, List, ◌++◌, map, codes}
-use Rattle.yaml_subset.specs.declared.tree.Key.{Key}
-use Rattle.yaml_subset.specs.declared.tree.Pair.{Pair}
+use Rattle.yaml_tree.specs.declared.tree.Key.{Key}
+use Rattle.yaml_tree.specs.declared.tree.Pair.{Pair}
 use Rattle.conf_shape.specs.Sections.{is_key}
 use Rattle.conf_shape.specs.Reads.{list_at, words_of}
 use Rattle.conf_gather.specs.declared.include.Role.{Role}

@@ -1,9 +1,9 @@
 -- The entries of a file joined with those gathered before.
 use Rattle.std.specs.Prelude.{ℕ, ◌+◌, is_some, is_none, if◌then◌else◌, List, [], ◌∷◌, ◌++◌, Option, Some, None}
 use Rattle.std.specs.Option.{option_map, option_map_or, option_or}
-use Rattle.yaml_subset.specs.declared.tree.Key.{Key}
-use Rattle.yaml_subset.specs.declared.tree.Pair.{Pair}
-use Rattle.yaml_subset.specs.declared.tree.Tree.TheVariants as tree
+use Rattle.yaml_tree.specs.declared.tree.Key.{Key}
+use Rattle.yaml_tree.specs.declared.tree.Pair.{Pair}
+use Rattle.yaml_tree.specs.declared.tree.Tree.TheVariants as tree
 use Rattle.yaml_subset.specs.Entries.{key_eq}
 use Rattle.conf_shape.specs.Sections.{key_text}
 use Rattle.conf_shape.specs.Reads.{entries_of}

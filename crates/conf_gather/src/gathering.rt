@@ -11,7 +11,7 @@ use crate::take::{Gathered, read_tree, take_tree, was_reached};
 use fg_outside::Files;
 use net_base::{Names, Text, TryCopy};
 use std::alloc::Global;
-use yaml_subset::{Pairs, Tree};
+use yaml_tree::{Pairs, Tree};
 
 /// The most files that lie one below the other: the main one, and includes that lie 8 deep.
 const LEVELS: usize = 9;

@@ -7,7 +7,7 @@ use crate::keys::{value_at, words_of};
 use crate::names::whole_name;
 use net_base::{Items, NoMemory, Text, TryCopy};
 use std::alloc::Global;
-use yaml_subset::{Pair, Tree};
+use yaml_tree::{Pair, Tree};
 
 /// How a file comes to be read.
 #[derive(Clone, Copy, Debug)]

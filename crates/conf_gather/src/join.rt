@@ -2,7 +2,7 @@
 
 ghost use Rattle.std.specs.Prelude.{◌≡◌, ◌+◌, ◌<◌, ◌++◌, ◌∷◌, length, take, drop, slice_get, Some, IfOk, OnOk};
 ghost use Rattle.std.specs.Option.{option_copied};
-ghost use Rattle.yaml_subset.specs.declared.tree.Pair.{Pair};
+ghost use Rattle.yaml_tree.specs.declared.tree.Pair.{Pair};
 ghost use Rattle.conf_shape.specs.Sections.{key_text};
 ghost use Rattle.conf_shape.specs.Reads.{entries_of};
 ghost use Rattle.conf_gather.specs.Joined.{first_in_both, gathered_under, given_again, all_given_again, extended, with_more, place_of, joined_entry, joined};
@@ -10,7 +10,7 @@ ghost use Rattle.conf_gather.specs.Joined.{first_in_both, gathered_under, given_
 use crate::keys::{entries_of, is_include_key, is_section, key_eq, key_text, value_of};
 use net_base::{NoMemory, Text, TryCopy};
 use std::alloc::Global;
-use yaml_subset::{Key, Pair, Pairs, Tree};
+use yaml_tree::{Key, Pair, Pairs, Tree};
 
 /// The first key that stands in both.
 fn first_in_both<'a>(before: &[Pair], pairs: &'a [Pair]) -> Option<&'a Key>

@@ -10,7 +10,7 @@ ghost use Rattle.conf_gather.specs.WrongTypes.{is_section, value_of};
 
 use net_base::{NoMemory, Text};
 use std::alloc::Global;
-use yaml_subset::{Key, Pair, Tree};
+use yaml_tree::{Key, Pair, Tree};
 
 /// Whether the key is this text.
 pub fn is_key(name: &str, key: &Key) -> bool

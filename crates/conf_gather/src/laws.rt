@@ -2,9 +2,9 @@
 
 ghost use Rattle.std.specs.Prelude.{◌≡◌, ◌≤◌, ℕ, List, true, false, Some, Ok, Err};
 ghost use Rattle.std.specs.List.{AllByRecursion};
-ghost use Rattle.yaml_subset.specs.declared.tree.Tree.{Tree};
-ghost use Rattle.yaml_subset.specs.declared.tree.Tree.TheVariants as tree;
-ghost use Rattle.yaml_subset.specs.declared.tree.Pair.{Pair};
+ghost use Rattle.yaml_tree.specs.declared.tree.Tree.{Tree};
+ghost use Rattle.yaml_tree.specs.declared.tree.Tree.TheVariants as tree;
+ghost use Rattle.yaml_tree.specs.declared.tree.Pair.{Pair};
 ghost use Rattle.yaml_subset.specs.declared.fault.YamlFault.{YamlFault};
 ghost use Rattle.yaml_subset.specs.Grammar.{Reads};
 ghost use Rattle.yaml_subset.specs.Reading.{read_of};

@@ -15,7 +15,8 @@ use conf_shape::{ConfCause, ConfFault};
 use fg_outside::{Files, ReadRefused, read_whole};
 use net_base::{Names, NoMemory, Text, TryCopy};
 use std::alloc::Global;
-use yaml_subset::{Pair, Pairs, Tree, YamlRefused, read_yaml};
+use yaml_subset::{YamlRefused, read_yaml};
+use yaml_tree::{Pair, Pairs, Tree};
 
 /// The most bytes of a text of the YAML subset.
 const MAX_TEXT: usize = 1_048_576;

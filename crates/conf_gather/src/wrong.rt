@@ -4,13 +4,13 @@ ghost use Rattle.std.specs.Prelude.{◌≡◌, ◌++◌, ◌∷◌, IfOk, Some};
 ghost use Rattle.std.specs.Option.{option_map};
 ghost use Rattle.std.specs.Fmt.{decimal};
 ghost use Rattle.conf_shape.specs.Sections.{key_text};
-ghost use Rattle.yaml_subset.specs.declared.tree.Tree.{out-Tree};
+ghost use Rattle.yaml_tree.specs.declared.tree.Tree.{out-Tree};
 ghost use Rattle.conf_gather.specs.WrongTypes.{is_map_in, is_document, fits, section_fits, is_text_in, place_of_no_text, no_names, wrong_entry, wrong_entries};
 
 use crate::keys::{is_include_key, is_key, is_section, key_text, value_of};
 use net_base::{NoMemory, Text};
 use std::alloc::Global;
-use yaml_subset::{Key, Pair, Tree};
+use yaml_tree::{Key, Pair, Tree};
 
 /// Whether it is a map, or where it may, nothing, which stands for a map with no entry.
 fn is_map(may_be_null: bool, tree: &Tree) -> bool

@@ -1,6 +1,6 @@
 -- What loading gives, by what gathering gives.
 use Rattle.std.proofs.Common.{◌≡◌, ℕ, List, Result, Ok, Err, refl, sym, ap, subst}
-use Rattle.yaml_subset.specs.declared.tree.Tree.{Tree}
+use Rattle.yaml_tree.specs.declared.tree.Tree.{Tree}
 use Rattle.conf_types.specs.Configuration.{Configuration}
 use Rattle.conf_types.specs.Valid.{IsValid}
 use Rattle.conf_shape.specs.declared.refused.ConfFault.{ConfFault}

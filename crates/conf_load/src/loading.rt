@@ -1,7 +1,7 @@
 ghost use Rattle.std.specs.Prelude.{◌≡◌, ◌≤◌, ℕ, List, Some, IfErr, IsErrOf};
 ghost use Rattle.fg_outside.specs.Contents.{Contents};
 ghost use Rattle.fg_outside.specs.Counts.{Rose};
-ghost use Rattle.yaml_subset.specs.declared.tree.Tree.{Tree};
+ghost use Rattle.yaml_tree.specs.declared.tree.Tree.{Tree};
 ghost use Rattle.conf_check.specs.Accepted.{IsRefused};
 ghost use Rattle.conf_gather.specs.Gives.{Fails, Gives, IsWithin};
 ghost use Rattle.conf_gather.specs.Gathered.{NamesUnread};
@@ -13,7 +13,7 @@ use conf_shape::ConfRefused;
 use conf_types::Conf;
 use fg_outside::Files;
 use std::alloc::Global;
-use yaml_subset::Tree;
+use yaml_tree::Tree;
 
 fn refusal(refused: ConfRefused) -> LoadRefused
     ensures told { (t : Tree) → IsRefused t refused → Fails result (checked t) }

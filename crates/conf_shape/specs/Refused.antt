@@ -1,6 +1,6 @@
 -- What a refusal of a configuration says.
 use Rattle.std.specs.Prelude.{◌≡◌, Some}
-use Rattle.yaml_subset.specs.declared.tree.Tree.{Tree}
+use Rattle.yaml_tree.specs.declared.tree.Tree.{Tree}
 use Rattle.conf_shape.specs.declared.refused.ConfRefused.{ConfRefused}
 use Rattle.conf_shape.specs.declared.refused.ConfRefused.TheVariants.{At, Memory}
 use Rattle.conf_shape.specs.Faults.{first_fault}

@@ -3,9 +3,9 @@ use Rattle.std.specs.Prelude.{ℕ, Bool, true, false, not, ◌&&◌, if◌then�
 use Rattle.std.specs.Fmt.{signed_decimal}
 use Rattle.std.specs.List.{list_any}
 use Rattle.std.specs.Str.{bytes_eq}
-use Rattle.yaml_subset.specs.declared.tree.Key.{Key}
-use Rattle.yaml_subset.specs.declared.tree.Key.TheVariants as key
-use Rattle.yaml_subset.specs.declared.tree.Pair.{Pair}
+use Rattle.yaml_tree.specs.declared.tree.Key.{Key}
+use Rattle.yaml_tree.specs.declared.tree.Key.TheVariants as key
+use Rattle.yaml_tree.specs.declared.tree.Pair.{Pair}
 use Rattle.conf_shape.specs.declared.refused.ConfCause.{ConfCause}
 use Rattle.conf_shape.specs.declared.refused.ConfCause.TheVariants.{LeftOut, OutOfRange, Duplicate}
 use Rattle.conf_shape.specs.declared.kinds.Kind.{Kind}

@@ -12,10 +12,10 @@ use Rattle.net_base.specs.declared.field.FieldId.TheVariants.{EthDst, EthSrc, Et
 use Rattle.net_base.specs.Address.{mac_value}
 use Rattle.net_base.specs.AddressReading.{spelled_mac, ip4_of, net4_of, cut_at}
 use Rattle.net_base.specs.Field.{exact, prefix}
-use Rattle.yaml_subset.specs.declared.tree.Pair.{Pair}
-use Rattle.yaml_subset.specs.declared.tree.Tree.{Tree, out-Tree}
-use Rattle.yaml_subset.specs.declared.tree.Tree.TheOpen.{Tree-F}
-use Rattle.yaml_subset.specs.declared.tree.Tree.TheOpen as tree
+use Rattle.yaml_tree.specs.declared.tree.Pair.{Pair}
+use Rattle.yaml_tree.specs.declared.tree.Tree.{Tree, out-Tree}
+use Rattle.yaml_tree.specs.declared.tree.Tree.TheOpen.{Tree-F}
+use Rattle.yaml_tree.specs.declared.tree.Tree.TheOpen as tree
 use Rattle.conf_shape.specs.declared.raw.RawField.{RawField}
 use Rattle.conf_shape.specs.Scalars.{within}
 use Rattle.conf_shape.specs.Sections.{key_text, spells}

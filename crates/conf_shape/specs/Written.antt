@@ -1,7 +1,7 @@
 -- What a map with no fault says of its keys.
 use Rattle.std.specs.Prelude.{◌≡◌, ℕ, ℤ, List, [], map, Some, Ok}
-use Rattle.yaml_subset.specs.declared.tree.Key.TheVariants as key
-use Rattle.yaml_subset.specs.declared.tree.Pair.{Pair}
+use Rattle.yaml_tree.specs.declared.tree.Key.TheVariants as key
+use Rattle.yaml_tree.specs.declared.tree.Pair.{Pair}
 use Rattle.conf_shape.specs.declared.refused.ConfCause.TheVariants.{WrongType}
 use Rattle.conf_shape.specs.declared.kinds.Kind.{Kind}
 use Rattle.conf_shape.specs.declared.kinds.MapKind.{MapKind}

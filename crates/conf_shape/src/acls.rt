@@ -1,6 +1,6 @@
 ghost use Rattle.std.specs.Prelude.{◌≡◌, IfOk};
-ghost use Rattle.yaml_subset.specs.declared.tree.Pair.{Pair};
-ghost use Rattle.yaml_subset.specs.declared.tree.Tree.{Tree};
+ghost use Rattle.yaml_tree.specs.declared.tree.Pair.{Pair};
+ghost use Rattle.yaml_tree.specs.declared.tree.Tree.{Tree};
 ghost use Rattle.conf_shape.specs.Raw.{output_of, rule_with, rule_of, acl_of_entry, router_of_entry};
 
 use crate::keys::key_text;
@@ -14,7 +14,7 @@ use crate::tables::table_of;
 use crate::values::fields_of;
 use net_base::NoMemory;
 use std::alloc::Global;
-use yaml_subset::{Pair, Tree};
+use yaml_tree::{Pair, Tree};
 
 impl Read for RawOutput {
     ghost given_by = { output_of };

@@ -1,6 +1,6 @@
 ghost use Rattle.std.specs.Prelude.{◌≡◌, map, codes, IfOk};
-ghost use Rattle.yaml_subset.specs.declared.tree.Pair.{Pair};
-ghost use Rattle.yaml_subset.specs.declared.tree.Tree.{Tree};
+ghost use Rattle.yaml_tree.specs.declared.tree.Pair.{Pair};
+ghost use Rattle.yaml_tree.specs.declared.tree.Tree.{Tree};
 ghost use Rattle.conf_shape.specs.Reads.{entries_at, text_at};
 ghost use Rattle.conf_shape.specs.Sections.{key_text};
 ghost use Rattle.conf_shape.specs.Raw.{is_given, acls_at, names_by, stack_end_of, port_flags, port_number, port_with, port_of_entry, drop_flags, datapath_id, stack_priority, datapath_with, datapath_of_entry};
@@ -17,7 +17,7 @@ use crate::reads::{
 use conf_types::PortRef;
 use net_base::{DpId, NoMemory, PortNo, Text};
 use std::alloc::Global;
-use yaml_subset::{Key, Pair, Tree};
+use yaml_tree::{Key, Pair, Tree};
 
 const INTERFACE: MapKind = MapKind::Interface { number: None };
 

@@ -9,7 +9,7 @@ use crate::reads::{as_entries, entries_at, read_entries};
 use crate::refused::ConfRefused;
 use net_base::NoMemory;
 use std::alloc::Global;
-use yaml_subset::Tree;
+use yaml_tree::Tree;
 
 fn read_raw(alloc: Global, tree: &Tree) -> Result<RawConf, NoMemory>
     ensures { IfOk result (λ raw. raw ≡ raw_of tree.now) }

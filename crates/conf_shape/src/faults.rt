@@ -12,7 +12,7 @@ use crate::scalars::{flag_cause, item_kind, map_kind, number_cause, text_cause};
 use crate::tables::{Row, table_of};
 use net_base::{Names, NoMemory, Text};
 use std::alloc::Global;
-use yaml_subset::{Pair, Tree};
+use yaml_tree::{Pair, Tree};
 
 /// A fault, with the keys and places that lead to it, the outermost first.
 #[derive(Debug, Drop)]

@@ -12,7 +12,7 @@ use crate::scalars::{is_name, within};
 use crate::tables::{Row, Table, table_of};
 use net_base::{NoMemory, Text};
 use std::alloc::Global;
-use yaml_subset::{Key, Pair};
+use yaml_tree::{Key, Pair};
 
 /// The text of a key: a whole number stands for its digits.
 pub fn key_text(alloc: Global, key: &Key) -> Result<Text, NoMemory>

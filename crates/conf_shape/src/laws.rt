@@ -5,8 +5,8 @@ ghost use Rattle.std.specs.Prelude.{◌≡◌, ◌<◌, ◌≤◌, ◌^◌, ◌�
 ghost use Rattle.std.specs.List.{AllByRecursion};
 ghost use Rattle.net_base.specs.Address.{SpellsMac, ip4_text, net4_text};
 ghost use Rattle.net_base.specs.AddressReading.{spelled_mac, ip4_of, net4_of};
-ghost use Rattle.yaml_subset.specs.declared.tree.Pair.{Pair};
-ghost use Rattle.yaml_subset.specs.declared.tree.Tree.{Tree};
+ghost use Rattle.yaml_tree.specs.declared.tree.Pair.{Pair};
+ghost use Rattle.yaml_tree.specs.declared.tree.Tree.{Tree};
 ghost use Rattle.conf_shape.specs.declared.kinds.Kind.TheVariants.{One, Map};
 ghost use Rattle.conf_shape.specs.declared.kinds.MapKind.{MapKind};
 ghost use Rattle.conf_shape.specs.declared.kinds.MapKind.TheVariants.{Top, Datapaths, Datapath, Interfaces, Interface, Vlans, Vlan};

@@ -2,8 +2,8 @@ ghost use Rattle.std.specs.Prelude.{◌≡◌, ◌-◌, ◌^◌, map, option_and
 ghost use Rattle.std.specs.Option.{option_copied};
 ghost use Rattle.conf_shape.specs.Scalars.{within};
 ghost use Rattle.conf_shape.specs.Keys.{seen_default};
-ghost use Rattle.yaml_subset.specs.declared.tree.Tree.{Tree};
-ghost use Rattle.yaml_subset.specs.declared.tree.Pair.{Pair};
+ghost use Rattle.yaml_tree.specs.declared.tree.Tree.{Tree};
+ghost use Rattle.yaml_tree.specs.declared.tree.Pair.{Pair};
 ghost use Rattle.conf_shape.specs.Reads.{value_at, flag_of, permission_of, number_of, text_of, words_of, items_of, entries_of, one_or_list_of, words_at, entries_at, option_at, list_at, one_or_list_at, default_of, default_flag, default_number, default_text, flag_at, permission_at, number_at, text_at, label_of, port_of, vlan_of, own_number};
 
 use crate::keys::{is_key, row_at};
@@ -14,7 +14,7 @@ use crate::tables::table_of;
 use conf_types::PortRef;
 use net_base::{Items, NoMemory, PortNo, Text, Vid};
 use std::alloc::Global;
-use yaml_subset::{Key, Pair, Tree};
+use yaml_tree::{Key, Pair, Tree};
 
 /// What stands under a key.
 pub fn value_at<'a>(pairs: &'a [Pair], name: &str) -> Option<&'a Tree>

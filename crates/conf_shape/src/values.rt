@@ -11,7 +11,7 @@ use crate::raw::{RawField, RawFields};
 use crate::scalars::within;
 use net_base::{Field, FieldId, Ip4, Items, Mac, Net4, NoMemory};
 use std::alloc::Global;
-use yaml_subset::{Pair, Tree};
+use yaml_tree::{Pair, Tree};
 
 /// The Ethernet address that a text spells.
 pub fn mac_of(text: &str) -> Mac

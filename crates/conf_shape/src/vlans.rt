@@ -1,6 +1,6 @@
 ghost use Rattle.std.specs.Prelude.{◌≡◌, IfOk};
-ghost use Rattle.yaml_subset.specs.declared.tree.Pair.{Pair};
-ghost use Rattle.yaml_subset.specs.declared.tree.Tree.{Tree};
+ghost use Rattle.yaml_tree.specs.declared.tree.Pair.{Pair};
+ghost use Rattle.yaml_tree.specs.declared.tree.Tree.{Tree};
 ghost use Rattle.conf_shape.specs.Raw.{vip_of, route_of, vlan_number, mac_at, vlan_with, vlan_of_entry};
 
 use crate::datapaths::{is_given, read_acls, read_names};
@@ -14,7 +14,7 @@ use crate::values::{ip_of, mac_of, net_of};
 use conf_types::Route;
 use net_base::{Mac, Net4, NoMemory, Vid};
 use std::alloc::Global;
-use yaml_subset::{Key, Pair, Tree};
+use yaml_tree::{Key, Pair, Tree};
 
 const VLAN: MapKind = MapKind::Vlan { number: None };
 

@@ -5,7 +5,7 @@ use Rattle.std.specs.List.{filter_map}
 use Rattle.std.specs.Option.{option_map_or}
 use Rattle.net_base.specs.declared.numbers.DpId.{DpId}
 use Rattle.yaml_subset.specs.declared.fault.YamlFault.{YamlFault}
-use Rattle.yaml_subset.specs.declared.tree.Tree.{Tree}
+use Rattle.yaml_tree.specs.declared.tree.Tree.{Tree}
 use Rattle.yaml_subset.specs.Fault.{cause_text}
 use Rattle.yaml_subset.specs.Reading.{read_of}
 use Rattle.conf_types.specs.Configuration.{Configuration, dp_with}

@@ -15,10 +15,10 @@ use crate::replay::replay_recording;
 use command_line::{Job, read_words};
 use conf_load::laws::a_loaded_configuration_is_valid;
 use fg_outside::{Files, Hub, Sink};
+use law_stories::whatever_happens_is_right;
 use net_base::Names;
 use opening_batch::laws::an_opening_batch_opens_the_datapath;
 use std::alloc::Global;
-use law_stories::whatever_happens_is_right;
 
 /// Does a job.
 fn do_job<F: Files, O: Sink, E: Sink>(

@@ -10,8 +10,8 @@ use Rattle.net_base.specs.declared.field.FieldId.TheVariants.{EthDst, EthSrc, Ip
 use Rattle.net_base.specs.Address.{decimal, ip4_text, net4_text, SpellsBehind, SpellsMac, mac_value}
 use Rattle.net_base.specs.Field.{exact, prefix}
 use Rattle.net_base.proofs.Addresses.{same_mac, same_ip4, same_net4}
-use Rattle.yaml_subset.specs.declared.tree.Pair.{Pair}
-use Rattle.yaml_subset.specs.declared.tree.Tree.{Tree}
+use Rattle.yaml_tree.specs.declared.tree.Pair.{Pair}
+use Rattle.yaml_tree.specs.declared.tree.Tree.{Tree}
 use Rattle.conf_shape.specs.declared.kinds.MapKind.TheVariants.{Rule}
 use Rattle.conf_shape.specs.declared.raw.RawField.{RawField}
 use Rattle.conf_shape.specs.Keys.{keys_of}

@@ -2,9 +2,9 @@
 use Rattle.std.proofs.Common.{◌≡◌, ℕ, Bool, true, false, List, [], ◌∷◌, Option, Some, None, refl, sym, ◌∙◌, subst}
 use Rattle.std.specs.Prelude.{codes, IsSomeAnd, MatchOption}
 use Rattle.net_base.specs.declared.address.Mac.{Mac}
-use Rattle.yaml_subset.specs.declared.tree.Key.{Key}
-use Rattle.yaml_subset.specs.declared.tree.Pair.{Pair}
-use Rattle.yaml_subset.specs.declared.tree.Tree.{Tree, out-Tree}
+use Rattle.yaml_tree.specs.declared.tree.Key.{Key}
+use Rattle.yaml_tree.specs.declared.tree.Pair.{Pair}
+use Rattle.yaml_tree.specs.declared.tree.Tree.{Tree, out-Tree}
 use Rattle.conf_shape.specs.declared.raw.OneOrList.TheVariants as several
 use Rattle.conf_shape.specs.declared.raw.RawConf.{RawConf}
 use Rattle.conf_shape.specs.declared.raw.RawRule.{RawRule}

@@ -8,9 +8,9 @@ use Rattle.net_base.specs.declared.field.FieldId.TheVariants.{EthDst, EthSrc, Et
 use Rattle.net_base.specs.Field.{exact}
 use Rattle.net_base.specs.AddressReading.{◌>>=◌, spelled_mac, ip4_of, net4_of, cut_at}
 use Rattle.net_base.proofs.Addresses.{mac_ok, ip4_ok, net4_ok}
-use Rattle.yaml_subset.specs.declared.tree.Pair.{Pair}
-use Rattle.yaml_subset.specs.declared.tree.Tree.{Tree}
-use Rattle.yaml_subset.specs.declared.tree.Tree.TheOpen as tree
+use Rattle.yaml_tree.specs.declared.tree.Pair.{Pair}
+use Rattle.yaml_tree.specs.declared.tree.Tree.{Tree}
+use Rattle.yaml_tree.specs.declared.tree.Tree.TheOpen as tree
 use Rattle.conf_shape.specs.declared.kinds.Kind.{Kind}
 use Rattle.conf_shape.specs.declared.kinds.Kind.TheVariants.{One}
 use Rattle.conf_shape.specs.declared.kinds.Scalar.TheVariants.{Number, MaskedMac, Prefix}

@@ -16,10 +16,10 @@ use Rattle.net_base.specs.Field.{exact, prefix}
 use Rattle.net_base.specs.FieldId as ids
 use Rattle.net_base.proofs.Addresses.{ip4_ok, net4_ok}
 use Rattle.net_base.proofs.Macs.{mac_below}
-use Rattle.yaml_subset.specs.declared.tree.Tree.{Tree}
-use Rattle.yaml_subset.specs.declared.tree.Key.{Key}
-use Rattle.yaml_subset.specs.declared.tree.Key.TheVariants as key
-use Rattle.yaml_subset.specs.declared.tree.Pair.{Pair}
+use Rattle.yaml_tree.specs.declared.tree.Tree.{Tree}
+use Rattle.yaml_tree.specs.declared.tree.Key.{Key}
+use Rattle.yaml_tree.specs.declared.tree.Key.TheVariants as key
+use Rattle.yaml_tree.specs.declared.tree.Pair.{Pair}
 use Rattle.conf_types.specs.Lists.{EachBefore, is_among}
 use Rattle.conf_types.specs.RuleFields.{IsNumber, IsMacMask, IsPrefix, MayAsk}
 use Rattle.conf_shape.specs.declared.refused.ConfCause.TheVariants.{LeftOut, Duplicate, BadText}

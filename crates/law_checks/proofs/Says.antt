@@ -3,9 +3,9 @@ use Rattle.std.proofs.Common.{◌≡◌, ℕ, ◌-◌, ◌^◌, ◌≤◌, Bool,
 use Rattle.std.specs.Prelude.{map, codes, IfSome, IsSomeAnd, MatchOption, unwrap_or, option_and_then}
 use Rattle.std.specs.Option.{option_map, option_map_or}
 use Rattle.net_base.specs.AddressReading.{spelled_mac, pair_at, next_at}
-use Rattle.yaml_subset.specs.declared.tree.Key.{Key}
-use Rattle.yaml_subset.specs.declared.tree.Pair.{Pair}
-use Rattle.yaml_subset.specs.declared.tree.Tree.{Tree, out-Tree}
+use Rattle.yaml_tree.specs.declared.tree.Key.{Key}
+use Rattle.yaml_tree.specs.declared.tree.Pair.{Pair}
+use Rattle.yaml_tree.specs.declared.tree.Tree.{Tree, out-Tree}
 use Rattle.conf_types.specs.declared.acl.PortRef.TheVariants as port_refs
 use Rattle.conf_types.specs.declared.vlan.Route.{Route}
 use Rattle.conf_shape.specs.declared.refused.ConfCause.TheVariants.{OutOfRange}

@@ -5,8 +5,8 @@ use Rattle.net_base.specs.declared.field.FieldId.{FieldId}
 use Rattle.net_base.specs.declared.field.FieldId.TheVariants.{EthDst, EthSrc, Ipv4Src, Ipv4Dst, ArpSpa, ArpTpa}
 use Rattle.net_base.specs.Address.{SpellsMac, mac_value, ip4_text, net4_text}
 use Rattle.net_base.specs.Field.{exact, prefix}
-use Rattle.yaml_subset.specs.declared.tree.Pair.{Pair}
-use Rattle.yaml_subset.specs.declared.tree.Tree.{Tree}
+use Rattle.yaml_tree.specs.declared.tree.Pair.{Pair}
+use Rattle.yaml_tree.specs.declared.tree.Tree.{Tree}
 use Rattle.conf_shape.specs.declared.kinds.MapKind.TheVariants.{Rule}
 use Rattle.conf_shape.specs.declared.raw.RawField.{RawField}
 use Rattle.conf_shape.specs.Keys.{keys_of}

@@ -1,7 +1,7 @@
 //! The laws: each function is empty, and its contract is the law.
 
 ghost use Rattle.std.specs.Prelude.{◌≡◌, None};
-ghost use Rattle.yaml_subset.specs.declared.tree.Tree.{Tree};
+ghost use Rattle.yaml_tree.specs.declared.tree.Tree.{Tree};
 ghost use Rattle.conf_shape.specs.declared.raw.RawConf.{RawConf};
 ghost use Rattle.conf_shape.specs.Faults.{first_fault};
 ghost use Rattle.conf_shape.specs.Raw.{raw_of};

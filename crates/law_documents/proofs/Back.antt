@@ -1,8 +1,8 @@
 -- Documents that are the same but for the order of entries are so both ways.
 use Rattle.std.proofs.Common.{◌≡◌, List, [], ◌∷◌, ◌++◌, refl, sym}
-use Rattle.yaml_subset.specs.declared.tree.Pair.{Pair}
-use Rattle.yaml_subset.specs.declared.tree.Tree.{Tree}
-use Rattle.yaml_subset.specs.declared.tree.Tree.TheVariants as trees
+use Rattle.yaml_tree.specs.declared.tree.Pair.{Pair}
+use Rattle.yaml_tree.specs.declared.tree.Tree.{Tree}
+use Rattle.yaml_tree.specs.declared.tree.Tree.TheVariants as trees
 use Rattle.law_documents.specs.SameButOrder.{SameButOrder, equal, lists, maps, SameItems, no_items, item, SameEntries, no_entries, entry}
 
 entry_with : (before : List Pair) (q : Pair) (behind : List Pair) (p : Pair) (ps : List Pair) → q.key ≡ p.key → SameButOrder q.value p.value → SameEntries (before ++ behind) ps → SameEntries (before ++ q ∷ behind) (p ∷ ps)

@@ -1,8 +1,8 @@
 -- What is read of VLANs and routers, where they are the same but for the order of entries.
 use Rattle.std.proofs.Common.{◌≡◌, ℕ, List, [], Option, None, refl, ap, ◌∙◌, subst}
 use Rattle.std.specs.Prelude.{codes, unwrap_or}
-use Rattle.yaml_subset.specs.declared.tree.Key.{Key}
-use Rattle.yaml_subset.specs.declared.tree.Pair.{Pair}
+use Rattle.yaml_tree.specs.declared.tree.Key.{Key}
+use Rattle.yaml_tree.specs.declared.tree.Pair.{Pair}
 use Rattle.conf_shape.specs.declared.kinds.Kind.TheVariants.{Map, Maps}
 use Rattle.conf_shape.specs.declared.kinds.MapKind.TheVariants as maps
 use Rattle.conf_shape.specs.Faults.{faults_of}

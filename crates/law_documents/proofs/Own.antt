@@ -2,12 +2,12 @@
 use Rattle.std.specs.Prelude.{◌≡◌, ℕ, Bool, true, false, if◌then◌else◌, is_none, is_some, List, [], ◌∷◌, codes, Option, None, Some, IsSomeAnd, MatchOption}
 use Rattle.std.specs.List.{flat_map}
 use Rattle.std.proofs.Common.{inl, inr, refl, sym, ◌∙◌, subst, true≢false}
-use Rattle.yaml_subset.specs.declared.tree.Key.{Key}
-use Rattle.yaml_subset.specs.declared.tree.Key.TheVariants as key
-use Rattle.yaml_subset.specs.declared.tree.Pair.{Pair}
-use Rattle.yaml_subset.specs.declared.tree.Tree.{Tree, out-Tree}
-use Rattle.yaml_subset.specs.declared.tree.Tree.TheOpen.{Tree-F}
-use Rattle.yaml_subset.specs.declared.tree.Tree.TheOpen as tree
+use Rattle.yaml_tree.specs.declared.tree.Key.{Key}
+use Rattle.yaml_tree.specs.declared.tree.Key.TheVariants as key
+use Rattle.yaml_tree.specs.declared.tree.Pair.{Pair}
+use Rattle.yaml_tree.specs.declared.tree.Tree.{Tree, out-Tree}
+use Rattle.yaml_tree.specs.declared.tree.Tree.TheOpen.{Tree-F}
+use Rattle.yaml_tree.specs.declared.tree.Tree.TheOpen as tree
 use Rattle.conf_types.specs.Attached.{acl_named}
 use Rattle.conf_types.specs.Configuration.{Configuration}
 use Rattle.conf_shape.specs.declared.raw.RawAclNames.{RawAclNames}

@@ -1,9 +1,9 @@
 -- The datapaths, interfaces, ACLs and routers that are checked, each where it is written.
 use Rattle.std.specs.Prelude.{◌≡◌, List, [], ◌∷◌, map, codes, nat_lt}
 use Rattle.std.proofs.Common.{refl, subst}
-use Rattle.yaml_subset.specs.declared.tree.Key.{Key}
-use Rattle.yaml_subset.specs.declared.tree.Pair.{Pair}
-use Rattle.yaml_subset.specs.declared.tree.Tree.{Tree, out-Tree}
+use Rattle.yaml_tree.specs.declared.tree.Key.{Key}
+use Rattle.yaml_tree.specs.declared.tree.Pair.{Pair}
+use Rattle.yaml_tree.specs.declared.tree.Tree.{Tree, out-Tree}
 use Rattle.conf_shape.specs.declared.raw.RawPort.{RawPort}
 use Rattle.conf_shape.specs.declared.raw.RawDp.{RawDp}
 use Rattle.conf_shape.specs.declared.raw.RawAcl.{RawAcl}

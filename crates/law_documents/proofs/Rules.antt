@@ -4,9 +4,9 @@ use Rattle.std.specs.Prelude.{codes, cond, if◌then◌else◌}
 use Rattle.std.specs.List.{find}
 use Rattle.std.specs.Str.{bytes_eq}
 use Rattle.net_base.specs.declared.field.FieldId.{FieldId}
-use Rattle.yaml_subset.specs.declared.tree.Key.{Key}
-use Rattle.yaml_subset.specs.declared.tree.Key.TheVariants as key
-use Rattle.yaml_subset.specs.declared.tree.Pair.{Pair}
+use Rattle.yaml_tree.specs.declared.tree.Key.{Key}
+use Rattle.yaml_tree.specs.declared.tree.Key.TheVariants as key
+use Rattle.yaml_tree.specs.declared.tree.Pair.{Pair}
 use Rattle.conf_shape.specs.declared.kinds.Kind.{Kind}
 use Rattle.conf_shape.specs.declared.kinds.Kind.TheVariants.{Map, Maps, MapOrMaps}
 use Rattle.conf_shape.specs.declared.kinds.MapKind.TheVariants as maps

@@ -4,10 +4,10 @@ use Rattle.std.specs.Fmt.{decimal}
 use Rattle.std.specs.List.{flat_map, enumerate_from}
 use Rattle.std.specs.Option.{option_map_or}
 use Rattle.std.proofs.Common.{inl, inr, refl, sym, ap, subst}
-use Rattle.yaml_subset.specs.declared.tree.Pair.{Pair}
-use Rattle.yaml_subset.specs.declared.tree.Tree.{Tree, out-Tree}
-use Rattle.yaml_subset.specs.declared.tree.Tree.TheOpen.{Tree-F}
-use Rattle.yaml_subset.specs.declared.tree.Tree.TheOpen as tree
+use Rattle.yaml_tree.specs.declared.tree.Pair.{Pair}
+use Rattle.yaml_tree.specs.declared.tree.Tree.{Tree, out-Tree}
+use Rattle.yaml_tree.specs.declared.tree.Tree.TheOpen.{Tree-F}
+use Rattle.yaml_tree.specs.declared.tree.Tree.TheOpen as tree
 use Rattle.conf_types.specs.Lists.{is_among}
 use Rattle.conf_shape.specs.declared.raw.VlanRef.{VlanRef}
 use Rattle.conf_shape.specs.declared.raw.VlanRef.TheVariants.{Vid, Name}

@@ -3,10 +3,10 @@ use Rattle.std.specs.Prelude.{◌≡◌, ℕ, ◌⊎◌, List, None}
 use Rattle.net_base.specs.declared.address.Ip4.{Ip4}
 use Rattle.net_base.specs.declared.net4.Net4.{Net4}
 use Rattle.net_base.specs.Address.{ip4_text, net4_text}
-use Rattle.yaml_subset.specs.declared.tree.Pair.{Pair}
-use Rattle.yaml_subset.specs.declared.tree.Tree.{Tree}
-use Rattle.yaml_subset.specs.declared.tree.Tree.TheOpen.{Tree-F}
-use Rattle.yaml_subset.specs.declared.tree.Tree.TheOpen as tree
+use Rattle.yaml_tree.specs.declared.tree.Pair.{Pair}
+use Rattle.yaml_tree.specs.declared.tree.Tree.{Tree}
+use Rattle.yaml_tree.specs.declared.tree.Tree.TheOpen.{Tree-F}
+use Rattle.yaml_tree.specs.declared.tree.Tree.TheOpen as tree
 use Rattle.conf_types.specs.declared.acl.PortRef.{PortRef}
 use Rattle.conf_types.specs.Attached.{acl_named}
 use Rattle.conf_types.specs.Configuration.{Configuration}

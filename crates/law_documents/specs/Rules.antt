@@ -1,7 +1,7 @@
 -- What the paths of each rule lead to.
 use Rattle.std.specs.Prelude.{◌≡◌, ◌⊎◌, codes, None}
 use Rattle.std.specs.List.{AllByRecursion}
-use Rattle.yaml_subset.specs.declared.tree.Tree.{Tree}
+use Rattle.yaml_tree.specs.declared.tree.Tree.{Tree}
 use Rattle.conf_types.specs.Configuration.{Configuration}
 use Rattle.conf_shape.specs.declared.refused.ConfCause.TheVariants.{TooMany}
 use Rattle.conf_shape.specs.declared.refused.ConfFault.{ConfFault}

@@ -1,6 +1,6 @@
 -- What the path of a fault of the shape leads to.
 use Rattle.std.specs.Prelude.{◌≡◌, ℕ, List, [], ◌∷◌, ◌++◌, None}
-use Rattle.yaml_subset.specs.declared.tree.Tree.{Tree, out-Tree}
+use Rattle.yaml_tree.specs.declared.tree.Tree.{Tree, out-Tree}
 use Rattle.conf_shape.specs.declared.refused.ConfCause.TheVariants.{Missing}
 use Rattle.conf_shape.specs.declared.refused.ConfFault.{ConfFault}
 use Rattle.conf_shape.specs.Faults.{path_of}

@@ -1,9 +1,9 @@
 //! The laws: each function is empty, and its contract is the law.
 
 ghost use Rattle.std.specs.Prelude.{◌≡◌, ◌↔◌, ℕ, List, ◌∷◌, ◌++◌, Ok};
-ghost use Rattle.yaml_subset.specs.declared.tree.Pair.{Pair};
-ghost use Rattle.yaml_subset.specs.declared.tree.Tree.{Tree};
-ghost use Rattle.yaml_subset.specs.declared.tree.Tree.TheVariants as trees;
+ghost use Rattle.yaml_tree.specs.declared.tree.Pair.{Pair};
+ghost use Rattle.yaml_tree.specs.declared.tree.Tree.{Tree};
+ghost use Rattle.yaml_tree.specs.declared.tree.Tree.TheVariants as trees;
 ghost use Rattle.yaml_subset.specs.Grammar.{Reads};
 ghost use Rattle.conf_types.specs.Configuration.{Configuration};
 ghost use Rattle.conf_check.specs.Accepted.{conf_of};

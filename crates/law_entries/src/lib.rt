@@ -2,5 +2,5 @@
 //! whole packets, and can be done where it stands. Proofs alone.
 #![tactic(auto)]
 
-pub mod lengths;
 pub mod doable;
+pub mod lengths;

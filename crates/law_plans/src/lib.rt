@@ -2,5 +2,5 @@
 //! configuration describes. Proofs alone.
 #![tactic(auto)]
 
-pub mod plan;
 pub mod cold;
+pub mod plan;

@@ -7,7 +7,7 @@ use Rattle.of_match.specs.declared.entry.Entry.{Entry}
 use Rattle.of_match.specs.FlowTables.{IsInKeyOrder}
 use Rattle.of_match.specs.Settled.{Settles}
 use Rattle.of13_codec.specs.declared.message.Message.{Message}
-use Rattle.yaml_subset.specs.declared.tree.Tree.{Tree}
+use Rattle.yaml_tree.specs.declared.tree.Tree.{Tree}
 use Rattle.yaml_subset.specs.Reading.{read_of}
 use Rattle.conf_types.specs.declared.datapath.Dp.{Dp}
 use Rattle.conf_types.specs.Configuration.{Configuration}

@@ -10,7 +10,6 @@ ghost use Rattle.conf_types.specs.Configuration.{Configuration};
 ghost use Rattle.conf_types.specs.Valid.{IsValid};
 ghost use Rattle.law_stories.specs.Right.{IsRight};
 
-use law_plans::cold::a_cold_start_sends_each_packet_as_described;
 use cold_start::laws::a_cold_start_is_the_plan_in_key_order;
 use conf_check::laws::an_accepted_configuration_is_valid;
 use ctl_settle::laws::{
@@ -18,6 +17,7 @@ use ctl_settle::laws::{
     asks_leave_the_state,
 };
 use ctl_world::laws::what_is_known_first_is_sound;
+use law_plans::cold::a_cold_start_sends_each_packet_as_described;
 use laws::{after_each_turn_nothing_waits, whatever_happens_what_is_known_is_sound};
 use neighbour_resolve::laws::datapaths_are_asked_in_order;
 

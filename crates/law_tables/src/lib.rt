@@ -4,7 +4,7 @@
 
 pub mod acls;
 pub mod admission;
-pub mod sources;
-pub mod routes;
 pub mod destinations;
 pub mod floods;
+pub mod routes;
+pub mod sources;

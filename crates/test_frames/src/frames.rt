@@ -1,6 +1,5 @@
 //! What is answered to a frame, whom it lets hear, and what is asked.
 
-use test_words::{dp_id, ip4, port_no, put_actions, put_ip4, put_mac, vid};
 use conf_types::Conf;
 use neighbour_resolve::{Reply, answer, ask, counted_vid, heard_sender, send_back};
 use net_base::{DpId, NoMemory, PortNo};
@@ -8,6 +7,7 @@ use of_match::Action;
 use pkt_view::{FrameView, view};
 use std::alloc::Global;
 use std::str::SplitWhitespace;
+use test_words::{dp_id, ip4, port_no, put_actions, put_ip4, put_mac, vid};
 
 /// A frame in hexadecimal digits, and what is done to it.
 fn sent(alloc: Global, frame: &[u8], actions: &[Action]) -> Result<String, NoMemory> {

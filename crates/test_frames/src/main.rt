@@ -2,7 +2,6 @@
 //! printed with its answer; an empty line, and one that begins with `#`, is printed as it is.
 #![tactic(auto)]
 
-use test_lines::{Answers, answered};
 use conf_check::conf_of_bytes;
 use conf_types::Conf;
 use neighbour_resolve::Neighbours;
@@ -10,6 +9,7 @@ use net_base::NoMemory;
 use std::alloc::Global;
 use std::io;
 use std::str::SplitWhitespace;
+use test_lines::{Answers, answered};
 
 mod frames;
 mod table;

@@ -1,12 +1,12 @@
 //! What is told to the table of neighbours, and what it answers.
 
-use test_words::{dp_id, ip4, mac, moment, number, put_ip4, put_mac, vid};
 use conf_types::{Conf, NeighRec};
 use neighbour_resolve::{Due, Neighbours, Want};
 use net_base::{DpId, Ip4, Items, Moment, NoMemory, Vid};
 use std::alloc::Global;
 use std::fmt::Write;
 use std::str::SplitWhitespace;
+use test_words::{dp_id, ip4, mac, moment, number, put_ip4, put_mac, vid};
 
 fn want(table: &mut Neighbours, words: &mut SplitWhitespace<'_>) -> Option<Want> {
     let group = dp_id(words)?;

@@ -3,12 +3,12 @@
 ghost use Rattle.std.specs.Prelude.{◌<◌};
 
 use crate::plain::Plain;
-use test_words::number;
 use conf_types::{Conf, HostRec, UpRec, UpRecs};
 use host_learn::HostTable;
 use net_base::{DpId, Mac, Moment, NoMemory, PortNo, Vid};
 use std::alloc::Global;
 use std::str::SplitWhitespace;
+use test_words::number;
 
 /// Milliseconds between two calls.
 const STEP: u64 = 500;

@@ -7,7 +7,6 @@ mod plain;
 mod table;
 mod worked;
 
-use test_lines::{Answers, answered};
 use conf_check::conf_of_bytes;
 use conf_types::Conf;
 use host_learn::HostTable;
@@ -15,6 +14,7 @@ use net_base::NoMemory;
 use std::alloc::Global;
 use std::io;
 use std::mem::replace;
+use test_lines::{Answers, answered};
 
 /// What the cases speak of: the last two configurations, and the table of the lines before.
 #[derive(Drop)]

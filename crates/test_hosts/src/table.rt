@@ -1,12 +1,12 @@
 //! What is told to the table of hosts, and what it answers.
 
-use test_words::{dp_id, mac, moment, number, port_no, put_mac, vid};
 use conf_types::{Conf, HostRec, UpRec, UpRecs};
 use host_learn::{HostTable, Learn};
 use net_base::{DpId, Moment, NoMemory, PortNo};
 use std::alloc::Global;
 use std::fmt::Write;
 use std::str::SplitWhitespace;
+use test_words::{dp_id, mac, moment, number, port_no, put_mac, vid};
 
 /// A datapath, a port, a VLAN, an address and a moment.
 fn host(words: &mut SplitWhitespace<'_>) -> Option<HostRec> {

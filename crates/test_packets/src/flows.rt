@@ -1,8 +1,6 @@
 //! Matches, actions and flow tables. A field is spelled `NUMBER=VALUE/MASK`, both in hexadecimal digits,
 //! and fields are joined by commas; an action is `out:PORT`, `push:TYPE`, `pop`, `ttl` or `set:FIELD`.
 
-use test_lines::bytes_of;
-use test_words::{number, port_no, put_entry};
 use net_base::{Field, FieldId, Fields, NoMemory, PortNo, TryCopy};
 use of_match::{
     Action, Actions, Command, Entry, Instr, Instrs, Key, Packet, Tables, act, apply, hits, run,
@@ -11,6 +9,8 @@ use pkt_view::packet_of;
 use std::alloc::Global;
 use std::fmt::Write;
 use std::str::SplitWhitespace;
+use test_lines::bytes_of;
+use test_words::{number, port_no, put_entry};
 
 fn field(text: &str) -> Option<Field> {
     let (number, bits) = text.split_once('=')?;

@@ -6,13 +6,13 @@
 mod flows;
 mod frames;
 
-use test_lines::{Answers, answered, bytes_of};
 use flows::{change, write_act, write_hits, write_run, write_tables};
 use frames::write_frame;
 use net_base::NoMemory;
 use of_match::Tables;
 use std::alloc::Global;
 use std::io;
+use test_lines::{Answers, answered, bytes_of};
 
 /// The flow tables of the lines before.
 #[derive(Drop)]

@@ -3,7 +3,6 @@
 //! asks for one; an empty line, and one that begins with `#`, is printed as it is.
 #![tactic(auto)]
 
-use test_lines::{Answers, answered};
 use conf_check::conf_of_bytes;
 use conf_types::Conf;
 use net_base::{Moment, NoMemory};
@@ -11,6 +10,7 @@ use packet_way::Now;
 use std::alloc::Global;
 use std::str::SplitWhitespace;
 use std::{io, mem};
+use test_lines::{Answers, answered};
 
 mod plan;
 mod sent;

@@ -5,7 +5,6 @@ ghost use Rattle.conf_types.specs.State.{IsValidState};
 ghost use Rattle.packet_way.specs.Present.{state_of};
 
 use crate::units::Units;
-use test_words::{number, put_command, put_entry};
 use cold_start::cold;
 use conf_types::Conf;
 use net_base::{DpId, NoMemory};
@@ -14,6 +13,7 @@ use packet_way::Now;
 use state_check::is_valid;
 use std::alloc::Global;
 use std::str::SplitWhitespace;
+use test_words::{number, put_command, put_entry};
 use warm_plan::Warm;
 
 /// The answer where a state isn't valid for its configuration.

@@ -5,7 +5,6 @@ ghost use Rattle.conf_types.specs.State.{IsValidState};
 ghost use Rattle.packet_way.specs.Present.{state_of};
 
 use crate::units::Units;
-use test_words::{port_no, put_mac};
 use cold_start::cold;
 use conf_types::Conf;
 use net_base::{DpId, NoMemory, PortNo};
@@ -16,6 +15,7 @@ use pkt_view::packet_of;
 use state_check::is_valid;
 use std::alloc::Global;
 use std::str::SplitWhitespace;
+use test_words::{port_no, put_mac};
 
 /// Puts the port, the destination and the source, the VLANs of the tags, and the time to live.
 fn put_sent(alloc: Global, out: &mut String, sent: &Sent) -> Result<(), NoMemory> {

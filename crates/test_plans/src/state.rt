@@ -1,11 +1,11 @@
 //! A state, line by line.
 
-use test_words::{dp_id, ip4, mac, moment, port_no, vid};
 use conf_types::{Conf, Dp, DpIds, HostRec, HostRecs, NeighRec, NeighRecs, UpRec, UpRecs};
 use net_base::{DpId, Moment, NoMemory, PortNo};
 use packet_way::Now;
 use std::alloc::Global;
 use std::str::SplitWhitespace;
+use test_words::{dp_id, ip4, mac, moment, port_no, vid};
 
 fn all_dps(alloc: Global, conf: &Conf) -> Result<DpIds, NoMemory> {
     let mut ids = DpIds::new(alloc);

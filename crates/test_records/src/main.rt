@@ -6,10 +6,10 @@
 mod turns;
 mod worked;
 
-use test_lines::{Answers, answered, bytes_of};
 use net_base::{Bytes, NoMemory};
 use std::alloc::Global;
 use std::io;
+use test_lines::{Answers, answered, bytes_of};
 use turns::write_turns;
 
 /// The bytes of the recording that the lines speak of.

@@ -1,10 +1,10 @@
 //! The files that the runs see, and what fails in them.
 
 use crate::runs::{refuse, run};
-use test_lines::{Answers, bytes_of, unescaped, write_repeated};
 use fg_outside::{CallNos, Folder, Folders, HeldFile, HeldFiles, MemFiles};
 use net_base::{NoMemory, Text, TryCopy};
 use std::alloc::Global;
+use test_lines::{Answers, bytes_of, unescaped, write_repeated};
 
 /// Which calls of a run fail, numbered from 1 on, and how many bytes standard output holds.
 #[derive(Clone, Copy, Debug)]

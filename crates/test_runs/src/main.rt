@@ -6,8 +6,8 @@ mod bench;
 mod runs;
 
 use bench::Bench;
-use test_lines::answered;
 use std::io;
+use test_lines::answered;
 
 fn main(rt: HostRuntime) -> io::Result<()> {
     let table = io::read_to_string(rt.alloc(), rt.stdin())?;

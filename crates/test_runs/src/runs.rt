@@ -1,13 +1,13 @@
 //! One run, and how it is printed.
 
 use crate::bench::Outside;
-use test_lines::write_escaped;
 use faucet_top::{faucet, refuse_for_memory};
 use fg_outside::{CallNos, MemFiles, MemSink, NoHub};
 use net_base::{Names, NoMemory, Text};
 use std::alloc::Global;
 use std::fmt::Write;
 use std::str::from_utf8;
+use test_lines::write_escaped;
 
 /// The words of a line, of which `''` is the empty one.
 fn words(alloc: Global, line: &str) -> Result<Names, NoMemory> {

@@ -2,13 +2,13 @@
 
 use crate::happening::happening;
 use crate::units::Uncounted;
-use test_lines::{Answers, write_escaped};
 use conf_check::conf_of_bytes;
 use ctl_core::{Controller, Saying};
 use fg_outside::Happening;
 use net_base::NoMemory;
 use std::alloc::Global;
 use std::fmt::Write;
+use test_lines::{Answers, write_escaped};
 
 /// The controller of the last configuration, if one was taken.
 #[derive(Drop)]

@@ -1,11 +1,11 @@
 //! What happens, by the words of a line.
 
-use test_lines::unescaped;
-use test_words::number;
 use fg_outside::{EndCause, Happening};
 use net_base::{Bytes, NoMemory};
 use std::alloc::Global;
 use std::str::SplitWhitespace;
+use test_lines::unescaped;
+use test_words::number;
 
 fn conn(words: &mut SplitWhitespace<'_>) -> Option<u32> {
     u32::try_from(number(words)?).ok()

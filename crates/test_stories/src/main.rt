@@ -8,8 +8,8 @@ mod units;
 mod worked;
 
 use bench::Bench;
-use test_lines::answered;
 use std::io;
+use test_lines::answered;
 
 fn main(rt: HostRuntime) -> io::Result<()> {
     let table = io::read_to_string(rt.alloc(), rt.stdin())?;

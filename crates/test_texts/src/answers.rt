@@ -7,7 +7,8 @@ use conf_shape::{ConfFault, find_fault};
 use net_base::NoMemory;
 use std::alloc::{AllocError, Global};
 use std::str::from_utf8;
-use yaml_subset::{Tree, YamlFault, YamlRefused, print_yaml, read_yaml};
+use yaml_subset::{YamlFault, YamlRefused, print_yaml, read_yaml};
+use yaml_tree::Tree;
 
 /// Writes what is said of a text: by the kind its configuration, what a configuration's readers answer, what
 /// is gathered of the files that it lists, or what is said of its tree.

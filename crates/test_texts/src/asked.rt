@@ -1,9 +1,9 @@
-use test_words::{dp_id, port_no, vid};
 use conf_check::{TextRefused, conf_of_bytes};
 use conf_types::{Conf, Member, UpRec, UpRecs};
 use net_base::{NoMemory, TryCopy};
 use std::alloc::{AllocError, Global};
 use std::str::{SplitWhitespace, from_utf8};
+use test_words::{dp_id, port_no, vid};
 
 /// How many ports a question names at most.
 const MOST_UPS: u32 = 100;

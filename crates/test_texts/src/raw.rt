@@ -1,7 +1,7 @@
 use conf_shape::{ConfRefused, OneOrList, RawOutput, RawRule, shape};
 use net_base::NoMemory;
 use std::alloc::{AllocError, Global};
-use yaml_subset::Tree;
+use yaml_tree::Tree;
 
 fn write_output(out: &mut String, to: &RawOutput) -> Result<(), NoMemory> {
     write!(out, " to {:?} {:?}", to.port, to.ports)

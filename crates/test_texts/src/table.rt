@@ -1,7 +1,7 @@
 use crate::answers::write_answer;
-use test_lines::{unescaped, write_escaped, write_repeated};
 use net_base::{Bytes, NoMemory};
 use std::alloc::Global;
+use test_lines::{unescaped, write_escaped, write_repeated};
 
 /// The lines of a table, with ` => ` and its answer behind each case `KIND TEXT`. Empty lines and
 /// comments are no cases; a line `around BEFORE|BEHIND` says what stands around the texts from there on.

@@ -1,5 +1,5 @@
 use net_base::NoMemory;
-use yaml_subset::{Key, Pair, Tree};
+use yaml_tree::{Key, Pair, Tree};
 
 /// Writes a tree down in one line, with a comma behind each item.
 #[cycle(show)]

@@ -8,10 +8,10 @@ mod parts;
 mod sessions;
 mod worked;
 
-use test_lines::{Answers, answered, bytes_of};
 use net_base::NoMemory;
 use std::alloc::Global;
 use std::io;
+use test_lines::{Answers, answered, bytes_of};
 
 /// Each case stands alone.
 #[derive(Drop)]

@@ -2,8 +2,8 @@
 use Rattle.std.proofs.Common.{◌⊎◌, inl, inr, ℕ, zero, suc, ◌+◌, ◌-◌, ◌≤◌, List, [], ◌∷◌, ◌++◌, length, arith}
 use Rattle.std.specs.Prelude.{map}
 use Rattle.std.specs.Str.Lines.{lines}
-use Rattle.yaml_subset.specs.declared.tree.Tree.{Tree}
-use Rattle.yaml_subset.specs.declared.tree.Pair.{Pair}
+use Rattle.yaml_tree.specs.declared.tree.Tree.{Tree}
+use Rattle.yaml_tree.specs.declared.tree.Pair.{Pair}
 use Rattle.yaml_subset.specs.Grammar.{Line, Form, of_list, of_map, ItemValue, item_nothing, item_below, item_value, item_block, IsItem, AreItems, EntryValue, entry_nothing, entry_below, entry_list, entry_value, IsEntry, AreEntries, IsBlock, IsDocument, document_nothing, document_value, document_block, IsHead, IsNoHead, ReadsLines, ReadsWithin}
 use Rattle.yaml_subset.specs.Levels.{most, levels, pair_levels}
 use Rattle.yaml_subset.proofs.TreeLevels.{levels_pair}

@@ -2,8 +2,8 @@
 use Rattle.std.proofs.Common.{◌≡◌, ◌⊎◌, inl, inr, ℕ, zero, suc, ◌<◌, ◌≤◌, Bool, true, false, cond, ◌||◌, List, [], ◌∷◌, ◌++◌, length, drop, Ok, Err, refl, sym, ◌∙◌, ap, arith, subst}
 use Rattle.yaml_subset.specs.declared.fault.YamlCause.TheVariants.{TooDeep}
 use Rattle.yaml_subset.specs.declared.scalars.Scanned.{Scanned}
-use Rattle.yaml_subset.specs.declared.tree.Tree.{Tree}
-use Rattle.yaml_subset.specs.declared.tree.Pair.{Pair}
+use Rattle.yaml_tree.specs.declared.tree.Tree.{Tree}
+use Rattle.yaml_tree.specs.declared.tree.Pair.{Pair}
 use Rattle.yaml_subset.specs.Characters.{begins, line_end}
 use Rattle.yaml_subset.specs.Scalars.{scan, value_at, scalar_from}
 use Rattle.yaml_subset.specs.Flow.{list_from, map_from, opens, flow_value}

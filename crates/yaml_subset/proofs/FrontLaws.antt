@@ -6,7 +6,7 @@ use Rattle.std.specs.Str.Lines.{lines, lines_of_parts, strip_carriage_return}
 use Rattle.std.proofs.lemmas.Str.{IsUtf8-from_is_utf8, is_utf8-from_IsUtf8, IsUtf8-take, IsCharBoundary-after_ascii}
 use Rattle.std.proofs.lemmas.List.Splits.{length-slice_split}
 use Rattle.yaml_subset.specs.declared.blocks.State.TheVariants.{Start}
-use Rattle.yaml_subset.specs.declared.tree.Tree.{Tree}
+use Rattle.yaml_tree.specs.declared.tree.Tree.{Tree}
 use Rattle.yaml_subset.specs.Reading.{lines_from}
 use Rattle.yaml_subset.specs.Grammar.{Reads}
 use Rattle.yaml_subset.proofs.ReadingLaws.{HasTree, accepted_front}

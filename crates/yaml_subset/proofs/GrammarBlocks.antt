@@ -8,10 +8,10 @@ use Rattle.yaml_subset.specs.declared.blocks.Place.{Place}
 use Rattle.yaml_subset.specs.declared.blocks.Place.TheVariants.{Item}
 use Rattle.yaml_subset.specs.declared.blocks.State.{State}
 use Rattle.yaml_subset.specs.declared.blocks.State.TheVariants.{Blocks}
-use Rattle.yaml_subset.specs.declared.tree.Tree.{Tree}
-use Rattle.yaml_subset.specs.declared.tree.Tree.TheVariants as tree
-use Rattle.yaml_subset.specs.declared.tree.Key.{Key}
-use Rattle.yaml_subset.specs.declared.tree.Pair.{Pair}
+use Rattle.yaml_tree.specs.declared.tree.Tree.{Tree}
+use Rattle.yaml_tree.specs.declared.tree.Tree.TheVariants as tree
+use Rattle.yaml_tree.specs.declared.tree.Key.{Key}
+use Rattle.yaml_tree.specs.declared.tree.Pair.{Pair}
 use Rattle.yaml_subset.specs.Characters.{marks, next_part}
 use Rattle.yaml_subset.specs.Scalars.{key_of}
 use Rattle.yaml_subset.specs.Entries.{has_key}

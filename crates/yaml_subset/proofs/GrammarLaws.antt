@@ -3,7 +3,7 @@ use Rattle.std.proofs.Common.{◌≡◌, ℕ, List, Result, Ok, Err}
 use Rattle.yaml_subset.specs.declared.fault.YamlFault.{YamlFault}
 use Rattle.yaml_subset.specs.declared.fault.YamlRefused.{YamlRefused}
 use Rattle.yaml_subset.specs.declared.fault.YamlRefused.TheVariants as refused
-use Rattle.yaml_subset.specs.declared.tree.Tree.{Tree}
+use Rattle.yaml_tree.specs.declared.tree.Tree.{Tree}
 use Rattle.yaml_subset.specs.Reading.{read_of, GivesTree}
 use Rattle.yaml_subset.specs.Grammar.{Reads, GivesByGrammar}
 use Rattle.yaml_subset.proofs.GrammarTexts.{text_read}

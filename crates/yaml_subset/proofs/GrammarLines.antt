@@ -15,9 +15,9 @@ use Rattle.yaml_subset.specs.declared.blocks.Place.{Place}
 use Rattle.yaml_subset.specs.declared.blocks.Place.TheVariants.{Document, Deeper, Item}
 use Rattle.yaml_subset.specs.declared.blocks.State.{State}
 use Rattle.yaml_subset.specs.declared.blocks.State.TheVariants.{Start, Headed, Alone, Blocks}
-use Rattle.yaml_subset.specs.declared.tree.Tree.{Tree}
-use Rattle.yaml_subset.specs.declared.tree.Tree.TheVariants as tree
-use Rattle.yaml_subset.specs.declared.tree.Key.{Key}
+use Rattle.yaml_tree.specs.declared.tree.Tree.{Tree}
+use Rattle.yaml_tree.specs.declared.tree.Tree.TheVariants as tree
+use Rattle.yaml_tree.specs.declared.tree.Key.{Key}
 use Rattle.yaml_subset.specs.Characters.{next_part, is_empty, begins, marks}
 use Rattle.yaml_subset.specs.Scalars.{scan, key_of}
 use Rattle.yaml_subset.specs.Flow.{opens, flow_value}

@@ -6,8 +6,8 @@ use Rattle.yaml_subset.specs.declared.fault.YamlCause.{YamlCause}
 use Rattle.yaml_subset.specs.declared.blocks.Place.TheVariants.{Document}
 use Rattle.yaml_subset.specs.declared.blocks.State.{State}
 use Rattle.yaml_subset.specs.declared.blocks.State.TheVariants.{Start, Headed, Alone, Blocks}
-use Rattle.yaml_subset.specs.declared.tree.Tree.{Tree}
-use Rattle.yaml_subset.specs.declared.tree.Tree.TheVariants as tree
+use Rattle.yaml_tree.specs.declared.tree.Tree.{Tree}
+use Rattle.yaml_tree.specs.declared.tree.Tree.TheVariants as tree
 use Rattle.yaml_subset.specs.Characters.{next_part, is_empty}
 use Rattle.yaml_subset.specs.Blocks.{content, close_all, is_marker, is_start, at_start, by_state, counted_line, step, finish}
 use Rattle.yaml_subset.specs.Gives.{◌>>=◌}

@@ -7,9 +7,9 @@ use Rattle.yaml_subset.specs.declared.stack.Frame.{Frame}
 use Rattle.yaml_subset.specs.declared.scalars.Scanned.{Scanned}
 use Rattle.yaml_subset.specs.declared.blocks.Place.{Place}
 use Rattle.yaml_subset.specs.declared.blocks.State.{State}
-use Rattle.yaml_subset.specs.declared.tree.Tree.{Tree}
-use Rattle.yaml_subset.specs.declared.tree.Key.{Key}
-use Rattle.yaml_subset.specs.declared.tree.Pair.{Pair}
+use Rattle.yaml_tree.specs.declared.tree.Tree.{Tree}
+use Rattle.yaml_tree.specs.declared.tree.Key.{Key}
+use Rattle.yaml_tree.specs.declared.tree.Pair.{Pair}
 use Rattle.yaml_subset.specs.Characters.{begins, at_gap, marks, next_part, line_end}
 use Rattle.yaml_subset.specs.Scalars.{scan, key_of, value_at, scalar_from}
 use Rattle.yaml_subset.specs.Entries.{has_key}

@@ -1,9 +1,9 @@
 -- The levels in the grammar say no more than how deep the tree is.
 use Rattle.std.proofs.Common.{◌≡◌, ◌⊎◌, inl, inr, ℕ, zero, suc, ◌+◌, ◌≤◌, false, List, [], ◌∷◌, ◌++◌, ◌∙◌, ap, arith}
 use Rattle.std.specs.Prelude.{map}
-use Rattle.yaml_subset.specs.declared.tree.Tree.{Tree}
-use Rattle.yaml_subset.specs.declared.tree.Tree.TheVariants as tree
-use Rattle.yaml_subset.specs.declared.tree.Pair.{Pair}
+use Rattle.yaml_tree.specs.declared.tree.Tree.{Tree}
+use Rattle.yaml_tree.specs.declared.tree.Tree.TheVariants as tree
+use Rattle.yaml_tree.specs.declared.tree.Pair.{Pair}
 use Rattle.yaml_subset.specs.LineValue.{IsScalar, IsFlowItem, AreFlowItems, IsFlowValue, IsFlowEntry, AreFlowEntries, IsNested, IsFlow, IsLineValue}
 use Rattle.yaml_subset.specs.Levels.{most, levels, pair_levels}
 use Rattle.yaml_subset.proofs.TreeLevels.{levels_list, levels_map, levels_pair}

@@ -1,12 +1,12 @@
 -- What is printed of a tree, by what it is made of.
 use Rattle.std.proofs.Common.{◌≡◌, ℕ, List, [], ◌∷◌, None, refl, sym, ap, ◌∙◌}
 use Rattle.std.specs.Prelude.{map}
-use Rattle.yaml_subset.specs.declared.tree.Tree.{Tree}
-use Rattle.yaml_subset.specs.declared.tree.Tree.TheVariants as trees
-use Rattle.yaml_subset.specs.declared.tree.Pair.{Pair}
-use Rattle.yaml_subset.specs.declared.tree.Tree.TheOpen.{Tree-F}
-use Rattle.yaml_subset.specs.declared.tree.Tree.TheOpen as open_tree
-use Rattle.yaml_subset.specs.declared.tree.Tree.TheFolds.{fold-roll-Tree, fold_out-Pair}
+use Rattle.yaml_tree.specs.declared.tree.Tree.{Tree}
+use Rattle.yaml_tree.specs.declared.tree.Tree.TheVariants as trees
+use Rattle.yaml_tree.specs.declared.tree.Pair.{Pair}
+use Rattle.yaml_tree.specs.declared.tree.Tree.TheOpen.{Tree-F}
+use Rattle.yaml_tree.specs.declared.tree.Tree.TheOpen as open_tree
+use Rattle.yaml_tree.specs.declared.tree.Tree.TheFolds.{fold-roll-Tree, fold_out-Pair}
 use Rattle.yaml_subset.specs.Printed.{Piece, list_piece, map_piece, key_scalar, tree_step, pair_step, piece_of, pair_piece, item_lines, pair_lines}
 
 pub piece_list : (items : List Tree) → piece_of (trees.List items) ≡ list_piece (map piece_of items)

@@ -10,9 +10,9 @@ use Rattle.yaml_subset.specs.declared.blocks.Place.TheVariants.{Document, Deeper
 use Rattle.yaml_subset.specs.declared.blocks.State.{State}
 use Rattle.yaml_subset.specs.declared.blocks.State.TheVariants.{Start, Blocks}
 use Rattle.yaml_subset.specs.declared.stack.Frame.{Frame}
-use Rattle.yaml_subset.specs.declared.tree.Tree.{Tree}
-use Rattle.yaml_subset.specs.declared.tree.Key.{Key}
-use Rattle.yaml_subset.specs.declared.tree.Pair.{Pair}
+use Rattle.yaml_tree.specs.declared.tree.Tree.{Tree}
+use Rattle.yaml_tree.specs.declared.tree.Key.{Key}
+use Rattle.yaml_tree.specs.declared.tree.Pair.{Pair}
 use Rattle.yaml_subset.specs.Characters.{begins, skip, marks, next_part}
 use Rattle.yaml_subset.specs.Flow.{entry_key, with_entry}
 use Rattle.yaml_subset.specs.Blocks.{list_frame, map_frame, closed, settle, close_all, levels_in, block_value, behind_colon, value_alone, key_or_value, behind_dash, content, go_on, in_blocks, is_marker, at_start, by_state, counted_line, step, finish}

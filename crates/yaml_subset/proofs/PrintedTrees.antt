@@ -4,13 +4,13 @@ use Rattle.std.specs.Prelude.{map, codes}
 use Rattle.std.specs.Fmt.{signed_decimal}
 use Rattle.std.specs.Str.{is_utf8}
 use Rattle.std.proofs.lemmas.Bool.{and_parts, not-true}
-use Rattle.yaml_subset.specs.declared.tree.Tree.{Tree, out-Tree, roll-Tree, roll-out-Tree}
-use Rattle.yaml_subset.specs.declared.tree.Tree.TheVariants as trees
-use Rattle.yaml_subset.specs.declared.tree.Key.{Key}
-use Rattle.yaml_subset.specs.declared.tree.Pair.{Pair}
-use Rattle.yaml_subset.specs.declared.tree.Tree.TheOpen.{Tree-F}
-use Rattle.yaml_subset.specs.declared.tree.Tree.TheOpen as open_tree
-use Rattle.yaml_subset.specs.declared.tree.Tree.TheFolds.{fold-roll-Tree, fold_out-Pair}
+use Rattle.yaml_tree.specs.declared.tree.Tree.{Tree, out-Tree, roll-Tree, roll-out-Tree}
+use Rattle.yaml_tree.specs.declared.tree.Tree.TheVariants as trees
+use Rattle.yaml_tree.specs.declared.tree.Key.{Key}
+use Rattle.yaml_tree.specs.declared.tree.Pair.{Pair}
+use Rattle.yaml_tree.specs.declared.tree.Tree.TheOpen.{Tree-F}
+use Rattle.yaml_tree.specs.declared.tree.Tree.TheOpen as open_tree
+use Rattle.yaml_tree.specs.declared.tree.Tree.TheFolds.{fold-roll-Tree, fold_out-Pair}
 use Rattle.yaml_subset.specs.Entries.{has_key}
 use Rattle.yaml_subset.specs.Printed.{Piece, on_line, text_scalar, tree_step, pair_step, piece_of}
 use Rattle.yaml_subset.specs.ReadBack.{is_i128, is_key, is_among, entries_sound, all_sound, sound_step, sound_pair, is_sound, entry_sound}

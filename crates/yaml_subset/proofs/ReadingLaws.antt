@@ -3,7 +3,7 @@ use Rattle.std.proofs.Common.{◌≡◌, ℕ, ◌+◌, List, [], ◌∷◌, ◌+
 use Rattle.yaml_subset.specs.declared.fault.YamlCause.{YamlCause}
 use Rattle.yaml_subset.specs.declared.fault.YamlFault.{YamlFault}
 use Rattle.yaml_subset.specs.declared.blocks.State.{State}
-use Rattle.yaml_subset.specs.declared.tree.Tree.{Tree}
+use Rattle.yaml_tree.specs.declared.tree.Tree.{Tree}
 use Rattle.yaml_subset.specs.Blocks.{step, finish}
 use Rattle.yaml_subset.specs.Reading.{fault_at, at_line, lines_from}
 

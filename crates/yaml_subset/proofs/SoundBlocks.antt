@@ -1,8 +1,8 @@
 -- A tree that a text has is sound, and nests no more lists and maps than it may.
 use Rattle.std.proofs.Common.{◌⊎◌, inl, inr, ℕ, zero, suc, ◌+◌, ◌-◌, List, [], ◌∷◌, ◌++◌, length, sym, subst}
 use Rattle.std.specs.Str.Lines.{lines}
-use Rattle.yaml_subset.specs.declared.tree.Tree.{Tree}
-use Rattle.yaml_subset.specs.declared.tree.Pair.{Pair}
+use Rattle.yaml_tree.specs.declared.tree.Tree.{Tree}
+use Rattle.yaml_tree.specs.declared.tree.Pair.{Pair}
 use Rattle.yaml_subset.specs.Grammar.{Line, Form, of_list, of_map, ItemValue, item_nothing, item_below, item_value, item_block, AreItems, EntryValue, entry_nothing, entry_below, entry_list, entry_value, AreEntries, IsBlock, IsDocument, document_nothing, document_value, document_block, IsHead, IsNoHead, ReadsLines, ReadsWithin}
 use Rattle.yaml_subset.proofs.SoundTrees.{IsWithin, null_within, ItemsWithin, no_items, items_more, list_within, PairsWithin, no_pairs, pairs_more, map_within}
 use Rattle.yaml_subset.proofs.SoundFlow.{key_sound, line_sound}

@@ -8,11 +8,11 @@ use Rattle.yaml_subset.specs.declared.fault.YamlCause.TheVariants.{LeftOut, Synt
 use Rattle.yaml_subset.specs.declared.numbers.Number.{Number}
 use Rattle.yaml_subset.specs.declared.numbers.Number.TheVariants.{Not, Whole, Wide}
 use Rattle.yaml_subset.specs.declared.scalars.Scanned.{Scanned}
-use Rattle.yaml_subset.specs.declared.tree.Tree.{Tree}
-use Rattle.yaml_subset.specs.declared.tree.Tree.TheVariants as tree
-use Rattle.yaml_subset.specs.declared.tree.Key.{Key}
-use Rattle.yaml_subset.specs.declared.tree.Key.TheVariants as keys
-use Rattle.yaml_subset.specs.declared.tree.Pair.{Pair}
+use Rattle.yaml_tree.specs.declared.tree.Tree.{Tree}
+use Rattle.yaml_tree.specs.declared.tree.Tree.TheVariants as tree
+use Rattle.yaml_tree.specs.declared.tree.Key.{Key}
+use Rattle.yaml_tree.specs.declared.tree.Key.TheVariants as keys
+use Rattle.yaml_tree.specs.declared.tree.Pair.{Pair}
 use Rattle.yaml_subset.specs.Characters.{begins, marks}
 use Rattle.yaml_subset.specs.Numbers.{greatest, magnitude, signed, whole_or, number_in, decimal, number_of}
 use Rattle.yaml_subset.specs.Scalars.{text_of, is_null, is_true_word, is_false_word, is_merge, text_tree, number_or_text, plain_value, scalar_value, as_key, key_of, value_at}

@@ -7,8 +7,8 @@ use Rattle.yaml_subset.specs.declared.blocks.Place.TheVariants.{Document}
 use Rattle.yaml_subset.specs.declared.stack.Frame.{Frame}
 use Rattle.yaml_subset.specs.declared.blocks.State.{State}
 use Rattle.yaml_subset.specs.declared.blocks.State.TheVariants.{Start, Headed, Alone, Blocks}
-use Rattle.yaml_subset.specs.declared.tree.Tree.{Tree}
-use Rattle.yaml_subset.specs.declared.tree.Tree.TheVariants as tree
+use Rattle.yaml_tree.specs.declared.tree.Tree.{Tree}
+use Rattle.yaml_tree.specs.declared.tree.Tree.TheVariants as tree
 use Rattle.yaml_subset.specs.Blocks.{misplaced, content, in_blocks, begins_block, settle, close_all, closed, is_list, top_is}
 use Rattle.yaml_subset.specs.Gives.{◌>>=◌}
 use Rattle.yaml_subset.specs.Grammar.{Line, Form, of_list, of_map}

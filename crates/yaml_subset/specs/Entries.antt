@@ -2,9 +2,9 @@
 use Rattle.std.specs.Prelude.{Bool, false, ◌||◌, List, [], ◌∷◌}
 use Rattle.std.specs.Str.{bytes_eq}
 use Rattle.std.specs.Ordering.{int_eq}
-use Rattle.yaml_subset.specs.declared.tree.Key.{Key}
-use Rattle.yaml_subset.specs.declared.tree.Key.TheVariants as key
-use Rattle.yaml_subset.specs.declared.tree.Pair.{Pair}
+use Rattle.yaml_tree.specs.declared.tree.Key.{Key}
+use Rattle.yaml_tree.specs.declared.tree.Key.TheVariants as key
+use Rattle.yaml_tree.specs.declared.tree.Pair.{Pair}
 
 abbrev pub key_eq : Key → Key → Bool
 key_eq (key.Int m) (key.Int n) = int_eq m n

@@ -5,9 +5,9 @@ use Rattle.yaml_subset.specs.declared.fault.YamlForm.TheVariants.{LongFlow, Wide
 use Rattle.yaml_subset.specs.declared.fault.YamlCause.{YamlCause}
 use Rattle.yaml_subset.specs.declared.fault.YamlCause.TheVariants.{TooDeep, Tab, LeftOut, DuplicateKey, Syntax}
 use Rattle.yaml_subset.specs.declared.scalars.Scanned.{Scanned}
-use Rattle.yaml_subset.specs.declared.tree.Tree.{Tree}
-use Rattle.yaml_subset.specs.declared.tree.Key.{Key}
-use Rattle.yaml_subset.specs.declared.tree.Pair.{Pair}
+use Rattle.yaml_tree.specs.declared.tree.Tree.{Tree}
+use Rattle.yaml_tree.specs.declared.tree.Key.{Key}
+use Rattle.yaml_tree.specs.declared.tree.Pair.{Pair}
 use Rattle.yaml_subset.specs.Characters.{is_empty, begins, marks, next_part}
 use Rattle.yaml_subset.specs.Scalars.{is_wide, scan, key_of}
 use Rattle.yaml_subset.specs.Entries.{has_key}

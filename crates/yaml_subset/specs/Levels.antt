@@ -1,10 +1,10 @@
 -- How many lists and maps are nested in a tree.
 use Rattle.std.specs.Prelude.{ℕ, ◌+◌, max, List, [], ◌∷◌}
-use Rattle.yaml_subset.specs.declared.tree.Tree.{Tree}
-use Rattle.yaml_subset.specs.declared.tree.Pair.{Pair}
-use Rattle.yaml_subset.specs.declared.tree.Tree.TheOpen.{Tree-F, Pair-F}
-use Rattle.yaml_subset.specs.declared.tree.Tree.TheOpen as tree
-use Rattle.yaml_subset.specs.declared.tree.Tree.TheFolds.{fold-Tree, fold-Pair}
+use Rattle.yaml_tree.specs.declared.tree.Tree.{Tree}
+use Rattle.yaml_tree.specs.declared.tree.Pair.{Pair}
+use Rattle.yaml_tree.specs.declared.tree.Tree.TheOpen.{Tree-F, Pair-F}
+use Rattle.yaml_tree.specs.declared.tree.Tree.TheOpen as tree
+use Rattle.yaml_tree.specs.declared.tree.Tree.TheFolds.{fold-Tree, fold-Pair}
 
 -- the greatest, or 0
 abbrev pub most : List ℕ → ℕ

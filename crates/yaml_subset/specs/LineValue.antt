@@ -1,9 +1,9 @@
 -- The grammar of a value on one line: a scalar, a flow list or a flow map, apart from how it is read.
 use Rattle.std.specs.Prelude.{◌≡◌, ◌⊎◌, ℕ, zero, suc, Bool, true, false, ◌||◌, List, [], ◌∷◌, ◌++◌, drop, Ok}
 use Rattle.yaml_subset.specs.declared.scalars.Scanned.{Scanned}
-use Rattle.yaml_subset.specs.declared.tree.Tree.{Tree}
-use Rattle.yaml_subset.specs.declared.tree.Tree.TheVariants as tree
-use Rattle.yaml_subset.specs.declared.tree.Pair.{Pair}
+use Rattle.yaml_tree.specs.declared.tree.Tree.{Tree}
+use Rattle.yaml_tree.specs.declared.tree.Tree.TheVariants as tree
+use Rattle.yaml_tree.specs.declared.tree.Pair.{Pair}
 use Rattle.yaml_subset.specs.Characters.{is_empty, begins, marks, next_part, line_end}
 use Rattle.yaml_subset.specs.Scalars.{scan, value_at, key_of}
 use Rattle.yaml_subset.specs.Entries.{has_key}

@@ -4,13 +4,13 @@ use Rattle.std.specs.Char.{is_ascii_alphabetic, is_ascii_alphanumeric, is_ascii_
 use Rattle.std.specs.Fmt.{signed_decimal}
 use Rattle.std.specs.List.{list_all}
 use Rattle.std.specs.Str.{bytes_eq}
-use Rattle.yaml_subset.specs.declared.tree.Key.{Key}
-use Rattle.yaml_subset.specs.declared.tree.Key.TheVariants as keys
-use Rattle.yaml_subset.specs.declared.tree.Tree.{Tree}
-use Rattle.yaml_subset.specs.declared.tree.Pair.{Pair}
-use Rattle.yaml_subset.specs.declared.tree.Tree.TheOpen.{Tree-F, Pair-F}
-use Rattle.yaml_subset.specs.declared.tree.Tree.TheOpen as tree
-use Rattle.yaml_subset.specs.declared.tree.Tree.TheFolds.{fold-Tree, fold-Pair}
+use Rattle.yaml_tree.specs.declared.tree.Key.{Key}
+use Rattle.yaml_tree.specs.declared.tree.Key.TheVariants as keys
+use Rattle.yaml_tree.specs.declared.tree.Tree.{Tree}
+use Rattle.yaml_tree.specs.declared.tree.Pair.{Pair}
+use Rattle.yaml_tree.specs.declared.tree.Tree.TheOpen.{Tree-F, Pair-F}
+use Rattle.yaml_tree.specs.declared.tree.Tree.TheOpen as tree
+use Rattle.yaml_tree.specs.declared.tree.Tree.TheFolds.{fold-Tree, fold-Pair}
 
 -- a character between double quotes
 abbrev pub escaped : ℕ → List ℕ

@@ -1,13 +1,13 @@
 -- The trees whose printed form is read back.
 use Rattle.std.specs.Prelude.{◌≤◌, ◌≡◌, nat_lt, Bool, true, false, not, ◌&&◌, ◌||◌, List, [], ◌∷◌, ◌++◌, length, ℤ, pos, negsuc}
 use Rattle.std.specs.Str.{is_utf8}
-use Rattle.yaml_subset.specs.declared.tree.Key.{Key}
-use Rattle.yaml_subset.specs.declared.tree.Key.TheVariants as keys
-use Rattle.yaml_subset.specs.declared.tree.Tree.{Tree}
-use Rattle.yaml_subset.specs.declared.tree.Pair.{Pair}
-use Rattle.yaml_subset.specs.declared.tree.Tree.TheOpen.{Tree-F, Pair-F}
-use Rattle.yaml_subset.specs.declared.tree.Tree.TheOpen as tree
-use Rattle.yaml_subset.specs.declared.tree.Tree.TheFolds.{fold-Tree, fold-Pair}
+use Rattle.yaml_tree.specs.declared.tree.Key.{Key}
+use Rattle.yaml_tree.specs.declared.tree.Key.TheVariants as keys
+use Rattle.yaml_tree.specs.declared.tree.Tree.{Tree}
+use Rattle.yaml_tree.specs.declared.tree.Pair.{Pair}
+use Rattle.yaml_tree.specs.declared.tree.Tree.TheOpen.{Tree-F, Pair-F}
+use Rattle.yaml_tree.specs.declared.tree.Tree.TheOpen as tree
+use Rattle.yaml_tree.specs.declared.tree.Tree.TheFolds.{fold-Tree, fold-Pair}
 use Rattle.yaml_subset.specs.Levels.{levels}
 use Rattle.yaml_subset.specs.Numbers.{greatest}
 use Rattle.yaml_subset.specs.Entries.{key_eq}

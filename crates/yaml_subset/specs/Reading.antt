@@ -10,7 +10,7 @@ use Rattle.yaml_subset.specs.declared.fault.YamlRefused.{YamlRefused}
 use Rattle.yaml_subset.specs.declared.fault.YamlRefused.TheVariants as refused
 use Rattle.yaml_subset.specs.declared.blocks.State.{State}
 use Rattle.yaml_subset.specs.declared.blocks.State.TheVariants.{Start}
-use Rattle.yaml_subset.specs.declared.tree.Tree.{Tree}
+use Rattle.yaml_tree.specs.declared.tree.Tree.{Tree}
 use Rattle.yaml_subset.specs.Blocks.{step, finish}
 
 abbrev pub fault_at : ℕ → YamlCause → YamlFault

@@ -10,10 +10,10 @@ use Rattle.yaml_subset.specs.declared.numbers.Number.{Number}
 use Rattle.yaml_subset.specs.declared.numbers.Number.TheVariants.{Not, Whole, Wide}
 use Rattle.yaml_subset.specs.declared.quoted.Escape.TheVariants.{Outside}
 use Rattle.yaml_subset.specs.declared.scalars.Scanned.{Scanned}
-use Rattle.yaml_subset.specs.declared.tree.Tree.{Tree}
-use Rattle.yaml_subset.specs.declared.tree.Tree.TheVariants as tree
-use Rattle.yaml_subset.specs.declared.tree.Key.{Key}
-use Rattle.yaml_subset.specs.declared.tree.Key.TheVariants as key
+use Rattle.yaml_tree.specs.declared.tree.Tree.{Tree}
+use Rattle.yaml_tree.specs.declared.tree.Tree.TheVariants as tree
+use Rattle.yaml_tree.specs.declared.tree.Key.{Key}
+use Rattle.yaml_tree.specs.declared.tree.Key.TheVariants as key
 use Rattle.yaml_subset.specs.Characters.{begins, marks}
 use Rattle.yaml_subset.specs.Quoted.{single_from, double_from}
 use Rattle.yaml_subset.specs.Plain.{plain_fault, plain_from}

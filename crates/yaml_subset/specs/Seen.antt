@@ -4,8 +4,8 @@ use Rattle.std.specs.Ordering.{int_cmp}
 use Rattle.std.specs.BTreeSet.{BTreeSet, contains, contains_text}
 use Rattle.std.specs.declared.string.String.{String}
 use Rattle.std.specs.declared.alloc.Global.{Global}
-use Rattle.yaml_subset.specs.declared.tree.Key.TheVariants as key
-use Rattle.yaml_subset.specs.declared.tree.Pair.{Pair}
+use Rattle.yaml_tree.specs.declared.tree.Key.TheVariants as key
+use Rattle.yaml_tree.specs.declared.tree.Pair.{Pair}
 use Rattle.yaml_subset.specs.Entries.{has_key}
 
 -- the sets have the keys of the entries, and no others

@@ -13,9 +13,9 @@ use crate::fault::{LineRefused, YamlCause, YamlForm};
 use crate::flow::{colon_and_tab, flow_value};
 use crate::scalars::{Scanned, key_of, scalar_from, scan, value_at};
 use crate::stack::{Frame, Open, Stack};
-use crate::tree::Tree;
 use net_base::{Items, NoMemory};
 use std::alloc::Global;
+use yaml_tree::Tree;
 
 /// How many lists and maps may be nested.
 pub(crate) const LEVELS: usize = 32;

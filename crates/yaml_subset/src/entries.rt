@@ -3,11 +3,11 @@
 ghost use Rattle.std.specs.Prelude.{◌≡◌, [], ◌∷◌, ◌++◌, IfOk};
 ghost use Rattle.yaml_subset.specs.Entries.{has_key};
 
-use crate::tree::{Key, Pair, Tree};
 use net_base::{Items, NoMemory, Text};
 use std::alloc::Global;
 use std::collections::BTreeSet;
 use std::marker::Model;
+use yaml_tree::{Key, Pair, Tree};
 
 /// The entries so far, in the order of the text, which contracts see as their list.
 #[derive(Debug, Drop)]
@@ -19,9 +19,9 @@ pub struct Entries {
 
 impl Model for Entries {
     ghost use Rattle.std.specs.Prelude.{List};
-    ghost use Rattle.yaml_subset.specs.declared.tree.Pair.{Pair};
+    ghost use Rattle.yaml_tree.specs.declared.tree.Pair.{Pair};
     ghost use Rattle.std.specs.Coded.{coded_list};
-    ghost use Rattle.yaml_subset.specs.contracts.tree.Pair as pair;
+    ghost use Rattle.yaml_tree.specs.contracts.tree.Pair as pair;
     ghost use Rattle.yaml_subset.specs.Seen.{HaveKeys};
 
     ghost Value = { List Pair };

@@ -8,9 +8,9 @@ use crate::characters::{are_kept, begins, behind_first, is_mark, next_part, skip
 use crate::entries::Entries;
 use crate::fault::{LineRefused, YamlCause, YamlForm};
 use crate::scalars::{Scanned, is_wide, key_of, scalar_from, scan};
-use crate::tree::{Key, Tree};
 use net_base::Items;
 use std::alloc::Global;
+use yaml_tree::{Key, Tree};
 
 /// Behind an opening bracket or a comma: whether the closing bracket comes, and what follows.
 #[tactic(auto, unfolding(crate::specs::Flow::opened))]

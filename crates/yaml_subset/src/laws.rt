@@ -3,7 +3,7 @@
 ghost use Rattle.std.specs.Prelude.{◌≡◌, ℕ, Bool, List, [], ◌∷◌, ◌++◌, ◌<◌, ◌≤◌, true, false, Ok};
 ghost use Rattle.yaml_subset.specs.Numbers.{magnitude};
 ghost use Rattle.yaml_subset.specs.DigitLaws.{digits_value, IsMagnitude};
-ghost use Rattle.yaml_subset.specs.declared.tree.Tree.{Tree};
+ghost use Rattle.yaml_tree.specs.declared.tree.Tree.{Tree};
 ghost use Rattle.yaml_subset.specs.ReadBack.{is_sound};
 ghost use Rattle.yaml_subset.specs.Grammar.{Reads, ReadsWithin};
 ghost use Rattle.yaml_subset.specs.declared.fault.YamlFault.{YamlFault};

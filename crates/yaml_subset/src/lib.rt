@@ -1,4 +1,4 @@
-//! Trees of texts, numbers, lists and maps, as a YAML text has them.
+//! The YAML subset: the tree that a text has, or what is wrong with it, and the canonical text of a tree.
 #![tactic(auto)]
 
 mod blocks;
@@ -16,9 +16,7 @@ mod quoted;
 mod reading;
 mod scalars;
 mod stack;
-mod tree;
 
 pub use fault::{YamlCause, YamlFault, YamlForm, YamlRefused};
 pub use print::print_yaml;
 pub use reading::read_yaml;
-pub use tree::{Key, Pair, Pairs, Tree, Trees};

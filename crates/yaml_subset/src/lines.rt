@@ -11,9 +11,9 @@ use crate::fault::{LineRefused, YamlCause, YamlForm};
 use crate::flow::entry_key;
 use crate::scalars::left_scalar;
 use crate::stack::{Frame, Open, Stack};
-use crate::tree::Tree;
 use net_base::NoMemory;
 use std::alloc::Global;
+use yaml_tree::Tree;
 
 /// A cause, which yields to a form that is left out.
 fn form_or(cause: YamlCause, form: Option<YamlForm>) -> YamlCause

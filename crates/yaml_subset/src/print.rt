@@ -7,9 +7,9 @@ ghost use Rattle.yaml_subset.specs.Printed.{escaped, all_escaped, is_plain_byte,
 ghost use Rattle.yaml_subset.specs.ReadBack.{IsSpelled};
 ghost use Rattle.yaml_subset.specs.Grammar.{Reads};
 
-use crate::tree::{Key, Pair, Tree};
 use net_base::{Bytes, NoMemory};
 use std::alloc::Global;
+use yaml_tree::{Key, Pair, Tree};
 
 fn append_escaped(out: &mut Bytes, b: u8) -> Result<(), NoMemory>
     ensures { OnOk result (out.new ≡ out.old ++ escaped b) }

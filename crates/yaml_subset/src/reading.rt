@@ -13,9 +13,9 @@ ghost use Rattle.yaml_subset.specs.declared.blocks.State.TheVariants.{Start};
 use crate::blocks::State;
 use crate::fault::{LineRefused, YamlCause, YamlFault, YamlRefused};
 use crate::lines::{finish, step};
-use crate::tree::Tree;
 use net_base::NoMemory;
 use std::alloc::{AllocError, Global};
+use yaml_tree::Tree;
 
 /// The most bytes that a text may have.
 const MOST_BYTES: usize = 1_048_576;

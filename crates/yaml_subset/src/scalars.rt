@@ -10,9 +10,9 @@ use crate::fault::{LineRefused, YamlCause, YamlForm};
 use crate::numbers::{Number, number_of};
 use crate::plain::{plain_fault, plain_span};
 use crate::quoted::{double_quoted, single_quoted};
-use crate::tree::{Key, Tree};
 use net_base::{Bytes, NoMemory, Text};
 use std::alloc::{AllocError, Global};
+use yaml_tree::{Key, Tree};
 
 /// A scalar as it is written: plain, or quoted with its escapes resolved.
 #[derive(Debug, Drop)]

@@ -4,10 +4,10 @@ ghost use Rattle.std.specs.Prelude.{◌≡◌, ◌==◌, [], ◌∷◌, length, 
 ghost use Rattle.yaml_subset.specs.Blocks.{is_list, closed, takes_block, top_is, ends_block};
 
 use crate::entries::Entries;
-use crate::tree::{Key, Tree};
 use net_base::{Items, NoMemory};
 use std::alloc::Global;
 use std::marker::Model;
+use yaml_tree::{Key, Tree};
 
 /// A block without the value of its last entry.
 #[derive(Debug, Drop)]

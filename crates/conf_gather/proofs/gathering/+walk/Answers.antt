@@ -1,6 +1,6 @@
 use Rattle.std.proofs.Common.{◌≡◌, ◌<◌, ◌∙◌, true, false, Ok, Err, Option, Some, None, arith, ap}
 use Rattle.std.proofs.lemmas.Grind.{common_steps}
-use Rattle.yaml_subset.specs.declared.tree.Tree.{Tree}
+use Rattle.yaml_tree.specs.declared.tree.Tree.{Tree}
 use Rattle.conf_shape.specs.Reads.{entries_of}
 use Rattle.conf_gather.specs.Gathered.{held_by, unread_at, tree_of, gather, each}
 use Rattle.conf_gather.specs.declared.refused.LoadRefused.TheVariants.{Read}

@@ -1,6 +1,6 @@
 use Rattle.std.proofs.Common.{◌≡◌, IfOk, Result, Err, sym, subst}
 use Rattle.yaml_subset.specs.declared.fault.YamlFault.{YamlFault}
-use Rattle.yaml_subset.specs.declared.tree.Tree.{Tree}
+use Rattle.yaml_tree.specs.declared.tree.Tree.{Tree}
 use Rattle.yaml_subset.specs.Reading.{read_of}
 use Rattle.ctl_core.specs.declared.reloading.Read.{Read}
 use Rattle.ctl_core.specs.Reloading.{Gives, of_text}

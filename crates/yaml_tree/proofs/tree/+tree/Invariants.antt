@@ -1,5 +1,5 @@
 use Rattle.std.proofs.Common.{◌≡◌, take}
-use Rattle.yaml_subset.proofs.tree.+tree.Given as goal
+use Rattle.yaml_tree.proofs.tree.+tree.Given as goal
 
 -- what is copied so far is the front of the list
 abbrev pub invariant-copy_pairs-loop-pair : goal.invariant-copy_pairs-loop-pair
