@@ -21,7 +21,7 @@ use Rattle.yaml_tree.specs.declared.tree.Key.{Key}
 use Rattle.yaml_tree.specs.declared.tree.Key.TheVariants as key
 use Rattle.yaml_tree.specs.declared.tree.Pair.{Pair}
 use Rattle.conf_types.specs.Lists.{EachBefore, is_among}
-use Rattle.conf_types.specs.RuleFields.{IsNumber, IsMacMask, IsPrefix, MayAsk}
+use Rattle.conf_types.specs.RuleFields.{IsNumber, IsMasked, IsPrefix, MayAsk}
 use Rattle.conf_shape.specs.declared.refused.ConfCause.TheVariants.{LeftOut, Duplicate, BadText}
 use Rattle.conf_shape.specs.declared.kinds.Kind.TheVariants.{One}
 use Rattle.conf_shape.specs.declared.kinds.Scalar.TheVariants.{Number, MaskedMac, Prefix}
@@ -54,7 +54,7 @@ number_asked id low high small each t h =
 
 -- ---- Ethernet addresses
 
-module _ (id : FieldId) (whole : ids.all_ones id ≡ 2 ^ 48 - 1) (may : (field : Field) → IsMacMask field → MayAsk id field) where
+module _ (id : FieldId) (whole : ids.all_ones id ≡ 2 ^ 48 - 1) (may : (field : Field) → IsMasked 48 field → MayAsk id field) where
   mac_asked : (bytes text : List ℕ) → spelled_mac text ≡ Some bytes → IsAsked id (exact id (mac_value (record { 0 = bytes })))
   mac_asked bytes text e =
       let below = mac_below (record { 0 = bytes }) (spelled_six text bytes e) in
@@ -97,7 +97,7 @@ module _ (id : FieldId) (whole : ids.all_ones id ≡ 2 ^ 48 - 1) (may : (field :
 
 -- ---- IPv4
 
-module _ (id : FieldId) (whole : ids.all_ones id ≡ 2 ^ 32 - 1) (may : (field : Field) → IsPrefix field → MayAsk id field) where
+module _ (id : FieldId) (whole : ids.all_ones id ≡ 2 ^ 32 - 1) (may : (field : Field) → IsPrefix 32 field → MayAsk id field) where
   ip_asked : (ip : ℕ) → ip < 2 ^ 32 → IsAsked id (exact id ip)
   ip_asked ip below = record { is = refl; may = may (exact id ip) (record { host_bits = 0; long = omega arith; mask = whole; most = below; zeros = omega arith }) }
 
@@ -214,10 +214,10 @@ module _ (pairs : List Pair) (right : IsRight maps.Rule pairs) where
       asks pairs (codes "vlan_vid") VlanVid (row (codes "vlan_vid") (One (Number 1 4094)) Never Nothing) right refl
       (number_asked VlanVid 1 4094 (omega arith) (λ k least top. record { is = refl; may = record { from = omega arith; to = omega arith; whole = refl } }))
 
-  mac : (name : List ℕ) (id : FieldId) → row_at name (keys_of maps.Rule).rows ≡ Some (row name (One MaskedMac) Never Nothing) → ids.all_ones id ≡ 2 ^ 48 - 1 → ((field : Field) → IsMacMask field → MayAsk id field) → ((text : List ℕ) → text_field id text ≡ mac_field id text) → Asks pairs (name, id)
+  mac : (name : List ℕ) (id : FieldId) → row_at name (keys_of maps.Rule).rows ≡ Some (row name (One MaskedMac) Never Nothing) → ids.all_ones id ≡ 2 ^ 48 - 1 → ((field : Field) → IsMasked 48 field → MayAsk id field) → ((text : List ℕ) → text_field id text ≡ mac_field id text) → Asks pairs (name, id)
   mac name id at whole may by_mac = asks pairs name id (row name (One MaskedMac) Never Nothing) right at (macs_asked id whole may by_mac)
 
-  net : (name : List ℕ) (id : FieldId) → row_at name (keys_of maps.Rule).rows ≡ Some (row name (One Prefix) Never Nothing) → ids.all_ones id ≡ 2 ^ 32 - 1 → ((field : Field) → IsPrefix field → MayAsk id field) → ((text : List ℕ) → text_field id text ≡ ip_field id (ip4_of text) (net4_of text)) → Asks pairs (name, id)
+  net : (name : List ℕ) (id : FieldId) → row_at name (keys_of maps.Rule).rows ≡ Some (row name (One Prefix) Never Nothing) → ids.all_ones id ≡ 2 ^ 32 - 1 → ((field : Field) → IsPrefix 32 field → MayAsk id field) → ((text : List ℕ) → text_field id text ≡ ip_field id (ip4_of text) (net4_of text)) → Asks pairs (name, id)
   net name id at whole may by_ip = asks pairs name id (row name (One Prefix) Never Nothing) right at (prefixes_asked id whole may by_ip)
 
   every_field : AllByRecursion (Asks pairs) match_keys

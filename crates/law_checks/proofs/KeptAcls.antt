@@ -7,8 +7,8 @@ use Rattle.std.proofs.lemmas.Bool.{and_parts, or_cases}
 use Rattle.net_base.specs.declared.field.Field.{Field}
 use Rattle.net_base.specs.declared.field.FieldId.{FieldId}
 use Rattle.net_base.specs.declared.field.Prerequisite.{Prerequisite}
-use Rattle.net_base.specs.FieldId.{number_of, prerequisite_of}
-use Rattle.net_base.specs.WellFormed.{has_prerequisite, meets}
+use Rattle.net_base.specs.FieldId.{number_of, prerequisites_of}
+use Rattle.net_base.specs.WellFormed.{has_prerequisite, has_one, meets_one}
 use Rattle.conf_types.specs.declared.acl.Acl.{Acl}
 use Rattle.conf_types.specs.declared.acl.PortRef.{PortRef}
 use Rattle.conf_types.specs.declared.acl.Rule.{Rule}
@@ -40,11 +40,11 @@ use Rattle.law_checks.proofs.Orders.{of_order, into_order, same_texts, same_itse
 
 -- what stands there in order stands there
 asked_before : (before : Field → Field → Bool) (fs : List Field) (id : FieldId) → has_prerequisite id (in_order before fs) ≡ true → has_prerequisite id fs ≡ true
-asked_before before fs id = by (prerequisite_of id)
+asked_before before fs id = by (prerequisites_of id)
   where
-    by : (o : Option Prerequisite) → option_map_or (λ p. list_any (meets p) (in_order before fs)) o true ≡ true → option_map_or (λ p. list_any (meets p) fs) o true ≡ true
-    by None is = refl
-    by (Some p) is = let m = some_of (meets p) (in_order before fs) is in any_by (meets p) fs m.0 (of_order before fs m.0 m.1) m.2
+    by : (asked : List Prerequisite) → has_one asked (in_order before fs) ≡ true → has_one asked fs ≡ true
+    by [] is = refl
+    by (p ∷ asked) is = let m = some_of (meets_one (p ∷ asked)) (in_order before fs) is in any_by (meets_one (p ∷ asked)) fs m.0 (of_order before fs m.0 m.1) m.2
 
 no_wrong_target : (name : PortRef) (d : Dp) → IsSomeAnd (port_named d name) (λ p. p.stack ≡ None) → to_list (wrong_target name d) ≡ []
 no_wrong_target name d = by (port_named d name)

@@ -1,17 +1,16 @@
 -- A rule that is in range and lacks no field is valid: its fields make a match.
-use Rattle.std.specs.Prelude.{◌≡◌, ℕ, ◌+◌, ◌-◌, ◌^◌, ◌<◌, ◌≤◌, Bool, true, false, List, [], ◌∷◌, map, Option, Some, None, IfSome, IsTrue, nat_lt}
+use Rattle.std.specs.Prelude.{◌≡◌, ℕ, ◌+◌, ◌-◌, ◌^◌, ◌<◌, ◌≤◌, ◌==◌, Bool, true, false, List, [], ◌∷◌, map, Option, Some, None, IfSome, IsTrue, nat_lt}
 use Rattle.std.specs.List.{AllByRecursion, flat_map, list_any}
-use Rattle.std.specs.Option.{option_map_or}
-use Rattle.std.proofs.Common.{refl, sym, subst, arith}
+use Rattle.std.proofs.Common.{refl, sym, subst, arith, lit≤}
 use Rattle.std.proofs.lemmas.Nat.{and_le_r, pow_pos}
 use Rattle.net_base.specs.declared.field.Field.{Field}
 use Rattle.net_base.specs.declared.field.FieldId.{FieldId}
-use Rattle.net_base.specs.declared.field.FieldId.TheVariants.{InPort, EthDst, EthSrc, EthType, VlanVid, VlanPcp, IpProto, Ipv4Src, Ipv4Dst, TcpSrc, TcpDst, UdpSrc, UdpDst, Icmpv4Type, Icmpv4Code, ArpOp, ArpSpa, ArpTpa}
+use Rattle.net_base.specs.declared.field.FieldId.TheVariants.{InPort, VlanVid}
 use Rattle.net_base.specs.declared.field.Prerequisite.{Prerequisite}
-use Rattle.net_base.specs.FieldId.{number_of, prerequisite_of, all_ones}
-use Rattle.net_base.specs.WellFormed.{Fits, AreAscending, has_prerequisite, meets}
+use Rattle.net_base.specs.FieldId.{number_of, bits_of, may_be_masked, prerequisites_of, all_ones}
+use Rattle.net_base.specs.WellFormed.{Fits, AreAscending, has_prerequisite, has_one, meets_one}
 use Rattle.conf_types.specs.Lists.{EachBefore}
-use Rattle.conf_types.specs.RuleFields.{MayAsk, IsNumber, IsMacMask, IsPrefix}
+use Rattle.conf_types.specs.RuleFields.{MayAsk, MayAskBits, IsNumber, IsMasked, IsPrefix, IsAddress}
 use Rattle.conf_types.specs.Valid.{IsRule, NamesPort}
 use Rattle.conf_shape.specs.declared.raw.RawField.{RawField}
 use Rattle.conf_shape.specs.declared.raw.RawOutput.{RawOutput}
@@ -31,31 +30,27 @@ record IsWithin (most : ℕ) (f : Field) : Type 0 where
 of_number : (least most bound : ℕ) (f : Field) → most ≤ bound → all_ones f.id ≤ bound → IsNumber least most f → IsWithin bound f
 of_number least most bound f le ones is = record { value = omega (arith, is.to); mask = omega (arith, is.whole) }
 
-of_mac : (f : Field) → IsMacMask f → IsWithin (2 ^ 48 - 1) f
-of_mac f is = record { value = subst (λ v. v ≤ 2 ^ 48 - 1) is.within (omega (arith, and_le_r f.value f.mask, is.most)); mask = omega (arith, is.most) }
+of_masked : (bits : ℕ) (f : Field) → IsMasked bits f → IsWithin (2 ^ bits - 1) f
+of_masked bits f is = record { value = subst (λ v. v ≤ 2 ^ bits - 1) is.within (omega (arith, and_le_r f.value f.mask, is.most)); mask = omega (arith, is.most) }
 
-of_prefix : (f : Field) → IsPrefix f → IsWithin (2 ^ 32 - 1) f
-of_prefix f is = record { value = omega (arith, is.most); mask = omega (arith, is.mask, pow_pos is.host_bits) }
+of_prefix : (bits : ℕ) (f : Field) → IsPrefix bits f → IsWithin (2 ^ bits - 1) f
+of_prefix bits f is = record { value = omega (arith, is.most); mask = omega (arith, is.mask, pow_pos is.host_bits) }
+
+of_address : (is_mac : Bool) (bits : ℕ) (f : Field) → IsAddress is_mac bits f → IsWithin (2 ^ bits - 1) f
+of_address true bits f is = of_masked bits f is
+of_address false bits f is = of_prefix bits f is
+
+wider : (most bound : ℕ) (f : Field) → most ≤ bound → IsWithin most f → IsWithin bound f
+wider most bound f le is = record { value = omega (arith, le, is.value); mask = omega (arith, le, is.mask) }
+
+of_bits : (bits : ℕ) (may : Bool) (bound : ℕ) (f : Field) → 2 ^ bits - 1 ≤ bound → all_ones f.id ≤ bound → MayAskBits bits may f → IsWithin bound f
+of_bits bits true bound f le ones is = wider (2 ^ bits - 1) bound f le (of_address (bits == 48) bits f is)
+of_bits bits false bound f le ones is = of_number 0 (2 ^ bits - 1) bound f le ones is
 
 within : (id : FieldId) (f : Field) → all_ones f.id ≤ all_ones id → MayAsk id f → IsWithin (all_ones id) f
 within InPort f ones is = absurd is
-within EthDst f ones is = of_mac f is
-within EthSrc f ones is = of_mac f is
-within EthType f ones is = of_number 0 0xffff 65535 f (omega arith) ones is
 within VlanVid f ones is = of_number (0x1000 + 1) (0x1000 + 4094) 65535 f (omega arith) ones is
-within VlanPcp f ones is = of_number 0 7 255 f (omega arith) ones is
-within IpProto f ones is = of_number 0 255 255 f (omega arith) ones is
-within Ipv4Src f ones is = of_prefix f is
-within Ipv4Dst f ones is = of_prefix f is
-within TcpSrc f ones is = of_number 0 65535 65535 f (omega arith) ones is
-within TcpDst f ones is = of_number 0 65535 65535 f (omega arith) ones is
-within UdpSrc f ones is = of_number 0 65535 65535 f (omega arith) ones is
-within UdpDst f ones is = of_number 0 65535 65535 f (omega arith) ones is
-within Icmpv4Type f ones is = of_number 0 255 255 f (omega arith) ones is
-within Icmpv4Code f ones is = of_number 0 255 255 f (omega arith) ones is
-within ArpOp f ones is = of_number 0 65535 65535 f (omega arith) ones is
-within ArpSpa f ones is = of_prefix f is
-within ArpTpa f ones is = of_prefix f is
+within id f ones is = of_bits (bits_of id) (may_be_masked id) (all_ones id) f (lit≤ tt) ones is
 
 fits : (f : Field) → MayAsk f.id f → Fits f
 fits f is = let w = within f.id f (omega arith) is in record { value = w.value; mask = w.mask }
@@ -68,11 +63,11 @@ ascending (f ∷ fs) r = (r.0, ascending fs r.1)
 
 -- what stands somewhere stands there in another order
 still_asked : (before : Field → Field → Bool) (fs : List Field) (id : FieldId) → has_prerequisite id fs ≡ true → has_prerequisite id (in_order before fs) ≡ true
-still_asked before fs id = by (prerequisite_of id)
+still_asked before fs id = by (prerequisites_of id)
   where
-    by : (o : Option Prerequisite) → option_map_or (λ p. list_any (meets p) fs) o true ≡ true → option_map_or (λ p. list_any (meets p) (in_order before fs)) o true ≡ true
-    by None is = refl
-    by (Some p) is = let m = some_of (meets p) fs is in any_by (meets p) (in_order before fs) m.0 (into_order before fs m.0 m.1) m.2
+    by : (asked : List Prerequisite) → has_one asked fs ≡ true → has_one asked (in_order before fs) ≡ true
+    by [] is = refl
+    by (p ∷ asked) is = let m = some_of (meets_one (p ∷ asked)) fs is in any_by (meets_one (p ∷ asked)) (in_order before fs) m.0 (into_order before fs m.0 m.1) m.2
 
 -- ---- the ports that are named by their numbers
 

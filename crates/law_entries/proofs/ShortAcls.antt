@@ -4,6 +4,7 @@ use Rattle.std.specs.List.{AllByRecursion, list_any, filter_map, cons_option, en
 use Rattle.std.specs.Option.{option_map, option_map_or, option_and_then}
 use Rattle.std.proofs.Common.{refl, subst, arith}
 use Rattle.std.proofs.lemmas.List.{length-append, length-map}
+use Rattle.std.proofs.lemmas.Bool.{ltb-true}
 use Rattle.std.proofs.lemmas.Option.{same_Some, none-some}
 use Rattle.net_base.specs.declared.field.Field.{Field}
 use Rattle.net_base.specs.declared.field.FieldId.TheVariants.{VlanVid}
@@ -33,22 +34,38 @@ use Rattle.acl_compile.specs.Targets.{target, targets, may_go}
 use Rattle.law_runs.specs.Members.{all_joined, all_flat, all_if, all_by, of_all, in_mapped}
 use Rattle.plan_units.specs.Facts.{found}
 use Rattle.law_entries.specs.Short.{IsShort}
-use Rattle.law_entries.proofs.ShortCounts.{filter_fewer, once_fewer}
+use Rattle.law_entries.proofs.ShortCounts.{once_fewer}
 use Rattle.law_entries.proofs.ShortFields.{few_fields}
 use Rattle.law_entries.proofs.ShortParts.{short, ends}
 
 -- ---- fields
 
-with_vid_few : (vid : ℕ) (fields : List Field) → length fields ≤ 24 → length (with_vid vid fields) ≤ 64
+-- the fields below a number and those above it are no more than all of them
+apart_fewer : (n : ℕ) (fields : List Field) → length (filter (λ f. nat_lt (number_of f.id) n) fields) + length (filter (λ f. nat_lt n (number_of f.id)) fields) ≤ length fields
+apart_fewer n [] = omega arith
+apart_fewer n (f ∷ more) = by (nat_lt (number_of f.id) n) (nat_lt n (number_of f.id)) refl refl (apart_fewer n more)
+  where
+    below : List Field
+    below = filter (λ f. nat_lt (number_of f.id) n) more
+
+    above : List Field
+    above = filter (λ f. nat_lt n (number_of f.id)) more
+
+    by : (a b : Bool) → nat_lt (number_of f.id) n ≡ a → nat_lt n (number_of f.id) ≡ b → length below + length above ≤ length more → length (cond a (f ∷ below) below) + length (cond b (f ∷ above) above) ≤ length (f ∷ more)
+    by true true ea eb few = let x = ltb-true (number_of f.id) n ea in let y = ltb-true n (number_of f.id) eb in absurd (omega (arith, x, y))
+    by true false ea eb few = omega (arith, few)
+    by false true ea eb few = omega (arith, few)
+    by false false ea eb few = omega (arith, few)
+
+with_vid_few : (vid : ℕ) (fields : List Field) → length fields ≤ 32 → length (with_vid vid fields) ≤ 64
 with_vid_few vid fields few =
     let before : Field → Bool = λ f. nat_lt (number_of f.id) (number_of VlanVid) in
     let behind : Field → Bool = λ f. nat_lt (number_of VlanVid) (number_of f.id) in
     let both = length-append (filter before fields) (vid_field vid ∷ filter behind fields) in
-    let first = filter_fewer before fields in
-    let second = filter_fewer behind fields in
-    omega (arith, both, first, second, few)
+    let apart = apart_fewer (number_of VlanVid) fields in
+    omega (arith, both, apart, few)
 
-rule_fields_few : (at : Place) (fields : List Field) → length fields ≤ 24 → (made : List Field) → rule_fields at fields ≡ Some made → length made ≤ 64
+rule_fields_few : (at : Place) (fields : List Field) → length fields ≤ 32 → (made : List Field) → rule_fields at fields ≡ Some made → length made ≤ 64
 rule_fields_few (AtPort number) fields few made is =
     subst (λ l. length l ≤ 64) (same_Some (in_port number ∷ fields) made is) (omega (arith, few))
 rule_fields_few (AtVlan vid) fields few made is = one (list_any (asks_for_another vid) fields) is

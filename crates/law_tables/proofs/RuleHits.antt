@@ -8,9 +8,10 @@ use Rattle.std.proofs.lemmas.Option.{same_Some, none-some}
 use Rattle.std.proofs.lemmas.List.Folds.{list_all-append}
 use Rattle.net_base.specs.declared.field.Field.{Field}
 use Rattle.net_base.specs.declared.field.FieldId.{FieldId}
-use Rattle.net_base.specs.declared.field.FieldId.TheVariants.{InPort, EthDst, EthSrc, EthType, VlanVid, VlanPcp, IpProto, Ipv4Src, Ipv4Dst, TcpSrc, TcpDst, UdpSrc, UdpDst, Icmpv4Type, Icmpv4Code, ArpOp, ArpSpa, ArpTpa}
+use Rattle.net_base.specs.declared.field.FieldId.TheVariants.{InPort, VlanVid}
 use Rattle.net_base.specs.FieldId.{number_of, all_ones}
 use Rattle.net_base.specs.Numbers.{IsVid}
+use Rattle.net_base.proofs.Rows.{same_field}
 use Rattle.of_match.specs.declared.packet.Packet.{Packet}
 use Rattle.of_match.specs.Hit.{hits, agrees, value_of, vid_value}
 use Rattle.conf_types.specs.RuleFields.{MayAsk, IsNumber}
@@ -28,24 +29,7 @@ record AsksVid (id : FieldId) (f : Field) : Type 0 where
   asked : IsNumber (0x1000 + 1) (0x1000 + 4094) f
 
 asks_vid : (id : FieldId) (f : Field) → MayAsk id f → number_of id ≡ 6 → AsksVid id f
-asks_vid InPort f may e = absurd may
-asks_vid EthDst f may e = absurd (omega (arith, e))
-asks_vid EthSrc f may e = absurd (omega (arith, e))
-asks_vid EthType f may e = absurd (omega (arith, e))
-asks_vid VlanVid f may e = record { is = refl; asked = may }
-asks_vid VlanPcp f may e = absurd (omega (arith, e))
-asks_vid IpProto f may e = absurd (omega (arith, e))
-asks_vid Ipv4Src f may e = absurd (omega (arith, e))
-asks_vid Ipv4Dst f may e = absurd (omega (arith, e))
-asks_vid TcpSrc f may e = absurd (omega (arith, e))
-asks_vid TcpDst f may e = absurd (omega (arith, e))
-asks_vid UdpSrc f may e = absurd (omega (arith, e))
-asks_vid UdpDst f may e = absurd (omega (arith, e))
-asks_vid Icmpv4Type f may e = absurd (omega (arith, e))
-asks_vid Icmpv4Code f may e = absurd (omega (arith, e))
-asks_vid ArpOp f may e = absurd (omega (arith, e))
-asks_vid ArpSpa f may e = absurd (omega (arith, e))
-asks_vid ArpTpa f may e = absurd (omega (arith, e))
+asks_vid id f may e = let is = same_field id VlanVid e in record { is = is; asked = subst (λ other. MayAsk other f) is may }
 
 -- the fields of a rule
 abbrev pub AreAsked : List Field → Type 0

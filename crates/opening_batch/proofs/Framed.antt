@@ -8,7 +8,7 @@ use Rattle.of_match.specs.declared.action.Action.{Action}
 use Rattle.of_match.specs.declared.action.Instr.{Instr}
 use Rattle.of_match.specs.declared.action.Instr.TheVariants.{Goto, Apply}
 use Rattle.of_match.specs.declared.entry.Entry.{Entry}
-use Rattle.of_match.specs.WellFormed.{AreInstrs}
+use Rattle.of_match.specs.WellFormed.{IsAction, AreApplied, AreInstrs}
 use Rattle.of_wire.specs.Parts.{number, field_bytes, match_bytes, action_bytes, instr_bytes}
 use Rattle.of_wire.specs.WellFormed.{IsMatch}
 use Rattle.of13_codec.specs.declared.flow_mod.FlowMod.{FlowMod}
@@ -24,13 +24,13 @@ abbrev pub NumberLen : Type 0
 NumberLen = (len value : ℕ) → length (number len value) ≡ len
 
 abbrev pub FieldsLen : Type 0
-FieldsLen = (fields : List Field) → length (flat_map field_bytes fields) ≤ 16 * length fields
+FieldsLen = (fields : List Field) → length (flat_map field_bytes fields) ≤ 36 * length fields
 
 abbrev pub MatchLen : Type 0
-MatchLen = (fields : List Field) → length (match_bytes fields) ≤ 11 + 16 * length fields
+MatchLen = (fields : List Field) → length (match_bytes fields) ≤ 11 + 36 * length fields
 
 abbrev pub ActionsLen : Type 0
-ActionsLen = (actions : List Action) → length (flat_map action_bytes actions) ≤ 24 * length actions
+ActionsLen = (actions : List Action) → AllByRecursion IsAction actions → length (flat_map action_bytes actions) ≤ 24 * length actions
 
 -- a message that can be written
 pub record IsWritten (m : FlowMod) : Type 0 where
@@ -131,25 +131,25 @@ module _ (number_len : NumberLen) (fields_len : FieldsLen) (match_len : MatchLen
         number_len 2 (8 + length body),
       )
 
-  -- each instruction has 8 bytes, and those of its actions
-  instrs_len : (instrs : List Instr) → length (flat_map instr_bytes instrs) ≤ 8 * length instrs + 24 * count_actions instrs
-  instrs_len [] = omega arith
-  instrs_len (Goto table ∷ more) =
-      omega (arith, length-append (instr_bytes (Goto table)) (flat_map instr_bytes more), goto_len table, instrs_len more)
-  instrs_len (Apply actions ∷ more) =
-      omega (arith, length-append (instr_bytes (Apply actions)) (flat_map instr_bytes more), apply_len actions, actions_len actions, instrs_len more)
+  apply_most : (actions : List Action) (more : List Instr) → AreApplied actions → length (flat_map instr_bytes (Apply actions ∷ more)) ≤ 8 + 24 * length actions + length (flat_map instr_bytes more)
+  apply_most actions more are =
+      omega (arith, length-append (instr_bytes (Apply actions)) (flat_map instr_bytes more), apply_len actions, actions_len actions are.each)
 
-  two_at_most : (instrs : List Instr) → AreInstrs instrs → length instrs ≤ 2
-  two_at_most [] h = omega arith
-  two_at_most (Goto table ∷ []) h = omega arith
-  two_at_most (Goto table ∷ i ∷ more) h = absurd h
-  two_at_most (Apply actions ∷ []) h = omega arith
-  two_at_most (Apply actions ∷ Goto table ∷ []) h = omega arith
-  two_at_most (Apply actions ∷ Goto table ∷ i ∷ more) h = absurd h
-  two_at_most (Apply actions ∷ Apply others ∷ more) h = absurd h
+  goto_most : (table : ℕ) → length (flat_map instr_bytes (Goto table ∷ [])) ≤ 8
+  goto_most table = omega (arith, length-append (instr_bytes (Goto table)) [], goto_len table)
+
+  -- each instruction has 8 bytes, and those of its actions
+  instrs_len : (instrs : List Instr) → AreInstrs instrs → length (flat_map instr_bytes instrs) ≤ 16 + 24 * count_actions instrs
+  instrs_len [] h = omega arith
+  instrs_len (Goto table ∷ []) h = omega (arith, goto_most table)
+  instrs_len (Goto table ∷ i ∷ more) h = absurd h
+  instrs_len (Apply actions ∷ []) h = omega (arith, apply_most actions [] h)
+  instrs_len (Apply actions ∷ Goto table ∷ []) h = omega (arith, apply_most actions (Goto table ∷ []) h.0, goto_most table)
+  instrs_len (Apply actions ∷ Goto table ∷ i ∷ more) h = absurd h
+  instrs_len (Apply actions ∷ Apply others ∷ more) h = absurd h
 
   few_bytes : (e : Entry) → AreInstrs e.instrs → count_actions e.instrs ≤ 2000 → length (flat_map instr_bytes e.instrs) ≤ 48016
-  few_bytes e are few = omega (arith, instrs_len e.instrs, two_at_most e.instrs are, few)
+  few_bytes e are few = omega (arith, instrs_len e.instrs are, few)
 
   -- ---- entries
 
