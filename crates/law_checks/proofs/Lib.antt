@@ -2,7 +2,7 @@ pub mod Right
 pub mod Values
 pub mod Addresses
 pub mod Fields
-pub mod Ranges
+pub mod KeyRanges
 pub mod Stands
 pub mod Asked
 pub mod Says

@@ -34,7 +34,7 @@ use Rattle.law_checks.specs.Values.{IsFlag, IsNumber, IsText, IsPermission, IsLa
 use Rattle.law_checks.specs.Says.{NamesSay, AclNamesSay, PortFlagsSay, StackEndSays, PortSays, DropFlagsSay, PrioritySays, DpSays, RouteSays, RouteItemSays, VlanSays, OutputSays, ActionsSay, RuleSays, RuleItemSays, AclSays, RouterSays, TopSays, Says}
 use Rattle.law_checks.proofs.Right.{document_fine, each_right, value_right}
 use Rattle.law_checks.proofs.Values.{named_right}
-use Rattle.law_checks.proofs.Ranges.{port_takes, vlan_takes, once_right}
+use Rattle.law_checks.proofs.KeyRanges.{port_takes, vlan_takes, once_right}
 use Rattle.law_checks.proofs.Asked.{fields_say}
 use Rattle.law_checks.proofs.Stands.{stands, is_there, needed_there, flag_stands, number_stands, option_number_stands, text_stands, permission_stands, label_stands, vlan_stands, port_stands, mac_stands, vip_stands, destination_stands, gateway_stands, each_map, list_stands, map_stands, ports_stand, maps_stand, IsRightBy, numbered_stands, numbered_found}
 

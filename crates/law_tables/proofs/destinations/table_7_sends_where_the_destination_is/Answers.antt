@@ -1,4 +1,4 @@
-use Rattle.law_tables.proofs.Destinations.{law}
+use Rattle.law_tables.proofs.TableOfDestinations.{law}
 use Rattle.law_tables.proofs.destinations.table_7_sends_where_the_destination_is.Goals as goal
 
 pub returns : goal.returns

@@ -1,4 +1,4 @@
-use Rattle.law_tables.proofs.Floods.{law}
+use Rattle.law_tables.proofs.TableOfFloods.{law}
 use Rattle.law_tables.proofs.floods.table_8_floods_as_described.Goals as goal
 
 pub returns : goal.returns

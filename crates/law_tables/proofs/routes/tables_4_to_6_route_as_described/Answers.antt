@@ -1,4 +1,4 @@
-use Rattle.law_tables.proofs.Routes.{law}
+use Rattle.law_tables.proofs.TablesOfRoutes.{law}
 use Rattle.law_tables.proofs.routes.tables_4_to_6_route_as_described.Goals as goal
 
 pub returns : goal.returns
