@@ -4,8 +4,7 @@ use Rattle.std.specs.List.{AllByRecursion}
 use Rattle.net_base.specs.declared.numbers.DpId.{DpId}
 use Rattle.conf_types.specs.declared.state.HostRec.{HostRec}
 use Rattle.conf_types.specs.Configuration.{Configuration}
-use Rattle.conf_types.specs.Count.{sum_up_to_greatest}
-use Rattle.conf_types.specs.State.{fresh_for}
+use Rattle.conf_types.specs.State.{forgotten_at}
 use Rattle.conf_types.specs.Groups.{group_of}
 use Rattle.conf_types.specs.Lists.{EachBefore}
 use Rattle.indexmap.specs.IndexMap.{IndexMap}
@@ -60,7 +59,7 @@ vlan_part conf entries group vid shelf =
 
 -- a host that was last heard at the shelf's moment would be to be forgotten
 abbrev pub is_due_from : Configuration → ℕ → Shelf → Bool
-is_due_from conf moment shelf = nat_le (sum_up_to_greatest shelf.least.0 (fresh_for conf shelf.dp + 30000)) moment
+is_due_from conf moment shelf = nat_le (forgotten_at conf shelf.dp shelf.least.0) moment
 
 -- each place is below those behind it
 abbrev pub AreRising : List Entry → Type 0

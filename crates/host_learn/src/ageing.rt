@@ -12,19 +12,12 @@ use crate::shelves::Shelf;
 use conf_types::{Conf, HostRec};
 use net_base::Moment;
 
-/// Milliseconds after which a host that is stale is to be forgotten.
-const STALE_FOR: u64 = 30_000;
-
 /// Whether a host of a datapath that was last heard at the shelf's moment would be to be forgotten, if
 /// its port doesn't keep it for good.
 fn is_due_from(conf: &Conf, now: Moment, shelf: &Shelf) -> bool
     ensures { result ≡ is_due_from conf.now now.0 shelf.now }
 {
-    let fresh_for = match conf.dp(shelf.dp) {
-        Some(dp) => u64::from(dp.timeout) * 1000,
-        None => 0,
-    };
-    shelf.least.0.saturating_add(fresh_for + STALE_FOR) <= now.0
+    conf.forgotten_at(shelf.dp, shelf.least).0 <= now.0
 }
 
 fn any_due_from(conf: &Conf, now: Moment, shelves: &[Shelf]) -> bool
