@@ -8,6 +8,7 @@ use Rattle.of_match.specs.declared.entry.Entry.{Entry}
 use Rattle.of_match.specs.declared.entry.Key.{Key}
 use Rattle.of13_codec.specs.declared.message.Message.{Message}
 use Rattle.of13_codec.specs.declared.message.Message.TheVariants as messages
+use Rattle.flow_messages.specs.declared.messages.TheConstants.{COOKIE}
 
 -- a FLOW_MOD of this controller: no cookie mask, no timeouts, no buffered packet, any port,
 -- any group and no flags
@@ -30,7 +31,7 @@ flow_mod cookie table command priority fields instrs = messages.FlowMod (record 
 
 -- an entry is added (command OFPFC_ADD) under the cookie of this controller
 abbrev pub add : Entry → Message
-add e = flow_mod 0x5adc15c0 e.key.table 0 e.key.priority e.key.fields e.instrs
+add e = flow_mod COOKIE e.key.table 0 e.key.priority e.key.fields e.instrs
 
 -- every entry of every table is deleted (OFPFC_DELETE, OFPTT_ALL)
 abbrev pub delete_all : Message

@@ -3,4 +3,4 @@
 
 mod messages;
 
-pub use messages::{make_add, make_command, make_delete_all};
+pub use messages::{COOKIE, make_add, make_command, make_delete_all};

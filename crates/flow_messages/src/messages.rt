@@ -6,8 +6,9 @@ use of_match::{Command, Entry, Instrs, Key};
 use of13_codec::{FlowMod, Message};
 use std::alloc::Global;
 
-/// The cookie of every entry of this controller.
-const COOKIE: u64 = 0x5adc_15c0;
+/// The cookie of every entry of this controller, by which a packet that one of them sent is known
+/// (OpenFlow 1.3, 7.4.1).
+pub const COOKIE: u64 = 0x5adc_15c0;
 
 /// No buffered packet, any port, any group: all the same number (OpenFlow 1.3, 7.2.1, 7.3.4.1).
 const NONE: u32 = 0xffff_ffff;
