@@ -140,9 +140,9 @@ pub fn faucet<F: Files, H: Hub, O: Sink, E: Sink>(
         result.0 (O.wrote out.old) (O.wrote out.new) (E.wrote err.old) (E.wrote err.new)
         (O.faults out.old) (O.faults out.new) (E.faults err.old) (E.faults err.new) }
 
-    // Where the files are told, the status is that of the answer, so 2 exactly where a configuration was read and
-    // refused, or hasn't the datapath, 5 exactly where a record is refused, 7 exactly where 2^64 - 1 turns were
-    // taken; but for a failed write, want of memory and a failed read.
+    // Where the files are told, the status is that of the answer, so 2 where a configuration was read and refused,
+    // or hasn't the datapath, 5 where a record is refused, 7 only where 2^64 - 1 turns were taken; but for a failed
+    // write, want of memory and a failed read.
     ensures told { (held : Contents) → F.contents files ≡ Some held
         → StatusFor result.0 (IsStatusOf (meaning words.now) (held 0)) (Rose (F.faults files) (F.faults result.1)) }
 

@@ -1,6 +1,6 @@
--- How the private readers go: a message from its bytes, with the fault that is met. No public clause
--- rests on it. Places count from the first byte of the frame, so the body, which is what stands
--- behind the header, begins at 8.
+-- How the private readers go: a message from its bytes, with the fault that is met. No clause of this
+-- crate's public calls rests on it; ctl_core says by `decoded` what a controller hears of a frame. Places
+-- count from the first byte of the frame, so the body, which is what stands behind the header, begins at 8.
 use Rattle.std.specs.Prelude.{◌≡◌, ℕ, ◌+◌, ◌%◌, Bool, true, false, not, ◌&&◌, ◌||◌, ◌==◌, nat_lt, if◌then◌else◌, List, [], ◌∷◌, ◌++◌, length, take, drop, slice_index, slice_range, Option, Some, None, Result, Ok, Err}
 use Rattle.of_wire.specs.declared.fault.PartFault.{PartFault}
 use Rattle.of_wire.specs.declared.fault.PartCause.TheVariants.{Short, BadLength}
