@@ -3,6 +3,8 @@
 #![tactic(auto)]
 
 #[cfg(test)]
+mod fg_links_tests;
+#[cfg(test)]
 mod fg_outside_tests;
 #[cfg(test)]
 mod net_base_tests;
