@@ -1,0 +1,4 @@
+mod HubLemmas
+mod LinkLemmas
+mod MapLemmas
+mod RunLemmas

@@ -1,0 +1,3 @@
+pub mod Hub
+pub mod Links
+pub mod Runs
