@@ -1,3 +1,4 @@
+mod GoneLemmas
 mod HubLemmas
 mod LinkLemmas
 mod MapLemmas

@@ -5,6 +5,7 @@ use Rattle.std.proofs.lemmas.Grind.{common_steps, flat_map-append}
 use Rattle.fg_outside.specs.Left.{prepended}
 use Rattle.fg_outside.specs.Wrote.{appended}
 use Rattle.fg_outside.specs.HubStep.{HubStep, turned, said, closed, Event, happening, saying, closing, told_by, story, Leads}
+use Rattle.fg_outside.proofs.SinkLemmas.{appended-append}
 use Rattle.fg_outside.proofs.StoryLemmas.{Story-keeps}
 use Rattle.fg_outside.specs.declared.hub.EndCause.{EndCause}
 use Rattle.fg_outside.specs.declared.hub.Happening.TheVariants.{Opened, Heard, Closed, Reload}
@@ -22,7 +23,6 @@ use Rattle.link_hub.specs.declared.live.Live.{Live}
 use Rattle.link_hub.specs.Links.{Sends, IsNew}
 use Rattle.link_hub.specs.Hub.{live_at, IsSet, IsSame, IsFresh, TakesLink, ServesLink, Hears, EndsSaying, DoesNext, most_empty, Passes, start, next, Turns, spent, told, asked, empty, SaysStep, LinkStep}
 use Rattle.link_hub.specs.Runs.{heard_by, said_by, heard_on, said_on, IsServedInOrder}
-use Rattle.link_hub.proofs.LinkLemmas.{appended-append}
 
 prepended-append : (f g : List ℕ) (w : Option (List ℕ)) → prepended f (prepended g w) ≡ prepended (f ++ g) w
 prepended-append f g None = refl

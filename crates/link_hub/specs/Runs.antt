@@ -1,5 +1,5 @@
 -- What whole runs of a hub come to.
-use Rattle.std.specs.Prelude.{◌≡◌, ◌==◌, ℕ, ◌≤◌, if◌then◌else◌, List, []}
+use Rattle.std.specs.Prelude.{◌≡◌, ◌==◌, ℕ, ◌+◌, ◌<◌, ◌≤◌, true, false, if◌then◌else◌, List, [], ◌∷◌}
 use Rattle.std.specs.List.{flat_map}
 use Rattle.fg_outside.specs.Left.{prepended}
 use Rattle.fg_outside.specs.Wrote.{appended}
@@ -7,6 +7,12 @@ use Rattle.fg_outside.specs.HubStep.{Event, happening, saying, closing}
 use Rattle.fg_outside.specs.declared.hub.Happening.TheVariants as happenings
 use Rattle.fg_outside.specs.declared.hub.Said.TheVariants as answers
 use Rattle.fg_links.specs.declared.link.Link as link
+use Rattle.fg_links.specs.declared.poller.Poller as poller
+use Rattle.fg_links.specs.declared.told.Told.{Told}
+use Rattle.fg_links.specs.declared.told.Told.TheVariants.{Quiet, Gone}
+use Rattle.fg_links.specs.Calls.{Appends}
+use Rattle.link_hub.specs.declared.hub.LinkHub.{LinkHub}
+use Rattle.link_hub.specs.Hub.{poller_of, is_live}
 use Rattle.link_hub.specs.declared.live.Live.{Live}
 
 -- the bytes that an event tells of what was heard on a connection
@@ -40,3 +46,25 @@ pub record IsServedInOrder {L : Type 0} (it : link.Ghosts L) (conn : ℕ) (event
   pub heard : it.left live.opened.value ≡ prepended (heard_on conn events) (it.left live.link)
   pub said : appended (it.wrote live.opened.value) (said_on conn events) ≡ appended (it.wrote live.link) live.unsent
   pub faults : it.faults live.opened.value ≤ it.faults live.link
+
+-- how often a poller was told by this that a connection's link is no longer used
+abbrev pub gone_by : ℕ → Told → ℕ
+gone_by conn (Gone gone) = if gone == conn then 1 else 0
+gone_by conn (Quiet quiet) = 0
+
+abbrev pub gone_count : ℕ → List Told → ℕ
+gone_count conn [] = 0
+gone_count conn (call ∷ calls) = gone_by conn call + gone_count conn calls
+
+-- how many links the poller gave the hub
+abbrev pub given_to : {P L : Type 0} → LinkHub P L → ℕ
+given_to hub = hub.given
+
+-- The poller was told once of each link that it gave and that isn't open that it is no longer used, be it that the link
+-- ended, was closed or was let go; and of no other.
+pub record TellsGone {P L : Type 0} (p : poller.Ghosts P L) (from to : LinkHub P L) : Type 0 where
+  pub calls : List Told
+  pub told : Appends (p.told (poller_of from)) calls (p.told (poller_of to))
+  pub not_open : (conn : ℕ) → is_live to conn ≡ true → gone_count conn calls ≡ 0
+  pub once : (conn : ℕ) → is_live to conn ≡ false → 0 < conn → conn ≤ given_to to → gone_count conn calls ≡ 1
+  pub none : (conn : ℕ) → given_to to < conn → gone_count conn calls ≡ 0
