@@ -1,0 +1,7 @@
+pub mod Owned
+pub mod Shuffled
+pub mod Hosts
+pub mod Around
+pub mod Rows
+pub mod Routes
+pub mod Stays

@@ -1,0 +1,30 @@
+//! The laws. A function's contract is the law, and its body is at most a call of the laws that it rests on.
+
+ghost use Rattle.std.specs.Prelude.{◌≡◌, Some, Contains};
+ghost use Rattle.std.specs.List.{AllByRecursion};
+ghost use Rattle.of_match.specs.declared.entry.Entry.{Entry};
+ghost use Rattle.conf_types.specs.declared.datapath.Dp.{Dp};
+ghost use Rattle.conf_types.specs.Configuration.{Configuration};
+ghost use Rattle.conf_types.specs.State.{State};
+ghost use Rattle.plan_units.specs.declared.unit.Unit.{Unit};
+ghost use Rattle.plan_units.specs.Laws.{HasAddresses};
+ghost use Rattle.plan_units.specs.Units.{entries};
+ghost use Rattle.law_units.specs.Owner.{owner};
+
+/// Each entry of a unit is owned by that unit, of any datapath, configuration and state whose addresses have
+/// six bytes, as each `Mac` has.
+pub fn each_entry_of_a_unit_is_owned_by_it()
+    ensures { (conf : Configuration) (now : State) (d : Dp) → HasAddresses now → (u : Unit)
+        → AllByRecursion (λ e. owner e.key ≡ Some u) (entries conf now d u) }
+{
+    net_base::laws::a_mac_is_its_value();
+}
+
+/// Two units have no key in common, be it in one state or in two, of one configuration or of two.
+pub fn two_units_have_no_key_in_common()
+    ensures { (conf next : Configuration) (now later : State) (d other : Dp) → HasAddresses now → HasAddresses later
+        → (u w : Unit) → (u ≡ w → ⊥)
+        → (e f : Entry) → Contains (entries conf now d u) e → Contains (entries next later other w) f → e.key ≡ f.key → ⊥ }
+{
+    each_entry_of_a_unit_is_owned_by_it();
+}
