@@ -5,3 +5,4 @@ pub mod Around
 pub mod Rows
 pub mod Routes
 pub mod Stays
+pub mod Told

@@ -1,7 +1,7 @@
-//! The law of what a change leaves as it was: the function calls those that it stands on, and its contract is
-//! the law.
+//! The laws of what a change leaves as it was: a function's contract is the law, and its body is at most a call
+//! of the laws that it rests on.
 
-ghost use Rattle.std.specs.Prelude.{◌≡◌, ℕ, List, IsPermutation};
+ghost use Rattle.std.specs.Prelude.{◌≡◌, ◌↔◌, ℕ, List, IsTrue, IsPermutation};
 ghost use Rattle.conf_types.specs.declared.datapath.Dp.{Dp};
 ghost use Rattle.conf_types.specs.Configuration.{Configuration};
 ghost use Rattle.conf_types.specs.State.{State};
@@ -11,6 +11,7 @@ ghost use Rattle.plan_units.specs.Laws.{IsSetting};
 ghost use Rattle.plan_units.specs.Units.{entries};
 ghost use Rattle.law_units.specs.declared.change.Change.{Change};
 ghost use Rattle.law_units.specs.Reach.{AreNamed, IsInReach};
+ghost use Rattle.law_units.specs.Reached.{is_reached};
 
 /// Between two valid states of one configuration of which every difference is named, each unit of a datapath
 /// outside the reach of the changes has the same entries, in the same order. The routes of a VLAN have the same
@@ -30,3 +31,9 @@ pub fn what_is_out_of_reach_stays()
     conf_types::laws::each_link_that_is_up_is_listed_once();
     law_paths::laws::paths_depend_on_their_own_part_alone();
 }
+
+/// Whether changes reach a unit can be tested, as what is counted or compiled by the reach needs it.
+pub fn the_reach_is_told_by_a_test()
+    ensures { (conf : Configuration) (old new : State) (d : Dp) (changes : List Change) (u : Unit)
+        → IsTrue (is_reached conf old new d changes u) ↔ IsInReach conf old new d changes u }
+{}
