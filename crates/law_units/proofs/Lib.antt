@@ -1,4 +1,5 @@
 pub mod Owned
+pub mod Listed
 pub mod Shuffled
 pub mod Hosts
 pub mod Around
