@@ -1,9 +1,8 @@
 -- What an interface that mirrors none gets of a packet that leaves.
-use Rattle.std.proofs.Common.{◌≡◌, ◌∙◌, ℕ, ◌==◌, ◌&&◌, true, false, Option, Some, None, List, [], ◌∷◌, All, find, refl, sym, ap, subst}
+use Rattle.std.proofs.Common.{◌≡◌, ◌∙◌, ℕ, ◌==◌, ◌&&◌, true, false, Option, Some, None, [], ◌∷◌, All, find, refl, sym, ap, subst}
 use Rattle.std.specs.Prelude.{Contains, IsSomeAnd}
 use Rattle.std.specs.Option.{option_and_then, option_map_or}
 use Rattle.std.proofs.lemmas.Bool.{both_ways, and_parts, eqb-true}
-use Rattle.std.proofs.lemmas.List.Elements.{All-nil, All-cons, All-append}
 use Rattle.std.proofs.lemmas.Option.{same_Some}
 use Rattle.stack_paths.specs.Chosen.{hop_of}
 use Rattle.net_base.specs.declared.numbers.DpId.{DpId}
@@ -23,7 +22,7 @@ use Rattle.packet_way.specs.Known.{stack_of}
 use Rattle.packet_way.specs.Leaving.{sent, as_sent, delivered}
 use Rattle.packet_way.proofs.Ends.{IsEnd, hop_end}
 use Rattle.packet_way.proofs.Ports.{of_all, found, finds, within, only_port, stack_port}
-use Rattle.packet_way.proofs.Sites.{Joins, by_port, leaving_all}
+use Rattle.packet_way.proofs.Sites.{Each, each_joins, alone, by_port, leaving_all}
 
 module _ (conf : Configuration) (valid : IsValid conf) (id : DpId) (d : Dp) (dp_is : dp_with conf.dps id ≡ Some d) where
   -- an interface at an end of a stack link is that end
@@ -58,35 +57,22 @@ module _ (conf : Configuration) (valid : IsValid conf) (id : DpId) (d : Dp) (dp_
       abbrev pub IsAsSent : Sent → Type 0
       IsAsSent s = s.port ≡ q.no → s.packet ≡ as_sent q v.vid p
 
-      abbrev R : ℕ → List Sent → Type 0
-      R n xs = All IsAsSent xs
-
-      joins : Joins R
-      joins = record {
-        nil = All-nil IsAsSent;
-        both = λ m n xs ys a b. All-append IsAsSent xs ys a b;
-        more = λ m n xs le a. a;
-      }
-
-      alone : (n : ℕ) (x : Packet) → (n ≡ q.no → x ≡ as_sent q v.vid p) → All IsAsSent (sent n x ∷ [])
-      alone n x h = All-cons IsAsSent (sent n x) [] h (All-nil IsAsSent)
-
       same : (r : Port) → Contains d.ports r → r.no ≡ q.no → r ≡ q
       same r c e = only_port conf valid id d dp_is q.no q r here c e
 
       by_one : (r : Port) → Contains d.ports r → All IsAsSent (delivered d v.vid p r)
       by_one r c =
-          by_port R joins conf now d port v.vid p r
-          (alone r.no (as_sent r v.vid p) (λ e. ap (λ (s : Port). as_sent s v.vid p) (same r c e)))
-          (λ m c' is. alone m.no (as_sent r v.vid p) (λ e. absurd (both_ways (is_mirror_of m r.no) (ap (λ ns. is_among ns r.no) (ap (λ (s : Port). s.mirror) (same m c' e) ∙ mirrors_none)) (and_parts m.enabled (is_mirror_of m r.no) is).1)))
+          by_port (Each IsAsSent) (each_joins IsAsSent) conf now d port v.vid p r
+          (alone IsAsSent r.no (as_sent r v.vid p) (λ e. ap (λ (s : Port). as_sent s v.vid p) (same r c e)))
+          (λ m c' is. alone IsAsSent m.no (as_sent r v.vid p) (λ e. absurd (both_ways (is_mirror_of m r.no) (ap (λ ns. is_among ns r.no) (ap (λ (s : Port). s.mirror) (same m c' e) ∙ mirrors_none)) (and_parts m.enabled (is_mirror_of m r.no) is).1)))
 
       over_stack : (b : DpId) (n : ℕ) → hop_of (stack_of conf now.ups) d.id b ≡ Some n → All IsAsSent (sent n p ∷ [])
-      over_stack b n is = alone n p (λ e.
+      over_stack b n is = alone IsAsSent n p (λ e.
           let stack = end_is q.no q (subst (λ k. IsEnd conf d.id k) e (hop_end conf valid now.ups d.id b n is)) here in
           rw (stack_has_no_native v.vid stack) refl)
 
       pub all_as_sent : All IsAsSent (leaving conf now d port v p)
-      all_as_sent = leaving_all R joins conf now d port v p (λ r c may reached. by_one r c) (λ b n is other. over_stack b n is)
+      all_as_sent = leaving_all (Each IsAsSent) (each_joins IsAsSent) conf now d port v p (λ r c may reached. by_one r c) (λ b n is other. over_stack b n is)
 
       pub all_sent_as : (x : Packet) → as_sent q v.vid p ≡ x → All (λ s. s.port ≡ q.no → s.packet ≡ x) (leaving conf now d port v p)
       all_sent_as x is = subst (λ (y : Packet). All (λ s. s.port ≡ q.no → s.packet ≡ y) (leaving conf now d port v p)) is all_as_sent

@@ -1,10 +1,11 @@
 -- All that a datapath sends, place by place: what holds of each send holds of all of them together.
 -- `R n` says it of a list, and n bounds what the copies for the controller add.
-use Rattle.std.proofs.Common.{◌≡◌, ◌⊎◌, ℕ, ◌+◌, ◌≤◌, ◌==◌, ◌&&◌, ◌||◌, Bool, true, false, not, cond, Option, Some, None, List, [], ◌∷◌, ◌++◌, length, filter, count_by, refl, inl, inr, subst, arith}
+use Rattle.std.proofs.Common.{◌≡◌, ◌⊎◌, ℕ, ◌+◌, ◌≤◌, ◌==◌, ◌&&◌, ◌||◌, Bool, true, false, not, cond, Option, Some, None, List, [], ◌∷◌, ◌++◌, All, length, filter, count_by, refl, inl, inr, subst, arith}
 use Rattle.std.specs.Prelude.{Contains}
 use Rattle.std.specs.List.{flat_map}
 use Rattle.std.specs.Option.{option_map_or, option_and_then}
 use Rattle.std.proofs.lemmas.Bool.{and_parts, not-true, ne_eqb}
+use Rattle.std.proofs.lemmas.List.Elements.{All-nil, All-cons, All-append}
 use Rattle.std.proofs.lemmas.List.Sums.{sum_by-append}
 use Rattle.stack_paths.proofs.Finite.{contains_here, contains_there}
 use Rattle.stack_paths.specs.Chosen.{hop_of}
@@ -269,3 +270,19 @@ module _ (R : ℕ → List Sent → Type 0) (j : Joins R) (conf : Configuration)
       if_true R j (learned + by_vip) (is_stack i) (from_stack conf now d p i) (cond (is_accepting i) (from_edge conf now d p i) [])
       (λ is. from_stack_all)
       (λ other. if_true R j (learned + by_vip) (is_accepting i) (from_edge conf now d p i) [] (λ is. from_edge_all) (λ fails. none R j (learned + by_vip)))
+
+-- ---- of what holds of each send
+
+abbrev pub Each : (Sent → Type 0) → ℕ → List Sent → Type 0
+Each P n xs = All P xs
+
+module _ (P : Sent → Type 0) where
+  pub each_joins : Joins (Each P)
+  each_joins = record {
+    nil = All-nil P;
+    both = λ m n xs ys a b. All-append P xs ys a b;
+    more = λ m n xs le a. a;
+  }
+
+  pub alone : (n : ℕ) (x : Packet) → P (sent n x) → All P (sent n x ∷ [])
+  alone n x h = All-cons P (sent n x) [] h (All-nil P)

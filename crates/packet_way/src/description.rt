@@ -21,49 +21,6 @@ use of_match::{Packet, Sents};
 use stack_paths::Paths;
 use std::alloc::Global;
 
-fn push_onward(
-    alloc: Global,
-    out: &mut Sents,
-    paths: &Paths,
-    dp: &Dp,
-    ingress: PortNo,
-    vlan: &Vlan,
-    packet: &Packet,
-    onward: Onward,
-) -> Result<(), NoMemory>
-    ensures { OnOk result (out.new ≡ out.old ++ sent_onward paths.now dp.now ingress vlan.now packet.now onward) }
-{
-    match onward {
-        Onward::ByPort(port) => match dp.port(port) {
-            Some(port) => push_to_port(alloc, out, dp, ingress, vlan.vid, packet, port),
-            None => Ok(()),
-        },
-        Onward::OverStack(hop) => push_to_hop(alloc, out, ingress, packet, hop),
-        Onward::Everywhere => push_flooded(alloc, out, paths, dp, ingress, vlan, packet),
-    }
-}
-
-/// The destination, or a flood.
-#[tactic(auto, unfolding(crate::specs::Description::leaving))]
-fn push_leaving(
-    alloc: Global,
-    out: &mut Sents,
-    conf: &Conf,
-    now: &Now,
-    paths: &Paths,
-    dp: &Dp,
-    ingress: PortNo,
-    vlan: &Vlan,
-    packet: &Packet,
-) -> Result<(), NoMemory>
-    requires { paths.now ≡ stack_of conf.now now.now.ups }
-    ensures { OnOk result (out.new ≡ out.old ++ leaving conf.now (state_of now.now) dp.now ingress vlan.now packet.now) }
-{
-    let hosts = now.hosts.as_slice();
-    let onward = choose_onward(conf, hosts, paths, dp, vlan.vid, packet.dst);
-    push_onward(alloc, out, paths, dp, ingress, vlan, packet, onward)
-}
-
 fn find_vlan(conf: &Conf, vid: u16) -> Option<&Vlan>
     ensures { option_copied result ≡ vlan_with conf.now.vlans vid }
 {
@@ -71,151 +28,6 @@ fn find_vlan(conf: &Conf, vid: u16) -> Option<&Vlan>
         .as_slice()
         .iter()
         .find(|vlan| vlan.vid.get() == vid)
-}
-
-/// The same in the VLAN with this number; nothing where there is none.
-fn push_leaving_in(
-    alloc: Global,
-    out: &mut Sents,
-    conf: &Conf,
-    now: &Now,
-    paths: &Paths,
-    dp: &Dp,
-    ingress: PortNo,
-    vid: u16,
-    packet: &Packet,
-) -> Result<(), NoMemory>
-    requires { paths.now ≡ stack_of conf.now now.now.ups }
-    ensures { OnOk result (out.new ≡ out.old ++ leaving_in conf.now (state_of now.now) dp.now ingress vid packet.now) }
-{
-    match find_vlan(conf, vid) {
-        Some(vlan) => push_leaving(alloc, out, conf, now, paths, dp, ingress, vlan, packet),
-        None => Ok(()),
-    }
-}
-
-fn push_behind_routing(
-    alloc: Global,
-    out: &mut Sents,
-    conf: &Conf,
-    now: &Now,
-    paths: &Paths,
-    dp: &Dp,
-    ingress: PortNo,
-    packet: &Packet,
-    routed: Routed,
-) -> Result<(), NoMemory>
-    requires { paths.now ≡ stack_of conf.now now.now.ups }
-    ensures { OnOk result (out.new ≡ out.old ++ behind_routing conf.now (state_of now.now) dp.now ingress packet.now routed) }
-{
-    match routed {
-        Routed::GoesOn { vid, packet } => {
-            push_leaving_in(
-                alloc,
-                out,
-                conf,
-                now,
-                paths,
-                dp,
-                ingress,
-                vid.get(),
-                &packet,
-            )
-        }
-        Routed::ToController => push_to_controller(alloc, out, packet),
-        Routed::Ends => Ok(()),
-    }
-}
-
-#[tactic(auto, unfolding(crate::specs::Description::by_routing))]
-fn push_by_routing(
-    alloc: Global,
-    out: &mut Sents,
-    conf: &Conf,
-    now: &Now,
-    paths: &Paths,
-    dp: &Dp,
-    ingress: PortNo,
-    vlan: &Vlan,
-    packet: &Packet,
-) -> Result<(), NoMemory>
-    requires { paths.now ≡ stack_of conf.now now.now.ups }
-    ensures { OnOk result (out.new ≡ out.old ++ by_routing conf.now (state_of now.now) dp.now ingress vlan.now packet.now) }
-{
-    let group = conf.group_number(dp.id);
-    let items = route_list(alloc, conf, now.neighbours.as_slice(), group, vlan.vid)?;
-    let routed = route(alloc, items.as_slice(), vlan, packet)?;
-    push_behind_routing(alloc, out, conf, now, paths, dp, ingress, packet, routed)
-}
-
-fn push_behind_source(
-    alloc: Global,
-    out: &mut Sents,
-    conf: &Conf,
-    now: &Now,
-    paths: &Paths,
-    dp: &Dp,
-    ingress: PortNo,
-    vlan: &Vlan,
-    packet: &Packet,
-    heard: Heard,
-) -> Result<(), NoMemory>
-    requires { paths.now ≡ stack_of conf.now now.now.ups }
-    ensures { OnOk result (out.new ≡ out.old ++ behind_source conf.now (state_of now.now) dp.now ingress vlan.now packet.now heard) }
-{
-    match heard {
-        Heard::Ends => Ok(()),
-        Heard::GoesOn => push_by_routing(alloc, out, conf, now, paths, dp, ingress, vlan, packet),
-        Heard::IsCopied => {
-            push_to_controller(alloc, out, packet)?;
-            push_by_routing(alloc, out, conf, now, paths, dp, ingress, vlan, packet)
-        }
-    }
-}
-
-#[tactic(auto, unfolding(crate::specs::Description::in_vlan))]
-fn push_in_vlan(
-    alloc: Global,
-    out: &mut Sents,
-    conf: &Conf,
-    now: &Now,
-    paths: &Paths,
-    dp: &Dp,
-    port: &Port,
-    vlan: &Vlan,
-    packet: &Packet,
-) -> Result<(), NoMemory>
-    requires { paths.now ≡ stack_of conf.now now.now.ups }
-    ensures { OnOk result (out.new ≡ out.old ++ in_vlan conf.now (state_of now.now) dp.now port.now vlan.now packet.now) }
-{
-    push_acl_sends(alloc, out, conf, dp, &vlan.acls, port.no, packet)?;
-    if !is_allowed(conf, &vlan.acls, port.no, packet) {
-        return Ok(());
-    }
-    let heard = hear(conf, now, dp, port, vlan, packet.src);
-    push_behind_source(
-        alloc, out, conf, now, paths, dp, port.no, vlan, packet, heard,
-    )
-}
-
-#[tactic(auto, unfolding(crate::specs::Description::admitted))]
-fn push_admitted(
-    alloc: Global,
-    out: &mut Sents,
-    conf: &Conf,
-    now: &Now,
-    paths: &Paths,
-    dp: &Dp,
-    port: &Port,
-    packet: &Packet,
-    vlan: &Vlan,
-) -> Result<(), NoMemory>
-    requires { paths.now ≡ stack_of conf.now now.now.ups }
-    ensures { OnOk result (out.new ≡ out.old ++ admitted conf.now (state_of now.now) dp.now port.now packet.now vlan.now) }
-{
-    push_mirrored(alloc, out, dp, port.no, packet)?;
-    let tagged = tagged_with(alloc, vlan.vid, packet)?;
-    push_in_vlan(alloc, out, conf, now, paths, dp, port, vlan, &tagged)
 }
 
 /// The VLAN of the configuration that admits a packet.
@@ -228,69 +40,174 @@ fn admitting_vlan<'a>(conf: &'a Conf, port: &Port, packet: &Packet) -> Option<&'
     }
 }
 
-#[tactic(auto, unfolding(crate::specs::Description::from_edge))]
-fn push_from_edge(
+/// The interface of a datapath that packets come in by, and what their way from there hangs on.
+#[derive(Drop)]
+struct Ingress<'a> {
     alloc: Global,
-    out: &mut Sents,
-    conf: &Conf,
-    now: &Now,
-    paths: &Paths,
-    dp: &Dp,
-    packet: &Packet,
-    port: &Port,
-) -> Result<(), NoMemory>
-    requires { paths.now ≡ stack_of conf.now now.now.ups }
-    ensures { OnOk result (out.new ≡ out.old ++ from_edge conf.now (state_of now.now) dp.now packet.now port.now) }
-{
-    push_acl_sends(alloc, out, conf, dp, &port.acls, port.no, packet)?;
-    if !is_allowed(conf, &port.acls, port.no, packet) || is_dropped(conf, dp, packet) {
-        return Ok(());
-    }
-    match admitting_vlan(conf, port, packet) {
-        Some(vlan) => push_admitted(alloc, out, conf, now, paths, dp, port, packet, vlan),
-        None => Ok(()),
-    }
+    conf: &'a Conf,
+    learned: &'a Now,
+    paths: &'a Paths,
+    dp: &'a Dp,
+    port: &'a Port,
+    ghost right: { paths.now ≡ stack_of conf.now learned.now.ups },
 }
 
-#[tactic(auto, unfolding(crate::specs::Description::from_stack))]
-fn push_from_stack(
-    alloc: Global,
-    out: &mut Sents,
-    conf: &Conf,
-    now: &Now,
-    paths: &Paths,
-    dp: &Dp,
-    packet: &Packet,
-    port: &Port,
-) -> Result<(), NoMemory>
-    requires { paths.now ≡ stack_of conf.now now.now.ups }
-    ensures { OnOk result (out.new ≡ out.old ++ from_stack conf.now (state_of now.now) dp.now packet.now port.now) }
-{
-    match packet.tags.as_slice() {
-        [] => Ok(()),
-        [tag, ..] => { push_leaving_in(alloc, out, conf, now, paths, dp, port.no, tag.vid, packet) }
+impl<'a> Ingress<'a> {
+    fn push_onward(
+        &self,
+        out: &mut Sents,
+        vlan: &Vlan,
+        packet: &Packet,
+        onward: Onward,
+    ) -> Result<(), NoMemory>
+        ensures { OnOk result (out.new ≡ out.old ++ sent_onward self.now.paths.now self.now.dp.now self.now.port.now.no vlan.now packet.now onward) }
+    {
+        let no = self.port.no;
+        match onward {
+            Onward::ByPort(port) => match self.dp.port(port) {
+                Some(port) => push_to_port(self.alloc, out, self.dp, no, vlan.vid, packet, port),
+                None => Ok(()),
+            },
+            Onward::OverStack(hop) => push_to_hop(self.alloc, out, no, packet, hop),
+            Onward::Everywhere => {
+                push_flooded(self.alloc, out, self.paths, self.dp, no, vlan, packet)
+            }
+        }
     }
-}
 
-fn push_from_port(
-    alloc: Global,
-    out: &mut Sents,
-    conf: &Conf,
-    now: &Now,
-    paths: &Paths,
-    dp: &Dp,
-    packet: &Packet,
-    port: &Port,
-) -> Result<(), NoMemory>
-    requires { paths.now ≡ stack_of conf.now now.now.ups }
-    ensures { OnOk result (out.new ≡ out.old ++ from_port conf.now (state_of now.now) dp.now packet.now port.now) }
-{
-    if port.is_stack() {
-        push_from_stack(alloc, out, conf, now, paths, dp, packet, port)
-    } else if port.is_accepting() {
-        push_from_edge(alloc, out, conf, now, paths, dp, packet, port)
-    } else {
-        Ok(())
+    /// The destination, or a flood.
+    #[tactic(auto, unfolding(crate::specs::Description::leaving))]
+    fn push_leaving(&self, out: &mut Sents, vlan: &Vlan, packet: &Packet) -> Result<(), NoMemory>
+        ensures { OnOk result (out.new ≡ out.old ++ leaving self.now.conf.now (state_of self.now.learned.now) self.now.dp.now self.now.port.now.no vlan.now packet.now) }
+    {
+        let hosts = self.learned.hosts.as_slice();
+        let onward = choose_onward(self.conf, hosts, self.paths, self.dp, vlan.vid, packet.dst);
+        self.push_onward(out, vlan, packet, onward)
+    }
+
+    /// The same in the VLAN with this number; nothing where there is none.
+    fn push_leaving_in(&self, out: &mut Sents, vid: u16, packet: &Packet) -> Result<(), NoMemory>
+        ensures { OnOk result (out.new ≡ out.old ++ leaving_in self.now.conf.now (state_of self.now.learned.now) self.now.dp.now self.now.port.now.no vid packet.now) }
+    {
+        match find_vlan(self.conf, vid) {
+            Some(vlan) => self.push_leaving(out, vlan, packet),
+            None => Ok(()),
+        }
+    }
+
+    fn push_behind_routing(
+        &self,
+        out: &mut Sents,
+        packet: &Packet,
+        routed: Routed,
+    ) -> Result<(), NoMemory>
+        ensures { OnOk result (out.new ≡ out.old ++ behind_routing self.now.conf.now (state_of self.now.learned.now) self.now.dp.now self.now.port.now.no packet.now routed) }
+    {
+        match routed {
+            Routed::GoesOn { vid, packet } => self.push_leaving_in(out, vid.get(), &packet),
+            Routed::ToController => push_to_controller(self.alloc, out, packet),
+            Routed::Ends => Ok(()),
+        }
+    }
+
+    #[tactic(auto, unfolding(crate::specs::Description::by_routing))]
+    fn push_by_routing(&self, out: &mut Sents, vlan: &Vlan, packet: &Packet) -> Result<(), NoMemory>
+        ensures { OnOk result (out.new ≡ out.old ++ by_routing self.now.conf.now (state_of self.now.learned.now) self.now.dp.now self.now.port.now.no vlan.now packet.now) }
+    {
+        let neighbours = self.learned.neighbours.as_slice();
+        let group = self.conf.group_number(self.dp.id);
+        let items = route_list(self.alloc, self.conf, neighbours, group, vlan.vid)?;
+        let routed = route(self.alloc, items.as_slice(), vlan, packet)?;
+        self.push_behind_routing(out, packet, routed)
+    }
+
+    fn push_behind_source(
+        &self,
+        out: &mut Sents,
+        vlan: &Vlan,
+        packet: &Packet,
+        heard: Heard,
+    ) -> Result<(), NoMemory>
+        ensures { OnOk result (out.new ≡ out.old ++ behind_source self.now.conf.now (state_of self.now.learned.now) self.now.dp.now self.now.port.now.no vlan.now packet.now heard) }
+    {
+        match heard {
+            Heard::Ends => Ok(()),
+            Heard::GoesOn => self.push_by_routing(out, vlan, packet),
+            Heard::IsCopied => {
+                push_to_controller(self.alloc, out, packet)?;
+                self.push_by_routing(out, vlan, packet)
+            }
+        }
+    }
+
+    #[tactic(auto, unfolding(crate::specs::Description::in_vlan))]
+    fn push_in_vlan(&self, out: &mut Sents, vlan: &Vlan, packet: &Packet) -> Result<(), NoMemory>
+        ensures { OnOk result (out.new ≡ out.old ++ in_vlan self.now.conf.now (state_of self.now.learned.now) self.now.dp.now self.now.port.now vlan.now packet.now) }
+    {
+        let no = self.port.no;
+        push_acl_sends(self.alloc, out, self.conf, self.dp, &vlan.acls, no, packet)?;
+        if !is_allowed(self.conf, &vlan.acls, no, packet) {
+            return Ok(());
+        }
+        let heard = hear(
+            self.conf,
+            self.learned,
+            self.dp,
+            self.port,
+            vlan,
+            packet.src,
+        );
+        self.push_behind_source(out, vlan, packet, heard)
+    }
+
+    #[tactic(auto, unfolding(crate::specs::Description::admitted))]
+    fn push_admitted(&self, out: &mut Sents, packet: &Packet, vlan: &Vlan) -> Result<(), NoMemory>
+        ensures { OnOk result (out.new ≡ out.old ++ admitted self.now.conf.now (state_of self.now.learned.now) self.now.dp.now self.now.port.now packet.now vlan.now) }
+    {
+        push_mirrored(self.alloc, out, self.dp, self.port.no, packet)?;
+        let tagged = tagged_with(self.alloc, vlan.vid, packet)?;
+        self.push_in_vlan(out, vlan, &tagged)
+    }
+
+    #[tactic(auto, unfolding(crate::specs::Description::from_edge))]
+    fn push_from_edge(&self, out: &mut Sents, packet: &Packet) -> Result<(), NoMemory>
+        ensures { OnOk result (out.new ≡ out.old ++ from_edge self.now.conf.now (state_of self.now.learned.now) self.now.dp.now packet.now self.now.port.now) }
+    {
+        let port = self.port;
+        push_acl_sends(
+            self.alloc, out, self.conf, self.dp, &port.acls, port.no, packet,
+        )?;
+        if !is_allowed(self.conf, &port.acls, port.no, packet)
+            || is_dropped(self.conf, self.dp, packet)
+        {
+            return Ok(());
+        }
+        match admitting_vlan(self.conf, port, packet) {
+            Some(vlan) => self.push_admitted(out, packet, vlan),
+            None => Ok(()),
+        }
+    }
+
+    #[tactic(auto, unfolding(crate::specs::Description::from_stack))]
+    fn push_from_stack(&self, out: &mut Sents, packet: &Packet) -> Result<(), NoMemory>
+        ensures { OnOk result (out.new ≡ out.old ++ from_stack self.now.conf.now (state_of self.now.learned.now) self.now.dp.now packet.now self.now.port.now) }
+    {
+        match packet.tags.as_slice() {
+            [] => Ok(()),
+            [tag, ..] => self.push_leaving_in(out, tag.vid, packet),
+        }
+    }
+
+    fn push_all(&self, out: &mut Sents, packet: &Packet) -> Result<(), NoMemory>
+        ensures { OnOk result (out.new ≡ out.old ++ from_port self.now.conf.now (state_of self.now.learned.now) self.now.dp.now packet.now self.now.port.now) }
+    {
+        if self.port.is_stack() {
+            self.push_from_stack(out, packet)
+        } else if self.port.is_accepting() {
+            self.push_from_edge(out, packet)
+        } else {
+            Ok(())
+        }
     }
 }
 
@@ -312,7 +229,15 @@ pub fn sends(
     let mut out = Sents::new(alloc);
     if let Some(dp) = conf.dp(dp) {
         if let Some(port) = dp.port(port) {
-            push_from_port(alloc, &mut out, conf, now, paths, dp, packet, port)?;
+            let ingress = Ingress {
+                alloc,
+                conf,
+                learned: now,
+                paths,
+                dp,
+                port,
+            };
+            ingress.push_all(&mut out, packet)?;
         }
     }
     Ok(out)

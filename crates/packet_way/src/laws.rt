@@ -7,10 +7,11 @@ ghost use Rattle.net_base.specs.declared.numbers.DpId.{DpId};
 ghost use Rattle.of_match.specs.declared.action.TheConstants.{CONTROLLER};
 ghost use Rattle.of_match.specs.declared.packet.Packet.{Packet};
 ghost use Rattle.stack_paths.specs.Stack.{IsStack};
+ghost use Rattle.stack_paths.specs.Chosen.{hop_of, is_tree_port};
 ghost use Rattle.conf_types.specs.declared.datapath.Dp.{Dp};
 ghost use Rattle.conf_types.specs.declared.datapath.Port.{Port};
 ghost use Rattle.conf_types.specs.Configuration.{Configuration, dp_with, port_with, port_at};
-ghost use Rattle.conf_types.specs.Membership.{is_edge, is_accepting, is_edge_member, member_of};
+ghost use Rattle.conf_types.specs.Membership.{is_edge, is_stack, is_accepting, is_edge_member, member_of};
 ghost use Rattle.conf_types.specs.declared.datapath.Member.TheVariants.{Native, Tagged, Stack};
 ghost use Rattle.conf_types.specs.declared.state.HostRec.{HostRec};
 ghost use Rattle.conf_types.specs.declared.state.UpRec.{UpRec};
@@ -27,6 +28,14 @@ ghost use Rattle.packet_way.specs.Verdict.{is_allowed, acl_sends};
 /// stack_paths says of distances, next hops and trees holds of the way.
 pub fn the_datapaths_with_their_links_are_a_stack()
     ensures { (conf : Configuration) (ups : List UpRec) → IsValid conf → IsStack (stack_of conf ups) }
+{}
+
+/// The next hops of a datapath, and the ports that it has in a tree, are its enabled ends of stack links.
+pub fn the_stack_goes_over_ends_of_links()
+    ensures hops { (conf : Configuration) (ups : List UpRec) (id to : DpId) (hop : ℕ)
+        → IsValid conf → hop_of (stack_of conf ups) id to ≡ Some hop → IsSomeAnd (port_at conf id hop) (λ q. is_stack q ≡ true) }
+    ensures tree { (conf : Configuration) (ups : List UpRec) (id : DpId) (number : ℕ)
+        → IsValid conf → is_tree_port (stack_of conf ups) id number ≡ true → IsSomeAnd (port_at conf id number) (λ q. is_stack q ≡ true) }
 {}
 
 /// Nothing is sent of a packet by a port that takes none in: one that is no interface, or a disabled

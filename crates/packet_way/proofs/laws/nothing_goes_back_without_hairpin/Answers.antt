@@ -1,7 +1,7 @@
-use Rattle.std.proofs.Common.{◌≡◌, ◌≢◌, ℕ, ◌==◌, true, false, not, List, [], ◌∷◌, All, Some, ⊎_elim, sym, subst, arith, ap, ◌∙◌}
+use Rattle.std.proofs.Common.{◌≡◌, ◌≢◌, ◌==◌, true, false, not, [], ◌∷◌, All, Some, ⊎_elim, sym, subst, arith, ap, ◌∙◌}
 use Rattle.std.specs.Prelude.{Contains}
 use Rattle.std.proofs.lemmas.Bool.{both_ways, eqb-false, or_cases, not-true}
-use Rattle.std.proofs.lemmas.List.Elements.{All-nil, All-cons, All-append}
+use Rattle.std.proofs.lemmas.List.Elements.{All-nil}
 use Rattle.of_match.specs.declared.packet.Packet.{Packet}
 use Rattle.of_match.specs.declared.packet.Sent.{Sent}
 use Rattle.conf_types.specs.declared.datapath.Dp.{Dp}
@@ -14,9 +14,9 @@ use Rattle.conf_types.specs.Valid.{IsValid}
 use Rattle.net_base.specs.declared.numbers.DpId.{DpId}
 use Rattle.of_match.specs.declared.action.TheConstants.{CONTROLLER}
 use Rattle.packet_way.specs.Description.{from_port}
-use Rattle.packet_way.specs.Leaving.{sent, to_controller}
+use Rattle.packet_way.specs.Leaving.{to_controller}
 use Rattle.packet_way.proofs.Ports.{at_port, port_within, port_number, port_of, only_port, no_mirror}
-use Rattle.packet_way.proofs.Sites.{Joins, Sites, from_port_all}
+use Rattle.packet_way.proofs.Sites.{Each, each_joins, alone, Sites, from_port_all}
 use Rattle.packet_way.proofs.Taking.{sends_at, taken}
 use Rattle.packet_way.proofs.laws.nothing_goes_back_without_hairpin.Goals as goal
 
@@ -25,38 +25,25 @@ module _ (conf : Configuration) (now : State) (valid : IsValid conf) (id : DpId)
   abbrev IsElsewhere : Sent → Type 0
   IsElsewhere s = s.port ≢ i.no
 
-  abbrev R : ℕ → List Sent → Type 0
-  R n xs = All IsElsewhere xs
-
-  joins : Joins R
-  joins = record {
-    nil = All-nil IsElsewhere;
-    both = λ m n xs ys a b. All-append IsElsewhere xs ys a b;
-    more = λ m n xs le a. a;
-  }
-
-  alone : (n : ℕ) (x : Packet) → (n ≡ i.no → ⊥) → All IsElsewhere (sent n x ∷ [])
-  alone n x h = All-cons IsElsewhere (sent n x) [] h (All-nil IsElsewhere)
-
   same : (q : Port) → Contains d.ports q → q.no ≡ i.no → q ≡ i
   same q c e = only_port conf valid id d dp_is i.no i q here c e
 
-  elsewhere : Sites R joins conf now d i.no
+  elsewhere : Sites (Each IsElsewhere) (each_joins IsElsewhere) conf now d i.no
   elsewhere = record {
-    target = λ q x c enabled other. alone q.no x (eqb-false q.no i.no other);
-    mirror = λ m n x c enabled is. alone m.no x (λ e. both_ways (is_mirror_of m n) (ap (λ ns. is_among ns n) (ap (λ (q : Port). q.mirror) (same m c e) ∙ mirrors_none)) is);
-    out = λ v q x c may reached. alone q.no x (λ e. ⊎_elim
+    target = λ q x c enabled other. alone IsElsewhere q.no x (eqb-false q.no i.no other);
+    mirror = λ m n x c enabled is. alone IsElsewhere m.no x (λ e. both_ways (is_mirror_of m n) (ap (λ ns. is_among ns n) (ap (λ (q : Port). q.mirror) (same m c e) ∙ mirrors_none)) is);
+    out = λ v q x c may reached. alone IsElsewhere q.no x (λ e. ⊎_elim
         (λ (other : not (q.no == i.no) ≡ true). eqb-false q.no i.no (not-true (q.no == i.no) other) e)
         (λ (back : q.hairpin ≡ true). both_ways q.hairpin (ap (λ (r : Port). r.hairpin) (same q c e) ∙ no_hairpin) back)
         (or_cases (not (q.no == i.no)) q.hairpin may));
-    hop = λ b n x is other. alone n x (eqb-false n i.no other);
+    hop = λ b n x is other. alone IsElsewhere n x (eqb-false n i.no other);
   }
 
   no_controller : (x : Packet) → All IsElsewhere (to_controller x)
-  no_controller x = alone CONTROLLER x (λ e. let most = (port_of conf valid id d dp_is i in_ports).number.most in omega (arith, e, most))
+  no_controller x = alone IsElsewhere CONTROLLER x (λ e. let most = (port_of conf valid id d dp_is i in_ports).number.most in omega (arith, e, most))
 
   all_elsewhere : (p : Packet) → All IsElsewhere (from_port conf now d p i)
-  all_elsewhere p = from_port_all R joins conf now d i elsewhere p 0 0 (λ x single. no_controller x) (λ v x c vips. no_controller x)
+  all_elsewhere p = from_port_all (Each IsElsewhere) (each_joins IsElsewhere) conf now d i elsewhere p 0 0 (λ x single. no_controller x) (λ v x c vips. no_controller x)
 
 pub returns : goal.returns
 returns c = λ conf now id port i p valid is no_hairpin.

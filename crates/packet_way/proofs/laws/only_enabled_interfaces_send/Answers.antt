@@ -1,8 +1,8 @@
-use Rattle.std.proofs.Common.{◌≡◌, ◌∙◌, ◌⊎◌, ℕ, ◌<◌, ◌==◌, ◌&&◌, ◌||◌, true, Option, Some, None, List, [], ◌∷◌, All, length, is_some, is_none, inl, inr, refl, sym, subst, arith, ap}
+use Rattle.std.proofs.Common.{◌≡◌, ◌∙◌, ◌⊎◌, ℕ, ◌<◌, ◌==◌, ◌&&◌, ◌||◌, true, Option, Some, None, [], ◌∷◌, All, length, is_some, is_none, inl, inr, refl, sym, subst, arith, ap}
 use Rattle.std.specs.Prelude.{Contains, IsSomeAnd}
 use Rattle.std.specs.Option.{option_and_then}
 use Rattle.std.proofs.lemmas.Bool.{and_parts, or_cases}
-use Rattle.std.proofs.lemmas.List.Elements.{All-nil, All-cons, All-append}
+use Rattle.std.proofs.lemmas.List.Elements.{All-nil}
 use Rattle.net_base.specs.Address.{is_group}
 use Rattle.net_base.specs.declared.numbers.DpId.{DpId}
 use Rattle.of_match.specs.declared.action.TheConstants.{CONTROLLER}
@@ -23,7 +23,7 @@ use Rattle.packet_way.specs.Leaving.{sent, to_controller}
 use Rattle.packet_way.proofs.Ends.{IsEnd, hop_end, tree_end}
 use Rattle.packet_way.proofs.Members.{host_is_member}
 use Rattle.packet_way.proofs.Ports.{finds, within, datapath, at_port}
-use Rattle.packet_way.proofs.Sites.{Joins, Sites, IsReached, from_port_all}
+use Rattle.packet_way.proofs.Sites.{Each, each_joins, alone, Sites, IsReached, from_port_all}
 use Rattle.packet_way.proofs.Taking.{sends_nothing, sends_at}
 use Rattle.packet_way.proofs.laws.only_enabled_interfaces_send.Goals as goal
 
@@ -37,23 +37,10 @@ member_on : (q : Port) (vid : ℕ) → is_edge_member q vid ≡ true → q.enabl
 member_on q vid is = edge_on q (and_parts (is_edge q) (is_native_in q vid || is_tagged_in q vid) is).0
 
 module _ (conf : Configuration) (now : State) (valid : IsValid conf) (state : IsValidState conf now) (id : DpId) (d : Dp) (dp_is : dp_with conf.dps id ≡ Some d) (i : Port) where
-  abbrev R : ℕ → List Sent → Type 0
-  R n xs = All (Leaves conf id) xs
-
-  joins : Joins R
-  joins = record {
-    nil = All-nil (Leaves conf id);
-    both = λ m n xs ys a b. All-append (Leaves conf id) xs ys a b;
-    more = λ m n xs le a. a;
-  }
-
-  alone : (n : ℕ) (x : Packet) → Leaves conf id (sent n x) → All (Leaves conf id) (sent n x ∷ [])
-  alone n x h = All-cons (Leaves conf id) (sent n x) [] h (All-nil (Leaves conf id))
-
   by_one : (n : ℕ) (q : Port) (x : Packet) → port_with d.ports n ≡ Some q → q.enabled ≡ true → All (Leaves conf id) (sent n x ∷ [])
   by_one n q x is on =
       let here : port_at conf id n ≡ Some q = ap (λ (o : Option Dp). option_and_then (λ (e : Dp). port_with e.ports n) o) dp_is ∙ is in
-      alone n x (inr (subst (λ (o : Option Port). IsSomeAnd o (λ r. r.enabled ≡ true)) (sym here) on))
+      alone (Leaves conf id) n x (inr (subst (λ (o : Option Port). IsSomeAnd o (λ r. r.enabled ≡ true)) (sym here) on))
 
   own : (q : Port) → Contains d.ports q → port_with d.ports q.no ≡ Some q
   own q c = finds (λ (r : Port). r.no) (λ a b. a.no < b.no) (λ a b less same. omega (arith, less, same)) d.ports q (datapath conf valid id d dp_is).in_order c
@@ -73,11 +60,11 @@ module _ (conf : Configuration) (now : State) (valid : IsValid conf) (state : Is
         | inr tree ↦ by_end q.no x (tree_end conf valid now.ups d.id q.no tree)
       ]
 
-  by_reached : (v : Vlan) (q : Port) (x : Packet) → Contains d.ports q → IsReached R joins conf now d i.no v q → All (Leaves conf id) (sent q.no x ∷ [])
+  by_reached : (v : Vlan) (q : Port) (x : Packet) → Contains d.ports q → IsReached (Each (Leaves conf id)) (each_joins (Leaves conf id)) conf now d i.no v q → All (Leaves conf id) (sent q.no x ∷ [])
   by_reached v q x c (inl flood) = by_flood v flood.0 q x c flood.1
   by_reached v q x c (inr host) = by_one q.no q x (own q c) (member_on q host.0.vid (host_is_member conf valid id d dp_is now state host.0 q host.1 host.2 host.4))
 
-  each : Sites R joins conf now d i.no
+  each : Sites (Each (Leaves conf id)) (each_joins (Leaves conf id)) conf now d i.no
   each = record {
     target = λ q x c on other. by_one q.no q x (own q c) on;
     mirror = λ m n x c on is. by_one m.no m x (own m c) on;
@@ -86,10 +73,10 @@ module _ (conf : Configuration) (now : State) (valid : IsValid conf) (state : Is
   }
 
   controlled : (x : Packet) → All (Leaves conf id) (to_controller x)
-  controlled x = alone CONTROLLER x (inl refl)
+  controlled x = alone (Leaves conf id) CONTROLLER x (inl refl)
 
   all_leave : (p : Packet) → All (Leaves conf id) (from_port conf now d p i)
-  all_leave p = from_port_all R joins conf now d i each p 0 0 (λ x single. controlled x) (λ v x c vips. controlled x)
+  all_leave p = from_port_all (Each (Leaves conf id)) (each_joins (Leaves conf id)) conf now d i each p 0 0 (λ x single. controlled x) (λ v x c vips. controlled x)
 
 pub returns : goal.returns
 returns c = λ conf now id port p valid state.
