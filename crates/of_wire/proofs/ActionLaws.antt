@@ -17,6 +17,10 @@ pub record Front (spells : List ℕ → Type 0) (n : ℕ) (bytes : List ℕ) : T
   pub some : 1 ≤ n
   pub spelled : spells (take n bytes)
 
+-- its first n bytes spell it
+pub front_of : (spells : List ℕ → Type 0) (n : ℕ) (bytes : List ℕ) → AreBytes bytes → 1 ≤ n → n ≤ length bytes → (AreBytes (take n bytes) → length (take n bytes) ≡ n → spells (take n bytes)) → Front spells n bytes
+front_of spells n bytes h some room spelled = record { room = room; some = some; spelled = spelled (bytes_take n bytes h) (length-take-le n bytes room) }
+
 sized_complete : (past : PartFault) (size at : ℕ) (bytes : List ℕ) → size ≤ length bytes → sized_at past size size at bytes ≡ Ok size
 unfolding sized_at
 sized_complete past size at bytes l =
@@ -36,47 +40,29 @@ front_part spells before a n bytes f = record {
 pub output_front : (bytes : List ℕ) → AreBytes bytes → number_in 0 2 bytes ≡ 0 → number_in 2 2 bytes ≡ 16 → 16 ≤ length bytes → Front (SpellsAction (Output (number_in 4 4 bytes) (number_in 8 2 bytes))) 16 bytes
 output_front bytes h kind len room =
     let xs = take 16 bytes in
-    let hx = bytes_take 16 bytes h in
-    let lx : length xs ≡ 16 = length-take-le 16 bytes room in
-    record {
-      room = room;
-      some = omega arith;
-      spelled =
-          number_then 0 2 0 _ xs hx (omega arith) (number_of_take 0 2 16 bytes (omega arith) room ∙ kind) (
-          number_then 2 2 16 _ xs hx (omega arith) (number_of_take 2 2 16 bytes (omega arith) room ∙ len) (
-          number_then 4 4 (number_in 4 4 bytes) _ xs hx (omega arith) (number_of_take 4 4 16 bytes (omega arith) room) (
-          number_then 8 2 (number_in 8 2 bytes) _ xs hx (omega arith) (number_of_take 8 2 16 bytes (omega arith) room) (
-          omega (arith, length-drop 10 xs)))));
-    }
+    front_of _ 16 bytes h (omega arith) room (λ hx lx.
+    number_then 0 2 0 _ xs hx (omega arith) (number_of_take 0 2 16 bytes (omega arith) room ∙ kind) (
+    number_then 2 2 16 _ xs hx (omega arith) (number_of_take 2 2 16 bytes (omega arith) room ∙ len) (
+    number_then 4 4 (number_in 4 4 bytes) _ xs hx (omega arith) (number_of_take 4 4 16 bytes (omega arith) room) (
+    number_then 8 2 (number_in 8 2 bytes) _ xs hx (omega arith) (number_of_take 8 2 16 bytes (omega arith) room) (
+    omega (arith, length-drop 10 xs))))))
 
 pub push_front : (bytes : List ℕ) → AreBytes bytes → number_in 0 2 bytes ≡ 17 → number_in 2 2 bytes ≡ 8 → 8 ≤ length bytes → Front (SpellsAction (PushVlan (number_in 4 2 bytes))) 8 bytes
 push_front bytes h kind len room =
     let xs = take 8 bytes in
-    let hx = bytes_take 8 bytes h in
-    let lx : length xs ≡ 8 = length-take-le 8 bytes room in
-    record {
-      room = room;
-      some = omega arith;
-      spelled =
-          number_then 0 2 17 _ xs hx (omega arith) (number_of_take 0 2 8 bytes (omega arith) room ∙ kind) (
-          number_then 2 2 8 _ xs hx (omega arith) (number_of_take 2 2 8 bytes (omega arith) room ∙ len) (
-          number_then 4 2 (number_in 4 2 bytes) _ xs hx (omega arith) (number_of_take 4 2 8 bytes (omega arith) room) (
-          omega (arith, length-drop 6 xs))));
-    }
+    front_of _ 8 bytes h (omega arith) room (λ hx lx.
+    number_then 0 2 17 _ xs hx (omega arith) (number_of_take 0 2 8 bytes (omega arith) room ∙ kind) (
+    number_then 2 2 8 _ xs hx (omega arith) (number_of_take 2 2 8 bytes (omega arith) room ∙ len) (
+    number_then 4 2 (number_in 4 2 bytes) _ xs hx (omega arith) (number_of_take 4 2 8 bytes (omega arith) room) (
+    omega (arith, length-drop 6 xs)))))
 
 pub bare_front : (kind : ℕ) (bytes : List ℕ) → AreBytes bytes → number_in 0 2 bytes ≡ kind → number_in 2 2 bytes ≡ 8 → 8 ≤ length bytes → Front (Number 2 kind ▷ Number 2 8 ▷ Ignored 4) 8 bytes
 bare_front kind bytes h is len room =
     let xs = take 8 bytes in
-    let hx = bytes_take 8 bytes h in
-    let lx : length xs ≡ 8 = length-take-le 8 bytes room in
-    record {
-      room = room;
-      some = omega arith;
-      spelled =
-          number_then 0 2 kind _ xs hx (omega arith) (number_of_take 0 2 8 bytes (omega arith) room ∙ is) (
-          number_then 2 2 8 _ xs hx (omega arith) (number_of_take 2 2 8 bytes (omega arith) room ∙ len) (
-          omega (arith, length-drop 4 xs)));
-    }
+    front_of _ 8 bytes h (omega arith) room (λ hx lx.
+    number_then 0 2 kind _ xs hx (omega arith) (number_of_take 0 2 8 bytes (omega arith) room ∙ is) (
+    number_then 2 2 8 _ xs hx (omega arith) (number_of_take 2 2 8 bytes (omega arith) room ∙ len) (
+    omega (arith, length-drop 4 xs))))
 
 -- what is spelled at the front is read, whatever follows
 pub output_complete : (past : PartFault) (port max_len at : ℕ) (first rest : List ℕ) → SpellsAction (Output port max_len) first

@@ -15,7 +15,7 @@ use Rattle.of_wire.specs.Spelling.{has_goto, has_apply, SpellsActions, SpellsIns
 use Rattle.of_wire.proofs.Grammars.{AreBytes, bytes_take, number_then, ignored_then, number_again, ignored_again, number_of_take, number_of_front}
 use Rattle.of_wire.proofs.Chosen.{bind_from}
 use Rattle.of_wire.proofs.MatchLaws.{outer}
-use Rattle.of_wire.proofs.ActionLaws.{Front}
+use Rattle.of_wire.proofs.ActionLaws.{Front, front_of}
 use Rattle.of_wire.proofs.SetLaws.{action_complete, actions_complete}
 use Rattle.of_wire.proofs.Joining.{IsRead, joined_read}
 
@@ -23,19 +23,13 @@ pub goto_front : (before : List Instr) (bytes : List ℕ) → AreBytes bytes →
     → Front (EachInstr before (Goto (number_in 4 1 bytes))) 8 bytes
 goto_front before bytes h kind len room once =
     let xs = take 8 bytes in
-    let hx = bytes_take 8 bytes h in
-    let lx : length xs ≡ 8 = length-take-le 8 bytes room in
-    record {
-      room = room;
-      some = omega arith;
-      spelled = (
-        number_then 0 2 1 _ xs hx (omega arith) (number_of_take 0 2 8 bytes (omega arith) room ∙ kind) (
-            number_then 2 2 8 _ xs hx (omega arith) (number_of_take 2 2 8 bytes (omega arith) room ∙ len) (
-            number_then 4 1 (number_in 4 1 bytes) _ xs hx (omega arith) (number_of_take 4 1 8 bytes (omega arith) room) (
-            omega (arith, length-drop 5 xs)))),
-        once,
-      );
-    }
+    front_of _ 8 bytes h (omega arith) room (λ hx lx. (
+      number_then 0 2 1 _ xs hx (omega arith) (number_of_take 0 2 8 bytes (omega arith) room ∙ kind) (
+          number_then 2 2 8 _ xs hx (omega arith) (number_of_take 2 2 8 bytes (omega arith) room ∙ len) (
+          number_then 4 1 (number_in 4 1 bytes) _ xs hx (omega arith) (number_of_take 4 1 8 bytes (omega arith) room) (
+          omega (arith, length-drop 5 xs)))),
+      once,
+    ))
 
 some_action : (actions : List Action) (bytes : List ℕ) → SpellsActions actions bytes → 0 < length bytes → 0 < length actions
 some_action [] bytes p h = absurd (omega (arith, ap length p))
