@@ -1,5 +1,5 @@
 -- VLANs, a router and neighbours of which the entries are worked out by hand: what module `worked` cites.
-use Rattle.std.specs.Prelude.{ℕ, ◌+◌, ◌*◌, ◌≤◌, Bool, true, false, Some, None, List, [], ◌∷◌, if◌then◌else◌}
+use Rattle.std.specs.Prelude.{ℕ, ◌≤◌, Bool, true, false, Some, None, List, [], ◌∷◌, if◌then◌else◌}
 use Rattle.net_base.specs.declared.address.Ip4.{Ip4}
 use Rattle.net_base.specs.declared.address.Mac.{Mac}
 use Rattle.net_base.specs.declared.field.Field.{Field}
@@ -14,17 +14,10 @@ use Rattle.conf_types.specs.declared.state.NeighRec.{NeighRec}
 use Rattle.conf_types.specs.declared.vlan.Route.{Route}
 use Rattle.conf_types.specs.declared.vlan.Vlan.{Vlan}
 use Rattle.conf_types.specs.Configuration.{Configuration}
+use Rattle.packet_way.specs.Worked.{station, ip, edge, datapath, vlan}
 
 abbrev pub row : ℕ → ℕ → List Field → List Instr → Entry
 row table priority fields instrs = record { key = record { table = table; priority = priority; fields = fields }; instrs = instrs }
-
--- the address 10.0.a.b
-abbrev pub ip : ℕ → ℕ → Ip4
-ip a b = record { 0 = 0x0a000000 + a * 256 + b }
-
--- the address 02:00:00:00:00:n
-abbrev pub station : ℕ → Mac
-station n = record { 0 = 2 ∷ 0 ∷ 0 ∷ 0 ∷ 0 ∷ n ∷ [] }
 
 -- the address 0e:00:00:00:00:n
 abbrev pub gateway : ℕ → Mac
@@ -32,52 +25,13 @@ gateway n = record { 0 = 14 ∷ 0 ∷ 0 ∷ 0 ∷ 0 ∷ n ∷ [] }
 
 -- tagged in both VLANs
 abbrev pub port : Port
-port = record {
-  no = 1;
-  name = [];
-  description = [];
-  enabled = true;
-  native = None;
-  tagged = 100 ∷ 200 ∷ [];
-  acls = [];
-  output_only = false;
-  hairpin = false;
-  unicast_flood = true;
-  permanent_learn = false;
-  opstatus_reconf = true;
-  max_hosts = 255;
-  mirror = [];
-  stack = None;
-}
+port = edge 1 None (100 ∷ 200 ∷ [])
 
-abbrev pub datapath : Dp
-datapath = record {
-  id = record { 0 = 1 };
-  name = [];
-  description = [];
-  hardware = [];
-  timeout = 300;
-  arp_timeout = 30;
-  stack_priority = None;
-  drop_spoofed = true;
-  drop_broadcast = true;
-  drop_bpdu = true;
-  drop_lldp = true;
-  ports = port ∷ [];
-}
+abbrev pub switch : Dp
+switch = datapath 1 None (port ∷ [])
 
-abbrev pub vlan : ℕ → Mac → List Net4 → List Route → Vlan
-vlan vid mac vips routes = record {
-  vid = vid;
-  name = [];
-  description = [];
-  mac = mac;
-  vips = vips;
-  routes = routes;
-  acls = [];
-  max_hosts = 255;
-  unicast_flood = true;
-}
+abbrev pub routed : ℕ → Mac → List Net4 → List Route → Vlan
+routed vid mac vips routes = record (vlan vid vips) { mac = mac; routes = routes }
 
 -- a network has with it that its length is at most 32
 abbrev pub LengthsFit : Type 0
@@ -88,13 +42,13 @@ vip fit a = record { ip = ip a 254; len = 24; short = fit.0 }
 
 -- VLAN 100 has the VIP 10.0.1.254/24 and sends the rest by 10.0.1.1; VLAN 200 has 10.0.2.254/24
 abbrev pub office : LengthsFit → Vlan
-office fit = vlan 100 (gateway 1) (vip fit 1 ∷ []) (record { dst = record { ip = record { 0 = 0 }; len = 0; short = fit.1 }; gw = ip 1 1 } ∷ [])
+office fit = routed 100 (gateway 1) (vip fit 1 ∷ []) (record { dst = record { ip = record { 0 = 0 }; len = 0; short = fit.1 }; gw = ip 1 1 } ∷ [])
 
 abbrev pub guests : LengthsFit → Vlan
-guests fit = vlan 200 (gateway 2) (vip fit 2 ∷ []) []
+guests fit = routed 200 (gateway 2) (vip fit 2 ∷ []) []
 
 abbrev pub conf : LengthsFit → Configuration
-conf fit = record { dps = datapath ∷ []; vlans = office fit ∷ guests fit ∷ []; acls = []; routers = record { name = []; vlans = 100 ∷ 200 ∷ [] } ∷ [] }
+conf fit = record { dps = switch ∷ []; vlans = office fit ∷ guests fit ∷ []; acls = []; routers = record { name = []; vlans = 100 ∷ 200 ∷ [] } ∷ [] }
 
 abbrev pub neighbour : ℕ → ℕ → Ip4 → Bool → NeighRec
 neighbour group vid address is_known = record { group = record { 0 = group }; vid = vid; ip = address; mac = (if is_known then Some (station 9) else None); tries = 0; due = record { 0 = 0 } }
