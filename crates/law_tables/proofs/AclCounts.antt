@@ -1,5 +1,5 @@
 -- How many of a list pass a test, where numbers tell its members apart.
-use Rattle.std.proofs.Common.{◌≡◌, ℕ, zero, suc, ◌+◌, ◌<◌, ◌==◌, ◌&&◌, ◌||◌, not, Bool, true, false, cond, List, [], ◌∷◌, map, filter, refl, sym, ap, ◌∙◌, subst, arith, true≢false, eqb-true, eq-eqb}
+use Rattle.std.proofs.Common.{◌≡◌, ℕ, zero, suc, ◌+◌, ◌<◌, ◌==◌, ◌&&◌, ◌||◌, not, Bool, true, false, cond, List, [], ◌∷◌, map, filter, refl, sym, ap, ◌∙◌, subst, arith, true≢false, eq-eqb, ne_eqb}
 use Rattle.std.specs.Prelude.{Contains, count_by}
 use Rattle.std.specs.List.{AllByRecursion}
 use Rattle.std.proofs.lemmas.List.Sums.{sum_by-cons}
@@ -9,13 +9,6 @@ use Rattle.law_runs.specs.Members.{of_all, all_by}
 
 abbrev pub bit : Bool → ℕ
 bit b = cond b 1 0
-
-pub unequal : (m n : ℕ) → (m ≡ n → ⊥) → (m == n) ≡ false
-unequal m n apart = by (m == n) refl
-  where
-    by : (b : Bool) → (m == n) ≡ b → (m == n) ≡ false
-    by true is = absurd (apart (eqb-true m n is))
-    by false is = is
 
 pub counted : {A : Type 0} (test : A → Bool) (x : A) (xs : List A) → count_by test (x ∷ xs) ≡ bit (test x) + count_by test xs
 counted test x xs = sum_by-cons (λ y. cond (test y) 1 0) x xs
@@ -53,7 +46,7 @@ but_one m n a t = by (m == n) refl
     by : (b : Bool) → (m == n) ≡ b → (not (m == n) && ((n == m || a) && t)) ≡ (a && (not (m == n) && t))
     by true is = rw is (sym (and_false a))
     by false is =
-        let turned : (n == m) ≡ false = unequal n m (λ e. true≢false (sym (eq-eqb m n (sym e)) ∙ is)) in
+        let turned : (n == m) ≡ false = ne_eqb n m (λ e. true≢false (sym (eq-eqb m n (sym e)) ∙ is)) in
         rw is (rw turned refl)
 
 module _ {A : Type 0} (key : A → ℕ) where
@@ -65,7 +58,7 @@ module _ {A : Type 0} (key : A → ℕ) where
       let rest : count_by f xs ≡ count_by (λ z. not (key z == key x) && f z) xs =
       count_alike f (λ z. not (key z == key x) && f z) xs (all_by (λ z. f z ≡ (not (key z == key x) && f z)) xs (λ z c.
       let less = of_all (λ w. key x < key w) xs order.0 z c in
-      ap (λ b. not b && f z) (sym (unequal (key z) (key x) (λ e. omega (arith, e, less)))))) in
+      ap (λ b. not b && f z) (sym (ne_eqb (key z) (key x) (λ e. omega (arith, e, less)))))) in
       let itself : count_by (λ z. not (key z == key x) && f z) (x ∷ xs) ≡ count_by (λ z. not (key z == key x) && f z) xs =
       counted (λ z. not (key z == key x) && f z) x xs ∙ ap (λ b. bit (not b && f x) + count_by (λ z. not (key z == key x) && f z) xs) (eq-eqb (key x) (key x) refl) ∙ omega arith in
       subst (λ w. count_by f (x ∷ xs) ≡ bit (f w) + count_by (λ z. not (key z == key w) && f z) (x ∷ xs)) is
@@ -76,7 +69,7 @@ module _ {A : Type 0} (key : A → ℕ) where
       let more = count_apart f xs order.1 y within in
       let first = counted f x xs in
       let other : count_by (λ z. not (key z == key y) && f z) (x ∷ xs) ≡ bit (f x) + count_by (λ z. not (key z == key y) && f z) xs =
-      counted (λ z. not (key z == key y) && f z) x xs ∙ ap (λ b. bit (not b && f x) + count_by (λ z. not (key z == key y) && f z) xs) (unequal (key x) (key y) (λ e. omega (arith, e, less))) in
+      counted (λ z. not (key z == key y) && f z) x xs ∙ ap (λ b. bit (not b && f x) + count_by (λ z. not (key z == key y) && f z) xs) (ne_eqb (key x) (key y) (λ e. omega (arith, e, less))) in
       omega (arith, more, first, other)
 
   one_more : (n : ℕ) (ns : List ℕ) (test : ℕ → Bool) (xs : List A) (y : A) → key y ≡ n

@@ -1,9 +1,9 @@
 -- Table 0, case by case.
-use Rattle.std.proofs.Common.{◌≡◌, ℕ, ◌^◌, ◌<◌, ◌==◌, ◌&&◌, ◌||◌, not, Bool, true, false, List, [], ◌∷◌, ◌++◌, length, map, Option, Some, None, refl, sym, ap, ◌∙◌, subst, true≢false, eqb-true, eq-eqb, arith, if◌then◌else◌}
-use Rattle.std.specs.Prelude.{Contains, is_some, is_none}
+use Rattle.std.proofs.Common.{◌≡◌, ℕ, ◌^◌, ◌<◌, ◌==◌, ◌&&◌, ◌||◌, not, Bool, true, false, List, [], ◌∷◌, ◌++◌, length, map, Option, Some, refl, sym, ap, ◌∙◌, subst, true≢false, eqb-true, eq-eqb, arith, if◌then◌else◌, ne_eqb}
+use Rattle.std.specs.Prelude.{Contains}
 use Rattle.std.specs.List.{AllByRecursion, flat_map}
 use Rattle.std.specs.Option.{option_map_or}
-use Rattle.std.proofs.lemmas.Bool.{and_parts}
+use Rattle.std.proofs.lemmas.Bool.{false_from_ne_true}
 use Rattle.net_base.specs.declared.field.FieldId.TheVariants.{InPort}
 use Rattle.of_match.specs.declared.entry.Entry.{Entry}
 use Rattle.of_match.specs.declared.packet.Packet.{Packet}
@@ -15,7 +15,7 @@ use Rattle.conf_types.specs.declared.datapath.Dp.{Dp}
 use Rattle.conf_types.specs.declared.datapath.Port.{Port}
 use Rattle.conf_types.specs.Attached.{rules_of}
 use Rattle.conf_types.specs.Configuration.{Configuration}
-use Rattle.conf_types.specs.Membership.{is_stack, is_edge, is_accepting}
+use Rattle.conf_types.specs.Membership.{is_stack, is_accepting}
 use Rattle.conf_types.specs.State.{State}
 use Rattle.packet_way.specs.Verdict.{acl_sends, is_allowed, rule_for}
 use Rattle.plan_base.specs.Fields.{in_port}
@@ -27,13 +27,13 @@ use Rattle.law_runs.specs.Order.{same_self}
 use Rattle.law_runs.specs.Runs.{missed, went}
 use Rattle.law_runs.specs.Tests.{agrees_exact}
 use Rattle.plan_units.specs.Agrees.{hits_one}
-use Rattle.plan_units.specs.Facts.{none_found, port_in, port_is, one_port, port_number}
+use Rattle.plan_units.specs.Facts.{none_found, one_port, port_number}
 use Rattle.plan_units.specs.Fixed.{fixed}
 use Rattle.plan_units.specs.Laws.{IsSetting, IsPort, Sends, PortsLaw}
 use Rattle.plan_units.specs.Steps.{followed}
 use Rattle.plan_units.specs.Tables.{AtTable, port_acl_in}
 use Rattle.plan_units.specs.Units.{plan, of_port}
-use Rattle.law_tables.proofs.AclCounts.{unequal}
+use Rattle.law_tables.proofs.Ingress.{Entered, entered, stack_apart}
 use Rattle.law_tables.proofs.FirstRule.{none_elsewhere}
 use Rattle.law_tables.proofs.RuleHits.{comes_agrees}
 use Rattle.law_tables.proofs.AclsLead.{Part, Leads, NoneHits, to_next, no_part, few, acls_lead}
@@ -44,7 +44,7 @@ module _ (conf : Configuration) (now : State) (d : Dp) (setting : IsSetting conf
     not_by : (j : Port) → Contains d.ports j → (port ≡ j.no → ⊥) → agrees (in_port j.no) (value_of InPort port p) ≡ false
     not_by j c apart =
         let most = (port_number conf setting.valid d setting.is_dp j c).most in
-        agrees_exact InPort j.no port fits (omega (arith, most)) ∙ unequal port j.no apart
+        agrees_exact InPort j.no port fits (omega (arith, most)) ∙ ne_eqb port j.no apart
 
     none_by : (j : Port) → Contains d.ports j → (port ≡ j.no → ⊥) → NoneHits port p (port_acl conf d j)
     none_by j c apart =
@@ -89,27 +89,12 @@ module _ (conf : Configuration) (now : State) (d : Dp) (setting : IsSetting conf
         all = ((λ h le. (same_self [], refl)), tt);
       }))
 
-  -- an end of a stack link is no edge port
-  stack_apart : (i : Port) → is_stack i ≡ true → is_accepting i ≡ false
-  stack_apart i stack = by (is_accepting i) refl
-    where
-      both : {A : Type 0} (o : Option A) → is_some o ≡ true → is_none o ≡ true → ⊥
-      both None some none = true≢false (sym some)
-      both (Some x) some none = true≢false (sym none)
-
-      by : (b : Bool) → is_accepting i ≡ b → is_accepting i ≡ false
-      by true is =
-          let edge = (and_parts (is_edge i) (not i.output_only) is).0 in
-          let x = (and_parts (i.enabled && is_none i.stack) (length i.mirror == 0) edge).0 in
-          absurd (both i.stack (and_parts i.enabled (is_some i.stack) stack).1 (and_parts i.enabled (is_none i.stack) x).1)
-      by false is = is
-
   -- what stands in table 0 of a port
   abbrev acl_of : Port → Bool → Bool → Bool → List Entry
   acl_of i accepting none stack = if accepting && not none then acl_entries (AtPort i.no) conf d i.acls else if accepting || stack then port_entry i.no ∷ [] else []
 
   of_stack : (i : Port) → is_stack i ≡ true → port_acl conf d i ≡ port_entry i.no ∷ []
-  of_stack i stack = ap (λ a. acl_of i a (length i.acls == 0) (is_stack i)) (stack_apart i stack) ∙ ap (λ s. acl_of i false (length i.acls == 0) s) stack
+  of_stack i stack = ap (λ a. acl_of i a (length i.acls == 0) (is_stack i)) (false_from_ne_true (is_accepting i) (stack_apart i stack)) ∙ ap (λ s. acl_of i false (length i.acls == 0) s) stack
 
   of_closed : (i : Port) → is_stack i ≡ false → is_accepting i ≡ false → port_acl conf d i ≡ []
   of_closed i stack accepting = ap (λ a. acl_of i a (length i.acls == 0) (is_stack i)) accepting ∙ ap (λ s. acl_of i false (length i.acls == 0) s) stack
@@ -118,21 +103,15 @@ module _ (conf : Configuration) (now : State) (d : Dp) (setting : IsSetting conf
   of_edge i accepting b is = ap (λ a. acl_of i a (length i.acls == 0) (is_stack i)) accepting ∙ ap (λ n. acl_of i true n (is_stack i)) is
 
   module _ (port : ℕ) (p : Packet) (i : Port) (is_port : IsPort d port i) where
-    i_in : Contains d.ports i
-    i_in = port_in conf setting.valid d setting.is_dp port i is_port
-
-    i_is : i.no ≡ port
-    i_is = port_is conf setting.valid d setting.is_dp port i is_port
-
-    fits : port < 2 ^ 32
-    fits = let most = (port_number conf setting.valid d setting.is_dp i i_in).most in omega (arith, most, i_is)
+    came : Entered d port i
+    came = entered conf now d setting port i is_port
 
     closed : is_stack i ≡ false → is_accepting i ≡ false → Sends conf now d 0 port p []
     closed stack accepting =
-        ends port p fits (by_own port p fits i i_in i_is (λ e. hits e.key.fields port p ≡ false) (subst (λ es. NoneHits port p es) (sym (of_closed i stack accepting)) tt) (λ j c none. none))
+        ends port p came.fits (by_own port p came.fits i came.within came.is (λ e. hits e.key.fields port p ≡ false) (subst (λ es. NoneHits port p es) (sym (of_closed i stack accepting)) tt) (λ j c none. none))
 
     stacked : is_stack i ≡ true → (rest : List Sent) → Sends conf now d 1 port p rest → Sends conf now d 0 port p rest
-    stacked stack rest more = went (plan conf now d) port 0 p [] 1 p rest (decided 0 port p (plan conf now d) [] (Some (1, p)) (takes_all port p fits i i_in i_is (of_stack i stack))) more
+    stacked stack rest more = went (plan conf now d) port 0 p [] 1 p rest (decided 0 port p (plan conf now d) [] (Some (1, p)) (takes_all port p came.fits i came.within came.is (of_stack i stack))) more
 
     edge : is_accepting i ≡ true → (rest : List Sent) → (is_allowed conf i.acls port p ≡ true → Sends conf now d 1 port p rest) → Sends conf now d 0 port p (acl_sends conf d i.acls port p ++ (if is_allowed conf i.acls port p then rest else []))
     edge accepting rest more = by (length i.acls == 0) refl
@@ -145,13 +124,13 @@ module _ (conf : Configuration) (now : State) (d : Dp) (setting : IsSetting conf
         by true e =
             let none = empty i.acls e in
             subst (λ acls. Sends conf now d 0 port p (acl_sends conf d acls port p ++ (if is_allowed conf acls port p then rest else []))) (sym none)
-            (went (plan conf now d) port 0 p [] 1 p rest (decided 0 port p (plan conf now d) [] (Some (1, p)) (takes_all port p fits i i_in i_is (of_edge i accepting true e)))
+            (went (plan conf now d) port 0 p [] 1 p rest (decided 0 port p (plan conf now d) [] (Some (1, p)) (takes_all port p came.fits i came.within came.is (of_edge i accepting true e)))
             (more (ap (λ b. b || option_map_or (λ (rule : Rule). rule.allow) (rule_for conf i.acls port p) false) e)))
         by false e =
             sends_then conf now d 0 1 port p (acl_sends conf d i.acls port p) (is_allowed conf i.acls port p) rest
-            (ports_decide port p fits i i_in i_is (acl_sends conf d i.acls port p) (to_next (AtPort i.no) p (is_allowed conf i.acls port p))
+            (ports_decide port p came.fits i came.within came.is (acl_sends conf d i.acls port p) (to_next (AtPort i.no) p (is_allowed conf i.acls port p))
             (subst (λ es. Leads 0 port p es (acl_sends conf d i.acls port p) (to_next (AtPort i.no) p (is_allowed conf i.acls port p))) (sym (of_edge i accepting false e))
-            (acls_lead conf setting.valid d setting.is_dp (AtPort i.no) port p (fits, sym i_is) i.acls e (few conf setting.valid d setting.is_dp i.acls e (in_front (map (λ (q : Port). q.acls) d.ports) _ i.acls (in_mapped (λ (q : Port). q.acls) d.ports i i_in))))))
+            (acls_lead conf setting.valid d setting.is_dp (AtPort i.no) port p (came.fits, sym came.is) i.acls e (few conf setting.valid d setting.is_dp i.acls e (in_front (map (λ (q : Port). q.acls) d.ports) _ i.acls (in_mapped (λ (q : Port). q.acls) d.ports i came.within))))))
             more
 
   pub law : PortsLaw conf now d

@@ -1,6 +1,6 @@
 -- Table 1, case by case.
-use Rattle.std.proofs.Common.{◌≡◌, ℕ, ◌+◌, ◌^◌, ◌<◌, ◌≤◌, ◌==◌, ◌&&◌, ◌||◌, not, Bool, true, false, List, [], ◌∷◌, ◌++◌, length, map, Option, Some, None, refl, sym, ap, ◌∙◌, subst, true≢false, inl, inr, eqb-true, eq-eqb, arith, if◌then◌else◌}
-use Rattle.std.specs.Prelude.{Contains, is_some, is_none, option_and_then, option_to_list}
+use Rattle.std.proofs.Common.{◌≡◌, ℕ, ◌+◌, ◌^◌, ◌<◌, ◌≤◌, ◌==◌, ◌&&◌, ◌||◌, not, Bool, true, false, List, [], ◌∷◌, ◌++◌, length, map, Option, Some, None, refl, sym, ap, ◌∙◌, subst, true≢false, inl, inr, eqb-true, eq-eqb, arith, if◌then◌else◌, ne_eqb}
+use Rattle.std.specs.Prelude.{Contains, option_and_then, option_to_list}
 use Rattle.std.specs.List.{AllByRecursion, list_any, flat_map}
 use Rattle.std.specs.Option.{option_map, option_map_or}
 use Rattle.std.proofs.lemmas.Bool.{and_parts}
@@ -43,7 +43,7 @@ use Rattle.law_runs.specs.Outputs.{sends_joined, left_joined}
 use Rattle.law_runs.specs.Runs.{missed, stopped, went}
 use Rattle.plan_units.specs.Agrees.{by_port, in_vlan, without_a_tag, names_vlan}
 use Rattle.plan_units.specs.Copies.{outs_send, outs_leave, mirrors_go_out}
-use Rattle.plan_units.specs.Facts.{found, none_found, some_passes, none_passes, port_in, port_is, one_port, port_number, vlan_in, one_vlan, vlan_number}
+use Rattle.plan_units.specs.Facts.{found, none_found, some_passes, none_passes, one_port, port_number, vlan_in, one_vlan, vlan_number}
 use Rattle.plan_units.specs.Fixed.{drops, from_group, passes, fixed}
 use Rattle.plan_units.specs.Laws.{IsSetting, IsOf, IsPort, Sends, AdmissionLaw}
 use Rattle.plan_units.specs.PortVlans.{some_of}
@@ -51,26 +51,9 @@ use Rattle.plan_units.specs.Steps.{followed, sends_led, goes_led, next_led}
 use Rattle.plan_units.specs.Tables.{AtTable, by_family, elsewhere_in, here_in, port_acl_in, misses_in, vlan_acl_in, vips_in, floods_in, sources_in, destinations_in, fib_in}
 use Rattle.plan_units.specs.Units.{plan, of_port}
 use Rattle.law_tables.proofs.Dropped.{all_drops, drops_take}
+use Rattle.law_tables.proofs.Ingress.{Entered, entered, stack_apart}
 use Rattle.law_tables.proofs.Tags.{tag_left, untagged_with, tagged_is, all_named, admitted, admits_native, admits_tagged, Is, is_admitted}
 use Rattle.law_tables.proofs.Tags.Is.{native, tagged}
-
-unequal : (m n : ℕ) → (m ≡ n → ⊥) → (m == n) ≡ false
-unequal m n apart = by (m == n) refl
-  where
-    by : (b : Bool) → (m == n) ≡ b → (m == n) ≡ false
-    by true is = absurd (apart (eqb-true m n is))
-    by false is = is
-
--- an end of a stack link is no edge port
-stack_apart : {P : Type 0} (i : Port) → is_stack i ≡ true → is_accepting i ≡ true → P
-stack_apart i stack accepting =
-    let edge = (and_parts (is_edge i) (not i.output_only) accepting).0 in
-    let x = (and_parts (i.enabled && is_none i.stack) (length i.mirror == 0) edge).0 in
-    absurd (both i.stack (and_parts i.enabled (is_some i.stack) stack).1 (and_parts i.enabled (is_none i.stack) x).1)
-  where
-    both : {A : Type 0} (o : Option A) → is_some o ≡ true → is_none o ≡ true → ⊥
-    both None some none = true≢false (sym some)
-    both (Some x) some none = true≢false (sym none)
 
 module _ (conf : Configuration) (now : State) (d : Dp) (setting : IsSetting conf now d) where
   -- ---- entries of table 1 alone decide there
@@ -91,14 +74,8 @@ module _ (conf : Configuration) (now : State) (d : Dp) (setting : IsSetting conf
   })
 
   module _ (port : ℕ) (p : Packet) (shaped : IsShaped p) (i : Port) (is_port : IsPort d port i) where
-    i_in : Contains d.ports i
-    i_in = port_in conf setting.valid d setting.is_dp port i is_port
-
-    i_is : i.no ≡ port
-    i_is = port_is conf setting.valid d setting.is_dp port i is_port
-
-    fits : port < 2 ^ 32
-    fits = let most = (port_number conf setting.valid d setting.is_dp i i_in).most in omega (arith, most, i_is)
+    came : Entered d port i
+    came = entered conf now d setting port i is_port
 
     abbrev taken : Entry → Bool
     taken e = hits e.key.fields port p
@@ -109,7 +86,7 @@ module _ (conf : Configuration) (now : State) (d : Dp) (setting : IsSetting conf
     -- ---- whose entries take the packet: those of the port that it came in by
 
     of_port_no : (j : Port) → Contains d.ports j → agrees (in_port j.no) (value_of InPort port p) ≡ (port == j.no)
-    of_port_no j c = by_port port p shaped fits j.no (port_number conf setting.valid d setting.is_dp j c)
+    of_port_no j c = by_port port p shaped came.fits j.no (port_number conf setting.valid d setting.is_dp j c)
 
     none_by : (j : Port) → agrees (in_port j.no) (value_of InPort port p) ≡ false → AllByRecursion (λ e. taken e ≡ false) (admissions conf d j)
     none_by j apart =
@@ -129,7 +106,7 @@ module _ (conf : Configuration) (now : State) (d : Dp) (setting : IsSetting conf
     of_own Q own j cj = by (port == j.no) refl
       where
         by : (b : Bool) → (port == j.no) ≡ b → AllByRecursion (λ e. taken e ≡ true → Q e) (admissions conf d j)
-        by true e = subst (λ x. AllByRecursion (λ f. taken f ≡ true → Q f) (admissions conf d x)) (one_port conf setting.valid d setting.is_dp i j i_in cj (i_is ∙ eqb-true port j.no e)) own
+        by true e = subst (λ x. AllByRecursion (λ f. taken f ≡ true → Q f) (admissions conf d x)) (one_port conf setting.valid d setting.is_dp i j came.within cj (came.is ∙ eqb-true port j.no e)) own
         by false e =
             let none = none_by j (of_port_no j cj ∙ e) in
             all_by (λ f. taken f ≡ true → Q f) (admissions conf d j) (λ f c hit. absurd (true≢false (sym hit ∙ of_all (λ g. taken g ≡ false) (admissions conf d j) none f c)))
@@ -141,10 +118,10 @@ module _ (conf : Configuration) (now : State) (d : Dp) (setting : IsSetting conf
 
     -- a packet with no tag isn't of a VLAN by its tag, and one with a tag isn't without
     no_tag : (w : Vlan) → p.tags ≡ [] → (vid_value p.tags == 0x1000 + w.vid) ≡ false
-    no_tag w none = ap (λ ts. vid_value ts == 0x1000 + w.vid) none ∙ unequal 0 (0x1000 + w.vid) (λ e. omega (arith, e))
+    no_tag w none = ap (λ ts. vid_value ts == 0x1000 + w.vid) none ∙ ne_eqb 0 (0x1000 + w.vid) (λ e. omega (arith, e))
 
     has_tag : (tag : Tag) (tags : List Tag) → p.tags ≡ tag ∷ tags → (vid_value p.tags == 0) ≡ false
-    has_tag tag tags is = ap (λ ts. vid_value ts == 0) is ∙ unequal (0x1000 + tag.vid) 0 (λ e. omega (arith, e))
+    has_tag tag tags is = ap (λ ts. vid_value ts == 0) is ∙ ne_eqb (0x1000 + tag.vid) 0 (λ e. omega (arith, e))
 
     none_is : (vid_value p.tags == 0) ≡ true → p.tags ≡ []
     none_is hit = by p.tags refl
@@ -232,9 +209,9 @@ module _ (conf : Configuration) (now : State) (d : Dp) (setting : IsSetting conf
           let v_in = vlan_in conf setting.valid d setting.is_dp v.vid v is_vlan in
           record {
             by = from_stack i v;
-            within = behind (fixed conf d) _ (from_stack i v) (in_front (flat_map (of_port conf now d) d.ports) _ (from_stack i v) (in_flat (of_port conf now d) d.ports i (from_stack i v) i_in
+            within = behind (fixed conf d) _ (from_stack i v) (in_front (flat_map (of_port conf now d) d.ports) _ (from_stack i v) (in_flat (of_port conf now d) d.ports i (from_stack i v) came.within
                 (behind (port_acl conf d i) (admissions conf d i ++ misses conf d i now.hosts) (from_stack i v) (in_front (admissions conf d i) _ (from_stack i v) (in_front (from_stacks conf i) (from_edges conf d i) (from_stack i v) (in_then (is_stack i) (map (from_stack i) conf.vlans) [] (from_stack i v) stack (in_mapped (from_stack i) conf.vlans v v_in)))))));
-            hit = rw (of_port_no i i_in ∙ eq-eqb port i.no (sym i_is)) (rw (tag_hit v (vlan_number conf setting.valid d setting.is_dp v v_in) ∙ names_vlan p tag v.vid outer ∙ eq-eqb tag.vid v.vid same) refl);
+            hit = rw (of_port_no i came.within ∙ eq-eqb port i.no (sym came.is)) (rw (tag_hit v (vlan_number conf setting.valid d setting.is_dp v v_in) ∙ names_vlan p tag v.vid outer ∙ eq-eqb tag.vid v.vid same) refl);
             all = followed 1 port p 40 [] (Some (7, p)) (plan conf now d) (at_1 (Part 40 [] (Some (7, p)))
                 (all_drops conf d (Part 40 [] (Some (7, p))) (λ priority field least most hit le. absurd (omega (arith, most, le))))
                 (own (λ e. 40 ≤ e.key.priority → Does 1 port p [] (Some (7, p)) e) (of_stacks (λ e. 40 ≤ e.key.priority → Does 1 port p [] (Some (7, p)) e) (λ s w c t le. (same_self [], refl)))
@@ -245,7 +222,7 @@ module _ (conf : Configuration) (now : State) (d : Dp) (setting : IsSetting conf
       other_stack none =
           ends dropped_end (own (Does 1 port p [] None)
           (of_stacks (Does 1 port p [] None) (λ s w c t. absurd (none-some w (sym none ∙ ap (λ ts. option_and_then (λ (tag : Tag). vlan_with conf.vlans tag.vid) (outermost ts)) t.is ∙ ap (vlan_with conf.vlans) t.same ∙ there w c))))
-          (of_edges (Does 1 port p [] None) (λ accepting w n a. stack_apart i stack accepting) (λ accepting w t a. stack_apart i stack accepting)))
+          (of_edges (Does 1 port p [] None) (λ accepting w n a. absurd (stack_apart i stack accepting)) (λ accepting w t a. absurd (stack_apart i stack accepting))))
         where
           there : (w : Vlan) → Contains conf.vlans w → vlan_with conf.vlans w.vid ≡ Some w
           there w c = by (vlan_with conf.vlans w.vid) refl
@@ -260,7 +237,7 @@ module _ (conf : Configuration) (now : State) (d : Dp) (setting : IsSetting conf
 
     module _ (accepting : is_accepting i ≡ true) where
       not_stack : (Q : Entry → Type 0) → AllByRecursion (λ e. taken e ≡ true → Q e) (from_stacks conf i)
-      not_stack Q = of_stacks Q (λ stack w c t. stack_apart i stack accepting)
+      not_stack Q = of_stacks Q (λ stack w c t. absurd (stack_apart i stack accepting))
 
       drops_it : is_dropped conf d p ≡ true → Sends conf now d 1 port p []
       drops_it is =
@@ -319,7 +296,7 @@ module _ (conf : Configuration) (now : State) (d : Dp) (setting : IsSetting conf
         by_edge : is_dropped conf d p ≡ false → (q : Packet) (e : Entry) → e.key.table ≡ 1 → e.key.priority ≡ 20 → taken e ≡ true → Contains (from_edges conf d i) e → AllByRecursion (λ f. taken f ≡ true → Led q f) (from_edges conf d i) → Just q
         by_edge kept q e in_1 at_20 hit c all = record {
           by = e;
-          within = behind (fixed conf d) _ e (in_front (flat_map (of_port conf now d) d.ports) _ e (in_flat (of_port conf now d) d.ports i e i_in
+          within = behind (fixed conf d) _ e (in_front (flat_map (of_port conf now d) d.ports) _ e (in_flat (of_port conf now d) d.ports i e came.within
               (behind (port_acl conf d i) (admissions conf d i ++ misses conf d i now.hosts) e (in_front (admissions conf d i) _ e (behind (from_stacks conf i) (from_edges conf d i) e c)))));
           hit = rw (eq-eqb e.key.table 1 in_1) hit;
           all = subst (λ n. AllByRecursion (Follows 1 port p n (copies (mirrors_of d i.no) p) (Some (next, q))) (plan conf now d)) (sym at_20)
@@ -332,7 +309,7 @@ module _ (conf : Configuration) (now : State) (d : Dp) (setting : IsSetting conf
         plain_in none native_is = in_then (is_accepting i) _ [] (without_tag d i v) accepting (subst (λ o. Contains (option_to_list (option_map (without_tag d i) o) ++ map (with_tag d i) (tagged_vlans conf i)) (without_tag d i v)) (sym native_is) (head_of (without_tag d i v) (map (with_tag d i) (tagged_vlans conf i))))
 
         own_hit : agrees (in_port i.no) (value_of InPort port p) ≡ true
-        own_hit = of_port_no i i_in ∙ eq-eqb port i.no (sym i_is)
+        own_hit = of_port_no i came.within ∙ eq-eqb port i.no (sym came.is)
 
         goes_on_so : is_dropped conf d p ≡ false → Just (tagged_with v.vid p)
         goes_on_so kept = by (is_admitted conf i p v is)

@@ -23,7 +23,8 @@ use Rattle.packet_way.specs.Drops.{is_dropped, is_of_bridges}
 use Rattle.plan_base.specs.Fields.{eth_src, eth_type}
 use Rattle.law_runs.specs.Members.{of_all, all_by, all_joined, all_mapped, all_if}
 use Rattle.law_runs.specs.Tests.{agrees_exact}
-use Rattle.plan_units.specs.Agrees.{hits_one, from_address, of_type, mac_below, same_bytes, equal_bytes}
+use Rattle.net_base.proofs.Macs.{mac_below}
+use Rattle.plan_units.specs.Agrees.{hits_one, from_address, of_type, same_bytes, equal_bytes}
 use Rattle.plan_units.specs.Fixed.{drop, drops, bridge_drops, lldp_drops, broadcast_drops, spoofed_drops, gateways, once}
 
 -- ---- whether a test passes somewhere

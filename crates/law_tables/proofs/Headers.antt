@@ -24,7 +24,7 @@ use Rattle.plan_base.specs.Actions.{set_eth_src, set_eth_dst, set_vid, dec_ttl}
 use Rattle.plan_base.specs.Fields.{ip_proto, icmpv4_type, arp_tpa}
 use Rattle.law_runs.specs.Tests.{agrees_exact}
 use Rattle.plan_units.specs.Facts.{some_passes}
-use Rattle.law_tables.proofs.Hits.{mac_again}
+use Rattle.plan_units.specs.Agrees.{mac_again}
 use Rattle.law_tables.proofs.Items.{any_true}
 
 pub both : (a b : Bool) → a ≡ true → b ≡ true → (a && b) ≡ true

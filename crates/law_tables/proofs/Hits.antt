@@ -1,13 +1,11 @@
--- What a match and its fields take, and what an address is made again of.
-use Rattle.std.proofs.Common.{◌≡◌, ℕ, ◌-◌, ◌/◌, ◌%◌, ◌^◌, ◌<◌, ◌==◌, Bool, true, false, List, [], ◌∷◌, Some, refl, sym, ap, ◌∙◌, eqb-true, eq-eqb, true≢false, arith}
+-- What a match and its fields take.
+use Rattle.std.proofs.Common.{◌≡◌, ℕ, ◌-◌, ◌/◌, ◌%◌, ◌^◌, ◌<◌, ◌==◌, ◌&&◌, Bool, true, false, List, [], ◌∷◌, Some, refl, sym, ◌∙◌, eqb-true, eq-eqb, true≢false, arith}
 use Rattle.std.specs.Prelude.{Contains, bit_and, ◌↔◌}
 use Rattle.std.specs.List.{AllByRecursion}
 use Rattle.std.proofs.lemmas.Bool.{and_parts}
 use Rattle.net_base.proofs.Prefixes.{agree_above}
-use Rattle.net_base.specs.declared.address.Mac.{Mac}
 use Rattle.net_base.specs.declared.field.Field.{Field}
 use Rattle.net_base.specs.declared.field.FieldId.{FieldId}
-use Rattle.net_base.specs.Address.{IsSixBytes, mac_value, mac_of}
 use Rattle.net_base.specs.Field.{prefix}
 use Rattle.of_match.specs.declared.packet.Packet.{Packet}
 use Rattle.of_match.specs.Hit.{agrees, hits, value_of}
@@ -31,6 +29,13 @@ hits_where (f ∷ fields) port p all = rw all.0 (hits_where fields port p all.1)
 pub not_hit : {P : Type 0} (fields : List Field) (port : ℕ) (p : Packet) (f : Field) → Contains fields f → agrees f (value_of f.id port p) ≡ false → hits fields port p ≡ true → P
 not_hit fields port p f c is h = absurd (true≢false (sym (of_all (λ f. agrees f (value_of f.id port p) ≡ true) fields (each_agrees fields port p h) f c) ∙ is))
 
+-- of a match of two fields, or of three, each agrees
+pub two : (a b : Bool) → (a && (b && true)) ≡ true → (a ≡ true) × (b ≡ true)
+two a b is = let x = and_parts a (b && true) is in (x.0, (and_parts b true x.1).0)
+
+pub three : (a b c : Bool) → (a && (b && (c && true))) ≡ true → (a ≡ true) × (b ≡ true) × (c ≡ true)
+three a b c is = let x = and_parts a (b && (c && true)) is in let y = two b c x.1 in (x.0, y.0, y.1)
+
 -- a prefix takes the addresses that have its bits
 pub in_prefix : (id : FieldId) (ip net len : ℕ) → ip < 2 ^ 32 → net < 2 ^ 32 → agrees (prefix id net len) (Some ip) ≡ (ip / 2 ^ (32 - len) == net / 2 ^ (32 - len))
 in_prefix id ip net len ip_fits net_fits = by (bit_and ip f.mask == bit_and f.value f.mask) (ip / 2 ^ (32 - len) == net / 2 ^ (32 - len)) refl refl
@@ -46,25 +51,3 @@ in_prefix id ip net len ip_fits net_fits = by (bit_and ip f.mask == bit_and f.va
     by false false ex ey = refl
     by true false ex ey = sym (eq-eqb (ip / 2 ^ (32 - len)) (net / 2 ^ (32 - len)) (both.1 (eqb-true (bit_and ip f.mask) (bit_and f.value f.mask) ex))) ∙ ey
     by false true ex ey = sym (sym (eq-eqb (bit_and ip f.mask) (bit_and f.value f.mask) (both.0 (eqb-true (ip / 2 ^ (32 - len)) (net / 2 ^ (32 - len)) ey))) ∙ ex)
-
--- the address of an address's number is the address
-bytes_again : (bytes : List ℕ) → IsSixBytes bytes → ◌≡◌ {A = List ℕ} (mac_of (mac_value (record { 0 = bytes }))).0 bytes
-bytes_again [] six = absurd (omega (arith, six.count))
-bytes_again (a ∷ []) six = absurd (omega (arith, six.count))
-bytes_again (a ∷ b ∷ []) six = absurd (omega (arith, six.count))
-bytes_again (a ∷ b ∷ c ∷ []) six = absurd (omega (arith, six.count))
-bytes_again (a ∷ b ∷ c ∷ d ∷ []) six = absurd (omega (arith, six.count))
-bytes_again (a ∷ b ∷ c ∷ d ∷ e ∷ []) six = absurd (omega (arith, six.count))
-bytes_again (a ∷ b ∷ c ∷ d ∷ e ∷ f ∷ []) six =
-    let v = mac_value (record { 0 = a ∷ b ∷ c ∷ d ∷ e ∷ f ∷ [] }) in
-    let ea : v / 2 ^ 40 % 256 ≡ a = omega (arith, six.each) in
-    let eb : v / 2 ^ 32 % 256 ≡ b = omega (arith, six.each) in
-    let ec : v / 2 ^ 24 % 256 ≡ c = omega (arith, six.each) in
-    let ed : v / 2 ^ 16 % 256 ≡ d = omega (arith, six.each) in
-    let ee : v / 2 ^ 8 % 256 ≡ e = omega (arith, six.each) in
-    let ef : v % 256 ≡ f = omega (arith, six.each) in
-    λ i. ea i ∷ eb i ∷ ec i ∷ ed i ∷ ee i ∷ ef i ∷ []
-bytes_again (a ∷ b ∷ c ∷ d ∷ e ∷ f ∷ g ∷ more) six = absurd (omega (arith, six.count))
-
-pub mac_again : (mac : Mac) → IsSixBytes mac.0 → mac_of (mac_value mac) ≡ mac
-mac_again mac six = ap (λ (bytes : List ℕ). let made : Mac = record { 0 = bytes } in made) (bytes_again mac.0 six)

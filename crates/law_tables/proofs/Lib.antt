@@ -1,3 +1,5 @@
+pub mod Ingress
+pub mod Hits
 pub mod AclCounts
 pub mod AclTargets
 pub mod RuleHits
@@ -10,14 +12,11 @@ pub mod Dropped
 pub mod Tags
 pub mod Admissions
 pub mod TableOfSources
-pub mod Hits
 pub mod Longest
 pub mod Items
 pub mod Headers
 pub mod RouteFamilies
 pub mod TablesOfRoutes
-pub mod Hops
 pub mod TableOfDestinations
 pub mod FloodLists
-pub mod Trees
 pub mod TableOfFloods

@@ -1,6 +1,6 @@
 -- When the entries of rules hit: where the packet comes by the port or has the tag of the VLAN, just where
 -- the rules do; and elsewhere never.
-use Rattle.std.proofs.Common.{◌≡◌, ℕ, ◌+◌, ◌-◌, ◌^◌, ◌<◌, ◌==◌, ◌&&◌, ◌||◌, not, Bool, true, false, cond, List, [], ◌∷◌, filter, Option, Some, None, refl, sym, ap, ◌∙◌, subst, arith, true≢false, eqb-true, eq-eqb, if◌then◌else◌, inl, inr}
+use Rattle.std.proofs.Common.{◌≡◌, ℕ, ◌+◌, ◌-◌, ◌^◌, ◌<◌, ◌==◌, ◌&&◌, ◌||◌, not, Bool, true, false, cond, List, [], ◌∷◌, filter, Option, Some, None, refl, sym, ap, ◌∙◌, subst, arith, true≢false, eqb-true, eq-eqb, if◌then◌else◌, inl, inr, ne_eqb}
 use Rattle.std.specs.Prelude.{nat_lt, bit_and}
 use Rattle.std.specs.List.{AllByRecursion, list_any}
 use Rattle.std.proofs.lemmas.Bool.{or_cases, ltb-true, ltb-false}
@@ -21,7 +21,7 @@ use Rattle.acl_compile.specs.declared.place.Place.TheVariants.{AtPort, AtVlan}
 use Rattle.acl_compile.specs.Places.{field_at}
 use Rattle.acl_compile.specs.Rows.{asks_for_another, with_vid, rule_fields}
 use Rattle.law_runs.specs.Tests.{agrees_exact, in_all_bits}
-use Rattle.law_tables.proofs.AclCounts.{unequal, and_false}
+use Rattle.law_tables.proofs.AclCounts.{and_false}
 
 -- a field with the number of the VLAN's is one, and asks for a whole number
 record AsksVid (id : FieldId) (f : Field) : Type 0 where
@@ -82,7 +82,7 @@ module _ (vid port : ℕ) (p : Packet) (is_vid : IsVid vid) (tagged : vid_value 
     where
       by : (a b : Bool) → (number_of f.id == 6) ≡ a → (f.value == 0x1000 + vid) ≡ b → (a && not b) ≡ true → agrees f (value_of f.id port p) ≡ false
       by true true ea eb is = absurd (true≢false (sym is))
-      by true false ea eb is = asked_agrees f all.0 (eqb-true (number_of f.id) 6 ea) ∙ unequal (0x1000 + vid) f.value (λ e. true≢false (sym (eq-eqb f.value (0x1000 + vid) (sym e)) ∙ eb))
+      by true false ea eb is = asked_agrees f all.0 (eqb-true (number_of f.id) 6 ea) ∙ ne_eqb (0x1000 + vid) f.value (λ e. true≢false (sym (eq-eqb f.value (0x1000 + vid) (sym e)) ∙ eb))
       by false b ea eb is = absurd (true≢false (sym is))
 
   -- the others are what is left to ask

@@ -1,14 +1,13 @@
 -- Table 7, case by case.
-use Rattle.std.proofs.Common.{◌≡◌, ◌⊎◌, ℕ, ◌^◌, ◌<◌, ◌≤◌, ◌==◌, ◌&&◌, ◌||◌, not, Bool, true, false, cond, List, [], ◌∷◌, ◌++◌, length, map, filter, Option, Some, None, refl, sym, ap, ◌∙◌, subst, inl, inr, true≢false, eqb-true, eq-eqb, arith, if◌then◌else◌}
-use Rattle.std.specs.Prelude.{Contains, option_to_list}
-use Rattle.std.specs.List.{AllByRecursion, find, flat_map}
+use Rattle.std.proofs.Common.{◌≡◌, ◌⊎◌, ℕ, ◌^◌, ◌<◌, ◌≤◌, ◌==◌, ◌&&◌, ◌||◌, not, Bool, true, false, List, [], ◌∷◌, ◌++◌, Option, Some, None, refl, sym, ap, ◌∙◌, subst, true≢false, eqb-true, eq-eqb, arith, if◌then◌else◌}
+use Rattle.std.specs.Prelude.{Contains, IsSomeAnd, option_to_list}
+use Rattle.std.specs.List.{AllByRecursion, flat_map}
 use Rattle.std.specs.Option.{option_map, option_map_or, option_and_then}
 use Rattle.std.proofs.lemmas.Bool.{and_parts}
 use Rattle.std.proofs.lemmas.Option.{same_Some, none-some}
 use Rattle.std.proofs.lemmas.List.{append-nil}
-use Rattle.net_base.specs.declared.field.FieldId.TheVariants.{EthDst, VlanVid}
+use Rattle.net_base.specs.declared.field.FieldId.TheVariants.{VlanVid}
 use Rattle.net_base.specs.declared.numbers.DpId.{DpId}
-use Rattle.net_base.specs.Address.{IsSixBytes}
 use Rattle.net_base.specs.Numbers.{IsVid, IsPortNo}
 use Rattle.net_base.specs.declared.field.Field.{Field}
 use Rattle.of_match.specs.declared.action.Action.{Action}
@@ -18,20 +17,20 @@ use Rattle.of_match.specs.declared.packet.Sent.{Sent}
 use Rattle.of_match.specs.declared.packet.Tag.{Tag}
 use Rattle.of_match.specs.Act.{act_sends, act_left, left_by, sends_of}
 use Rattle.of_match.specs.Hit.{hits, agrees, value_of}
-use Rattle.of_match.specs.Pipeline.{goes_on, sends_by, next_table}
+use Rattle.of_match.specs.Pipeline.{sends_by}
 use Rattle.conf_types.specs.declared.datapath.Dp.{Dp}
 use Rattle.conf_types.specs.declared.datapath.Port.{Port}
 use Rattle.conf_types.specs.declared.state.HostRec.{HostRec}
 use Rattle.conf_types.specs.declared.vlan.Vlan.{Vlan}
-use Rattle.conf_types.specs.Configuration.{Configuration, dp_with, port_with, vlan_with}
+use Rattle.conf_types.specs.Configuration.{Configuration, dp_with, port_with, port_at}
 use Rattle.conf_types.specs.Groups.{group_of}
 use Rattle.conf_types.specs.Lists.{is_same}
-use Rattle.conf_types.specs.Membership.{is_stack, is_accepting, is_native_in, mirrors_of}
-use Rattle.conf_types.specs.State.{State, IsHost, IsSameHost, is_host_in}
+use Rattle.conf_types.specs.Membership.{is_stack, is_native_in}
+use Rattle.conf_types.specs.State.{State, is_host_in}
 use Rattle.packet_way.specs.declared.known.Onward.{Onward}
 use Rattle.packet_way.specs.declared.known.Onward.TheVariants.{ByPort, OverStack, Everywhere}
 use Rattle.packet_way.specs.Known.{stack_of, host_with, onward_to, onward, to_port, to_hop}
-use Rattle.packet_way.specs.Leaving.{copies, delivered, as_sent}
+use Rattle.packet_way.specs.Leaving.{delivered, as_sent}
 use Rattle.packet_way.specs.Leaving as leaving
 use Rattle.stack_paths.specs.Chosen.{hop_of}
 use Rattle.stack_paths.specs.Stack.{Stack}
@@ -44,33 +43,28 @@ use Rattle.vlan_compile.specs.Destinations.{destinations, at_port, from_its_port
 use Rattle.vlan_compile.specs.Sources.{sources}
 use Rattle.law_runs.specs.Decided.{Does, IsDecided, decided}
 use Rattle.law_runs.specs.Members.{in_front, behind, in_flat, in_filtered, in_then, in_else, head_of, tail_of, all_if, all_filtered, all_by, of_all}
-use Rattle.law_runs.specs.Order.{AreSame, same_self, same_equal}
+use Rattle.law_runs.specs.Order.{same_self, same_equal}
 use Rattle.law_runs.specs.Runs.{stopped, went}
-use Rattle.law_tables.proofs.Hops.{hop_port}
+use Rattle.law_tables.proofs.Hits.{two, three}
+use Rattle.law_tables.proofs.Ingress.{Entered, entered, end_of, end_number, in_group, place, six_of, one_host}
 use Rattle.plan_units.specs.Agrees.{by_port, to_address, in_vlan, names_vlan, same_bytes, equal_bytes}
 use Rattle.plan_units.specs.Copies.{no_ingress, popped_first, copied_sends}
-use Rattle.plan_units.specs.Facts.{found, none_found, port_in, port_is, one_port, port_number, apart_or_one}
+use Rattle.plan_units.specs.Facts.{found, none_found, port_in, port_number}
 use Rattle.plan_units.specs.Fixed.{from_group, passes, pass, fixed, drops}
 use Rattle.plan_units.specs.Laws.{IsSetting, Leaves, Sends, DestinationLaw}
-use Rattle.plan_units.specs.PortVlans.{Place, host_place}
 use Rattle.plan_units.specs.Steps.{followed, sends_led, goes_led, ends_led}
-use Rattle.plan_units.specs.Tables.{AtTable, ByFamily, by_family, elsewhere_in, here_in, drops_in, port_acl_in, admissions_in, misses_in, vlan_acl_in, vips_in, floods_in, sources_in, fib_in}
-use Rattle.plan_units.specs.Units.{plan, of_port, of_vlan, of_host, of_routes, hosts_of, is_of_group}
+use Rattle.plan_units.specs.Tables.{ByFamily, by_family, elsewhere_in, here_in, drops_in, port_acl_in, admissions_in, misses_in, vlan_acl_in, vips_in, floods_in, sources_in, fib_in}
+use Rattle.plan_units.specs.Units.{plan, of_port, of_vlan, of_host, hosts_of, is_of_group}
 
 -- an entry's part in the decision: if it hits, and none of this priority comes before it, it does so
 abbrev Part : ℕ → Packet → ℕ → List Sent → Option (ℕ × Packet) → Entry → Type 0
 Part port p priority sent on e = hits e.key.fields port p ≡ true → priority ≤ e.key.priority → Does 7 port p sent on e
 
-two : (a b : Bool) → (a && (b && true)) ≡ true → (a ≡ true) × (b ≡ true)
-two a b is = let x = and_parts a (b && true) is in (x.0, (and_parts b true x.1).0)
-
-three : (a b c : Bool) → (a && (b && (c && true))) ≡ true → (a ≡ true) × (b ≡ true) × (c ≡ true)
-three a b c is = let x = and_parts a (b && (c && true)) is in let y = two b c x.1 in (x.0, y.0, y.1)
-
 abbrev default : Entry
 default = pass table.Destination table.Flood
 
-module _ (conf : Configuration) (now : State) (d : Dp) (setting : IsSetting conf now d) where
+-- next hops are ends of stack links
+module _ (conf : Configuration) (now : State) (d : Dp) (setting : IsSetting conf now d) (hop_ends : (to : DpId) (hop : ℕ) → hop_of (stack_of conf now.ups) d.id to ≡ Some hop → IsSomeAnd (port_at conf d.id hop) (λ q. is_stack q ≡ true)) where
   abbrev stack : Stack
   stack = stack_of conf now.ups
 
@@ -128,32 +122,12 @@ module _ (conf : Configuration) (now : State) (d : Dp) (setting : IsSetting conf
   last_in : Contains (plan conf now d) default
   last_in = in_front (fixed conf d) _ default (behind (drops conf d) (from_group ∷ passes) default (4, omega arith, refl))
 
-  in_group : (h : HostRec) → Contains (hosts_of conf now d) h → Contains now.hosts h
-  in_group h c = of_all (Contains now.hosts) (hosts_of conf now d) (all_filtered (Contains now.hosts) (is_of_group conf d) now.hosts (all_by (λ x. is_of_group conf d x ≡ true → Contains now.hosts x) now.hosts (λ x c is. c))) h c
-
   group_is : (h : HostRec) → Contains (hosts_of conf now d) h → is_of_group conf d h ≡ true
   group_is h c = of_all (λ x. is_of_group conf d x ≡ true) (hosts_of conf now d) (all_filtered (λ x. is_of_group conf d x ≡ true) (is_of_group conf d) now.hosts (all_by (λ x. is_of_group conf d x ≡ true → is_of_group conf d x ≡ true) now.hosts (λ x c is. is))) h c
 
-  place : (h : HostRec) → Contains now.hosts h → Place conf setting.valid h
-  place h c = host_place conf setting.valid now h (of_all (IsHost conf now) now.hosts setting.state.hosts h c)
-
-  six_of : (h : HostRec) → Contains now.hosts h → IsSixBytes h.mac.0
-  six_of h c = of_all (λ (x : HostRec). IsSixBytes x.mac.0) now.hosts setting.addresses.hosts h c
-
-  one_host : (g h : HostRec) → Contains now.hosts g → Contains now.hosts h → (group_of conf g.dp).0 ≡ (group_of conf h.dp).0 → g.vid ≡ h.vid → g.mac.0 ≡ h.mac.0 → g ≡ h
-  one_host g h cg ch groups vids macs =
-      apart_or_one (λ a b. IsSameHost conf a b → ⊥) now.hosts setting.state.host_keys g h cg ch
-      (λ apart. apart (record { groups = groups; vlans = vids; macs = macs })) (λ apart. apart (record { groups = sym groups; vlans = sym vids; macs = sym macs }))
-
   module _ (port : ℕ) (p : Packet) (i : Port) (v : Vlan) (l : Leaves conf now d port p i v) where
-    i_in : Contains d.ports i
-    i_in = port_in conf setting.valid d setting.is_dp port i l.is_port
-
-    i_is : i.no ≡ port
-    i_is = port_is conf setting.valid d setting.is_dp port i l.is_port
-
-    fits : port < 2 ^ 32
-    fits = let most = (port_number conf setting.valid d setting.is_dp i i_in).most in omega (arith, most, i_is)
+    came : Entered d port i
+    came = entered conf now d setting port i l.is_port
 
     abbrev tag : Tag
     tag = (l.is_in).0
@@ -166,23 +140,23 @@ module _ (conf : Configuration) (now : State) (d : Dp) (setting : IsSetting conf
 
     to_fields : (h : HostRec) → Contains now.hosts h → hits (eth_dst h.mac ∷ vid_field h.vid ∷ []) port p ≡ is_same p.dst.0 h.mac.0 && ((v.vid == h.vid) && true)
     to_fields h c =
-        ap (λ b. b && (agrees (vid_field h.vid) (value_of VlanVid port p) && true)) (to_address port p l.shaped h.mac (six_of h c))
-        ∙ ap (λ b. is_same p.dst.0 h.mac.0 && (b && true)) (vlan_hit h.vid (place h c).vid)
+        ap (λ b. b && (agrees (vid_field h.vid) (value_of VlanVid port p) && true)) (to_address port p l.shaped h.mac (six_of conf now d setting h c))
+        ∙ ap (λ b. is_same p.dst.0 h.mac.0 && (b && true)) (vlan_hit h.vid (place conf now d setting h c).vid)
 
     from_fields : (h : HostRec) (q : Port) → Contains now.hosts h → IsPortNo q.no → hits (in_port q.no ∷ eth_dst h.mac ∷ vid_field h.vid ∷ []) port p ≡ (port == q.no) && (is_same p.dst.0 h.mac.0 && ((v.vid == h.vid) && true))
     from_fields h q c is =
-        ap (λ b. b && hits (eth_dst h.mac ∷ vid_field h.vid ∷ []) port p) (by_port port p l.shaped fits q.no is) ∙ ap (λ b. (port == q.no) && b) (to_fields h c)
+        ap (λ b. b && hits (eth_dst h.mac ∷ vid_field h.vid ∷ []) port p) (by_port port p l.shaped came.fits q.no is) ∙ ap (λ b. (port == q.no) && b) (to_fields h c)
 
     -- a host of the group whose entries hit is the destination
     passes_test : (h : HostRec) → Contains (hosts_of conf now d) h → (is_same p.dst.0 h.mac.0 ≡ true) → (v.vid == h.vid) ≡ true → test h ≡ true
     passes_test h c mac vid = rw (group_is h c) (rw (eq-eqb h.vid v.vid (sym (eqb-true v.vid h.vid vid))) (equal_bytes h.mac.0 p.dst.0 (sym (same_bytes p.dst.0 h.mac.0 mac))))
 
     hit_to : (h : HostRec) → Contains (hosts_of conf now d) h → hits (eth_dst h.mac ∷ vid_field h.vid ∷ []) port p ≡ true → test h ≡ true
-    hit_to h c hit = let x = two (is_same p.dst.0 h.mac.0) (v.vid == h.vid) (sym (to_fields h (in_group h c)) ∙ hit) in passes_test h c x.0 x.1
+    hit_to h c hit = let x = two (is_same p.dst.0 h.mac.0) (v.vid == h.vid) (sym (to_fields h (in_group conf now d setting h c)) ∙ hit) in passes_test h c x.0 x.1
 
     hit_from : (h : HostRec) (q : Port) → Contains (hosts_of conf now d) h → IsPortNo q.no → hits (in_port q.no ∷ eth_dst h.mac ∷ vid_field h.vid ∷ []) port p ≡ true → (port ≡ q.no) × (test h ≡ true)
     hit_from h q c is hit =
-        let x = three (port == q.no) (is_same p.dst.0 h.mac.0) (v.vid == h.vid) (sym (from_fields h q (in_group h c) is) ∙ hit) in
+        let x = three (port == q.no) (is_same p.dst.0 h.mac.0) (v.vid == h.vid) (sym (from_fields h q (in_group conf now d setting h c) is) ∙ hit) in
         (eqb-true port q.no x.0, passes_test h c x.1 x.2)
 
     abbrev Just : List Sent → Option (ℕ × Packet) → Type 0
@@ -229,7 +203,7 @@ module _ (conf : Configuration) (now : State) (d : Dp) (setting : IsSetting conf
       the_one g c t =
           let x = and_parts (is_host_in conf (group_of conf d.id) v.vid g) (is_same g.mac.0 p.dst.0) t in
           let y = and_parts ((group_of conf g.dp).0 == (group_of conf d.id).0) (g.vid == v.vid) x.0 in
-          one_host h g h_within (in_group g c) (eqb-true (group_of conf h.dp).0 (group_of conf d.id).0 h_group ∙ sym (eqb-true (group_of conf g.dp).0 (group_of conf d.id).0 y.0)) (h_vid ∙ sym (eqb-true g.vid v.vid y.1)) (h_mac ∙ sym (same_bytes g.mac.0 p.dst.0 x.1))
+          one_host conf now d setting h g h_within (in_group conf now d setting g c) (eqb-true (group_of conf h.dp).0 (group_of conf d.id).0 h_group ∙ sym (eqb-true (group_of conf g.dp).0 (group_of conf d.id).0 y.0)) (h_vid ∙ sym (eqb-true g.vid v.vid y.1)) (h_mac ∙ sym (same_bytes g.mac.0 p.dst.0 x.1))
 
       to_hits : hits (eth_dst h.mac ∷ vid_field h.vid ∷ []) port p ≡ true
       to_hits = to_fields h h_within ∙ rw (equal_bytes p.dst.0 h.mac.0 (sym h_mac)) (rw (eq-eqb v.vid h.vid (sym h_vid)) refl)
@@ -331,7 +305,7 @@ module _ (conf : Configuration) (now : State) (d : Dp) (setting : IsSetting conf
           to_hits
         where
           does : Does 7 port p (to_hop port p hop) None (over_stack h hop)
-          does = stops_at 10 (eth_dst h.mac ∷ vid_field h.vid ∷ []) (out hop ∷ []) (to_hop port p hop) (rw (no_ingress hop (hop_port conf setting.valid now.ups d.id h.dp hop hop_is)) (append-nil (to_hop port p hop)))
+          does = stops_at 10 (eth_dst h.mac ∷ vid_field h.vid ∷ []) (out hop ∷ []) (to_hop port p hop) (rw (no_ingress hop (end_number conf now d setting hop (end_of conf now d setting hop (hop_ends h.dp hop hop_is)))) (append-nil (to_hop port p hop)))
 
     -- ---- by where the packet is to go on
 
@@ -366,7 +340,7 @@ module _ (conf : Configuration) (now : State) (d : Dp) (setting : IsSetting conf
         by : (b : Bool) → (h.dp.0 == d.id.0) ≡ b → Outcome (if b then ByPort h.port else option_map_or OverStack (hop_of stack d.id h.dp) Everywhere)
         by true e =
             let here = eqb-true h.dp.0 d.id.0 e in
-            let pl = place h (h_within h is) in
+            let pl = place conf now d setting h (h_within h is) in
             let on_d : d ≡ pl.on = same_Some d pl.on (sym setting.is_dp ∙ ap (dp_with conf.dps) (sym (same_dp h.dp d.id here)) ∙ pl.is_dp) in
             let at_d : port_with d.ports h.port ≡ Some pl.at = ap (λ (x : Dp). port_with x.ports h.port) on_d ∙ pl.is_port in
             subst (λ o. Sends conf now d 7 port p (option_map_or (to_port d port v.vid p) o [])) (sym at_d) (on_port pl.at at_d here (pl.at.no == port) refl)
@@ -377,7 +351,7 @@ module _ (conf : Configuration) (now : State) (d : Dp) (setting : IsSetting conf
     outcome = by (host_with conf now.hosts d v.vid p.dst) refl
       where
         by : (o : Option HostRec) → host_with conf now.hosts d v.vid p.dst ≡ o → Outcome (option_map_or (onward_to stack d) o Everywhere)
-        by None is = goes_by (goes_on_by (λ h c t. absurd (true≢false (sym t ∙ of_all (λ x. test x ≡ false) now.hosts (none_found test now.hosts is) h (in_group h c)))))
+        by None is = goes_by (goes_on_by (λ h c t. absurd (true≢false (sym t ∙ of_all (λ x. test x ≡ false) now.hosts (none_found test now.hosts is) h (in_group conf now d setting h c)))))
         by (Some h) is = toward h is
 
   pub law : DestinationLaw conf now d

@@ -1,42 +1,39 @@
 -- Table 8, case by case.
-use Rattle.std.proofs.Common.{◌≡◌, ◌⊎◌, ℕ, ◌^◌, ◌<◌, ◌≤◌, ◌==◌, ◌&&◌, ◌||◌, not, Bool, true, false, cond, List, [], ◌∷◌, ◌++◌, length, map, filter, Option, Some, None, refl, sym, ap, ◌∙◌, subst, inl, inr, true≢false, eqb-true, eq-eqb, arith, if◌then◌else◌}
-use Rattle.std.specs.Prelude.{Contains, IfSome, IsTrue, IsSomeAnd, is_none, is_some, option_and_then}
-use Rattle.std.specs.List.{AllByRecursion, find, flat_map, list_any}
+use Rattle.std.proofs.Common.{◌≡◌, ◌⊎◌, ℕ, ◌^◌, ◌<◌, ◌≤◌, ◌==◌, ◌&&◌, ◌||◌, not, Bool, true, false, cond, List, [], ◌∷◌, ◌++◌, filter, Option, Some, None, refl, sym, ap, ◌∙◌, subst, inl, inr, true≢false, eqb-true, eq-eqb, arith, if◌then◌else◌}
+use Rattle.std.specs.Prelude.{Contains, IfSome, IsTrue, IsSomeAnd, is_some, option_and_then}
+use Rattle.std.specs.List.{AllByRecursion, flat_map, list_any}
 use Rattle.std.specs.Option.{option_map, option_map_or}
 use Rattle.std.proofs.lemmas.Bool.{and_parts, or_cases, or_parts, not-true}
-use Rattle.std.proofs.lemmas.List.{append-nil}
+use Rattle.std.proofs.lemmas.Option.{same_Some}
 use Rattle.net_base.specs.declared.field.Field.{Field}
-use Rattle.net_base.specs.declared.field.FieldId.TheVariants.{InPort, EthDst, VlanVid}
-use Rattle.net_base.specs.Address.{is_group, group_bit}
-use Rattle.net_base.specs.Field.{bits}
-use Rattle.net_base.specs.Numbers.{IsVid, IsPortNo}
+use Rattle.net_base.specs.declared.field.FieldId.TheVariants.{InPort, VlanVid}
+use Rattle.net_base.specs.Address.{is_group}
 use Rattle.of_match.specs.declared.action.Action.{Action}
-use Rattle.of_match.specs.declared.action.TheConstants.{IN_PORT}
 use Rattle.of_match.specs.declared.entry.Entry.{Entry}
 use Rattle.of_match.specs.declared.packet.Packet.{Packet}
 use Rattle.of_match.specs.declared.packet.Sent.{Sent}
 use Rattle.of_match.specs.declared.packet.Tag.{Tag}
-use Rattle.of_match.specs.Act.{act_sends, act_left, left_by, sends_of, output}
+use Rattle.of_match.specs.Act.{act_sends, act_left, left_by}
 use Rattle.of_match.specs.Hit.{hits, agrees, value_of}
-use Rattle.of_match.specs.Pipeline.{sends_by, takes}
+use Rattle.of_match.specs.Pipeline.{takes}
 use Rattle.conf_types.specs.declared.datapath.Dp.{Dp}
 use Rattle.conf_types.specs.declared.datapath.Port.{Port}
 use Rattle.conf_types.specs.declared.datapath.StackEnd.{StackEnd}
 use Rattle.conf_types.specs.declared.vlan.Vlan.{Vlan}
 use Rattle.conf_types.specs.Lists.{is_among}
-use Rattle.conf_types.specs.Configuration.{Configuration, dp_with, port_with, vlan_with}
+use Rattle.conf_types.specs.Configuration.{Configuration, port_with, port_at}
 use Rattle.conf_types.specs.Membership.{is_stack, is_edge, is_accepting, is_edge_member, is_native_in, is_mirror_of, is_mirrored, mirrors_of, has_edge_member}
 use Rattle.conf_types.specs.State.{State}
-use Rattle.conf_types.specs.Valid.{IsValid, IsMirror, IsStackPort}
+use Rattle.conf_types.specs.Valid.{IsMirror, IsStackPort}
 use Rattle.packet_way.specs.Flood as description
 use Rattle.packet_way.specs.Known.{stack_of}
 use Rattle.packet_way.specs.Leaving.{copies, delivered, as_sent, without_tag}
 use Rattle.stack_paths.specs.Chosen.{is_tree_port}
 use Rattle.stack_paths.specs.Stack.{Stack}
 use Rattle.plan_base.specs.declared.table.Table.TheVariants as table
-use Rattle.plan_base.specs.Fields.{in_port, group_dst, vid_field}
+use Rattle.plan_base.specs.Fields.{in_port, vid_field}
 use Rattle.plan_base.specs.Entries.{leads_to, entry}
-use Rattle.plan_base.specs.Actions.{out, to_ingress, pop_tag}
+use Rattle.plan_base.specs.Actions.{out, to_ingress}
 use Rattle.plan_base.specs.Sending.{copied, mirrored, outs}
 use Rattle.vlan_compile.specs.declared.flood.Flood.{Flood}
 use Rattle.vlan_compile.specs.declared.flood.Flood.TheVariants.{Group, Unicast}
@@ -45,19 +42,19 @@ use Rattle.vlan_compile.specs.declared.flood.Ingress.TheVariants.{Any, At}
 use Rattle.vlan_compile.specs.Floods.{is_in, is_for, is_flooded, may_get, flooded, by_port, by_each, popped, flood_actions, flood_priority, from_fields, to_fields, flood_entry, is_apart, has_flooded, floods_to, floods}
 use Rattle.law_runs.specs.Decided.{Does, IsDecided, decided, none_takes}
 use Rattle.law_runs.specs.Members.{in_front, behind, in_flat, in_mapped, in_filtered, in_then, head_of, all_joined, all_if, all_mapped, all_filtered, all_by, of_all}
-use Rattle.law_runs.specs.Order.{AreSame, same_self, same_equal, same_then}
+use Rattle.law_runs.specs.Order.{AreSame, same_self}
 use Rattle.law_runs.specs.Outputs.{sends_joined, left_joined}
-use Rattle.law_runs.specs.Runs.{stopped, missed, reordered}
+use Rattle.law_runs.specs.Runs.{stopped, missed}
 use Rattle.law_tables.proofs.FloodLists.{flat_filtered, flat_same, flat_parted}
-use Rattle.law_tables.proofs.Trees.{tree_port}
+use Rattle.law_tables.proofs.Ingress.{Entered, entered, edge_apart, stack_apart, end_of}
 use Rattle.plan_units.specs.Agrees as fields
-use Rattle.plan_units.specs.Copies.{no_ingress, copied_sends, mirrors_go_out, outs_send, outs_leave}
-use Rattle.plan_units.specs.Facts.{found, some_passes, none_passes, port_in, port_is, one_port, port_number, vlan_in, one_vlan, vlan_number}
+use Rattle.plan_units.specs.Copies.{no_ingress, copied_sends, outs_leave}
+use Rattle.plan_units.specs.Facts.{found, some_passes, none_passes, one_port, port_number, vlan_in, one_vlan, vlan_number}
 use Rattle.plan_units.specs.Fixed.{fixed}
 use Rattle.plan_units.specs.Laws.{IsSetting, Leaves, Sends, FloodLaw}
 use Rattle.plan_units.specs.Steps.{followed, sends_led, goes_led, ends_led, in_its_table, hit_by}
-use Rattle.plan_units.specs.Tables.{AtTable, ByFamily, by_family, elsewhere_in, here_in, drops_in, port_acl_in, admissions_in, misses_in, vlan_acl_in, vips_in, sources_in, destinations_in, fib_in}
-use Rattle.plan_units.specs.Units.{plan, of_port, of_vlan, of_host, of_routes, hosts_of}
+use Rattle.plan_units.specs.Tables.{AtTable, by_family, elsewhere_in, here_in, drops_in, port_acl_in, admissions_in, misses_in, vlan_acl_in, vips_in, sources_in, destinations_in, fib_in}
+use Rattle.plan_units.specs.Units.{plan, of_port, of_vlan}
 use Rattle.acl_compile.specs.Slices.{vlan_acl}
 use Rattle.route_compile.specs.Vips.{vip_slice}
 
@@ -133,7 +130,8 @@ stops_at port p priority fs actions outs is = (
   goes_led table.Flood priority fs actions None 8 p ∙ ap (λ (o : Option ℕ). option_and_then (λ (q : Packet). option_map (λ (u : ℕ). (u, q)) o) (act_left actions p)) (ends_led actions 8) ∙ nowhere (act_left actions p),
 )
 
-module _ (conf : Configuration) (now : State) (d : Dp) (setting : IsSetting conf now d) where
+-- ports of the tree are ends of stack links
+module _ (conf : Configuration) (now : State) (d : Dp) (setting : IsSetting conf now d) (tree_ends : (number : ℕ) → is_tree_port (stack_of conf now.ups) d.id number ≡ true → IsSomeAnd (port_at conf d.id number) (λ q. is_stack q ≡ true)) where
   abbrev stack : Stack
   stack = stack_of conf now.ups
 
@@ -179,14 +177,8 @@ module _ (conf : Configuration) (now : State) (d : Dp) (setting : IsSetting conf
   kind_in w Group e c = behind (floods_to stack d w Unicast) (floods_to stack d w Group) e c
 
   module _ (port : ℕ) (p : Packet) (i : Port) (v : Vlan) (l : Leaves conf now d port p i v) where
-    i_in : Contains d.ports i
-    i_in = port_in conf setting.valid d setting.is_dp port i l.is_port
-
-    i_is : i.no ≡ port
-    i_is = port_is conf setting.valid d setting.is_dp port i l.is_port
-
-    fits : port < 2 ^ 32
-    fits = let most = (port_number conf setting.valid d setting.is_dp i i_in).most in omega (arith, most, i_is)
+    came : Entered d port i
+    came = entered conf now d setting port i l.is_port
 
     v_in : Contains conf.vlans v
     v_in = vlan_in conf setting.valid d setting.is_dp v.vid v l.is_vlan
@@ -198,7 +190,7 @@ module _ (conf : Configuration) (now : State) (d : Dp) (setting : IsSetting conf
     vlan_hit w c = fields.in_vlan port p l.shaped w.vid (vlan_number conf setting.valid d setting.is_dp w c) ∙ fields.names_vlan p tag w.vid (l.is_in).1 ∙ ap (λ n. n == w.vid) (l.is_in).2
 
     port_hit : (j : Port) → Contains d.ports j → agrees (in_port j.no) (value_of InPort port p) ≡ (port == j.no)
-    port_hit j c = fields.by_port port p l.shaped fits j.no (port_number conf setting.valid d setting.is_dp j c)
+    port_hit j c = fields.by_port port p l.shaped came.fits j.no (port_number conf setting.valid d setting.is_dp j c)
 
     -- ---- which packets entries take
 
@@ -219,14 +211,14 @@ module _ (conf : Configuration) (now : State) (d : Dp) (setting : IsSetting conf
     from_hit flood w j cw cj hit =
         let x = and_parts (agrees (in_port j.no) (value_of InPort port p)) (hits (to_fields flood w.vid) port p) hit in
         let y = to_hit flood w cw x.1 in
-        (y.0, y.1, one_port conf setting.valid d setting.is_dp i j i_in cj (i_is ∙ eqb-true port j.no (sym (port_hit j cj) ∙ x.0)))
+        (y.0, y.1, one_port conf setting.valid d setting.is_dp i j came.within cj (came.is ∙ eqb-true port j.no (sym (port_hit j cj) ∙ x.0)))
 
     hits_to : (flood : Flood) → Kind flood → hits (to_fields flood v.vid) port p ≡ true
     hits_to Group k = rw k (rw (vlan_hit v v_in) (rw (eq-eqb v.vid v.vid refl) refl))
     hits_to Unicast k = rw (vlan_hit v v_in) (rw (eq-eqb v.vid v.vid refl) refl)
 
     hits_from : (flood : Flood) → Kind flood → hits (in_port i.no ∷ to_fields flood v.vid) port p ≡ true
-    hits_from flood k = rw (port_hit i i_in) (rw (eq-eqb port i.no (sym i_is)) (hits_to flood k))
+    hits_from flood k = rw (port_hit i came.within) (rw (eq-eqb port i.no (sym came.is)) (hits_to flood k))
 
     -- ---- what is sent for each port
 
@@ -254,7 +246,7 @@ module _ (conf : Configuration) (now : State) (d : Dp) (setting : IsSetting conf
     at_each : (flood : Flood) → IsKind flood → (q : Port) → Contains d.ports q
         → (if F flood q && may_get (At i.no) q then each_sends d (At i.no) port (as_sent q v.vid p) q else []) ≡ (if description.gets_flood stack d port v p q then delivered d v.vid p q else [])
     at_each flood k q c =
-        ap (λ n. if F flood q && (not (q.no == n) || q.hairpin) then each_sends d (At n) port (as_sent q v.vid p) q else []) i_is
+        ap (λ n. if F flood q && (not (q.no == n) || q.hairpin) then each_sends d (At n) port (as_sent q v.vid p) q else []) came.is
         ∙ if_same (F flood q && (not (q.no == port) || q.hairpin)) (each_sends d (At port) port (as_sent q v.vid p) q) (delivered d v.vid p q) (λ is. by (q.no == port) refl)
         ∙ ap (λ b. if b && (not (q.no == port) || q.hairpin) then delivered d v.vid p q else []) (floods_as flood k q)
       where
@@ -283,14 +275,14 @@ module _ (conf : Configuration) (now : State) (d : Dp) (setting : IsSetting conf
         some = (and_parts i.enabled (is_some i.stack) is).1
 
         ends : IfSome i.stack (IsStackPort conf d i)
-        ends = of_all (λ (q : Port). IfSome q.stack (IsStackPort conf d q)) d.ports (of_all (λ (e : Dp). AllByRecursion (λ (q : Port). IfSome q.stack (IsStackPort conf e q)) e.ports) conf.dps setting.valid.stacks.each d (found (λ e. e.id.0 == d.id.0) conf.dps d setting.is_dp).within) i i_in
+        ends = of_all (λ (q : Port). IfSome q.stack (IsStackPort conf d q)) d.ports (of_all (λ (e : Dp). AllByRecursion (λ (q : Port). IfSome q.stack (IsStackPort conf e q)) e.ports) conf.dps setting.valid.stacks.each d (found (λ e. e.id.0 == d.id.0) conf.dps d setting.is_dp).within) i came.within
 
         by : (o : Option StackEnd) → i.stack ≡ o → IfSome o (IsStackPort conf d i) → i.hairpin ≡ false
         by None e h = absurd (true≢false (sym some ∙ ap (λ (x : Option StackEnd). is_some x) e))
         by (Some far) e h = h.no_hairpin
 
         own : port_with d.ports i.no ≡ Some i
-        own = ap (port_with d.ports) i_is ∙ l.is_port
+        own = ap (port_with d.ports) came.is ∙ l.is_port
 
         unmirrored : (m : Port) → Contains d.ports m → is_mirror_of m i.no ≡ false
         unmirrored m c = one (is_mirror_of m i.no) refl
@@ -303,11 +295,7 @@ module _ (conf : Configuration) (now : State) (d : Dp) (setting : IsSetting conf
                 let f = some_passes (λ x. x == i.no) m.mirror e in
                 let there = of_all (λ (n : ℕ). IsSomeAnd (port_with d.ports n) (λ q. IsTrue (is_edge q))) m.mirror is_m.mirrored f.0 (f.1).within in
                 let edge : is_edge i ≡ true = subst (λ o. IsSomeAnd o (λ q. IsTrue (is_edge q))) (ap (port_with d.ports) (eqb-true f.0 i.no (f.1).passes) ∙ own) there in
-                absurd (no_edge i.stack some (and_parts i.enabled (is_none i.stack) (and_parts (i.enabled && is_none i.stack) (length i.mirror == 0) edge).0).1)
-              where
-                no_edge : (o : Option StackEnd) → is_some o ≡ true → is_none o ≡ true → ⊥
-                no_edge None s n = true≢false (sym s)
-                no_edge (Some far) s n = true≢false (sym n)
+                absurd (edge_apart i is edge)
 
     -- an edge port that gets floods of the VLAN, and isn't apart
     edge_quiet : is_accepting i ≡ true → is_apart d v i ≡ false → (flood : Flood) → F flood i ≡ true → Quiet
@@ -318,13 +306,10 @@ module _ (conf : Configuration) (now : State) (d : Dp) (setting : IsSetting conf
           let parts = or_parts i.hairpin (is_mirrored d i.no) none in
           (parts.0, none_of i.no d.ports (none_passes (λ m. is_mirror_of m i.no) d.ports parts.1))
       | inr tree ↦
-          let stacked = tree_port conf setting.valid now.ups d setting.is_dp i i_in (λ r c same. one_port conf setting.valid d setting.is_dp r i c i_in same) tree in
-          absurd (no_both i.stack (and_parts i.enabled (is_some i.stack) stacked).1 (and_parts i.enabled (is_none i.stack) (and_parts (i.enabled && is_none i.stack) (length i.mirror == 0) (and_parts (is_edge i) (not i.output_only) accepting).0).0).1)
+          let end = end_of conf now d setting i.no (tree_ends i.no tree) in
+          let same = same_Some end.port i (sym end.is_port ∙ ap (port_with d.ports) came.is ∙ l.is_port) in
+          absurd (stack_apart i (subst (λ (q : Port). is_stack q ≡ true) same end.is) accepting)
     ]
-      where
-        no_both : (o : Option StackEnd) → is_some o ≡ true → is_none o ≡ true → ⊥
-        no_both None s n = true≢false (sym s)
-        no_both (Some far) s n = true≢false (sym n)
 
     quiet : is_apart d v i ≡ false → (flood : Flood) → F flood i ≡ true → Quiet
     quiet together flood is = elim l.takes_in [
@@ -352,7 +337,7 @@ module _ (conf : Configuration) (now : State) (d : Dp) (setting : IsSetting conf
 
         by : (b : Bool) → (q.no == port) ≡ b → (if F flood q && true then each_sends d Any port (as_sent q v.vid p) q else []) ≡ (if F flood q && (not (q.no == port) || q.hairpin) then delivered d v.vid p q else [])
         by true own =
-            let same = one_port conf setting.valid d setting.is_dp q i c i_in (eqb-true q.no port own ∙ sym i_is) in
+            let same = one_port conf setting.valid d setting.is_dp q i c came.within (eqb-true q.no port own ∙ sym came.is) in
             back same (F flood q) refl own ∙ ap (λ b. if F flood q && (not b || q.hairpin) then delivered d v.vid p q else []) (sym own)
         by false other =
             if_same (F flood q && true) (each_sends d Any port (as_sent q v.vid p) q) (delivered d v.vid p q) (λ is. out_sends q c other (as_sent q v.vid p))
@@ -501,7 +486,7 @@ module _ (conf : Configuration) (now : State) (d : Dp) (setting : IsSetting conf
     sends_of_kind flood a = by (is_apart d v i) (has_flooded stack d v) refl refl
       where
         within_at : is_apart d v i ≡ true → Contains (plan conf now d) (flood_entry stack d v flood (At i.no))
-        within_at apart = vlan_in_plan v (flood_entry stack d v flood (At i.no)) v_in (kind_in v flood (flood_entry stack d v flood (At i.no)) (behind (if has_flooded stack d v then flood_entry stack d v flood Any ∷ [] else []) _ (flood_entry stack d v flood (At i.no)) (in_mapped (λ (x : Port). flood_entry stack d v flood (At x.no)) (filter (is_apart d v) d.ports) i (in_filtered (is_apart d v) d.ports i i_in apart))))
+        within_at apart = vlan_in_plan v (flood_entry stack d v flood (At i.no)) v_in (kind_in v flood (flood_entry stack d v flood (At i.no)) (behind (if has_flooded stack d v then flood_entry stack d v flood Any ∷ [] else []) _ (flood_entry stack d v flood (At i.no)) (in_mapped (λ (x : Port). flood_entry stack d v flood (At x.no)) (filter (is_apart d v) d.ports) i (in_filtered (is_apart d v) d.ports i came.within apart))))
 
         within_any : has_flooded stack d v ≡ true → Contains (plan conf now d) (flood_entry stack d v flood Any)
         within_any has = vlan_in_plan v (flood_entry stack d v flood Any) v_in (kind_in v flood (flood_entry stack d v flood Any) (in_front (if has_flooded stack d v then flood_entry stack d v flood Any ∷ [] else []) _ (flood_entry stack d v flood Any) (in_then (has_flooded stack d v) (flood_entry stack d v flood Any ∷ []) [] (flood_entry stack d v flood Any) has (head_of (flood_entry stack d v flood Any) []))))

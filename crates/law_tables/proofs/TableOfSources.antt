@@ -1,33 +1,28 @@
 -- Table 3, case by case.
-use Rattle.std.proofs.Common.{◌≡◌, ℕ, ◌^◌, ◌<◌, ◌≤◌, ◌==◌, ◌&&◌, ◌||◌, not, Bool, true, false, cond, List, [], ◌∷◌, ◌++◌, length, map, filter, Option, Some, None, refl, sym, ap, ◌∙◌, subst, inl, inr, true≢false, eqb-true, eq-eqb, arith, if◌then◌else◌}
-use Rattle.std.specs.Prelude.{Contains, IsSomeAnd, IsTrue, option_to_list}
-use Rattle.std.specs.List.{AllByRecursion, find, list_any, flat_map, filter_map}
-use Rattle.std.specs.Option.{option_map, option_and_then}
+use Rattle.std.proofs.Common.{◌≡◌, ℕ, ◌^◌, ◌<◌, ◌≤◌, ◌==◌, ◌&&◌, ◌||◌, Bool, true, false, List, [], ◌∷◌, ◌++◌, map, Option, Some, None, refl, sym, ap, ◌∙◌, subst, true≢false, eqb-true, eq-eqb, arith, if◌then◌else◌}
+use Rattle.std.specs.Prelude.{Contains}
+use Rattle.std.specs.List.{AllByRecursion, list_any, flat_map}
 use Rattle.std.proofs.lemmas.Bool.{and_parts}
-use Rattle.std.proofs.lemmas.Option.{same_Some, none-some}
-use Rattle.net_base.specs.declared.address.Mac.{Mac}
 use Rattle.net_base.specs.declared.numbers.DpId.{DpId}
 use Rattle.net_base.specs.declared.field.Field.{Field}
 use Rattle.net_base.specs.declared.field.FieldId.TheVariants.{EthSrc, VlanVid}
-use Rattle.net_base.specs.Address.{IsSixBytes, is_group}
-use Rattle.net_base.specs.Numbers.{IsVid, IsPortNo}
-use Rattle.of_match.specs.declared.action.TheConstants.{CONTROLLER}
+use Rattle.net_base.specs.Address.{is_group}
+use Rattle.net_base.specs.Numbers.{IsVid}
 use Rattle.of_match.specs.declared.entry.Entry.{Entry}
 use Rattle.of_match.specs.declared.packet.Packet.{Packet}
 use Rattle.of_match.specs.declared.packet.Sent.{Sent}
 use Rattle.of_match.specs.declared.packet.Tag.{Tag}
 use Rattle.of_match.specs.Act.{act_sends}
-use Rattle.of_match.specs.Hit.{outermost, hits, agrees, value_of, vid_value}
-use Rattle.of_match.specs.Shaped.{IsShaped}
+use Rattle.of_match.specs.Hit.{hits, agrees, value_of}
 use Rattle.conf_types.specs.declared.datapath.Dp.{Dp}
 use Rattle.conf_types.specs.declared.datapath.Port.{Port}
 use Rattle.conf_types.specs.declared.state.HostRec.{HostRec}
 use Rattle.conf_types.specs.declared.vlan.Vlan.{Vlan}
-use Rattle.conf_types.specs.Configuration.{Configuration, dp_with, port_with, port_at, vlan_with}
+use Rattle.conf_types.specs.Configuration.{Configuration}
 use Rattle.conf_types.specs.Groups.{group_of}
-use Rattle.conf_types.specs.Lists.{is_same, EachBefore}
-use Rattle.conf_types.specs.Membership.{is_accepting, is_edge_member, is_edge, is_native_in, is_tagged_in}
-use Rattle.conf_types.specs.State.{State, IsHost, IsSameHost, is_host_at, is_host_in, is_stale, is_permanent, is_barred}
+use Rattle.conf_types.specs.Lists.{is_same}
+use Rattle.conf_types.specs.Membership.{is_accepting}
+use Rattle.conf_types.specs.State.{State, is_host_at, is_host_in, is_stale, is_permanent, is_barred}
 use Rattle.packet_way.specs.declared.source.Heard.{Heard}
 use Rattle.packet_way.specs.declared.source.Heard.TheVariants as heard_case
 use Rattle.packet_way.specs.Leaving.{to_controller}
@@ -39,34 +34,27 @@ use Rattle.plan_base.specs.Entries.{leads_to, entry}
 use Rattle.plan_base.specs.Actions as action
 use Rattle.acl_compile.specs.Slices.{port_acl}
 use Rattle.vlan_compile.specs.Admissions.{admissions}
-use Rattle.vlan_compile.specs.Misses.{misses, miss, missed, has_host, is_full}
-use Rattle.vlan_compile.specs.Sources.{sources, at_its_port, elsewhere, heard_copies}
-use Rattle.vlan_compile.specs.Vlans.{vlans_of, native_vlan, tagged_vlans}
+use Rattle.vlan_compile.specs.Misses.{misses, miss, has_host, is_full}
+use Rattle.vlan_compile.specs.Sources.{sources, at_its_port, elsewhere}
+use Rattle.vlan_compile.specs.Vlans.{vlans_of}
 use Rattle.law_runs.specs.Decided.{Does, IsDecided, decided}
 use Rattle.law_runs.specs.Members.{in_front, behind, in_mapped, in_flat, in_filtered, in_then, head_of, all_joined, all_if, all_mapped, all_filtered, all_by, of_all}
-use Rattle.law_runs.specs.Order.{AreSame, same_self, same_equal}
+use Rattle.law_runs.specs.Order.{same_self, same_equal}
 use Rattle.law_runs.specs.Runs.{stopped, went}
 use Rattle.plan_units.specs.Agrees.{by_port, from_address, in_vlan, names_vlan, hits_one, same_bytes, equal_bytes}
-use Rattle.plan_units.specs.Facts.{found, none_found, some_passes, none_passes, port_in, port_is, one_port, port_number, vlan_in, vlan_is, one_vlan, vlan_number, apart_or_one}
+use Rattle.plan_units.specs.Facts.{found, none_found, some_passes, none_passes, one_port, port_number, vlan_in, one_vlan, vlan_number}
 use Rattle.plan_units.specs.Fixed.{from_group, passes, fixed}
-use Rattle.plan_units.specs.Laws.{IsSetting, IsOf, Sends, SourceLaw}
-use Rattle.plan_units.specs.PortVlans.{Place, host_place, vlans_in, vlan_of_member}
+use Rattle.plan_units.specs.Laws.{IsSetting, IsOf, SourceLaw}
+use Rattle.plan_units.specs.PortVlans.{vlans_in, vlan_of_member}
 use Rattle.plan_units.specs.Steps.{followed}
-use Rattle.plan_units.specs.Tables.{AtTable, ByFamily, by_family, elsewhere_in, here_in, drops_in, port_acl_in, admissions_in, vlan_acl_in, vips_in, floods_in, destinations_in, fib_in}
-use Rattle.plan_units.specs.Units.{plan, of_port, of_vlan, of_host, of_routes, hosts_of, is_of_group}
+use Rattle.plan_units.specs.Tables.{ByFamily, by_family, elsewhere_in, here_in, drops_in, port_acl_in, admissions_in, vlan_acl_in, vips_in, floods_in, destinations_in, fib_in}
+use Rattle.plan_units.specs.Units.{plan, of_port, of_vlan, of_host, hosts_of, is_of_group}
+use Rattle.law_tables.proofs.Hits.{two, three}
+use Rattle.law_tables.proofs.Ingress.{Entered, entered, in_group, place, six_of, one_host}
 
 -- an entry's part in the decision: if it hits, and none of this priority comes before it, it does so
 abbrev Part : ℕ → Packet → ℕ → List Sent → Option (ℕ × Packet) → Entry → Type 0
 Part port p priority sent on e = hits e.key.fields port p ≡ true → priority ≤ e.key.priority → Does 3 port p sent on e
-
-three : (a b c : Bool) → (a && (b && (c && true))) ≡ true → (a ≡ true) × (b ≡ true) × (c ≡ true)
-three a b c is =
-    let x = and_parts a (b && (c && true)) is in
-    let y = and_parts b (c && true) x.1 in
-    (x.0, y.0, (and_parts c true y.1).0)
-
-two : (a b : Bool) → (a && (b && true)) ≡ true → (a ≡ true) × (b ≡ true)
-two a b is = let x = and_parts a (b && true) is in (x.0, (and_parts b true x.1).0)
 
 module _ (conf : Configuration) (now : State) (d : Dp) (setting : IsSetting conf now d) where
   -- ---- entries of table 3 alone decide there
@@ -136,33 +124,9 @@ module _ (conf : Configuration) (now : State) (d : Dp) (setting : IsSetting conf
   group_in : Contains (plan conf now d) from_group
   group_in = in_front (fixed conf d) _ from_group (behind _ (from_group ∷ passes) from_group (head_of from_group passes))
 
-  in_group : (h : HostRec) → Contains (hosts_of conf now d) h → Contains now.hosts h
-  in_group h c = of_all (Contains now.hosts) (hosts_of conf now d) (all_filtered (Contains now.hosts) (is_of_group conf d) now.hosts (all_by (λ x. is_of_group conf d x ≡ true → Contains now.hosts x) now.hosts (λ x c is. c))) h c
-
-  place : (h : HostRec) → Contains now.hosts h → Place conf setting.valid h
-  place h c = host_place conf setting.valid now h (of_all (IsHost conf now) now.hosts setting.state.hosts h c)
-
-  six_of : (h : HostRec) → Contains now.hosts h → IsSixBytes h.mac.0
-  six_of h c = of_all (λ (x : HostRec). IsSixBytes x.mac.0) now.hosts setting.addresses.hosts h c
-
-  -- of two hosts of the datapath's group with one VLAN and one address both are one
-  one_host : (g h : HostRec) → Contains now.hosts g → Contains now.hosts h → (group_of conf g.dp).0 ≡ (group_of conf h.dp).0 → g.vid ≡ h.vid → g.mac.0 ≡ h.mac.0 → g ≡ h
-  one_host g h cg ch groups vids macs =
-      apart_or_one (λ a b. IsSameHost conf a b → ⊥) now.hosts setting.state.host_keys g h cg ch
-      (λ apart. apart (record { groups = groups; vlans = vids; macs = macs })) (λ apart. apart (record { groups = sym groups; vlans = sym vids; macs = sym macs }))
-
   module _ (port : ℕ) (p : Packet) (i : Port) (v : Vlan) (o : IsOf conf now d port p i v) where
-    i_in : Contains d.ports i
-    i_in = port_in conf setting.valid d setting.is_dp port i o.is_port
-
-    i_is : i.no ≡ port
-    i_is = port_is conf setting.valid d setting.is_dp port i o.is_port
-
-    i_number : IsPortNo i.no
-    i_number = port_number conf setting.valid d setting.is_dp i i_in
-
-    fits : port < 2 ^ 32
-    fits = let most = i_number.most in omega (arith, most, i_is)
+    came : Entered d port i
+    came = entered conf now d setting port i o.is_port
 
     v_in : Contains conf.vlans v
     v_in = vlan_in conf setting.valid d setting.is_dp v.vid v o.is_vlan
@@ -181,9 +145,9 @@ module _ (conf : Configuration) (now : State) (d : Dp) (setting : IsSetting conf
 
     host_fields : (h : HostRec) → Contains now.hosts h → hits (at_its_port conf now.moment h).key.fields port p ≡ (port == h.port) && (is_same p.src.0 h.mac.0 && ((v.vid == h.vid) && true))
     host_fields h c =
-        let l = place h c in
-        ap (λ b. b && (agrees (eth_src h.mac) (value_of EthSrc port p) && (agrees (vid_field h.vid) (value_of VlanVid port p) && true))) (by_port port p o.shaped fits h.port l.number)
-        ∙ ap (λ b. (port == h.port) && (b && (agrees (vid_field h.vid) (value_of VlanVid port p) && true))) (from_address port p o.shaped h.mac (six_of h c))
+        let l = place conf now d setting h c in
+        ap (λ b. b && (agrees (eth_src h.mac) (value_of EthSrc port p) && (agrees (vid_field h.vid) (value_of VlanVid port p) && true))) (by_port port p o.shaped came.fits h.port l.number)
+        ∙ ap (λ b. (port == h.port) && (b && (agrees (vid_field h.vid) (value_of VlanVid port p) && true))) (from_address port p o.shaped h.mac (six_of conf now d setting h c))
         ∙ ap (λ b. (port == h.port) && (is_same p.src.0 h.mac.0 && (b && true))) (vlan_hit h.vid l.vid)
 
     at_host : (h : HostRec) → Contains now.hosts h → hits (at_its_port conf now.moment h).key.fields port p ≡ true → AtHost h
@@ -193,29 +157,22 @@ module _ (conf : Configuration) (now : State) (d : Dp) (setting : IsSetting conf
 
     elsewhere_fields : (h : HostRec) → Contains now.hosts h → hits (elsewhere h).key.fields port p ≡ is_same p.src.0 h.mac.0 && ((v.vid == h.vid) && true)
     elsewhere_fields h c =
-        ap (λ b. b && (agrees (vid_field h.vid) (value_of VlanVid port p) && true)) (from_address port p o.shaped h.mac (six_of h c))
-        ∙ ap (λ b. is_same p.src.0 h.mac.0 && (b && true)) (vlan_hit h.vid (place h c).vid)
+        ap (λ b. b && (agrees (vid_field h.vid) (value_of VlanVid port p) && true)) (from_address port p o.shaped h.mac (six_of conf now d setting h c))
+        ∙ ap (λ b. is_same p.src.0 h.mac.0 && (b && true)) (vlan_hit h.vid (place conf now d setting h c).vid)
 
     miss_fields : (j : Port) (w : Vlan) → Contains d.ports j → Contains conf.vlans w → hits (miss conf now.hosts d j w).key.fields port p ≡ (port == j.no) && ((v.vid == w.vid) && true)
     miss_fields j w cj cw =
-        ap (λ b. b && (agrees (vid_field w.vid) (value_of VlanVid port p) && true)) (by_port port p o.shaped fits j.no (port_number conf setting.valid d setting.is_dp j cj))
+        ap (λ b. b && (agrees (vid_field w.vid) (value_of VlanVid port p) && true)) (by_port port p o.shaped came.fits j.no (port_number conf setting.valid d setting.is_dp j cj))
         ∙ ap (λ b. (port == j.no) && (b && true)) (vlan_hit w.vid (vlan_number conf setting.valid d setting.is_dp w cw))
 
     -- ---- what entries do
-
-    not_controller : (CONTROLLER == port) ≡ false
-    not_controller = by (CONTROLLER == port) refl
-      where
-        by : (b : Bool) → (CONTROLLER == port) ≡ b → (CONTROLLER == port) ≡ false
-        by true is = absurd (let e = eqb-true CONTROLLER port is in let most = i_number.most in omega (arith, e, most, i_is))
-        by false is = is
 
     -- the packet goes on to table 4, with a copy for the controller or without
     goes : (priority : ℕ) (fields : List Field) → Does 3 port p [] (Some (4, p)) (entry table.Source priority fields (leads_to [] (Some table.Ipv4Route)))
     goes priority fields = (same_self [], refl)
 
     to_it : act_sends (action.to_controller ∷ []) port p ≡ to_controller p
-    to_it = rw not_controller refl
+    to_it = rw came.no_controller refl
 
     copies_too : (priority : ℕ) (fields : List Field) → Does 3 port p (to_controller p) (Some (4, p)) (entry table.Source priority fields (leads_to (action.to_controller ∷ []) (Some table.Ipv4Route)))
     copies_too priority fields = (same_equal (act_sends (action.to_controller ∷ []) port p) (to_controller p) to_it, refl)
@@ -255,7 +212,7 @@ module _ (conf : Configuration) (now : State) (d : Dp) (setting : IsSetting conf
       passes_here : (h : HostRec) → h.dp.0 ≡ d.id.0 → AtHost h → test h ≡ true
       passes_here h here at =
           rw (eq-eqb h.dp.0 d.id.0 here)
-          (rw (eq-eqb h.port i.no (sym at.by ∙ sym i_is)) (rw (eq-eqb h.vid v.vid (sym at.vid)) (equal_bytes h.mac.0 p.src.0 (sym at.src))))
+          (rw (eq-eqb h.port i.no (sym at.by ∙ sym came.is)) (rw (eq-eqb h.vid v.vid (sym at.vid)) (equal_bytes h.mac.0 p.src.0 (sym at.src))))
 
       record IsHere (h : HostRec) : Type 0 where
         within : Contains now.hosts h
@@ -281,14 +238,14 @@ module _ (conf : Configuration) (now : State) (d : Dp) (setting : IsSetting conf
           by_sources port p sent (Some (4, p)) (at_its_port conf now.moment h) (λ hit le. no_group hit)
           (λ g cg. of_host_by port p 30 sent (Some (4, p)) g
           (λ here hit le. (
-          let at = at_host g (in_group g cg) hit in
-          let same = one_host h g k.within (in_group g cg) (ap (λ (x : DpId). (group_of conf x).0) (same_dp h.dp g.dp (k.dp ∙ sym here))) (k.vid ∙ at.vid) (k.src ∙ at.src) in
+          let at = at_host g (in_group conf now d setting g cg) hit in
+          let same = one_host conf now d setting h g k.within (in_group conf now d setting g cg) (ap (λ (x : DpId). (group_of conf x).0) (same_dp h.dp g.dp (k.dp ∙ sym here))) (k.vid ∙ at.vid) (k.src ∙ at.src) in
           subst (λ x. Does 3 port p sent (Some (4, p)) (at_its_port conf now.moment x)) same does))
           (λ stays hit le. absurd (omega (arith, le))))
           (λ j c. of_port_by port p 30 sent (Some (4, p)) j (λ w cw hit le. absurd (omega (arith, le))))
           (host_in h (at_its_port conf now.moment h) c (in_front _ (if is_permanent conf h then elsewhere h ∷ [] else []) (at_its_port conf now.moment h) (in_then (h.dp.0 == d.id.0) (at_its_port conf now.moment h ∷ []) [] (at_its_port conf now.moment h) (eq-eqb h.dp.0 d.id.0 k.dp) (head_of (at_its_port conf now.moment h) []))))
           refl
-          (host_fields h k.within ∙ rw (eq-eqb port h.port (sym i_is ∙ sym k.by)) (rw (equal_bytes p.src.0 h.mac.0 (sym k.src)) (rw (eq-eqb v.vid h.vid (sym k.vid)) refl)))
+          (host_fields h k.within ∙ rw (eq-eqb port h.port (sym came.is ∙ sym k.by)) (rw (equal_bytes p.src.0 h.mac.0 (sym k.src)) (rw (eq-eqb v.vid h.vid (sym k.vid)) refl)))
 
       -- a host that is known here goes on, and its entry does the same whether or not it is stale
       again : (h : HostRec) → IsHere h → Outcome (heard_again conf now.moment h)
@@ -302,7 +259,7 @@ module _ (conf : Configuration) (now : State) (d : Dp) (setting : IsSetting conf
       module _ (none : AllByRecursion (λ h. test h ≡ false) now.hosts) where
         not_here : {P : Type 0} (h : HostRec) → Contains (hosts_of conf now d) h → h.dp.0 ≡ d.id.0 → hits (at_its_port conf now.moment h).key.fields port p ≡ true → P
         not_here h c here hit =
-            absurd (true≢false (sym (passes_here h here (at_host h (in_group h c) hit)) ∙ of_all (λ x. test x ≡ false) now.hosts none h (in_group h c)))
+            absurd (true≢false (sym (passes_here h here (at_host h (in_group conf now d setting h c) hit)) ∙ of_all (λ x. test x ≡ false) now.hosts none h (in_group conf now d setting h c)))
 
         abbrev stays : HostRec → Bool
         stays h = is_host_in conf (group_of conf d.id) v.vid h && is_same h.mac.0 p.src.0 && is_permanent conf h
@@ -325,21 +282,21 @@ module _ (conf : Configuration) (now : State) (d : Dp) (setting : IsSetting conf
             by_sources port p sent on (miss conf now.hosts d i v) (λ hit le. no_group hit)
             (λ g cg. of_host_by port p 10 sent on g (λ here hit le. not_here g cg here hit) (λ permanent hit le. not_away g cg permanent hit))
             (λ j cj. of_port_by port p 10 sent on j (λ w cw hit le. the_one j cj w (vlans_in conf setting.valid j w cw) hit))
-            (port_in_plan i (miss conf now.hosts d i v) i_in (in_then (is_accepting i) (map (miss conf now.hosts d i) (vlans_of conf i)) [] (miss conf now.hosts d i v) o.accepting (in_mapped (miss conf now.hosts d i) (vlans_of conf i) v (vlan_of_member conf setting.valid i v o.member o.is_vlan))))
+            (port_in_plan i (miss conf now.hosts d i v) came.within (in_then (is_accepting i) (map (miss conf now.hosts d i) (vlans_of conf i)) [] (miss conf now.hosts d i v) o.accepting (in_mapped (miss conf now.hosts d i) (vlans_of conf i) v (vlan_of_member conf setting.valid i v o.member o.is_vlan))))
             refl
-            (miss_fields i v i_in v_in ∙ rw (eq-eqb port i.no (sym i_is)) (rw (eq-eqb v.vid v.vid refl) refl))
+            (miss_fields i v came.within v_in ∙ rw (eq-eqb port i.no (sym came.is)) (rw (eq-eqb v.vid v.vid refl) refl))
           where
             not_away : {P : Type 0} (g : HostRec) → Contains (hosts_of conf now d) g → is_permanent conf g ≡ true → hits (elsewhere g).key.fields port p ≡ true → P
             not_away g cg permanent hit =
-                let parts = two (is_same p.src.0 g.mac.0) (v.vid == g.vid) (sym (elsewhere_fields g (in_group g cg)) ∙ hit) in
+                let parts = two (is_same p.src.0 g.mac.0) (v.vid == g.vid) (sym (elsewhere_fields g (in_group conf now d setting g cg)) ∙ hit) in
                 let of_group : is_of_group conf d g ≡ true = of_all (λ x. is_of_group conf d x ≡ true) (hosts_of conf now d) (all_filtered (λ x. is_of_group conf d x ≡ true) (is_of_group conf d) now.hosts (all_by (λ x. is_of_group conf d x ≡ true → is_of_group conf d x ≡ true) now.hosts (λ x c is. is))) g cg in
                 let here : stays g ≡ true = rw of_group (rw (eq-eqb g.vid v.vid (sym (eqb-true v.vid g.vid parts.1))) (rw (equal_bytes g.mac.0 p.src.0 (sym (same_bytes p.src.0 g.mac.0 parts.0))) permanent)) in
-                absurd (true≢false (sym here ∙ of_all (λ x. stays x ≡ false) now.hosts no_one g (in_group g cg)))
+                absurd (true≢false (sym here ∙ of_all (λ x. stays x ≡ false) now.hosts no_one g (in_group conf now d setting g cg)))
 
             the_one : (j : Port) → Contains d.ports j → (w : Vlan) → Contains conf.vlans w → hits (miss conf now.hosts d j w).key.fields port p ≡ true → Does 3 port p sent on (miss conf now.hosts d j w)
             the_one j cj w cw hit =
                 let parts = two (port == j.no) (v.vid == w.vid) (sym (miss_fields j w cj cw) ∙ hit) in
-                let same_port : i ≡ j = one_port conf setting.valid d setting.is_dp i j i_in cj (i_is ∙ eqb-true port j.no parts.0) in
+                let same_port : i ≡ j = one_port conf setting.valid d setting.is_dp i j came.within cj (came.is ∙ eqb-true port j.no parts.0) in
                 let same_vlan : v ≡ w = one_vlan conf setting.valid d setting.is_dp v w v_in cw (eqb-true v.vid w.vid parts.1) in
                 subst (λ x. Does 3 port p sent on (miss conf now.hosts d j x)) same_vlan (subst (λ x. Does 3 port p sent on (miss conf now.hosts d x v)) same_port does)
 

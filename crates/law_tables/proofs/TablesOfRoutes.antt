@@ -9,8 +9,7 @@ use Rattle.net_base.specs.declared.field.FieldId.TheVariants.{EthDst, EthType, V
 use Rattle.net_base.specs.declared.net4.Net4.{Net4}
 use Rattle.net_base.specs.Address.{IsSixBytes}
 use Rattle.net_base.specs.Field.{prefix}
-use Rattle.net_base.specs.Numbers.{IsVid, IsPortNo}
-use Rattle.of_match.specs.declared.action.TheConstants.{CONTROLLER}
+use Rattle.net_base.specs.Numbers.{IsVid}
 use Rattle.of_match.specs.declared.action.Action.{Action}
 use Rattle.of_match.specs.declared.entry.Entry.{Entry}
 use Rattle.of_match.specs.declared.packet.Packet.{Packet}
@@ -47,7 +46,7 @@ use Rattle.law_runs.specs.Members.{in_front, behind, in_mapped, in_then, head_of
 use Rattle.law_runs.specs.Order.{same_self, same_equal}
 use Rattle.law_runs.specs.Runs.{stopped, went}
 use Rattle.plan_units.specs.Agrees.{to_address, of_type, in_vlan, names_vlan, hits_one}
-use Rattle.plan_units.specs.Facts.{port_in, port_is, port_number, vlan_in, one_vlan, vlan_number}
+use Rattle.plan_units.specs.Facts.{vlan_in, one_vlan, vlan_number}
 use Rattle.plan_units.specs.Fixed.{pass}
 use Rattle.plan_units.specs.Laws.{IsSetting, IsOf, Leaves, Sends, RoutingLaw}
 use Rattle.plan_units.specs.Steps.{followed}
@@ -58,6 +57,7 @@ use Rattle.law_tables.proofs.Headers.{both, dst_value, dst_fits, no_hop, asks, a
 use Rattle.law_tables.proofs.Hits.{each_agrees, hits_where, not_hit, in_prefix}
 use Rattle.law_tables.proofs.Items.{InSet, From, of_vip, of_neighbour, of_network, of_route, Origin, same_to, item_fits, no_default, origins, any_true}
 use Rattle.law_tables.proofs.Longest.{Chosen, chosen}
+use Rattle.law_tables.proofs.Ingress.{Entered, entered}
 
 module _ (conf : Configuration) (now : State) (d : Dp) (setting : IsSetting conf now d) where
   vlan_is : (w : Vlan) → Contains conf.vlans w → IsVlan w
@@ -67,14 +67,8 @@ module _ (conf : Configuration) (now : State) (d : Dp) (setting : IsSetting conf
   six_of w c = let is = (vlan_is w c).mac in record { count = is.six; each = is.each }
 
   module _ (port : ℕ) (p : Packet) (i : Port) (v : Vlan) (o : IsOf conf now d port p i v) where
-    i_in : Contains d.ports i
-    i_in = port_in conf setting.valid d setting.is_dp port i o.is_port
-
-    i_is : i.no ≡ port
-    i_is = port_is conf setting.valid d setting.is_dp port i o.is_port
-
-    i_number : IsPortNo i.no
-    i_number = port_number conf setting.valid d setting.is_dp i i_in
+    came : Entered d port i
+    came = entered conf now d setting port i o.is_port
 
     v_in : Contains conf.vlans v
     v_in = vlan_in conf setting.valid d setting.is_dp v.vid v o.is_vlan
@@ -208,15 +202,8 @@ module _ (conf : Configuration) (now : State) (d : Dp) (setting : IsSetting conf
 
     -- ---- what entries do
 
-    not_controller : (CONTROLLER == port) ≡ false
-    not_controller = by (CONTROLLER == port) refl
-      where
-        by : (b : Bool) → (CONTROLLER == port) ≡ b → (CONTROLLER == port) ≡ false
-        by true is = absurd (let e = eqb-true CONTROLLER port is in let most = i_number.most in omega (arith, e, most, i_is))
-        by false is = is
-
     to_it : act_sends (action.to_controller ∷ []) port p ≡ to_controller p
-    to_it = rw not_controller refl
+    to_it = rw came.no_controller refl
 
     answers_6 : (priority : ℕ) (fields : List Field) → Does 6 port p (to_controller p) None (entry table.Vip priority fields only_to_controller)
     answers_6 priority fields = (same_equal (act_sends (action.to_controller ∷ []) port p) (to_controller p) to_it, refl)
@@ -255,7 +242,7 @@ module _ (conf : Configuration) (now : State) (d : Dp) (setting : IsSetting conf
       has : has_gateway d v ≡ true
       has =
           both (not (length v.vips == 0)) (has_entrance d v.vid) (ap not some)
-          (any_true (is_entrance v.vid) d.ports i i_in (both (is_accepting i) (is_edge_member i v.vid) o.accepting o.member))
+          (any_true (is_entrance v.vid) d.ports i came.within (both (is_accepting i) (is_edge_member i v.vid) o.accepting o.member))
 
       vip_fits : (vip : Net4) → Contains v.vips vip → vip.ip.0 < 2 ^ 32
       vip_fits vip c = (of_all IsVip v.vips (vlan_is v v_in).vips vip c).address

@@ -1,5 +1,5 @@
 -- Table 2, case by case.
-use Rattle.std.proofs.Common.{◌≡◌, ℕ, zero, suc, ◌+◌, ◌==◌, ◌&&◌, ◌||◌, not, Bool, true, false, List, [], ◌∷◌, length, map, Option, refl, sym, ap, ◌∙◌, subst, true≢false, eqb-true, eq-eqb, arith, if◌then◌else◌}
+use Rattle.std.proofs.Common.{◌≡◌, ℕ, zero, suc, ◌+◌, ◌==◌, ◌&&◌, ◌||◌, not, Bool, true, false, List, [], ◌∷◌, length, map, Option, refl, sym, ap, ◌∙◌, subst, true≢false, eqb-true, eq-eqb, arith, if◌then◌else◌, ne_eqb}
 use Rattle.std.specs.Prelude.{Contains}
 use Rattle.std.specs.List.{AllByRecursion, list_any, flat_map}
 use Rattle.net_base.specs.declared.field.FieldId.TheVariants.{VlanVid}
@@ -26,7 +26,6 @@ use Rattle.plan_units.specs.Laws.{IsSetting, IsOf, VlanAclLaw}
 use Rattle.plan_units.specs.Steps.{followed}
 use Rattle.plan_units.specs.Tables.{vlan_acl_in}
 use Rattle.plan_units.specs.Units.{plan, of_port, of_vlan}
-use Rattle.law_tables.proofs.AclCounts.{unequal}
 use Rattle.law_tables.proofs.FirstRule.{none_elsewhere}
 use Rattle.law_tables.proofs.AclsLead.{Part, Leads, NoneHits, to_next, no_part, few, acls_lead}
 use Rattle.law_tables.proofs.AclFamilies.{at_2, sends_then}
@@ -37,7 +36,7 @@ module _ (conf : Configuration) (now : State) (d : Dp) (setting : IsSetting conf
     v_in = vlan_in conf setting.valid d setting.is_dp v.vid v o.is_vlan
 
     some : (length v.acls == 0) ≡ false
-    some = unequal (length v.acls) 0 (λ e. has (empty v.acls e))
+    some = ne_eqb (length v.acls) 0 (λ e. has (empty v.acls e))
       where
         empty : (xs : List (List ℕ)) → length xs ≡ 0 → xs ≡ []
         empty [] e = refl
@@ -64,7 +63,7 @@ module _ (conf : Configuration) (now : State) (d : Dp) (setting : IsSetting conf
     none_of w c apart =
         let tag = (o.is_in).0 in
         let misses : agrees (vid_field w.vid) (value_of VlanVid port p) ≡ false =
-        in_vlan port p o.shaped w.vid (vlan_number conf setting.valid d setting.is_dp w c) ∙ names_vlan p tag w.vid (o.is_in).1 ∙ unequal tag.vid w.vid (λ e. apart (sym (o.is_in).2 ∙ e)) in
+        in_vlan port p o.shaped w.vid (vlan_number conf setting.valid d setting.is_dp w c) ∙ names_vlan p tag w.vid (o.is_in).1 ∙ ne_eqb tag.vid w.vid (λ e. apart (sym (o.is_in).2 ∙ e)) in
         all_if (λ e. hits e.key.fields port p ≡ false) (has_acls w.acls && has_edge_member d w.vid) (acl_entries (AtVlan w.vid) conf d w.acls) [] (λ is. none_elsewhere (AtVlan w.vid) d port p misses 0 (rules_of conf w.acls)) (λ is. tt)
 
     leads : Leads 2 port p (vlan_acl conf d v) (acl_sends conf d v.acls port p) (to_next (AtVlan v.vid) p (is_allowed conf v.acls port p))

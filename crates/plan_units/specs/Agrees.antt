@@ -1,16 +1,16 @@
 -- When packets agree with the fields of flow entries: questions on their headers.
-use Rattle.std.specs.Prelude.{◌≡◌, ℕ, ◌+◌, ◌-◌, ◌/◌, ◌%◌, ◌^◌, ◌<◌, ◌≤◌, ◌==◌, ◌&&◌, Bool, true, false, List, [], ◌∷◌, Option, Some, None}
+use Rattle.std.specs.Prelude.{◌≡◌, ℕ, ◌+◌, ◌-◌, ◌/◌, ◌%◌, ◌^◌, ◌<◌, ◌≤◌, ◌==◌, ◌&&◌, Bool, true, false, List, [], ◌∷◌, Option, Some}
 use Rattle.std.specs.List.{AllByRecursion}
-use Rattle.std.proofs.Common.{refl, sym, ap, ◌∙◌, subst, arith, true≢false, eqb-true, eq-eqb}
-use Rattle.std.proofs.lemmas.Bool.{and_parts}
+use Rattle.std.proofs.Common.{refl, sym, ap, ◌∙◌, arith, eqb-true, eq-eqb}
 use Rattle.std.specs.Option.{option_map_or}
 use Rattle.std.proofs.lemmas.Map.Text.{is_eq-slice_cmp}
 use Rattle.std.proofs.lemmas.Slice.Eq.{bytes_eq-Decides}
 use Rattle.net_base.specs.declared.address.Mac.{Mac}
 use Rattle.net_base.specs.declared.field.Field.{Field}
 use Rattle.net_base.specs.declared.field.FieldId.TheVariants.{InPort, EthDst, EthSrc, EthType, VlanVid}
-use Rattle.net_base.specs.Address.{IsSixBytes, mac_value, mac_of, is_group}
+use Rattle.net_base.specs.Address.{IsSixBytes, mac_value, mac_of}
 use Rattle.net_base.specs.Numbers.{IsVid, IsPortNo}
+use Rattle.net_base.proofs.Macs.{mac_below}
 use Rattle.of_match.specs.declared.packet.Packet.{Packet}
 use Rattle.of_match.specs.declared.packet.Tag.{Tag}
 use Rattle.of_match.specs.Hit.{agrees, hits, value_of, vid_value, outermost}
@@ -29,28 +29,15 @@ and_true false = refl
 pub hits_one : (f : Field) (port : ℕ) (p : Packet) → hits (f ∷ []) port p ≡ agrees f (value_of f.id port p)
 hits_one f port p = and_true (agrees f (value_of f.id port p))
 
--- an address below 2^48 as a number, of six bytes (IEEE 802, 8.1)
-below : (bytes : List ℕ) → IsSixBytes bytes → mac_value (record { 0 = bytes }) < 2 ^ 48
-below [] six = absurd (omega (arith, six.count))
-below (a ∷ []) six = absurd (omega (arith, six.count))
-below (a ∷ b ∷ []) six = absurd (omega (arith, six.count))
-below (a ∷ b ∷ c ∷ []) six = absurd (omega (arith, six.count))
-below (a ∷ b ∷ c ∷ d ∷ []) six = absurd (omega (arith, six.count))
-below (a ∷ b ∷ c ∷ d ∷ e ∷ []) six = absurd (omega (arith, six.count))
-below (a ∷ b ∷ c ∷ d ∷ e ∷ f ∷ more) six = omega (arith, six.each)
-
-pub mac_below : (mac : Mac) → IsSixBytes mac.0 → mac_value mac < 2 ^ 48
-mac_below mac six = below mac.0 six
-
--- six bytes are those of their number
-bytes_of : (bytes : List ℕ) → IsSixBytes bytes → ◌≡◌ {A = List ℕ} (mac_of (mac_value (record { 0 = bytes }))).0 bytes
-bytes_of [] six = absurd (omega (arith, six.count))
-bytes_of (a ∷ []) six = absurd (omega (arith, six.count))
-bytes_of (a ∷ b ∷ []) six = absurd (omega (arith, six.count))
-bytes_of (a ∷ b ∷ c ∷ []) six = absurd (omega (arith, six.count))
-bytes_of (a ∷ b ∷ c ∷ d ∷ []) six = absurd (omega (arith, six.count))
-bytes_of (a ∷ b ∷ c ∷ d ∷ e ∷ []) six = absurd (omega (arith, six.count))
-bytes_of (a ∷ b ∷ c ∷ d ∷ e ∷ f ∷ []) six =
+-- six bytes are those of their number (IEEE 802, 8.1)
+bytes_again : (bytes : List ℕ) → IsSixBytes bytes → ◌≡◌ {A = List ℕ} (mac_of (mac_value (record { 0 = bytes }))).0 bytes
+bytes_again [] six = absurd (omega (arith, six.count))
+bytes_again (a ∷ []) six = absurd (omega (arith, six.count))
+bytes_again (a ∷ b ∷ []) six = absurd (omega (arith, six.count))
+bytes_again (a ∷ b ∷ c ∷ []) six = absurd (omega (arith, six.count))
+bytes_again (a ∷ b ∷ c ∷ d ∷ []) six = absurd (omega (arith, six.count))
+bytes_again (a ∷ b ∷ c ∷ d ∷ e ∷ []) six = absurd (omega (arith, six.count))
+bytes_again (a ∷ b ∷ c ∷ d ∷ e ∷ f ∷ []) six =
     let v = mac_value (record { 0 = a ∷ b ∷ c ∷ d ∷ e ∷ f ∷ [] }) in
     let ea : v / 2 ^ 40 % 256 ≡ a = omega (arith, six.each) in
     let eb : v / 2 ^ 32 % 256 ≡ b = omega (arith, six.each) in
@@ -59,7 +46,10 @@ bytes_of (a ∷ b ∷ c ∷ d ∷ e ∷ f ∷ []) six =
     let ee : v / 2 ^ 8 % 256 ≡ e = omega (arith, six.each) in
     let ef : v % 256 ≡ f = omega (arith, six.each) in
     λ i. ea i ∷ eb i ∷ ec i ∷ ed i ∷ ee i ∷ ef i ∷ []
-bytes_of (a ∷ b ∷ c ∷ d ∷ e ∷ f ∷ g ∷ more) six = absurd (omega (arith, six.count))
+bytes_again (a ∷ b ∷ c ∷ d ∷ e ∷ f ∷ g ∷ more) six = absurd (omega (arith, six.count))
+
+pub mac_again : (mac : Mac) → IsSixBytes mac.0 → mac_of (mac_value mac) ≡ mac
+mac_again mac six = ap (λ (bytes : List ℕ). let made : Mac = record { 0 = bytes } in made) (bytes_again mac.0 six)
 
 -- two texts or addresses have the same bytes exactly where they are equal
 pub same_bytes : (a b : List ℕ) → is_same a b ≡ true → a ≡ b
@@ -77,7 +67,7 @@ same_address a b sa sb = by (mac_value a == mac_value b) (is_same a.0 b.0) refl 
     by false false ex ey = refl
     by true false ex ey =
         let values = eqb-true (mac_value a) (mac_value b) ex in
-        let bytes : a.0 ≡ b.0 = sym (bytes_of a.0 sa) ∙ ap (λ v. (mac_of v).0) values ∙ bytes_of b.0 sb in
+        let bytes : a.0 ≡ b.0 = sym (bytes_again a.0 sa) ∙ ap (λ v. (mac_of v).0) values ∙ bytes_again b.0 sb in
         sym (equal_bytes a.0 b.0 bytes) ∙ ey
     by false true ex ey =
         let bytes = same_bytes a.0 b.0 ey in

@@ -1,42 +1,32 @@
 -- What actions send that give a packet out by ports and by those that mirror them.
-use Rattle.std.specs.Prelude.{◌≡◌, ◌⊎◌, ℕ, ◌+◌, ◌^◌, ◌<◌, ◌≤◌, ◌==◌, ◌&&◌, not, Bool, true, false, cond, List, [], ◌∷◌, ◌++◌, length, map, filter, Option, Some, None, Contains, is_none, is_some, if◌then◌else◌}
-use Rattle.std.specs.List.{AllByRecursion, list_any}
+use Rattle.std.specs.Prelude.{◌≡◌, ◌⊎◌, ℕ, ◌+◌, ◌^◌, ◌<◌, ◌≤◌, ◌==◌, ◌&&◌, not, Bool, true, false, List, [], ◌∷◌, ◌++◌, length, Some, Contains, is_none, is_some, if◌then◌else◌}
+use Rattle.std.specs.List.{AllByRecursion}
 use Rattle.std.specs.Option.{option_map_or}
-use Rattle.std.proofs.Common.{refl, sym, ap, ◌∙◌, subst, arith, true≢false, eqb-true, eq-eqb, inl, inr}
+use Rattle.std.proofs.Common.{ne_eqb, refl, sym, ap, ◌∙◌, subst, arith, true≢false, eqb-true, inl, inr}
 use Rattle.std.proofs.lemmas.Bool.{and_parts}
-use Rattle.std.proofs.lemmas.List.{append-nil}
 use Rattle.net_base.specs.Numbers.{IsPortNo}
 use Rattle.of_match.specs.declared.action.Action.{Action}
-use Rattle.of_match.specs.declared.action.Action.TheVariants.{Output}
 use Rattle.of_match.specs.declared.action.TheConstants.{IN_PORT, CONTROLLER}
 use Rattle.of_match.specs.declared.packet.Packet.{Packet}
-use Rattle.of_match.specs.declared.packet.Sent.{Sent}
 use Rattle.of_match.specs.Act.{act_sends, act_left, sends_of, left_by, output}
 use Rattle.conf_types.specs.declared.datapath.Dp.{Dp}
 use Rattle.conf_types.specs.declared.datapath.Port.{Port}
 use Rattle.conf_types.specs.Configuration.{Configuration, dp_with, port_with}
 use Rattle.conf_types.specs.Lists.{is_among}
-use Rattle.conf_types.specs.Membership.{is_stack, is_edge, is_accepting, is_native_in, is_mirror_of, mirrors_of}
+use Rattle.conf_types.specs.Membership.{is_stack, is_edge, is_accepting, is_mirror_of, mirrors_of}
 use Rattle.conf_types.specs.Valid.{IsValid, IsMirror}
-use Rattle.packet_way.specs.Leaving.{copies, as_sent, without_tag}
-use Rattle.plan_base.specs.Actions.{out, to_ingress, pop_tag}
-use Rattle.plan_base.specs.Sending.{outs, mirrored, copied, sent}
+use Rattle.packet_way.specs.Leaving.{copies, without_tag}
+use Rattle.plan_base.specs.Actions.{pop_tag}
+use Rattle.plan_base.specs.Sending.{outs, mirrored, copied}
 use Rattle.law_runs.specs.Members.{of_all, all_by, all_filtered}
 use Rattle.plan_units.specs.Facts.{found, port_number, port_in, port_is, one_port}
 
-unequal : (m n : ℕ) → (m ≡ n → ⊥) → (m == n) ≡ false
-unequal m n apart = by (m == n) refl
-  where
-    by : (b : Bool) → (m == n) ≡ b → (m == n) ≡ false
-    by true is = absurd (apart (eqb-true m n is))
-    by false is = is
-
 -- an interface's number stands for no reserved port (OpenFlow 1.3, 7.2.1)
 pub no_ingress : (number : ℕ) → IsPortNo number → (number == IN_PORT) ≡ false
-no_ingress number is = unequal number IN_PORT (λ e. let most = is.most in omega (arith, e, most))
+no_ingress number is = ne_eqb number IN_PORT (λ e. let most = is.most in omega (arith, e, most))
 
 pub no_controller : (number : ℕ) → IsPortNo number → (CONTROLLER == number) ≡ false
-no_controller number is = unequal CONTROLLER number (λ e. let most = is.most in omega (arith, e, most))
+no_controller number is = ne_eqb CONTROLLER number (λ e. let most = is.most in omega (arith, e, most))
 
 -- ---- copies
 
@@ -94,7 +84,7 @@ module _ (conf : Configuration) (valid : IsValid conf) (d : Dp) (is_dp : dp_with
           let mirrors = some_mirror m n (and_parts m.enabled (is_mirror_of m n) is).1 in
           record {
             by_number = no_ingress m.no (port_number conf valid d is_dp m c);
-            elsewhere = unequal m.no port (λ e.
+            elsewhere = ne_eqb m.no port (λ e.
                 let same : m ≡ i = one_port conf valid d is_dp m i c (port_in conf valid d is_dp port i is_port) (e ∙ sym (port_is conf valid d is_dp port i is_port)) in
                 takes_none m c mirrors (subst (λ x. (is_stack x ≡ true) ⊎ (is_accepting x ≡ true)) (sym same) takes_in));
           }
