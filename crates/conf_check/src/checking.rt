@@ -3,7 +3,7 @@ ghost use Rattle.conf_resolve.specs.InRange.{IsInRange};
 ghost use Rattle.conf_check.specs.Accepted.{unless, meant_by, fault_of, conf_of, BreaksRule, IsRefused};
 
 use conf_resolve::{arrange, resolve};
-use conf_rules::find_fault;
+use conf_rules::find_broken_rule;
 use conf_shape::{ConfFault, ConfRefused, RawConf, shape};
 use conf_types::Conf;
 use law_checks::ranges::a_document_of_the_right_shape_is_in_range;
@@ -20,7 +20,7 @@ fn checked(alloc: Global, raw: &RawConf) -> Result<Result<Conf, ConfFault>, NoMe
     what_breaks_no_rule_is_valid();
     let ordered = arrange(alloc, raw)?;
     let conf = resolve(alloc, &ordered)?;
-    match find_fault(alloc, &ordered, &conf)? {
+    match find_broken_rule(alloc, &ordered, &conf)? {
         Some(fault) => Ok(Err(fault)),
         None => {
             let (dps, vlans, acls, routers) = conf.into_lists();

@@ -5,9 +5,9 @@ ghost use Rattle.conf_gather.specs.Gives.{Gives, GivesTold, FaultsTell, Absences
 ghost use Rattle.conf_gather.specs.Gathered.{held_by, NamesUnread, each, gather, gathered, gathered_by};
 
 use crate::include::{Include, Role, includes_of};
-use crate::keys::entries_of;
 use crate::refused::LoadRefused;
 use crate::take::{Gathered, read_tree, take_tree, was_reached};
+use conf_shape::as_entries;
 use fg_outside::Files;
 use net_base::{Names, Text, TryCopy};
 use std::alloc::Global;
@@ -44,7 +44,7 @@ fn gather_file<F: Files>(
     match read_tree(alloc, files, include)? {
         Some(tree) => {
             let so_far = take_tree(alloc, include, so_far, &tree)?;
-            let includes = includes_of(alloc, include.name.as_str(), entries_of(&tree))?;
+            let includes = includes_of(alloc, include.name.as_str(), as_entries(&tree))?;
             gather_all(alloc, files, levels - 1, includes.as_slice(), so_far)
         }
         None => Ok(so_far),

@@ -3,8 +3,8 @@ ghost use Rattle.std.specs.Option.{option_map_or};
 ghost use Rattle.conf_shape.specs.Reads.{value_at, items_of, list_at, words_of};
 ghost use Rattle.conf_gather.specs.Includes.{is_included, is_optional, included_as, includes_of};
 
-use crate::keys::{value_at, words_of};
 use crate::names::whole_name;
+use conf_shape::{as_words, value_at};
 use net_base::{Items, NoMemory, Text, TryCopy};
 use std::alloc::Global;
 use yaml_tree::{Pair, Tree};
@@ -80,7 +80,7 @@ fn push_listed(
     ensures { OnOk result (made.new ≡ made.old ++ map (included_as role including.now) (map words_of items.now)) }
 {
     for item in items {
-        let name = whole_name(alloc, including, words_of(item))?;
+        let name = whole_name(alloc, including, as_words(item))?;
         made.push(Include { name, role })?;
     }
     Ok(())

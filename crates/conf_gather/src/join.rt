@@ -7,7 +7,8 @@ ghost use Rattle.conf_shape.specs.Sections.{key_text};
 ghost use Rattle.conf_shape.specs.Reads.{entries_of};
 ghost use Rattle.conf_gather.specs.Joined.{first_in_both, gathered_under, given_again, all_given_again, extended, with_more, place_of, joined_entry, joined};
 
-use crate::keys::{entries_of, is_include_key, is_section, key_eq, key_text, value_of};
+use crate::keys::{is_include_key, is_section, key_eq, value_of};
+use conf_shape::{as_entries, key_text};
 use net_base::{NoMemory, Text, TryCopy};
 use std::alloc::Global;
 use yaml_tree::{Key, Pair, Pairs, Tree};
@@ -29,7 +30,7 @@ fn gathered_under<'a>(gathered: &'a [Pair], key: &Key) -> &'a [Pair]
     ensures { result.now ≡ gathered_under key.now gathered.now }
 {
     match value_of(gathered, key) {
-        Some(tree) => entries_of(tree),
+        Some(tree) => as_entries(tree),
         None => &[],
     }
 }
@@ -53,7 +54,7 @@ fn given_again(alloc: Global, gathered: &[Pair], pair: &Pair) -> Result<Option<T
         return Ok(None);
     }
     let before = gathered_under(gathered, &pair.key);
-    match first_in_both(before, entries_of(&pair.value)) {
+    match first_in_both(before, as_entries(&pair.value)) {
         Some(key) => Ok(Some(path_below(alloc, &pair.key, key)?)),
         None => Ok(None),
     }
@@ -155,7 +156,7 @@ fn join_entry(alloc: Global, gathered: &mut Pairs, pair: &Pair) -> Result<(), No
         return gathered.push(pair.copy(alloc)?);
     }
     if is_section(&pair.key) {
-        return extend_section(alloc, gathered, &pair.key, entries_of(&pair.value));
+        return extend_section(alloc, gathered, &pair.key, as_entries(&pair.value));
     }
     Ok(())
 }

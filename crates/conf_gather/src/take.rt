@@ -8,10 +8,9 @@ ghost use Rattle.conf_gather.specs.Gathered.{tree_of, text_tree, unread, fault_a
 
 use crate::include::{Include, Role};
 use crate::join::{all_given_again, join};
-use crate::keys::entries_of;
 use crate::refused::LoadRefused;
 use crate::wrong::{is_document, wrong_entries};
-use conf_shape::{ConfCause, ConfFault};
+use conf_shape::{ConfCause, ConfFault, as_entries};
 use fg_outside::{Files, ReadRefused, read_whole};
 use net_base::{Names, NoMemory, Text, TryCopy};
 use std::alloc::Global;
@@ -125,7 +124,7 @@ fn tree_fault(
     ensures { IfOk result (λ fault. fault ≡ tree_fault role gathered.now tree.now) }
 {
     if is_document(tree) {
-        return entries_fault(alloc, role, gathered, entries_of(tree));
+        return entries_fault(alloc, role, gathered, as_entries(tree));
     }
     let whole = Text::from_str(alloc, ".")?;
     Ok(fault_at(ConfCause::WrongType, Some(whole)))
@@ -149,6 +148,6 @@ pub fn take_tree(
         return Err(LoadRefused::Conf(fault));
     }
     reached.push(include.name.copy(alloc)?)?;
-    join(alloc, &mut pairs, entries_of(tree))?;
+    join(alloc, &mut pairs, as_entries(tree))?;
     Ok(Gathered { reached, pairs })
 }

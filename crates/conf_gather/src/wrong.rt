@@ -7,7 +7,8 @@ ghost use Rattle.conf_shape.specs.Sections.{key_text};
 ghost use Rattle.yaml_tree.specs.declared.tree.Tree.{out-Tree};
 ghost use Rattle.conf_gather.specs.WrongTypes.{is_map_in, is_document, fits, section_fits, is_text_in, place_of_no_text, no_names, wrong_entry, wrong_entries};
 
-use crate::keys::{is_include_key, is_key, is_section, key_text, value_of};
+use crate::keys::{is_include_key, is_section, value_of};
+use conf_shape::{is_key, key_text};
 use net_base::{NoMemory, Text};
 use std::alloc::Global;
 use yaml_tree::{Key, Pair, Tree};

@@ -27,4 +27,4 @@ mod targets;
 mod unknown;
 mod vids;
 
-pub use rules::find_fault;
+pub use rules::find_broken_rule;

@@ -1,40 +1,15 @@
 //! Places where a rule of a configuration is broken.
 
-ghost use Rattle.std.specs.Prelude.{◌≡◌, ◌++◌, ◌∷◌, [], IfOk, OnOk, Some, codes};
-ghost use Rattle.conf_shape.specs.Faults.{dotted, path_of};
+ghost use Rattle.std.specs.Prelude.{◌≡◌, ◌∷◌, [], IfOk, Some, codes};
 ghost use Rattle.conf_resolve.specs.InOrder.{dp_site, port_site, router_site};
 ghost use Rattle.conf_rules.specs.Places.{fault, under, nth, name_site};
 
-use conf_shape::{ConfCause, ConfFault, RawAcl, RawDp, RawNames, RawPort, RawRouter};
+use conf_shape::{ConfCause, ConfFault, RawAcl, RawDp, RawNames, RawPort, RawRouter, path_of};
 use net_base::{Items, Names, NoMemory, Text};
 use std::alloc::Global;
 
 /// The first place where a rule is broken; `None` where there is none.
 pub(crate) type Found = Result<Option<ConfFault>, NoMemory>;
-
-fn append_dotted(path: &mut Text, steps: &[Text]) -> Result<(), NoMemory>
-    ensures { OnOk result (path.new ≡ path.old ++ dotted steps.now) }
-{
-    for step in steps {
-        path.append(".")?;
-        path.append(step.as_str())?;
-    }
-    Ok(())
-}
-
-/// The steps joined by points, and one point where there is none.
-fn path_of(alloc: Global, steps: &[Text]) -> Result<Text, NoMemory>
-    ensures { IfOk result (λ path. path ≡ path_of steps.now) }
-{
-    match steps {
-        [first, rest @ ..] => {
-            let mut path = Text::from_str(alloc, first.as_str())?;
-            append_dotted(&mut path, rest)?;
-            Ok(path)
-        }
-        [] => Text::from_str(alloc, "."),
-    }
-}
 
 /// A rule is broken at a place.
 pub(crate) fn broken(alloc: Global, cause: ConfCause, site: Names) -> Found

@@ -82,10 +82,10 @@ fn routing_faults(alloc: Global, ordered: &OrderedConf, conf: &Resolved) -> Foun
     repeated_routes(alloc, ordered, conf)
 }
 
-/// The first place where a rule other than that on limits is broken, rule by rule and in each in the
+/// The first place where a rule before that on limits is broken, rule by rule and in each in the
 /// order of its parts; `None` where none is broken.
 #[tactic(auto, using(crate::proofs::First::first_rules))]
-pub fn find_broken_rule(
+pub fn find_broken_before_limits(
     alloc: Global,
     ordered: &OrderedConf,
     conf: &Resolved,
@@ -104,7 +104,7 @@ pub fn find_broken_rule(
 /// The first place where a rule is broken, rule by rule and in each in the order of its parts, and
 /// the limits last; `None` where none is broken.
 #[tactic(auto, using(crate::proofs::First::first_rules))]
-pub fn find_fault(
+pub fn find_broken_rule(
     alloc: Global,
     ordered: &OrderedConf,
     conf: &Resolved,
@@ -112,7 +112,7 @@ pub fn find_fault(
     requires { conf.now ≡ resolved ordered.now }
     ensures { IfOk result (λ fault. fault ≡ first_broken ordered.now conf.now) }
 {
-    if let Some(found) = find_broken_rule(alloc, ordered, conf)? {
+    if let Some(found) = find_broken_before_limits(alloc, ordered, conf)? {
         return Ok(Some(found));
     }
     find_passed_limit(alloc, ordered, conf)

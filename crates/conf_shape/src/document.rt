@@ -3,7 +3,7 @@ ghost use Rattle.conf_shape.specs.Faults.{first_fault};
 ghost use Rattle.conf_shape.specs.Raw.{raw_of};
 ghost use Rattle.conf_shape.specs.Refused.{IsRefused};
 
-use crate::faults::find_fault;
+use crate::faults::find_shape_fault;
 use crate::raw::RawConf;
 use crate::reads::{as_entries, entries_at, read_entries};
 use crate::refused::ConfRefused;
@@ -30,7 +30,7 @@ pub fn shape(alloc: Global, tree: &Tree) -> Result<RawConf, ConfRefused>
     ensures raw { IfOk result (λ raw. raw ≡ raw_of tree.now) }
     ensures refused { IfErr result (IsRefused tree.now) }
 {
-    match find_fault(alloc, tree) {
+    match find_shape_fault(alloc, tree) {
         Ok(None) => read_raw(alloc, tree).map_err(|_| ConfRefused::Memory),
         Ok(Some(fault)) => Err(ConfRefused::At(fault)),
         Err(_) => Err(ConfRefused::Memory),

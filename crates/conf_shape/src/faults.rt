@@ -168,8 +168,8 @@ fn append_dotted(path: &mut Text, steps: &[Text]) -> Result<(), NoMemory>
     Ok(())
 }
 
-/// The steps joined by points, and one point where there is none.
-fn path_of(alloc: Global, steps: &[Text]) -> Result<Text, NoMemory>
+/// The steps that lead to a place, joined by points, and one point where there is none.
+pub fn path_of(alloc: Global, steps: &[Text]) -> Result<Text, NoMemory>
     ensures { IfOk result (λ path. path ≡ path_of steps.now) }
 {
     match steps {
@@ -185,7 +185,7 @@ fn path_of(alloc: Global, steps: &[Text]) -> Result<Text, NoMemory>
 /// The first fault of a document, in its order; `None` where its shape is right. In a map each key
 /// stands in its turn: one that is unknown or left out, that is given twice, or that is out of the
 /// range of what it gives, and then the fault of its value; behind the last key what is missing.
-pub fn find_fault(alloc: Global, tree: &Tree) -> Result<Option<ConfFault>, NoMemory>
+pub fn find_shape_fault(alloc: Global, tree: &Tree) -> Result<Option<ConfFault>, NoMemory>
     ensures { IfOk result (λ fault. fault ≡ first_fault tree.now) }
 {
     match value_fault(alloc, Kind::Map(MapKind::Top), tree)? {

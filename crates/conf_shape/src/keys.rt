@@ -27,6 +27,7 @@ pub fn key_text(alloc: Global, key: &Key) -> Result<Text, NoMemory>
     }
 }
 
+/// Whether the key is this text; no whole number is.
 pub fn is_key(name: &str, key: &Key) -> bool
     ensures { result ≡ is_key name.now key.now }
 {

@@ -20,12 +20,14 @@ mod values;
 mod vlans;
 
 pub use document::shape;
-pub use faults::find_fault;
+pub use faults::{find_shape_fault, path_of};
+pub use keys::{is_key, key_text};
 pub use kinds::{DefaultValue, Kind, MapKind, Need, Scalar};
 pub use raw::{
     DropFlags, OneOrList, PortFlags, RawAcl, RawAclNames, RawAcls, RawConf, RawDp, RawDps,
     RawField, RawFields, RawNames, RawOutput, RawPort, RawPorts, RawRouter, RawRouters, RawRule,
     RawRules, RawStackEnd, RawVlan, RawVlans, VlanRef, VlanRefs,
 };
+pub use reads::{as_entries, as_words, value_at};
 pub use refused::{ConfCause, ConfFault, ConfRefused, LimitName};
 pub use tables::{Row, Table, table_of};

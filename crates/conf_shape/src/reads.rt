@@ -16,7 +16,7 @@ use net_base::{Items, NoMemory, PortNo, Text, Vid};
 use std::alloc::Global;
 use yaml_tree::{Key, Pair, Tree};
 
-/// What stands under a key.
+/// What stands under a key that is a text.
 pub fn value_at<'a>(pairs: &'a [Pair], name: &str) -> Option<&'a Tree>
     ensures { option_copied result ≡ value_at name.now pairs.now }
 {
@@ -87,6 +87,7 @@ pub fn as_words(tree: &Tree) -> &str
     }
 }
 
+/// The items of a list; none of anything else.
 pub fn as_items(tree: &Tree) -> &[Tree]
     ensures { result.now ≡ items_of tree.now }
 {
@@ -96,6 +97,7 @@ pub fn as_items(tree: &Tree) -> &[Tree]
     }
 }
 
+/// The entries of a map; none of anything else.
 pub fn as_entries(tree: &Tree) -> &[Pair]
     ensures { result.now ≡ entries_of tree.now }
 {

@@ -3,7 +3,7 @@ use crate::gathered::write_gathered;
 use crate::raw::write_rules;
 use crate::trees::write_tree;
 use conf_check::{TextRefused, conf_of_bytes};
-use conf_shape::{ConfFault, find_fault};
+use conf_shape::{ConfFault, find_shape_fault};
 use net_base::NoMemory;
 use std::alloc::{AllocError, Global};
 use std::str::from_utf8;
@@ -38,7 +38,7 @@ fn write_of_tree(out: &mut String, alloc: Global, kind: &str, tree: &Tree) -> Re
             let printed = print_yaml(alloc, tree)?;
             out.push_str(from_utf8(printed.as_slice()).unwrap_or("no text"))
         }
-        "shape" => match find_fault(alloc, tree)? {
+        "shape" => match find_shape_fault(alloc, tree)? {
             Some(fault) => write_conf_fault(out, &fault),
             None => out.push_str("right"),
         },

@@ -6,8 +6,8 @@ use Rattle.conf_check.specs.Accepted.{unless, meant_by, fault_of}
 use Rattle.conf_check.proofs.Steps.{rule_found, conf_found, same_lists, meant_is_valid}
 use Rattle.conf_check.proofs.checking.checked.Goals as goal
 
-pub find_fault-requires : goal.find_fault-requires
-find_fault-requires c = c.in_ok-conf.ensures
+pub find_broken_rule-requires : goal.find_broken_rule-requires
+find_broken_rule-requires c = c.in_ok-conf.ensures
 
 pub returns-in-Some : goal.returns-in-Some
 returns-in-Some c =

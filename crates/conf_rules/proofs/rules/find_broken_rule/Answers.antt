@@ -5,7 +5,7 @@ use Rattle.conf_rules.specs.Places.{first}
 use Rattle.conf_rules.specs.Rules.{name_faults, port_faults, routing_faults}
 use Rattle.conf_rules.proofs.Distinct.{distinct_of, behind_all}
 use Rattle.conf_rules.proofs.First.{first_none, first_some}
-use Rattle.conf_rules.proofs.rules.find_fault.Goals as goal
+use Rattle.conf_rules.proofs.rules.find_broken_rule.Goals as goal
 
 pub returns-in-Some : goal.returns-in-Some
 returns-in-Some c =
