@@ -24,3 +24,4 @@ pub use ordered::{OrderedConf, PlacedVlan, PlacedVlans};
 pub use ordering::arrange;
 pub use resolved::Resolved;
 pub use resolving::resolve;
+pub use seen::see_number;

@@ -6,7 +6,7 @@ ghost use Rattle.std.specs.BTreeSet.{contains};
 ghost use Rattle.conf_rules.specs.Mirrors.{times};
 ghost use Rattle.conf_types.specs.Membership.{is_mirror_of, is_mirrored};
 
-use crate::seen::see_number;
+use conf_resolve::see_number;
 use conf_types::{Dp, Port};
 use net_base::{NoMemory, PortNo};
 use std::alloc::Global;

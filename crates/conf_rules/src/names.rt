@@ -8,8 +8,8 @@ ghost use Rattle.conf_rules.specs.Names.{vid_site, repeated_vlans, repeated_dps,
 ghost use Rattle.conf_rules.specs.Places.{first, fault_if, name_site, under};
 
 use crate::places::{Found, broken, dp_site, name_site, port_site, under, under_port};
-use crate::seen::{see_name, see_number};
-use conf_resolve::{OrderedConf, PlacedVlan};
+use crate::seen::see_name;
+use conf_resolve::{OrderedConf, PlacedVlan, see_number};
 use conf_shape::{ConfCause, RawAclNames, RawDp, RawPort};
 use net_base::{Names, NoMemory, TryCopy};
 use std::alloc::Global;

@@ -1,24 +1,13 @@
-//! Numbers and names that were seen so far, each found by one look, and how many numbers differ.
+//! Names that were seen so far, each found by one look, and how many numbers differ.
 
-ghost use Rattle.std.specs.Prelude.{◌≡◌, ◌==◌, ◌||◌, ◌+◌, ℕ, List, IfOk, OnOk, if◌then◌else◌};
-ghost use Rattle.std.specs.Ordering.{nat_cmp};
-ghost use Rattle.std.specs.BTreeSet.{btree_set_len, contains, contains_text};
+ghost use Rattle.std.specs.Prelude.{◌≡◌, ◌||◌, ℕ, List, IfOk, OnOk};
+ghost use Rattle.std.specs.BTreeSet.{contains_text};
 ghost use Rattle.conf_types.specs.Lists.{different, is_same};
 
+use conf_resolve::see_number;
 use net_base::{NoMemory, Text};
 use std::alloc::Global;
 use std::collections::BTreeSet;
-
-/// Whether the number was seen; from now on it is.
-pub(crate) fn see_number(seen: &mut BTreeSet<u64>, number: u64) -> Result<bool, NoMemory>
-    ensures was { IfOk result (λ was. was ≡ contains nat_cmp seen.old number) }
-    ensures is { OnOk result ((n : ℕ) → contains nat_cmp seen.new n ≡ (contains nat_cmp seen.old n || number == n)) }
-    ensures len { IfOk result (λ was. btree_set_len seen.new ≡ btree_set_len seen.old + (if was then 0 else 1)) }
-{
-    let was = seen.contains(&number);
-    seen.insert(number)?;
-    Ok(was)
-}
 
 /// Whether the name was seen; from now on it is.
 pub(crate) fn see_name(

@@ -1,4 +1,4 @@
-use Rattle.std.proofs.Common.{true, false, ap, sym, ◌∙◌}
+use Rattle.std.proofs.Common.{rules, ◌≡◌, true, false, ap, sym, ◌∙◌}
 use Rattle.std.specs.BTreeMap.{get_by_text}
 use Rattle.std.specs.BTreeSet.{contains}
 use Rattle.std.specs.Ordering.{nat_cmp}
@@ -10,14 +10,16 @@ use Rattle.conf_resolve.proofs.named_ports.NamedPorts.number.Goals as goal
 
 pub returns-then-contains : goal.returns-then-contains
 returns-then-contains c =
+    let number : c.from.result ≡ c.in-No.no = search rules in
     number_by c.self.inside.dp.now c.args.self.now c.self.inside.numbers c.self.inside.names c.in-No.no true c.self.invariant c.self.view_is
-    (ap (contains nat_cmp c.self.inside.numbers) (sym c.get.ensures.value) ∙ sym c.contains.ensures ∙ c.if-contains.true)
+    (ap (contains nat_cmp c.self.inside.numbers) (sym number) ∙ sym c.contains.ensures ∙ c.if-contains.true)
     ∙ ap (number_named c.args.self.now) (sym c.in-No.is)
 
 pub returns-else-contains : goal.returns-else-contains
 returns-else-contains c =
+    let number : c.from.result ≡ c.in-No.no = search rules in
     number_by c.self.inside.dp.now c.args.self.now c.self.inside.numbers c.self.inside.names c.in-No.no false c.self.invariant c.self.view_is
-    (ap (contains nat_cmp c.self.inside.numbers) (sym c.get.ensures.value) ∙ sym c.contains.ensures ∙ c.if-contains.false)
+    (ap (contains nat_cmp c.self.inside.numbers) (sym number) ∙ sym c.contains.ensures ∙ c.if-contains.false)
     ∙ ap (number_named c.args.self.now) (sym c.in-No.is)
 
 pub returns-in-Name : goal.returns-in-Name
