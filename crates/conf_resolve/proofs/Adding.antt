@@ -1,5 +1,6 @@
 -- What adding VLANs one at a time leaves.
-use Rattle.std.proofs.Common.{◌≡◌, ℕ, suc, ◌+◌, ◌<◌, ◌==◌, length, get_or, drop, Bool, true, false, ◌||◌, cond, Some, None, List, [], ◌∷◌, ◌++◌, map, append_assoc, refl, ap, sym, ◌∙◌, subst, arith}
+use Rattle.std.proofs.Common.{◌≡◌, ℕ, suc, ◌+◌, ◌<◌, ◌==◌, length, get_or, drop, true, false, ◌||◌, cond, Some, None, List, [], ◌∷◌, ◌++◌, map, append_assoc, refl, ap, sym, ◌∙◌, subst, arith}
+use Rattle.std.proofs.Math.Bool.{or_comm, or-false}
 use Rattle.std.proofs.Math.Seq.{drop-cons}
 use Rattle.std.specs.List.{flat_map, enumerate_from}
 use Rattle.std.proofs.lemmas.Grind.{common_steps}
@@ -45,18 +46,8 @@ next_numbered f start vlans new xs i x lt is so_far added =
 
 -- ---- adding is appending those whose number is new
 
-or_swaps : (a b : Bool) → (a || b) ≡ (b || a)
-or_swaps true true = refl
-or_swaps true false = refl
-or_swaps false true = refl
-or_swaps false false = refl
-
-or_false : (a : Bool) → (a || false) ≡ a
-or_false true = refl
-or_false false = refl
-
 has_last : (vlans : List PlacedVlan) (v : PlacedVlan) (n : ℕ) → has_vid (vlans ++ v ∷ []) n ≡ (has_vid vlans n || (v.vlan.vid == n))
-has_last vlans v n = list_any-append (λ w. w.vlan.vid == n) vlans (v ∷ []) ∙ ap (λ b. has_vid vlans n || b) (or_false (v.vlan.vid == n))
+has_last vlans v n = list_any-append (λ w. w.vlan.vid == n) vlans (v ∷ []) ∙ ap (λ b. has_vid vlans n || b) (or-false (v.vlan.vid == n))
 
 has_among : (vlans : List PlacedVlan) (n : ℕ) → is_among (map (λ v. v.vlan.vid) vlans) n ≡ has_vid vlans n
 has_among [] n = refl
@@ -69,7 +60,7 @@ with_each_from vids vlans (v ∷ xs) same =
     ∙ elim (is_among vids v.vlan.vid) as (λ b. with_each (cond b vlans (vlans ++ v ∷ [])) xs ≡ vlans ++ cond b (further vids xs) (v ∷ further (v.vlan.vid ∷ vids) xs)) [
       | true ↦ with_each_from vids vlans xs same
       | false ↦
-          with_each_from (v.vlan.vid ∷ vids) (vlans ++ v ∷ []) xs (λ n. ap (λ b. (v.vlan.vid == n) || b) (same n) ∙ or_swaps (v.vlan.vid == n) (has_vid vlans n) ∙ sym (has_last vlans v n))
+          with_each_from (v.vlan.vid ∷ vids) (vlans ++ v ∷ []) xs (λ n. ap (λ b. (v.vlan.vid == n) || b) (same n) ∙ or_comm (v.vlan.vid == n) (has_vid vlans n) ∙ sym (has_last vlans v n))
           ∙ append_assoc vlans (v ∷ []) (further (v.vlan.vid ∷ vids) xs)
     ]
 

@@ -1,5 +1,6 @@
 -- What the tables of interfaces and datapaths find.
 use Rattle.std.proofs.Common.{◌≡◌, ℕ, ◌+◌, ◌<◌, ◌==◌, ◌||◌, length, get_or, take, Bool, true, false, cond, Option, Some, None, option_and_then, List, [], ◌∷◌, ◌++◌, refl, sym, ap, subst, ◌∙◌}
+use Rattle.std.proofs.Math.Bool.{or-false}
 use Rattle.std.specs.List.{find, list_any}
 use Rattle.std.specs.Option.{option_map, option_or}
 use Rattle.std.specs.BTreeMap.{BTreeMap, get_by_text}
@@ -23,10 +24,6 @@ use Rattle.conf_resolve.proofs.Naming.{next_named}
 
 -- ---- the interfaces of a datapath
 
-or_false : (b : Bool) → (b || false) ≡ b
-or_false true = refl
-or_false false = refl
-
 pub next_port : (ps qs : List RawPort) (i : ℕ) (p : RawPort) (numbers more : BTreeSet ℕ) (names after : BTreeMap (String Global) ℕ) → qs ≡ ps → i < length qs → p ≡ get_or qs i p → HavePorts (take i ps) numbers names
     → ((n : ℕ) → contains nat_cmp more n ≡ (contains nat_cmp numbers n || p.no == n))
     → ((q : List ℕ) → get_by_text after q ≡ option_or (get_by_text names q) (cond (is_same p.names.name q) (Some p.no) None))
@@ -39,7 +36,7 @@ next_port ps qs i p numbers more names after same less at have counted added =
       numbered = λ n.
           counted n
           ∙ ap (λ b. b || p.no == n) (have.numbered n)
-          ∙ ap (λ b. list_any (λ (r : RawPort). r.no == n) (take i ps) || b) (sym (or_false (p.no == n)))
+          ∙ ap (λ b. list_any (λ (r : RawPort). r.no == n) (take i ps) || b) (sym (or-false (p.no == n)))
           ∙ sym (list_any-append (λ (r : RawPort). r.no == n) (take i ps) (p ∷ []))
           ∙ ap (list_any (λ (r : RawPort). r.no == n)) (sym one);
       named = next_named (λ (r : RawPort). r.names.name) (λ (r : RawPort). r.no) ps i p names after lt is have.named added;

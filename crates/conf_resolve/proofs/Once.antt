@@ -1,5 +1,6 @@
 -- What adding numbers one at a time leaves, and lists that grow piece by piece.
-use Rattle.std.proofs.Common.{◌≡◌, ℕ, suc, ◌+◌, ◌<◌, ◌==◌, length, get_or, drop, Bool, true, false, ◌||◌, cond, Option, Some, None, List, [], ◌∷◌, ◌++◌, append_assoc, refl, ap, sym, ◌∙◌, arith}
+use Rattle.std.proofs.Common.{◌≡◌, ℕ, suc, ◌+◌, ◌<◌, ◌==◌, length, get_or, drop, true, false, ◌||◌, cond, Option, Some, None, List, [], ◌∷◌, ◌++◌, append_assoc, refl, ap, sym, ◌∙◌, arith}
+use Rattle.std.proofs.Math.Bool.{or_comm, or-false}
 use Rattle.std.proofs.Math.Seq.{drop-cons}
 use Rattle.std.specs.List.{filter_map, cons_option}
 use Rattle.std.proofs.lemmas.Grind.{common_steps}
@@ -8,18 +9,8 @@ use Rattle.conf_types.specs.Lists.{is_among}
 use Rattle.conf_resolve.specs.Resolved.{to_list, new_ones, once}
 use Rattle.conf_resolve.specs.Added.{with_number, with_numbers}
 
-or_swaps : (a b : Bool) → (a || b) ≡ (b || a)
-or_swaps true true = refl
-or_swaps true false = refl
-or_swaps false true = refl
-or_swaps false false = refl
-
-or_false : (a : Bool) → (a || false) ≡ a
-or_false true = refl
-or_false false = refl
-
 is_among_last : (ns : List ℕ) (m n : ℕ) → is_among (ns ++ m ∷ []) n ≡ (is_among ns n || (m == n))
-is_among_last ns m n = list_any-append (λ x. x == n) ns (m ∷ []) ∙ ap (λ b. is_among ns n || b) (or_false (m == n))
+is_among_last ns m n = list_any-append (λ x. x == n) ns (m ∷ []) ∙ ap (λ b. is_among ns n || b) (or-false (m == n))
 
 with_numbers_from : (seen ns more : List ℕ) → ((n : ℕ) → is_among seen n ≡ is_among ns n) → with_numbers ns more ≡ ns ++ new_ones seen more
 with_numbers_from seen ns [] same = grind (arith, common_steps)
@@ -28,7 +19,7 @@ with_numbers_from seen ns (m ∷ more) same =
     ∙ elim (is_among seen m) as (λ b. with_numbers (cond b ns (ns ++ m ∷ [])) more ≡ ns ++ cond b (new_ones seen more) (m ∷ new_ones (m ∷ seen) more)) [
       | true ↦ with_numbers_from seen ns more same
       | false ↦
-          with_numbers_from (m ∷ seen) (ns ++ m ∷ []) more (λ n. ap (λ b. (m == n) || b) (same n) ∙ or_swaps (m == n) (is_among ns n) ∙ sym (is_among_last ns m n))
+          with_numbers_from (m ∷ seen) (ns ++ m ∷ []) more (λ n. ap (λ b. (m == n) || b) (same n) ∙ or_comm (m == n) (is_among ns n) ∙ sym (is_among_last ns m n))
           ∙ append_assoc ns (m ∷ []) (new_ones (m ∷ seen) more)
     ]
 

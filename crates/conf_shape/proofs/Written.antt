@@ -33,15 +33,15 @@ use Rattle.conf_shape.proofs.FaultLaws.{entry_pair}
 
 -- ---- lists with no fault
 
-split : (fs gs : List Found) → fs ++ gs ≡ [] → (fs ≡ []) × (gs ≡ [])
+pub split : (fs gs : List Found) → fs ++ gs ≡ [] → (fs ≡ []) × (gs ≡ [])
 split [] gs e = (refl, e)
 split (f ∷ fs) gs e = absurd cc
 
-under_none : (step : List ℕ) (fs : List Found) → under step fs ≡ [] → fs ≡ []
+pub under_none : (step : List ℕ) (fs : List Found) → under step fs ≡ [] → fs ≡ []
 under_none step [] e = refl
 under_none step (f ∷ fs) e = absurd cc
 
-here_none : (cause : Option ConfCause) → here cause ≡ [] → cause ≡ None
+pub here_none : (cause : Option ConfCause) → here cause ≡ [] → cause ≡ None
 here_none None e = refl
 here_none (Some cause) e = absurd cc
 

@@ -53,9 +53,9 @@ module _ (o : OrderedConf) where
   abbrev pub at : RawDp → RawPort → Interface
   at d p = record { raw_dp = d; dp = dp_of o d; raw = p; port = port_of o d p }
 
-  -- what holds of each interface as it is written holds of all
-  pub all_interfaces : {C : Type 0} (f : Interface → List C) → ((d : RawDp) → IsIn o.dps d → (p : RawPort) → IsIn d.ports p → f (at d p) ≡ []) → flat_map f (interfaces o conf) ≡ []
-  all_interfaces f h = all_empty f (interfaces o conf) (λ i ci.
+  -- an interface is written on a datapath that is
+  pub of_interfaces : (i : Interface) → IsIn (interfaces o conf) i → (d : RawDp) × IsIn o.dps d × (p : RawPort) × IsIn d.ports p × (at d p ≡ i)
+  of_interfaces i ci =
       let m = of_flat interfaces_of (dps_of o conf) i ci in
       let z = of_zipped (dp_of o) o.dps m.0 m.1 in
       let d : RawDp = m.0.0 in
@@ -63,11 +63,17 @@ module _ (o : OrderedConf) where
       let n = of_flat (λ (q : RawPort × Port). record { raw_dp = d; dp = dp_of o d; raw = q.0; port = q.1 } ∷ []) (zip d.ports (map (port_of o d) d.ports)) i here in
       let y = of_zipped (port_of o d) d.ports n.0 n.1 in
       let made : Port → Interface = λ q. record { raw_dp = d; dp = dp_of o d; raw = n.0.0; port = q } in
-      subst (λ i. f i ≡ []) (ap made y.1 ∙ alone (made n.0.1) i n.2) (h d z.0 n.0.0 y.0))
+      (d, z.0, n.0.0, y.0, ap made y.1 ∙ alone (made n.0.1) i n.2)
     where
       alone : (i j : Interface) → IsIn (i ∷ []) j → i ≡ j
       alone i j (inl e) = e
       alone i j (inr k) = absurd k
+
+  -- what holds of each interface as it is written holds of all
+  pub all_interfaces : {C : Type 0} (f : Interface → List C) → ((d : RawDp) → IsIn o.dps d → (p : RawPort) → IsIn d.ports p → f (at d p) ≡ []) → flat_map f (interfaces o conf) ≡ []
+  all_interfaces f h = all_empty f (interfaces o conf) (λ i ci.
+      let w = of_interfaces i ci in
+      subst (λ i. f i ≡ []) w.4 (h w.0 w.1 w.2 w.3))
 
   module _ (valid : IsValid conf) where
     -- ---- mirrors

@@ -4,7 +4,6 @@ use Rattle.std.specs.Prelude.{map, IfSome, if◌then◌else◌}
 use Rattle.std.specs.Fmt.{decimal}
 use Rattle.std.specs.List.{AllByRecursion}
 use Rattle.std.specs.Option.{option_map, option_map_or}
-use Rattle.std.specs.Str.{bytes_eq}
 use Rattle.std.proofs.lemmas.Slice.Eq.{bytes_eq-Decides}
 use Rattle.yaml_tree.specs.declared.tree.Tree.{Tree, out-Tree, roll-Tree, roll-out-Tree}
 use Rattle.yaml_tree.specs.declared.tree.Key.{Key}
@@ -26,21 +25,7 @@ use Rattle.conf_shape.specs.Faults.{Faults, Entry, here, under, item_faults, lis
 use Rattle.conf_shape.specs.Reads.{value_at, items_in, entries_in, items_of, entries_of}
 use Rattle.conf_shape.specs.Written.{IsRight, Takes}
 use Rattle.conf_shape.proofs.FaultLaws.{entry_pair}
-use Rattle.conf_shape.proofs.Written.{IsSame, same}
-
--- ---- lists with no fault
-
-split : (fs gs : List Found) → fs ++ gs ≡ [] → (fs ≡ []) × (gs ≡ [])
-split [] gs e = (refl, e)
-split (f ∷ fs) gs e = absurd cc
-
-under_none : (step : List ℕ) (fs : List Found) → under step fs ≡ [] → fs ≡ []
-under_none step [] e = refl
-under_none step (f ∷ fs) e = absurd cc
-
-here_none : (cause : Option ConfCause) → here cause ≡ [] → cause ≡ None
-here_none None e = refl
-here_none (Some cause) e = absurd cc
+use Rattle.conf_shape.proofs.Written.{IsSame, same, split, under_none, here_none}
 
 -- ---- the form of a tree with no fault
 

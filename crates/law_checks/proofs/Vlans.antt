@@ -60,7 +60,8 @@ of_port_made d p v range i = by (of_joined (option_map_or (by_number (port_site 
     by (inl j) = native_made (port_site d p ++ codes "native_vlan" ∷ []) p.native v range.native j
     by (inr j) = by_numbers_made (port_site d p ++ codes "tagged_vlans" ∷ []) 0 p.tagged v range.tagged j
 
-of_further : (vids : List ℕ) (vs : List PlacedVlan) (w : PlacedVlan) → IsIn (further vids vs) w → IsIn vs w
+-- one of those that are further is one of all
+pub of_further : (vids : List ℕ) (vs : List PlacedVlan) (w : PlacedVlan) → IsIn (further vids vs) w → IsIn vs w
 of_further vids [] w i = i
 of_further vids (v ∷ more) w i = by (is_among vids v.vlan.vid) (λ j. of_further vids more w j) (λ j. of_further (v.vlan.vid ∷ vids) more w j) i
   where

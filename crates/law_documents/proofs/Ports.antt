@@ -1,14 +1,12 @@
 -- The paths of rules 8 to 11: ports that ACLs, mirrors and stack links name, and the fields of rules.
 use Rattle.std.specs.Prelude.{◌≡◌, ℕ, ◌==◌, ◌&&◌, true, not, List, [], ◌∷◌, ◌++◌, map, codes, length, Option, None, Some, IsSomeAnd, unwrap_or}
-use Rattle.std.specs.List.{flat_map, zip}
+use Rattle.std.specs.List.{flat_map}
 use Rattle.std.proofs.Common.{inl, inr, sym, ap, ◌∙◌, subst, true≢false}
 use Rattle.net_base.specs.WellFormed.{has_prerequisite}
 use Rattle.yaml_tree.specs.declared.tree.Pair.{Pair}
 use Rattle.yaml_tree.specs.declared.tree.Tree.{Tree, out-Tree}
 use Rattle.yaml_tree.specs.declared.tree.Tree.TheOpen.{Tree-F}
 use Rattle.conf_types.specs.declared.acl.PortRef.{PortRef}
-use Rattle.conf_types.specs.declared.datapath.Dp.{Dp}
-use Rattle.conf_types.specs.declared.datapath.Port.{Port}
 use Rattle.conf_types.specs.Configuration.{Configuration}
 use Rattle.conf_shape.specs.declared.raw.OneOrList.{OneOrList}
 use Rattle.conf_shape.specs.declared.raw.OneOrList.TheVariants as several
@@ -26,18 +24,17 @@ use Rattle.conf_shape.specs.Values.{match_keys}
 use Rattle.conf_resolve.specs.declared.ordered.OrderedConf.{OrderedConf}
 use Rattle.conf_resolve.specs.InOrder.{port_site, ordered}
 use Rattle.conf_resolve.specs.Resolved.{to_list, items_of, once, number_named, dp_of, port_of, resolved}
-use Rattle.conf_rules.specs.Places.{fault_if, fault_of, first, under, each_at, items_at, Interface, interfaces_of, interfaces, dps_of}
+use Rattle.conf_rules.specs.Places.{fault_if, fault_of, first, under, each_at, items_at, Interface, interfaces}
 use Rattle.conf_rules.specs.Ports.{wrong_targets, port_at_site, wrong_port, wrong_output, actions_site, mirror_at, outputs_at, wrong_rule, rules_at, lacking_field, lacking_fields, mirrored_cause, wrong_mirrored, is_used, wrong_mirror, stack_cause, wrong_stack}
 use Rattle.law_checks.specs.Says.{Says, PortSays, StackEndSays, OutputSays, ActionsSay, RuleSays, RuleItemSays}
 use Rattle.law_checks.specs.Values.{IsPortOf, IsList, IsOneOrList, IsMap}
-use Rattle.law_checks.proofs.Kept.{of_zipped}
-use Rattle.law_checks.proofs.KeptLinks.{at}
-use Rattle.law_checks.proofs.Members.{IsIn, of_flat}
+use Rattle.law_checks.proofs.KeptLinks.{at, of_interfaces}
+use Rattle.law_checks.proofs.Members.{IsIn}
 use Rattle.law_documents.specs.Forms.{IsScalar, IsSequence, IsSection, NamesPort, NamesPorts}
 use Rattle.law_documents.specs.Leads.{PathsLead}
 use Rattle.law_documents.specs.Rules.{PortPathsLead}
 use Rattle.law_documents.proofs.Fields.{field_written}
-use Rattle.law_documents.proofs.Leads.{Reaches, onward, there, one_step, among_entries, HasKey, given, needed, not_empty, alone, in_list, in_key, in_option, in_several}
+use Rattle.law_documents.proofs.Leads.{Reaches, onward, there, one_step, among_entries, HasKey, given, needed, not_empty, in_list, in_key, in_option, in_several}
 use Rattle.law_documents.proofs.Own.{section}
 use Rattle.law_documents.proofs.Parts.{IsPart, dp_leads, acl_leads}
 use Rattle.law_documents.proofs.Told.{At, told_if, told_of, each, both}
@@ -110,14 +107,8 @@ module _ (t : Tree) (raw : RawConf) (says : Says t raw) where
   -- what holds of each interface where it is written
   pub each_interface : (Form : Tree-F Tree Pair → Type 0) (f : Interface → List ConfFault) → ((d : RawDp) (p : RawPort) → Reaches t (port_site d p) (IsPart PortSays p) → PathsLead t Form (f (at o d p))) → PathsLead t Form (flat_map f (interfaces o conf))
   each_interface Form f h = each t Form f (interfaces o conf) (λ i ci.
-      let m = of_flat interfaces_of (dps_of o conf) i ci in
-      let z = of_zipped (dp_of o) o.dps m.0 m.1 in
-      let d : RawDp = m.0.0 in
-      let here : IsIn (interfaces_of (d, dp_of o d)) i = subst (λ (e : Dp). IsIn (interfaces_of (d, e)) i) (sym z.1) m.2 in
-      let n = of_flat (λ (q : RawPort × Port). record { raw_dp = d; dp = dp_of o d; raw = q.0; port = q.1 } ∷ []) (zip d.ports (map (port_of o d) d.ports)) i here in
-      let y = of_zipped (port_of o d) d.ports n.0 n.1 in
-      let made : Port → Interface = λ q. record { raw_dp = d; dp = dp_of o d; raw = n.0.0; port = q } in
-      subst (λ i. PathsLead t Form (f i)) (ap made y.1 ∙ alone (made n.0.1) i n.2) (h d n.0.0 ((dp_leads t raw says d z.0).port n.0.0 y.0)))
+      let w = of_interfaces o i ci in
+      subst (λ i. PathsLead t Form (f i)) w.4 (h w.0 w.2 ((dp_leads t raw says w.0 w.1).port w.2 w.3)))
 
   mirrors_lead : (d : RawDp) (p : RawPort) → Reaches t (port_site d p) (IsPart PortSays p) → PathsLead t NamesPorts (wrong_mirror (at o d p))
   mirrors_lead d p r =

@@ -1,5 +1,5 @@
 -- The VLANs that are checked, each where it is written or where a number names it.
-use Rattle.std.specs.Prelude.{◌≡◌, ℕ, ◌⊎◌, Bool, true, false, if◌then◌else◌, List, [], ◌∷◌, ◌++◌, map, codes, nat_lt, Option, None, Some, IsSomeAnd}
+use Rattle.std.specs.Prelude.{◌≡◌, ℕ, ◌⊎◌, List, [], ◌∷◌, ◌++◌, map, codes, nat_lt, Option, None, Some, IsSomeAnd}
 use Rattle.std.specs.Fmt.{decimal}
 use Rattle.std.specs.List.{flat_map, enumerate_from}
 use Rattle.std.specs.Option.{option_map_or}
@@ -8,7 +8,6 @@ use Rattle.yaml_tree.specs.declared.tree.Pair.{Pair}
 use Rattle.yaml_tree.specs.declared.tree.Tree.{Tree, out-Tree}
 use Rattle.yaml_tree.specs.declared.tree.Tree.TheOpen.{Tree-F}
 use Rattle.yaml_tree.specs.declared.tree.Tree.TheOpen as tree
-use Rattle.conf_types.specs.Lists.{is_among}
 use Rattle.conf_shape.specs.declared.raw.VlanRef.{VlanRef}
 use Rattle.conf_shape.specs.declared.raw.VlanRef.TheVariants.{Vid, Name}
 use Rattle.conf_shape.specs.declared.raw.RawPort.{RawPort}
@@ -25,6 +24,7 @@ use Rattle.law_checks.specs.Says.{Says, VlanSays, PortSays, RouterSays}
 use Rattle.law_checks.specs.Values.{IsVlanOf, IsList, IsMap}
 use Rattle.law_checks.proofs.Members.{IsIn, of_joined, of_mapped, of_flat, in_flat}
 use Rattle.law_checks.proofs.Orders.{of_order}
+use Rattle.law_checks.proofs.Vlans.{of_further}
 use Rattle.law_documents.specs.Forms.{IsScalar}
 use Rattle.law_documents.proofs.Leads.{Reaches, there, HasKey, as_given, in_key, in_option, in_map}
 use Rattle.law_documents.proofs.Parts.{IsPart, dp_leads, router_leads}
@@ -86,15 +86,6 @@ module _ (t : Tree) where
       made_leads (nth site m.0.0) m.0.1 v (r item (in_flat (λ (item : ℕ × VlanRef). (nth site item.0, item.1) ∷ []) (enumerate_from 0 refs) m.0 item m.1 (inl refl))) m.2
 
 -- ---- all of them
-
-of_further : (vids : List ℕ) (vs : List PlacedVlan) (w : PlacedVlan) → IsIn (further vids vs) w → IsIn vs w
-of_further vids [] w i = i
-of_further vids (v ∷ more) w i = by (is_among vids v.vlan.vid) (λ j. of_further vids more w j) (λ j. of_further (v.vlan.vid ∷ vids) more w j) i
-  where
-    by : (b : Bool) → (IsIn (further vids more) w → IsIn more w) → (IsIn (further (v.vlan.vid ∷ vids) more) w → IsIn more w) → IsIn (if b then further vids more else v ∷ further (v.vlan.vid ∷ vids) more) w → IsIn (v ∷ more) w
-    by true f g j = inr (f j)
-    by false f g (inl e) = inl e
-    by false f g (inr j) = inr (g j)
 
 -- one that is written
 pub record IsOne (raw : RawConf) (v : PlacedVlan) : Type 0 where

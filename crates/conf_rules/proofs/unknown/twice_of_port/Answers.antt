@@ -1,15 +1,11 @@
-use Rattle.std.proofs.Common.{◌≡◌, ◌||◌, ◌==◌, false, codes, map, take, option_and_then, refl, sym, ap, ◌∙◌}
-use Rattle.std.specs.List.{list_any}
+use Rattle.std.proofs.Common.{◌==◌, false, codes, map, option_and_then, refl, sym, ap, ◌∙◌}
 use Rattle.std.specs.Option.{option_map_or}
 use Rattle.std.proofs.Math.Bool.{or-false}
-use Rattle.conf_shape.specs.declared.refused.ConfCause.TheVariants.{Duplicate}
 use Rattle.conf_resolve.specs.InOrder.{port_site}
 use Rattle.conf_resolve.specs.Resolved.{vid_of}
-use Rattle.conf_rules.specs.Names.{is_same_vid, vid_again}
-use Rattle.conf_rules.specs.Places.{first, fault_if, nth, under}
-use Rattle.conf_rules.proofs.Earlier.{walked_each_behind}
+use Rattle.conf_rules.specs.Places.{first, under}
 use Rattle.conf_rules.proofs.Numbers.{by_numbers}
-use Rattle.conf_rules.proofs.SeenTagged.{vid_seen, vids_more}
+use Rattle.conf_rules.proofs.SeenTagged.{walked_tagged, vids_more}
 use Rattle.conf_rules.proofs.unknown.twice_of_port.Goals as goal
 
 pub loop-i-init : goal.loop-i-init
@@ -21,28 +17,16 @@ loop-i-init c = (
 
 pub returns-in-Some : goal.returns-in-Some
 returns-in-Some c =
-    let site = under (port_site c.args.dp.now c.args.port.now) (codes "tagged_vlans") in
     let native = option_and_then (vid_of c.args.ordered.now.vlans) c.args.port.now.native in
     let vids = c.as_slice-vid-items.result.now in
-    let i = c.loop-i.i in
-    let vid = c.vid-item.result in
-    let is_again : c.see_some-is_again.result ≡ (is_same_vid native vid || list_any (λ other. is_same_vid other vid) (take i vids)) =
-    vid_seen c.loop-i.seen native (take i vids) vid _ c.loop-i.invariant.1 c.see_some-is_again.ensures.within c.see_some-is_again.ensures.was in
-    let said = ap (λ b. first (fault_if b Duplicate (nth site i))) (sym is_again) in
-    let step = walked_each_behind site (vid_again native) vids vids i vid _ refl c.loop-i-test.true c.vid-item.is c.loop-i.invariant.0 in
-    step.1 c.in-Some.found (said ∙ sym c.in_ok-found.ensures ∙ c.in-Some.is)
+    let step = walked_tagged (under (port_site c.args.dp.now c.args.port.now) (codes "tagged_vlans")) native vids c.loop-i.i c.vid-item.result c.loop-i.seen _ _ c.loop-i-test.true c.vid-item.is c.loop-i.invariant.1 c.see_some-is_again.ensures.within c.see_some-is_again.ensures.was c.loop-i.invariant.0 in
+    step.1 c.in-Some.found (sym c.in_ok-found.ensures ∙ c.in-Some.is)
 
 pub loop-i-preserved : goal.loop-i-preserved
 loop-i-preserved c =
-    let site = under (port_site c.args.dp.now c.args.port.now) (codes "tagged_vlans") in
     let native = option_and_then (vid_of c.args.ordered.now.vlans) c.args.port.now.native in
     let vids = c.as_slice-vid-items.result.now in
-    let i = c.loop-i.i in
-    let vid = c.vid-item.result in
-    let is_again : c.see_some-is_again.result ≡ (is_same_vid native vid || list_any (λ other. is_same_vid other vid) (take i vids)) =
-    vid_seen c.loop-i.seen native (take i vids) vid _ c.loop-i.invariant.1 c.see_some-is_again.ensures.within c.see_some-is_again.ensures.was in
-    let said = ap (λ b. first (fault_if b Duplicate (nth site i))) (sym is_again) in
-    let step = walked_each_behind site (vid_again native) vids vids i vid _ refl c.loop-i-test.true c.vid-item.is c.loop-i.invariant.0 in (
-      step.0 (said ∙ sym c.in_ok-found.ensures ∙ c.in_default.is),
-      vids_more c.loop-i.seen _ native vids vids i vid refl c.loop-i-test.true c.vid-item.is c.loop-i.invariant.1 c.see_some-is_again.ensures.is,
+    let step = walked_tagged (under (port_site c.args.dp.now c.args.port.now) (codes "tagged_vlans")) native vids c.loop-i.i c.vid-item.result c.loop-i.seen _ _ c.loop-i-test.true c.vid-item.is c.loop-i.invariant.1 c.see_some-is_again.ensures.within c.see_some-is_again.ensures.was c.loop-i.invariant.0 in (
+      step.0 (sym c.in_ok-found.ensures ∙ c.in_default.is),
+      vids_more c.loop-i.seen _ native vids vids c.loop-i.i c.vid-item.result refl c.loop-i-test.true c.vid-item.is c.loop-i.invariant.1 c.see_some-is_again.ensures.is,
     )
