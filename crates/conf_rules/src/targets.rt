@@ -20,17 +20,23 @@ fn actions_site(alloc: Global, acl: &RawAcl, at: usize) -> Result<Names, NoMemor
     under(alloc, under(alloc, site, "rule")?, "actions")
 }
 
-/// Where an output of a rule is written, alone or at its place in a list.
-fn output_site(
-    alloc: Global,
-    acl: &RawAcl,
+/// An output of an ACL's rule, the place of the rule in the ACL, and that of the output where it
+/// stands in a list.
+#[derive(Drop)]
+struct PlacedOutput<'a> {
+    acl: &'a RawAcl,
     at: usize,
     place: Option<usize>,
-) -> Result<Names, NoMemory>
-    ensures { IfOk result (λ site. site ≡ nth_of (under (actions_site (nth (codes "acls" ∷ acl.now.name ∷ []) at)) (codes "output")) place) }
+    output: &'a RawOutput,
+}
+
+/// Where an output of a rule is written, alone or at its place in a list.
+fn output_site(alloc: Global, placed: &PlacedOutput) -> Result<Names, NoMemory>
+    ensures { IfOk result (λ site. site ≡ nth_of (under (actions_site (nth (codes "acls" ∷ placed.now.acl.now.name ∷ []) placed.now.at)) (codes "output")) placed.now.place) }
 {
-    let site = under(alloc, actions_site(alloc, acl, at)?, "output")?;
-    match place {
+    let actions = actions_site(alloc, placed.acl, placed.at)?;
+    let site = under(alloc, actions, "output")?;
+    match placed.place {
         Some(n) => nth(alloc, site, n),
         None => Ok(site),
     }
@@ -48,19 +54,12 @@ fn wrong_mirror(alloc: Global, targets: &Targets, acl: &RawAcl, at: usize, rule:
     Ok(None)
 }
 
-fn wrong_output_port(
-    alloc: Global,
-    targets: &Targets,
-    acl: &RawAcl,
-    at: usize,
-    place: Option<usize>,
-    output: &RawOutput,
-) -> Found
-    ensures { IfOk result (λ found. found ≡ first (flat_map (wrong_port targets.now.conf.now acl.now) (port_at_site (nth_of (under (actions_site (nth (codes "acls" ∷ acl.now.name ∷ []) at)) (codes "output")) place) output.now.port))) }
+fn wrong_output_port(alloc: Global, targets: &Targets, placed: &PlacedOutput) -> Found
+    ensures { IfOk result (λ found. found ≡ first (flat_map (wrong_port targets.now.conf.now placed.now.acl.now) (port_at_site (nth_of (under (actions_site (nth (codes "acls" ∷ placed.now.acl.now.name ∷ []) placed.now.at)) (codes "output")) placed.now.place) placed.now.output.now.port))) }
 {
-    if let Some(name) = &output.port {
-        if let Some(cause) = targets.wrong_cause(acl, name) {
-            let site = under(alloc, output_site(alloc, acl, at, place)?, "port")?;
+    if let Some(name) = &placed.output.port {
+        if let Some(cause) = targets.wrong_cause(placed.acl, name) {
+            let site = under(alloc, output_site(alloc, placed)?, "port")?;
             return broken(alloc, cause, site);
         }
     }
@@ -68,19 +67,12 @@ fn wrong_output_port(
 }
 
 #[tactic(auto, using(crate::proofs::First::first_rules))]
-fn wrong_output_ports(
-    alloc: Global,
-    targets: &Targets,
-    acl: &RawAcl,
-    at: usize,
-    place: Option<usize>,
-    output: &RawOutput,
-) -> Found
-    ensures { IfOk result (λ found. found ≡ first (flat_map (wrong_port targets.now.conf.now acl.now) (each_at (under (nth_of (under (actions_site (nth (codes "acls" ∷ acl.now.name ∷ []) at)) (codes "output")) place) (codes "ports")) output.now.ports))) }
+fn wrong_output_ports(alloc: Global, targets: &Targets, placed: &PlacedOutput) -> Found
+    ensures { IfOk result (λ found. found ≡ first (flat_map (wrong_port targets.now.conf.now placed.now.acl.now) (each_at (under (nth_of (under (actions_site (nth (codes "acls" ∷ placed.now.acl.now.name ∷ []) placed.now.at)) (codes "output")) placed.now.place) (codes "ports")) placed.now.output.now.ports))) }
 {
-    for (i, name) in output.ports.as_slice().iter().enumerate() {
-        if let Some(cause) = targets.wrong_cause(acl, name) {
-            let site = under(alloc, output_site(alloc, acl, at, place)?, "ports")?;
+    for (i, name) in placed.output.ports.as_slice().iter().enumerate() {
+        if let Some(cause) = targets.wrong_cause(placed.acl, name) {
+            let site = under(alloc, output_site(alloc, placed)?, "ports")?;
             return broken(alloc, cause, nth(alloc, site, i)?);
         }
     }
@@ -88,20 +80,13 @@ fn wrong_output_ports(
 }
 
 #[tactic(auto, using(crate::proofs::First::first_rules))]
-fn wrong_output(
-    alloc: Global,
-    targets: &Targets,
-    acl: &RawAcl,
-    at: usize,
-    place: Option<usize>,
-    output: &RawOutput,
-) -> Found
-    ensures { IfOk result (λ found. found ≡ first (wrong_output targets.now.conf.now acl.now (nth_of (under (actions_site (nth (codes "acls" ∷ acl.now.name ∷ []) at)) (codes "output")) place, output.now))) }
+fn wrong_output(alloc: Global, targets: &Targets, placed: &PlacedOutput) -> Found
+    ensures { IfOk result (λ found. found ≡ first (wrong_output targets.now.conf.now placed.now.acl.now (nth_of (under (actions_site (nth (codes "acls" ∷ placed.now.acl.now.name ∷ []) placed.now.at)) (codes "output")) placed.now.place, placed.now.output.now))) }
 {
-    if let Some(found) = wrong_output_port(alloc, targets, acl, at, place, output)? {
+    if let Some(found) = wrong_output_port(alloc, targets, placed)? {
         return Ok(Some(found));
     }
-    wrong_output_ports(alloc, targets, acl, at, place, output)
+    wrong_output_ports(alloc, targets, placed)
 }
 
 #[tactic(auto, using(crate::proofs::First::first_rules))]
@@ -115,7 +100,13 @@ fn wrong_outputs(
     ensures { IfOk result (λ found. found ≡ first (flat_map (wrong_output targets.now.conf.now acl.now) (each_at (under (actions_site (nth (codes "acls" ∷ acl.now.name ∷ []) at)) (codes "output")) outputs.now))) }
 {
     for (i, output) in outputs.iter().enumerate() {
-        if let Some(found) = wrong_output(alloc, targets, acl, at, Some(i), output)? {
+        let placed = PlacedOutput {
+            acl,
+            at,
+            place: Some(i),
+            output,
+        };
+        if let Some(found) = wrong_output(alloc, targets, &placed)? {
             return Ok(Some(found));
         }
     }
@@ -130,7 +121,15 @@ fn wrong_rule(alloc: Global, targets: &Targets, acl: &RawAcl, at: usize, rule: &
         return Ok(Some(found));
     }
     match &rule.output {
-        OneOrList::One(output) => wrong_output(alloc, targets, acl, at, None, output),
+        OneOrList::One(output) => {
+            let placed = PlacedOutput {
+                acl,
+                at,
+                place: None,
+                output,
+            };
+            wrong_output(alloc, targets, &placed)
+        }
         OneOrList::List(outputs) => wrong_outputs(alloc, targets, acl, at, outputs.as_slice()),
     }
 }
