@@ -25,6 +25,27 @@ use conf_types::{Dp, Port, Router, Vlan, group_at};
 use net_base::{Items, NoMemory, PortNo, Text, TryCopy};
 use std::alloc::Global;
 
+/// The most entries that the ACLs attached on a datapath take.
+const ACL_ENTRIES: usize = 20_000;
+
+/// The most ports that these ACLs name there, rule by rule.
+const ACL_OUTPUTS: usize = 65_536;
+
+/// The most members that the VLANs have on a datapath.
+const MEMBERS: usize = 8192;
+
+/// The most rules that the ACLs of an interface or a VLAN have.
+const RULES: usize = 1000;
+
+/// The most routes of all VLANs.
+const ROUTES: usize = 1024;
+
+/// The most gateways that the groups of datapaths ask for.
+const GATEWAYS: usize = 1024;
+
+/// The most VIPs and routes that packets of each VLAN may take, VLAN by VLAN.
+const ROUTE_ITEMS: usize = 32_768;
+
 fn whole(alloc: Global, is_above: bool, limit: LimitName, section: &str) -> Found
     ensures { IfOk result (λ found. found ≡ first (fault_if is_above (TooMany limit) (section.now ∷ []))) }
 {
@@ -68,9 +89,12 @@ fn is_above(alloc: Global, acls: &AclNames, limit: LimitName, dp: &Dp) -> Result
     match limit {
         LimitName::Ports => Ok(dp.ports.len() > 256),
         LimitName::Special => Ok(specials(alloc, dp)? > 16),
-        LimitName::AclEntries => Ok(acl_entries(acls, 20_001, dp) > 20_000),
-        LimitName::AclOutputs => Ok(acl_outputs(alloc, acls, 65_537, dp)? > 65_536),
-        _ => Ok(members(acls.conf(), 8193, dp) > 8192),
+        LimitName::AclEntries => Ok(acl_entries(acls, ACL_ENTRIES + 1, dp) > ACL_ENTRIES),
+        LimitName::AclOutputs => {
+            let named = acl_outputs(alloc, acls, ACL_OUTPUTS + 1, dp)?;
+            Ok(named > ACL_OUTPUTS)
+        }
+        _ => Ok(members(acls.conf(), MEMBERS + 1, dp) > MEMBERS),
     }
 }
 
@@ -184,7 +208,7 @@ fn is_attached_somewhere(edges: &AllEdges, vlan: &Vlan) -> bool
 fn are_many_rules(acls: &AclNames, names: &[Text]) -> bool
     ensures { result ≡ nat_lt 1000 (length (rules_of acls.now.conf.now names.now)) }
 {
-    rules_len(acls, 1001, names) > 1000
+    rules_len(acls, RULES + 1, names) > RULES
 }
 
 fn many_rules_on_vlan(
@@ -352,14 +376,14 @@ fn too_many_router_vlans(alloc: Global, ordered: &OrderedConf, conf: &Resolved) 
 fn are_many_routes(conf: &Resolved) -> bool
     ensures { result ≡ nat_lt 1024 (routes conf.now) }
 {
-    routes(conf, 1025) > 1024
+    routes(conf, ROUTES + 1) > ROUTES
 }
 
 #[tactic(auto, using(crate::proofs::Capped::above_rules))]
 fn are_many_route_items(conf: &Resolved) -> bool
     ensures { result ≡ nat_lt 32768 (sum_by (route_items conf.now) conf.now.vlans) }
 {
-    all_route_items(conf, 32_769) > 32_768
+    all_route_items(conf, ROUTE_ITEMS + 1) > ROUTE_ITEMS
 }
 
 /// Whether the identifier of the datapath at a place is the number of its group.
@@ -394,9 +418,9 @@ fn are_many_gateways(alloc: Global, conf: &Resolved) -> Result<bool, NoMemory>
     requires distinct { EachBefore (λ d e. d.id.0 ≡ e.id.0 → ⊥) conf.now.dps }
     ensures { IfOk result (λ are_many. are_many ≡ nat_lt 1024 (gateways conf.now)) }
 {
-    let each = all_gateways(alloc, conf, 1025)?;
+    let each = all_gateways(alloc, conf, GATEWAYS + 1)?;
     let asked = groups(conf.dps().as_slice()) * each;
-    Ok(asked > 1024)
+    Ok(asked > GATEWAYS)
 }
 
 #[tactic(auto, using(crate::proofs::First::first_rules))]
