@@ -2,9 +2,10 @@
 # Compares the keys that docs/reference/configuration.md lists, map by map, and what stands where they
 # are not given, with the tables of conf_shape.
 cd "$(dirname "$0")/.." || exit 1
-# A row that takes several lines, as one.
+# A row that takes several lines, as one; a match key as a row.
 of_code() {
-    awk '/row!\($/ { row = $0; next }
+    awk '/asked!\("/ { sub(/asked!\(/, "row!("); sub(/, [A-Za-z0-9]+\)/, ", Never, Nothing)") }
+        /row!\($/ { row = $0; next }
         row != "" { sub(/^ +/, " "); row = row $0; if (/^ \)/) { gsub(/\( /, "(", row); gsub(/ \)/, ")", row); print row; row = "" }; next }
         { print }' crates/conf_shape/src/tables.rt | awk '
         /^const [A-Z_]+: Table/ { map = $2; sub(":", "", map); part = "key" }

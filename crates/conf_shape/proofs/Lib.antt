@@ -1,3 +1,4 @@
+pub mod Asked
 pub mod FaultLaws
 pub mod Parsed
 pub mod Written

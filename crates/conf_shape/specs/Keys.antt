@@ -1,11 +1,15 @@
 -- The keys of a configuration, a table for each kind of map, in the order of the reference.
-use Rattle.std.specs.Prelude.{ℕ, ◌-◌, ◌^◌, List, [], ◌∷◌, map, codes}
+use Rattle.std.specs.Prelude.{ℕ, ◌-◌, ◌^◌, List, [], ◌∷◌, map, codes, Option, Some, None}
+use Rattle.std.specs.List.{filter_map}
+use Rattle.std.specs.Option.{option_map}
 use Rattle.std.specs.Borrow.{Bor}
+use Rattle.net_base.specs.declared.field.FieldId.{FieldId}
+use Rattle.net_base.specs.declared.field.FieldId.TheVariants.{EthDst, EthSrc, EthType, VlanVid, VlanPcp, IpProto, Ipv4Src, Ipv4Dst, TcpSrc, TcpDst, UdpSrc, UdpDst, Icmpv4Type, Icmpv4Code, ArpOp, ArpSpa, ArpTpa}
 use Rattle.conf_shape.specs.declared.refused.ConfCause.{ConfCause}
 use Rattle.conf_shape.specs.declared.refused.ConfCause.TheVariants.{UnknownKey, LeftOut}
 use Rattle.conf_shape.specs.declared.kinds.Kind.{Kind}
-use Rattle.conf_shape.specs.declared.kinds.Kind.TheVariants.{One, Several, OneOrSeveral, Given, Map, Maps, MapOrMaps}
-use Rattle.conf_shape.specs.declared.kinds.Scalar.TheVariants.{Flag, Number, Name, Words, Label, Reference, Permission, NoEffect, StationMac, MaskedMac, Vip, Destination, Gateway, Prefix}
+use Rattle.conf_shape.specs.declared.kinds.Kind.TheVariants.{One, Several, OneOrSeveral, Given, Asked, Map, Maps, MapOrMaps}
+use Rattle.conf_shape.specs.declared.kinds.Scalar.TheVariants.{Flag, Number, Name, Words, Label, Reference, Permission, NoEffect, StationMac, Vip, Destination, Gateway}
 use Rattle.conf_shape.specs.declared.kinds.MapKind.{MapKind}
 use Rattle.conf_shape.specs.declared.kinds.MapKind.TheVariants.{Top, Datapaths, Datapath, DatapathStack, Interfaces, Interface, PortStack, Vlans, Vlan, RouteItem, Route, Acls, RuleItem, Rule, Actions, Output, Routers, Router}
 use Rattle.conf_shape.specs.declared.kinds.Need.{Need}
@@ -218,23 +222,23 @@ rule_keys = record {
   rows =
       row (codes "actions") (Map Actions) Always Nothing ∷
       row (codes "description") (One Words) Never Nothing ∷
-      row (codes "eth_src") (One MaskedMac) Never Nothing ∷
-      row (codes "eth_dst") (One MaskedMac) Never Nothing ∷
-      row (codes "eth_type") (One (Number 0 0xffff)) Never Nothing ∷
-      row (codes "vlan_vid") (One (Number 1 4094)) Never Nothing ∷
-      row (codes "vlan_pcp") (One (Number 0 7)) Never Nothing ∷
-      row (codes "ip_proto") (One (Number 0 255)) Never Nothing ∷
-      row (codes "ipv4_src") (One Prefix) Never Nothing ∷
-      row (codes "ipv4_dst") (One Prefix) Never Nothing ∷
-      row (codes "tcp_src") (One (Number 0 0xffff)) Never Nothing ∷
-      row (codes "tcp_dst") (One (Number 0 0xffff)) Never Nothing ∷
-      row (codes "udp_src") (One (Number 0 0xffff)) Never Nothing ∷
-      row (codes "udp_dst") (One (Number 0 0xffff)) Never Nothing ∷
-      row (codes "icmpv4_type") (One (Number 0 255)) Never Nothing ∷
-      row (codes "icmpv4_code") (One (Number 0 255)) Never Nothing ∷
-      row (codes "arp_op") (One (Number 0 0xffff)) Never Nothing ∷
-      row (codes "arp_spa") (One Prefix) Never Nothing ∷
-      row (codes "arp_tpa") (One Prefix) Never Nothing ∷
+      row (codes "eth_src") (Asked EthSrc) Never Nothing ∷
+      row (codes "eth_dst") (Asked EthDst) Never Nothing ∷
+      row (codes "eth_type") (Asked EthType) Never Nothing ∷
+      row (codes "vlan_vid") (Asked VlanVid) Never Nothing ∷
+      row (codes "vlan_pcp") (Asked VlanPcp) Never Nothing ∷
+      row (codes "ip_proto") (Asked IpProto) Never Nothing ∷
+      row (codes "ipv4_src") (Asked Ipv4Src) Never Nothing ∷
+      row (codes "ipv4_dst") (Asked Ipv4Dst) Never Nothing ∷
+      row (codes "tcp_src") (Asked TcpSrc) Never Nothing ∷
+      row (codes "tcp_dst") (Asked TcpDst) Never Nothing ∷
+      row (codes "udp_src") (Asked UdpSrc) Never Nothing ∷
+      row (codes "udp_dst") (Asked UdpDst) Never Nothing ∷
+      row (codes "icmpv4_type") (Asked Icmpv4Type) Never Nothing ∷
+      row (codes "icmpv4_code") (Asked Icmpv4Code) Never Nothing ∷
+      row (codes "arp_op") (Asked ArpOp) Never Nothing ∷
+      row (codes "arp_spa") (Asked ArpSpa) Never Nothing ∷
+      row (codes "arp_tpa") (Asked ArpTpa) Never Nothing ∷
       [];
   left_out =
       codes "cookie" ∷ codes "in_port" ∷ codes "ip_dscp" ∷ codes "ip_ecn" ∷ codes "ipv6_src" ∷ codes "ipv6_dst" ∷
@@ -334,3 +338,19 @@ seen_table t = record {
   spellings = map seen_pair t.spellings.now;
   unlisted = t.unlisted;
 }
+
+-- ---- match keys
+
+abbrev pub asked_of : Kind → Option FieldId
+asked_of (Asked id) = Some id
+asked_of _ = None
+
+abbrev pub match_key : KeyRow → Option (List ℕ × FieldId)
+match_key r = option_map (λ id. (r.key, id)) (asked_of r.kind)
+
+abbrev pub match_keys_of : List KeyRow → List (List ℕ × FieldId)
+match_keys_of rows = filter_map match_key rows
+
+-- the match keys of a rule, in the order of the reference, with their fields
+abbrev pub match_keys : List (List ℕ × FieldId)
+match_keys = match_keys_of rule_keys.rows

@@ -24,10 +24,10 @@ use Rattle.conf_shape.specs.declared.raw.RawRule.{RawRule}
 use Rattle.conf_shape.specs.declared.raw.RawAcl.{RawAcl}
 use Rattle.conf_shape.specs.declared.raw.RawRouter.{RawRouter}
 use Rattle.conf_shape.specs.declared.raw.RawConf.{RawConf}
-use Rattle.conf_shape.specs.Keys.{keys_of}
+use Rattle.conf_shape.specs.Keys.{keys_of, match_keys}
 use Rattle.conf_shape.specs.Reads.{value_at, number_of, words_of, items_of, entries_of, words_at, entries_at, option_at, list_at, one_or_list_at, flag_at, permission_at, number_at, text_at, label_of, port_of, vlan_of, own_number}
 use Rattle.conf_shape.specs.Sections.{key_text}
-use Rattle.conf_shape.specs.Values.{mac_of, ip_of, net_of, match_keys, fields_by}
+use Rattle.conf_shape.specs.Values.{mac_of, ip_of, net_of, fields_by}
 
 abbrev pub is_given : List ℕ → List Pair → Bool
 is_given name pairs = is_some (value_at name pairs)

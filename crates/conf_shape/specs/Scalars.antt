@@ -1,9 +1,12 @@
 -- What is wrong with a value that is no list and no map, by what it has to be.
-use Rattle.std.specs.Prelude.{ℕ, ℤ, pos, negsuc, Bool, ◌&&◌, nat_le, if◌then◌else◌, List, length, Option, Some, None}
+use Rattle.std.specs.Prelude.{ℕ, ◌-◌, ◌^◌, ℤ, pos, negsuc, Bool, true, false, ◌==◌, ◌&&◌, nat_le, if◌then◌else◌, List, length, Option, Some, None}
+use Rattle.net_base.specs.declared.field.FieldId.{FieldId}
+use Rattle.net_base.specs.declared.field.FieldId.TheVariants.{VlanVid}
+use Rattle.net_base.specs.FieldId.{bits_of, may_be_masked}
 use Rattle.conf_shape.specs.declared.refused.ConfCause.{ConfCause}
 use Rattle.conf_shape.specs.declared.refused.ConfCause.TheVariants.{WrongType, OutOfRange}
 use Rattle.conf_shape.specs.declared.kinds.Kind.{Kind}
-use Rattle.conf_shape.specs.declared.kinds.Kind.TheVariants.{One, Several, OneOrSeveral, Given, Map, Maps, MapOrMaps}
+use Rattle.conf_shape.specs.declared.kinds.Kind.TheVariants.{One, Several, OneOrSeveral, Given, Asked, Map, Maps, MapOrMaps}
 use Rattle.conf_shape.specs.declared.kinds.MapKind.{MapKind}
 use Rattle.conf_shape.specs.declared.kinds.Scalar.{Scalar}
 use Rattle.conf_shape.specs.declared.kinds.Scalar.TheVariants.{Flag, Number, Name, Words, Label, Reference, Permission, NoEffect, StationMac, MaskedMac, Vip, Destination, Gateway, Prefix}
@@ -57,11 +60,23 @@ text_fault Destination text = destination_cause text
 text_fault Gateway text = gateway_cause text
 text_fault Prefix text = prefix_cause text
 
+-- what a rule's value for a field of so many bits has to be, where a mask may leave some out and where
+-- not (OpenFlow 1.3, 7.2.3.7, table 12): an Ethernet address, one of IPv4, a number
+abbrev pub bits_scalar : ℕ → Bool → Scalar
+bits_scalar bits true = if bits == 48 then MaskedMac else Prefix
+bits_scalar bits false = Number 0 (2 ^ bits - 1)
+
+-- by the field's row in the table of fields; a VLAN is asked for by its number
+abbrev pub asked_scalar : FieldId → Scalar
+asked_scalar VlanVid = Number 1 4094
+asked_scalar id = bits_scalar (bits_of id) (may_be_masked id)
+
 -- what a scalar, an item of a list, a map has to be where a value of a kind stands
 abbrev pub scalar_kind : Kind → Option Scalar
 scalar_kind (One scalar) = Some scalar
 scalar_kind (OneOrSeveral scalar) = Some scalar
 scalar_kind (Given low high) = Some (Number low high)
+scalar_kind (Asked id) = Some (asked_scalar id)
 scalar_kind _ = None
 
 abbrev pub item_kind : Kind → Option Kind

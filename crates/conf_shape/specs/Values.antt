@@ -1,17 +1,17 @@
 -- Addresses, networks and the fields of a rule, as texts and numbers give them.
-use Rattle.std.specs.Prelude.{ℕ, ◌+◌, ◌==◌, if◌then◌else◌, List, [], ◌∷◌, codes, min, Option, Some, None, unwrap_or}
+use Rattle.std.specs.Prelude.{ℕ, ◌+◌, ◌==◌, if◌then◌else◌, List, [], ◌∷◌, min, Option, Some, None, unwrap_or}
 use Rattle.std.specs.Option.{option_map}
-use Rattle.std.specs.Borrow.{Bor}
 use Rattle.std.proofs.Math.Nat.{min-le_right}
 use Rattle.net_base.specs.declared.address.Mac.{Mac}
 use Rattle.net_base.specs.declared.address.Ip4.{Ip4}
 use Rattle.net_base.specs.declared.net4.Net4.{Net4}
 use Rattle.net_base.specs.declared.field.Field.{Field}
 use Rattle.net_base.specs.declared.field.FieldId.{FieldId}
-use Rattle.net_base.specs.declared.field.FieldId.TheVariants.{EthDst, EthSrc, EthType, VlanVid, VlanPcp, IpProto, Ipv4Src, Ipv4Dst, TcpSrc, TcpDst, UdpSrc, UdpDst, Icmpv4Type, Icmpv4Code, ArpOp, ArpSpa, ArpTpa}
+use Rattle.net_base.specs.declared.field.FieldId.TheVariants.{VlanVid}
 use Rattle.net_base.specs.Address.{mac_value}
 use Rattle.net_base.specs.AddressReading.{spelled_mac, ip4_of, net4_of, cut_at}
 use Rattle.net_base.specs.Field.{exact, prefix}
+use Rattle.net_base.specs.FieldId.{bits_of}
 use Rattle.yaml_tree.specs.declared.tree.Pair.{Pair}
 use Rattle.yaml_tree.specs.declared.tree.Tree.{Tree, out-Tree}
 use Rattle.yaml_tree.specs.declared.tree.Tree.TheOpen.{Tree-F}
@@ -45,31 +45,6 @@ net_of text = net_or_zero (net4_of text)
 
 -- ---- the fields of a rule
 
--- the match keys, in the order of the reference, with their fields
-abbrev pub match_keys : List (List ℕ × FieldId)
-match_keys =
-    (codes "eth_src", EthSrc) ∷
-    (codes "eth_dst", EthDst) ∷
-    (codes "eth_type", EthType) ∷
-    (codes "vlan_vid", VlanVid) ∷
-    (codes "vlan_pcp", VlanPcp) ∷
-    (codes "ip_proto", IpProto) ∷
-    (codes "ipv4_src", Ipv4Src) ∷
-    (codes "ipv4_dst", Ipv4Dst) ∷
-    (codes "tcp_src", TcpSrc) ∷
-    (codes "tcp_dst", TcpDst) ∷
-    (codes "udp_src", UdpSrc) ∷
-    (codes "udp_dst", UdpDst) ∷
-    (codes "icmpv4_type", Icmpv4Type) ∷
-    (codes "icmpv4_code", Icmpv4Code) ∷
-    (codes "arp_op", ArpOp) ∷
-    (codes "arp_spa", ArpSpa) ∷
-    (codes "arp_tpa", ArpTpa) ∷
-    []
-
-abbrev pub seen_match : Bor (List ℕ) × FieldId → List ℕ × FieldId
-seen_match k = (k.0.now, k.1)
-
 -- of a VLAN, the bit that says that there is a tag (OpenFlow 1.3, 7.2.3.7)
 abbrev pub tag_bit : FieldId → ℕ
 tag_bit VlanVid = 0x1000
@@ -101,10 +76,9 @@ ip_field id (Some ip) net = Some (exact id ip)
 ip_field id None None = None
 ip_field id None (Some net) = if net.1 == 0 then None else Some (prefix id net.0 net.1)
 
+-- an Ethernet address has 48 bits
 abbrev pub text_field : FieldId → List ℕ → Option Field
-text_field EthSrc text = mac_field EthSrc text
-text_field EthDst text = mac_field EthDst text
-text_field id text = ip_field id (ip4_of text) (net4_of text)
+text_field id text = if bits_of id == 48 then mac_field id text else ip_field id (ip4_of text) (net4_of text)
 
 abbrev pub field_in : FieldId → Tree-F Tree Pair → Option Field
 field_in id (tree.Int n) = option_map (number_field id) (within 0 0xffff n)

@@ -31,8 +31,9 @@ impl Read for RawOutput {
 fn read_rule(alloc: Global, pairs: &[Pair], actions: &[Pair]) -> Result<RawRule, NoMemory>
     ensures { IfOk result (λ made. made ≡ rule_with pairs.now actions.now) }
 {
+    let table = table_of(MapKind::Rule);
     Ok(RawRule {
-        fields: fields_of(alloc, table_of(MapKind::Rule).spellings, pairs)?,
+        fields: fields_of(alloc, table.rows, table.spellings, pairs)?,
         allow: permission_at(MapKind::Actions, actions, "allow"),
         mirror: option_at(alloc, actions, "mirror")?,
         output: one_or_list_at(alloc, actions, "output")?,

@@ -1,3 +1,5 @@
+use net_base::FieldId;
+
 /// What a value that is no list and no map has to be.
 #[derive(Clone, Copy)]
 pub enum Scalar {
@@ -76,6 +78,8 @@ pub enum Kind {
     OneOrSeveral(Scalar),
     /// A whole number in a range, and the number of the map's own key where that gives one.
     Given { low: u64, high: u64 },
+    /// What a rule asks of a match field: one value, by the field's row in the table of fields.
+    Asked { id: FieldId },
     Map(MapKind),
     /// A list of such maps.
     Maps(MapKind),

@@ -1,12 +1,16 @@
 ghost use Rattle.std.specs.Prelude.{◌≡◌};
 ghost use Rattle.conf_shape.specs.declared.kinds.Scalar.TheVariants.{Name};
-ghost use Rattle.conf_shape.specs.Scalars.{within, if_within, is_name, flag_fault, number_fault, text_fault, scalar_kind, item_kind, map_kind, flag_cause, number_cause, text_cause};
+ghost use Rattle.conf_shape.specs.Scalars.{within, if_within, is_name, flag_fault, number_fault, text_fault, asked_scalar, scalar_kind, item_kind, map_kind, flag_cause, number_cause, text_cause};
 
 use crate::addresses::{
     destination_cause, gateway_cause, masked_cause, prefix_cause, station_cause, vip_cause,
 };
 use crate::kinds::{Kind, MapKind, Scalar};
 use crate::refused::ConfCause;
+use net_base::FieldId;
+
+/// The bits of an Ethernet address.
+pub const ETHERNET_BITS: usize = 48;
 
 /// The number, where it stands in the range.
 pub fn within(low: u64, high: u64, n: i128) -> Option<u64>
@@ -79,6 +83,26 @@ fn text_fault(scalar: Scalar, text: &str) -> Option<ConfCause>
     }
 }
 
+/// What a rule's value for a match field has to be: where a mask may leave bits out an Ethernet
+/// address or one of IPv4, and else a number of the field's bits. A VLAN is asked for by its number.
+#[tactic(auto, using(crate::proofs::Asked::few_bits))]
+pub fn asked_scalar(id: FieldId) -> Scalar
+    ensures { result ≡ asked_scalar id }
+{
+    if let FieldId::VlanVid = id {
+        return Scalar::Number { low: 1, high: 4094 };
+    }
+    if !id.may_be_masked() {
+        let high = (1_u64 << id.bits()) - 1;
+        return Scalar::Number { low: 0, high };
+    }
+    if id.bits() == ETHERNET_BITS {
+        Scalar::MaskedMac
+    } else {
+        Scalar::Prefix
+    }
+}
+
 /// What a scalar has to be where a value of this kind stands; `None` where none may stand.
 fn scalar_kind(kind: Kind) -> Option<Scalar>
     ensures { result ≡ scalar_kind kind }
@@ -86,6 +110,7 @@ fn scalar_kind(kind: Kind) -> Option<Scalar>
     match kind {
         Kind::One(scalar) | Kind::OneOrSeveral(scalar) => Some(scalar),
         Kind::Given { low, high } => Some(Scalar::Number { low, high }),
+        Kind::Asked { id } => Some(asked_scalar(id)),
         _ => None,
     }
 }

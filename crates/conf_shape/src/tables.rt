@@ -2,18 +2,19 @@ ghost use Rattle.std.specs.Prelude.{◌≡◌};
 ghost use Rattle.conf_shape.specs.Keys.{seen_table, keys_of};
 
 use crate::kinds::DefaultValue::{Count, Nothing, Off, On, OwnKey, OwnName, Spelled};
-use crate::kinds::Kind::{Given, Map, MapOrMaps, Maps, One, OneOrSeveral, Several};
+use crate::kinds::Kind::{Asked, Given, Map, MapOrMaps, Maps, One, OneOrSeveral, Several};
 use crate::kinds::MapKind::{
     Acls, Actions, DatapathStack, Datapaths, Interfaces, Output, PortStack, Route, RouteItem,
     Routers, Rule, Vlans,
 };
 use crate::kinds::Need::{Always, Never, UnlessNumbered};
 use crate::kinds::Scalar::{
-    Destination, Flag, Gateway, Label, MaskedMac, Name, NoEffect, Number, Permission, Prefix,
-    Reference, StationMac, Vip, Words,
+    Destination, Flag, Gateway, Label, Name, NoEffect, Number, Permission, Reference, StationMac,
+    Vip, Words,
 };
 use crate::kinds::{DefaultValue, Kind, MapKind, Need, Scalar};
 use crate::refused::ConfCause;
+use net_base::FieldId;
 
 /// A key that a map may have.
 #[derive(Clone, Copy)]
@@ -55,6 +56,19 @@ macro_rules! number {
             low: $low,
             high: $high,
         }
+    };
+}
+
+macro_rules! asked {
+    ($key:literal, $id:ident) => {
+        row!(
+            $key,
+            Asked {
+                id: FieldId::$id
+            },
+            Never,
+            Nothing
+        )
     };
 }
 
@@ -261,23 +275,23 @@ const RULE: Table = Table {
     rows: &[
         row!("actions", Map(Actions), Always, Nothing),
         row!("description", One(Words), Never, Nothing),
-        row!("eth_src", One(MaskedMac), Never, Nothing),
-        row!("eth_dst", One(MaskedMac), Never, Nothing),
-        row!("eth_type", One(number!(0, 0xffff)), Never, Nothing),
-        row!("vlan_vid", One(number!(1, 4094)), Never, Nothing),
-        row!("vlan_pcp", One(number!(0, 7)), Never, Nothing),
-        row!("ip_proto", One(number!(0, 255)), Never, Nothing),
-        row!("ipv4_src", One(Prefix), Never, Nothing),
-        row!("ipv4_dst", One(Prefix), Never, Nothing),
-        row!("tcp_src", One(number!(0, 0xffff)), Never, Nothing),
-        row!("tcp_dst", One(number!(0, 0xffff)), Never, Nothing),
-        row!("udp_src", One(number!(0, 0xffff)), Never, Nothing),
-        row!("udp_dst", One(number!(0, 0xffff)), Never, Nothing),
-        row!("icmpv4_type", One(number!(0, 255)), Never, Nothing),
-        row!("icmpv4_code", One(number!(0, 255)), Never, Nothing),
-        row!("arp_op", One(number!(0, 0xffff)), Never, Nothing),
-        row!("arp_spa", One(Prefix), Never, Nothing),
-        row!("arp_tpa", One(Prefix), Never, Nothing),
+        asked!("eth_src", EthSrc),
+        asked!("eth_dst", EthDst),
+        asked!("eth_type", EthType),
+        asked!("vlan_vid", VlanVid),
+        asked!("vlan_pcp", VlanPcp),
+        asked!("ip_proto", IpProto),
+        asked!("ipv4_src", Ipv4Src),
+        asked!("ipv4_dst", Ipv4Dst),
+        asked!("tcp_src", TcpSrc),
+        asked!("tcp_dst", TcpDst),
+        asked!("udp_src", UdpSrc),
+        asked!("udp_dst", UdpDst),
+        asked!("icmpv4_type", Icmpv4Type),
+        asked!("icmpv4_code", Icmpv4Code),
+        asked!("arp_op", ArpOp),
+        asked!("arp_spa", ArpSpa),
+        asked!("arp_tpa", ArpTpa),
     ],
     left_out: &[
         "cookie",

@@ -2,13 +2,15 @@ ghost use Rattle.std.specs.Prelude.{◌≡◌, ◌≤◌, map, IfOk};
 ghost use Rattle.std.specs.Option.{option_copied};
 ghost use Rattle.net_base.specs.declared.field.FieldId.{FieldId};
 ghost use Rattle.net_base.specs.AddressReading.{spelled_mac, ip4_of, net4_of};
-ghost use Rattle.conf_shape.specs.Keys.{seen_pair};
-ghost use Rattle.conf_shape.specs.Values.{mac_of, ip_of, net_of, match_keys, seen_match, tag_bit, number_field, mac_number, masked, mac_field, ip_field, text_field, field_of, spelled_at, raw_field, fields_by};
+ghost use Rattle.conf_shape.specs.Keys.{seen_pair, seen_row, asked_of, match_keys_of};
+ghost use Rattle.conf_shape.specs.Values.{mac_of, ip_of, net_of, tag_bit, number_field, mac_number, masked, mac_field, ip_field, text_field, field_of, spelled_at, raw_field, fields_by};
 
 use crate::addresses::{parse_ip4, parse_mac, parse_net4, parts_of};
 use crate::keys::{key_text, spells};
+use crate::kinds::Kind;
 use crate::raw::{RawField, RawFields};
-use crate::scalars::within;
+use crate::scalars::{ETHERNET_BITS, within};
+use crate::tables::Row;
 use net_base::{Field, FieldId, Ip4, Items, Mac, Net4, NoMemory};
 use std::alloc::Global;
 use yaml_tree::{Pair, Tree};
@@ -41,33 +43,6 @@ pub fn net_of(text: &str) -> Net4
         Some((ip, len)) => Net4 { ip: Ip4(ip), len },
         None => Net4 { ip: Ip4(0), len: 0 },
     }
-}
-
-/// The match keys, in the order of the reference, with their fields.
-const MATCH_KEYS: [(&str, FieldId); 17] = [
-    ("eth_src", FieldId::EthSrc),
-    ("eth_dst", FieldId::EthDst),
-    ("eth_type", FieldId::EthType),
-    ("vlan_vid", FieldId::VlanVid),
-    ("vlan_pcp", FieldId::VlanPcp),
-    ("ip_proto", FieldId::IpProto),
-    ("ipv4_src", FieldId::Ipv4Src),
-    ("ipv4_dst", FieldId::Ipv4Dst),
-    ("tcp_src", FieldId::TcpSrc),
-    ("tcp_dst", FieldId::TcpDst),
-    ("udp_src", FieldId::UdpSrc),
-    ("udp_dst", FieldId::UdpDst),
-    ("icmpv4_type", FieldId::Icmpv4Type),
-    ("icmpv4_code", FieldId::Icmpv4Code),
-    ("arp_op", FieldId::ArpOp),
-    ("arp_spa", FieldId::ArpSpa),
-    ("arp_tpa", FieldId::ArpTpa),
-];
-
-fn match_keys() -> &'static [(&'static str, FieldId)]
-    ensures { map seen_match result.now ≡ match_keys }
-{
-    &MATCH_KEYS
 }
 
 /// Of a VLAN, the bit that says that there is a tag (OpenFlow 1.3, 7.2.3.7).
@@ -137,9 +112,10 @@ fn ip_field(id: FieldId, text: &str) -> Option<Field>
 fn text_field(id: FieldId, text: &str) -> Option<Field>
     ensures { result ≡ text_field id text.now }
 {
-    match id {
-        FieldId::EthSrc | FieldId::EthDst => mac_field(id, text),
-        _ => ip_field(id, text),
+    if id.bits() == ETHERNET_BITS {
+        mac_field(id, text)
+    } else {
+        ip_field(id, text)
     }
 }
 
@@ -189,18 +165,31 @@ fn raw_field(alloc: Global, id: FieldId, given: Option<&Pair>) -> Result<Option<
     }
 }
 
-/// The fields of a rule, in the order of the match keys.
+/// The field that a kind of value asks for.
+fn asked_of(kind: Kind) -> Option<FieldId>
+    ensures { result ≡ asked_of kind }
+{
+    match kind {
+        Kind::Asked { id } => Some(id),
+        _ => None,
+    }
+}
+
+/// The fields of a rule, in the order of its keys.
 pub fn fields_of(
     alloc: Global,
+    rows: &[Row],
     spellings: &[(&'static str, &'static str)],
     pairs: &[Pair],
 ) -> Result<RawFields, NoMemory>
-    ensures { IfOk result (λ made. made ≡ fields_by (map seen_pair spellings.now) match_keys pairs.now) }
+    ensures { IfOk result (λ made. made ≡ fields_by (map seen_pair spellings.now) (match_keys_of (map seen_row rows.now)) pairs.now) }
 {
-    let keys = match_keys();
     let mut fields = Items::new(alloc);
-    for (key, id) in keys {
-        if let Some(field) = raw_field(alloc, *id, spelled_at(spellings, key, pairs))? {
+    for row in rows {
+        let Some(id) = asked_of(row.kind) else {
+            continue;
+        };
+        if let Some(field) = raw_field(alloc, id, spelled_at(spellings, row.key, pairs))? {
             fields.push(field)?;
         }
     }

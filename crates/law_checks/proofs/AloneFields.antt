@@ -6,18 +6,20 @@ use Rattle.std.proofs.lemmas.Bool.{or_from, or_right, true≢false}
 use Rattle.std.proofs.lemmas.List.Folds.{list_any-append}
 use Rattle.net_base.specs.declared.field.Field.{Field}
 use Rattle.net_base.specs.declared.field.FieldId.{FieldId}
-use Rattle.net_base.specs.declared.field.FieldId.TheVariants.{EthDst, EthSrc, Ipv4Src, Ipv4Dst, ArpSpa, ArpTpa}
 use Rattle.net_base.specs.Address.{decimal, ip4_text, net4_text, SpellsBehind, SpellsMac, mac_value}
 use Rattle.net_base.specs.Field.{exact, prefix}
 use Rattle.net_base.proofs.Addresses.{same_mac, same_ip4, same_net4}
 use Rattle.yaml_tree.specs.declared.tree.Pair.{Pair}
 use Rattle.yaml_tree.specs.declared.tree.Tree.{Tree}
 use Rattle.conf_shape.specs.declared.kinds.MapKind.TheVariants.{Rule}
+use Rattle.conf_shape.specs.declared.kinds.Scalar.{Scalar}
+use Rattle.conf_shape.specs.declared.kinds.Scalar.TheVariants.{MaskedMac, Prefix}
 use Rattle.conf_shape.specs.declared.raw.RawField.{RawField}
 use Rattle.conf_shape.specs.Keys.{keys_of}
 use Rattle.conf_shape.specs.Sections.{key_text}
+use Rattle.conf_shape.specs.Scalars.{asked_scalar}
 use Rattle.conf_shape.specs.Values.{tag_bit, spelled_at, raw_field_or, ahead}
-use Rattle.law_checks.specs.Fields.{AsksNumber, AsksMac, AsksMaskedMac, AsksAddress, AsksPrefix, Asks, FieldSays, FieldsSay}
+use Rattle.law_checks.specs.Fields.{AsksNumber, AsksMac, AsksMaskedMac, AsksAddress, AsksPrefix, AsksBy, Asks, FieldSays, FieldsSay}
 use Rattle.law_checks.proofs.Alone.{IsOne, number_one, text_one}
 
 -- ---- Ethernet addresses
@@ -121,14 +123,13 @@ number_field_one id t a b h k = h.2 ∙ ap (λ n. Some (exact id (tag_bit id + n
 
 -- ---- the fields
 
+asked_by_one : (s : Scalar) (id : FieldId) → IsOne (AsksBy s id)
+asked_by_one MaskedMac id t a b h k = mac_field_one id t a b h k
+asked_by_one Prefix id t a b h k = ip_field_one id t a b h k
+asked_by_one s id t a b h k = number_field_one id t a b h k
+
 asked_one : (id : FieldId) → IsOne (Asks id)
-asked_one EthSrc t a b h k = mac_field_one EthSrc t a b h k
-asked_one EthDst t a b h k = mac_field_one EthDst t a b h k
-asked_one Ipv4Src t a b h k = ip_field_one Ipv4Src t a b h k
-asked_one Ipv4Dst t a b h k = ip_field_one Ipv4Dst t a b h k
-asked_one ArpSpa t a b h k = ip_field_one ArpSpa t a b h k
-asked_one ArpTpa t a b h k = ip_field_one ArpTpa t a b h k
-asked_one id t a b h k = number_field_one id t a b h k
+asked_one id = asked_by_one (asked_scalar id) id
 
 pub fields_one : (ks : List (List ℕ × FieldId)) → IsOne (FieldsSay ks)
 fields_one [] pairs a b h k = h ∙ sym k

@@ -8,8 +8,8 @@ use Rattle.yaml_tree.specs.declared.tree.Tree.{Tree, out-Tree}
 use Rattle.conf_shape.specs.declared.raw.OneOrList.TheVariants as several
 use Rattle.conf_shape.specs.declared.raw.RawConf.{RawConf}
 use Rattle.conf_shape.specs.declared.raw.RawRule.{RawRule}
+use Rattle.conf_shape.specs.Keys.{match_keys}
 use Rattle.conf_shape.specs.Reads.{value_at}
-use Rattle.conf_shape.specs.Values.{match_keys}
 use Rattle.law_checks.specs.Values.{IsFlag, IsNumber, IsText, IsPermission, IsLabelOf, IsVlanOf, IsPortOf, IsMac, IsAddress, IsNetwork, Each, IsList, IsOneOrList, IsMap, AreMaps, Given, Needed}
 use Rattle.law_checks.specs.Says.{NamesSay, AclNamesSay, PortFlagsSay, StackEndSays, PortSays, DropFlagsSay, PrioritySays, DpSays, RouteSays, RouteItemSays, VlanSays, OutputSays, ActionsSay, RuleSays, RuleItemSays, AclSays, RouterSays, TopSays, Says}
 use Rattle.law_checks.proofs.Alone.{IsOne, flag_one, number_one, text_one, permission_one, label_one, vlan_one, port_one, mac_one, address_one, network_one, each_one, list_one, several_one, entries_one, map_one, maps_one, port_no_list, map_no_list, given_one, needed_one, some_one, numbered_one}

@@ -1,32 +1,29 @@
 -- The fields of a rule say what its match keys ask for.
 use Rattle.std.proofs.Common.{◌≡◌, ℕ, pos, ◌≤◌, Bool, true, false, List, [], ◌∷◌, ◌++◌, Option, Some, None, refl, sym, ap, ◌∙◌, inl, inr, ◌⊎◌, subst, arith, eqb-true}
-use Rattle.std.specs.Prelude.{codes, IfSome, MatchOption, ◌==◌, if◌then◌else◌}
+use Rattle.std.specs.Prelude.{IfSome, MatchOption, ◌==◌, if◌then◌else◌}
 use Rattle.std.specs.List.{AllByRecursion}
 use Rattle.std.specs.Option.{option_map}
 use Rattle.net_base.specs.declared.field.FieldId.{FieldId}
-use Rattle.net_base.specs.declared.field.FieldId.TheVariants.{EthDst, EthSrc, EthType, VlanVid, VlanPcp, IpProto, Ipv4Src, Ipv4Dst, TcpSrc, TcpDst, UdpSrc, UdpDst, Icmpv4Type, Icmpv4Code, ArpOp, ArpSpa, ArpTpa}
 use Rattle.net_base.specs.Field.{exact}
 use Rattle.net_base.specs.AddressReading.{◌>>=◌, spelled_mac, ip4_of, net4_of, cut_at}
 use Rattle.net_base.proofs.Addresses.{mac_ok, ip4_ok, net4_ok}
 use Rattle.yaml_tree.specs.declared.tree.Pair.{Pair}
 use Rattle.yaml_tree.specs.declared.tree.Tree.{Tree}
 use Rattle.yaml_tree.specs.declared.tree.Tree.TheOpen as tree
-use Rattle.conf_shape.specs.declared.kinds.Kind.{Kind}
 use Rattle.conf_shape.specs.declared.kinds.Kind.TheVariants.{One}
 use Rattle.conf_shape.specs.declared.kinds.Scalar.TheVariants.{Number, MaskedMac, Prefix}
 use Rattle.conf_shape.specs.declared.kinds.MapKind.TheVariants as maps
-use Rattle.conf_shape.specs.declared.kinds.Need.TheVariants.{Never}
 use Rattle.conf_shape.specs.declared.raw.RawField.{RawField}
 use Rattle.conf_shape.specs.Addresses.{mac_fault, masked_fault, masked_parts, other_cause, network_fault, address_or}
-use Rattle.conf_shape.specs.Keys.{Nothing, row, keys_of}
-use Rattle.conf_shape.specs.Sections.{row_at}
+use Rattle.conf_shape.specs.Keys.{keys_of, match_keys}
 use Rattle.conf_shape.specs.Faults.{faults_of}
-use Rattle.conf_shape.specs.Scalars.{within}
-use Rattle.conf_shape.specs.Values.{match_keys, number_field, mac_number, masked, mac_parts, mac_field, ip_field, text_field, field_in, field_of, spelled_at, raw_field, ahead, fields_by}
+use Rattle.conf_shape.specs.Scalars.{within, asked_scalar}
+use Rattle.conf_shape.specs.Values.{number_field, mac_number, masked, mac_parts, mac_field, ip_field, text_field, field_in, field_of, spelled_at, raw_field, ahead, fields_by}
 use Rattle.conf_shape.specs.Written.{IsRight}
 use Rattle.law_checks.specs.Values.{IsText}
-use Rattle.law_checks.specs.Fields.{AsksNumber, AsksMac, AsksMaskedMac, AsksAddress, AsksPrefix, Asks, FieldSays, FieldsSay}
+use Rattle.law_checks.specs.Fields.{AsksNumber, AsksMac, AsksMaskedMac, AsksAddress, AsksPrefix, AsksBy, Asks, FieldSays, FieldsSay}
 use Rattle.law_checks.proofs.Values.{within_again, number_right, text_right}
+use Rattle.law_checks.proofs.AskedForms.{scalar_right, HasForm, IsKey, every_key}
 use Rattle.law_checks.proofs.Fields.{spelled_right}
 
 -- ---- values
@@ -91,67 +88,26 @@ fields_told pairs (k ∷ ks) all = by (spelled_at (keys_of maps.Rule).spellings 
     by None h more = more
     by (Some p) h more = (field_of k.1 p.value, h, rest, refl, more)
 
-module _ (pairs : List Pair) (right : IsRight maps.Rule pairs) where
-  told : (name : List ℕ) (id : FieldId) (kind : Kind) → row_at name (keys_of maps.Rule).rows ≡ Some (row name kind Never Nothing) → ((t : Tree) → faults_of t kind ≡ [] → Asks id t (field_of id t)) → Told pairs (name, id)
-  told name id kind at each = by (spelled_at (keys_of maps.Rule).spellings name pairs) (spelled_right name (row name kind Never Nothing) at [] pairs right)
-    where
-      by : (o : Option Pair) → IfSome o (λ p. faults_of p.value kind ≡ []) → IfSome o (λ p. Asks id p.value (field_of id p.value))
-      by None h = tt
-      by (Some p) h = each p.value h
+-- by the form of the field
+value_asks : (id : FieldId) → HasForm id → (t : Tree) → faults_of t (One (asked_scalar id)) ≡ [] → Asks id t (field_of id t)
+value_asks id (inl mac) t h =
+    subst (λ s. AsksBy s id t (field_of id t)) (sym mac.scalar) (mac_asks id mac.reads t (subst (λ s. faults_of t (One s) ≡ []) mac.scalar h))
+value_asks id (inr (inl ip)) t h =
+    subst (λ s. AsksBy s id t (field_of id t)) (sym ip.scalar) (ip_asks id ip.reads t (subst (λ s. faults_of t (One s) ≡ []) ip.scalar h))
+value_asks id (inr (inr number)) t h =
+    subst (λ s. AsksBy s id t (field_of id t)) (sym number.scalar) (number_asks id number.low number.high number.small t (subst (λ s. faults_of t (One s) ≡ []) number.scalar h))
 
-  every_told : AllByRecursion (Told pairs) match_keys
-  every_told = (
-    told (codes "eth_src") EthSrc (One MaskedMac) refl (mac_asks EthSrc (λ text. refl)),
-    (
-      told (codes "eth_dst") EthDst (One MaskedMac) refl (mac_asks EthDst (λ text. refl)),
-      (
-        told (codes "eth_type") EthType (One (Number 0 0xffff)) refl (number_asks EthType 0 0xffff (omega arith)),
-        (
-          told (codes "vlan_vid") VlanVid (One (Number 1 4094)) refl (number_asks VlanVid 1 4094 (omega arith)),
-          (
-            told (codes "vlan_pcp") VlanPcp (One (Number 0 7)) refl (number_asks VlanPcp 0 7 (omega arith)),
-            (
-              told (codes "ip_proto") IpProto (One (Number 0 255)) refl (number_asks IpProto 0 255 (omega arith)),
-              (
-                told (codes "ipv4_src") Ipv4Src (One Prefix) refl (ip_asks Ipv4Src (λ text. refl)),
-                (
-                  told (codes "ipv4_dst") Ipv4Dst (One Prefix) refl (ip_asks Ipv4Dst (λ text. refl)),
-                  (
-                    told (codes "tcp_src") TcpSrc (One (Number 0 0xffff)) refl (number_asks TcpSrc 0 0xffff (omega arith)),
-                    (
-                      told (codes "tcp_dst") TcpDst (One (Number 0 0xffff)) refl (number_asks TcpDst 0 0xffff (omega arith)),
-                      (
-                        told (codes "udp_src") UdpSrc (One (Number 0 0xffff)) refl (number_asks UdpSrc 0 0xffff (omega arith)),
-                        (
-                          told (codes "udp_dst") UdpDst (One (Number 0 0xffff)) refl (number_asks UdpDst 0 0xffff (omega arith)),
-                          (
-                            told (codes "icmpv4_type") Icmpv4Type (One (Number 0 255)) refl (number_asks Icmpv4Type 0 255 (omega arith)),
-                            (
-                              told (codes "icmpv4_code") Icmpv4Code (One (Number 0 255)) refl (number_asks Icmpv4Code 0 255 (omega arith)),
-                              (
-                                told (codes "arp_op") ArpOp (One (Number 0 0xffff)) refl (number_asks ArpOp 0 0xffff (omega arith)),
-                                (
-                                  told (codes "arp_spa") ArpSpa (One Prefix) refl (ip_asks ArpSpa (λ text. refl)),
-                                  (
-                                    told (codes "arp_tpa") ArpTpa (One Prefix) refl (ip_asks ArpTpa (λ text. refl)),
-                                    tt,
-                                  ),
-                                ),
-                              ),
-                            ),
-                          ),
-                        ),
-                      ),
-                    ),
-                  ),
-                ),
-              ),
-            ),
-          ),
-        ),
-      ),
-    ),
-  )
+module _ (pairs : List Pair) (right : IsRight maps.Rule pairs) where
+  told : (k : List ℕ × FieldId) → IsKey k → Told pairs k
+  told k key = by (spelled_at (keys_of maps.Rule).spellings k.0 pairs) (spelled_right k.0 key.row key.at [] pairs right)
+    where
+      by : (o : Option Pair) → IfSome o (λ p. faults_of p.value key.row.kind ≡ []) → IfSome o (λ p. Asks k.1 p.value (field_of k.1 p.value))
+      by None h = tt
+      by (Some p) h = value_asks k.1 key.form p.value (scalar_right k.1 p.value (subst (λ kind. faults_of p.value kind ≡ []) key.kind h))
+
+  all_told : (ks : List (List ℕ × FieldId)) → AllByRecursion IsKey ks → AllByRecursion (Told pairs) ks
+  all_told [] keys = tt
+  all_told (k ∷ ks) keys = (told k keys.0, all_told ks keys.1)
 
   pub fields_say : FieldsSay match_keys pairs (fields_by (keys_of maps.Rule).spellings match_keys pairs)
-  fields_say = fields_told pairs match_keys every_told
+  fields_say = fields_told pairs match_keys (all_told match_keys every_key)

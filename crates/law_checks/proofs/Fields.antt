@@ -1,6 +1,6 @@
 -- The fields of a rule with no fault: each asks what it may, and none stands twice.
-use Rattle.std.proofs.Common.{◌≡◌, ℕ, pos, ◌-◌, ◌*◌, ◌/◌, ◌%◌, ◌^◌, ◌<◌, ◌≤◌, ◌&&◌, not, Bool, true, false, List, [], ◌∷◌, ◌++◌, Option, Some, None, Ok, Err, refl, sym, ap, ◌∙◌, subst, arith, eqb-true, div-add-mod'}
-use Rattle.std.specs.Prelude.{map, codes, IfSome, ◌==◌, if◌then◌else◌, bit_and}
+use Rattle.std.proofs.Common.{◌≡◌, ℕ, pos, ◌-◌, ◌*◌, ◌/◌, ◌%◌, ◌^◌, ◌<◌, ◌≤◌, ◌&&◌, not, Bool, true, false, List, [], ◌∷◌, ◌++◌, Option, Some, None, Ok, Err, refl, sym, ap, ◌∙◌, inl, inr, subst, arith, eqb-true, div-add-mod'}
+use Rattle.std.specs.Prelude.{map, IfSome, ◌==◌, if◌then◌else◌, bit_and}
 use Rattle.std.specs.List.{AllByRecursion, list_any}
 use Rattle.std.specs.Option.{option_map}
 use Rattle.std.specs.Str.{bytes_eq}
@@ -9,7 +9,6 @@ use Rattle.std.proofs.lemmas.Slice.Eq.{bytes_eq-Decides}
 use Rattle.std.proofs.lemmas.Nat.{and_mask}
 use Rattle.net_base.specs.declared.field.Field.{Field}
 use Rattle.net_base.specs.declared.field.FieldId.{FieldId}
-use Rattle.net_base.specs.declared.field.FieldId.TheVariants.{EthDst, EthSrc, EthType, VlanVid, VlanPcp, IpProto, Ipv4Src, Ipv4Dst, TcpSrc, TcpDst, UdpSrc, UdpDst, Icmpv4Type, Icmpv4Code, ArpOp, ArpSpa, ArpTpa}
 use Rattle.net_base.specs.Address.{mac_value}
 use Rattle.net_base.specs.AddressReading.{spelled_mac, ip4_of, net4_of, cut_at}
 use Rattle.net_base.specs.Field.{exact, prefix}
@@ -21,20 +20,20 @@ use Rattle.yaml_tree.specs.declared.tree.Key.{Key}
 use Rattle.yaml_tree.specs.declared.tree.Key.TheVariants as key
 use Rattle.yaml_tree.specs.declared.tree.Pair.{Pair}
 use Rattle.conf_types.specs.Lists.{EachBefore, is_among}
-use Rattle.conf_types.specs.RuleFields.{IsNumber, IsMasked, IsPrefix, MayAsk}
+use Rattle.conf_types.specs.RuleFields.{IsMasked, IsPrefix, MayAsk}
 use Rattle.conf_shape.specs.declared.refused.ConfCause.TheVariants.{LeftOut, Duplicate, BadText}
 use Rattle.conf_shape.specs.declared.kinds.Kind.TheVariants.{One}
 use Rattle.conf_shape.specs.declared.kinds.Scalar.TheVariants.{Number, MaskedMac, Prefix}
 use Rattle.conf_shape.specs.declared.kinds.MapKind.TheVariants as maps
-use Rattle.conf_shape.specs.declared.kinds.Need.TheVariants.{Never}
 use Rattle.conf_shape.specs.declared.raw.RawField.{RawField}
 use Rattle.conf_shape.specs.Addresses.{is_masked, mac_fault, masked_fault, masked_parts, other_cause, has_no_host_bits, network_fault, address_or, prefix_cause}
-use Rattle.conf_shape.specs.Keys.{KeyRow, Keys, Nothing, row, keys_of}
+use Rattle.conf_shape.specs.Keys.{KeyRow, Keys, keys_of, match_keys}
 use Rattle.conf_shape.specs.Sections.{key_text, canonical, row_at, spells, row_kind, text_kind, under_key}
 use Rattle.conf_shape.specs.Faults.{faults_of, entry_of, map_faults}
-use Rattle.conf_shape.specs.Scalars.{within}
-use Rattle.conf_shape.specs.Values.{match_keys, tag_bit, number_field, mac_number, masked, mac_parts, mac_field, ip_field, text_field, field_in, field_of, spelled_at, raw_field_or, raw_field, ahead, fields_by}
+use Rattle.conf_shape.specs.Scalars.{within, asked_scalar}
+use Rattle.conf_shape.specs.Values.{number_field, mac_number, masked, mac_parts, mac_field, ip_field, text_field, field_in, field_of, spelled_at, raw_field_or, raw_field, ahead, fields_by}
 use Rattle.conf_shape.specs.Written.{IsRight}
+use Rattle.law_checks.proofs.AskedForms.{scalar_right, HasForm, IsKey, every_key}
 use Rattle.law_checks.proofs.Right.{HasKind, entry_right}
 use Rattle.law_checks.proofs.Values.{within_again, number_right, text_right}
 use Rattle.law_checks.proofs.Addresses.{spelled_six, masked_value}
@@ -203,76 +202,23 @@ module _ (pairs : List Pair) where
 
 -- ---- each match key
 
+-- by the form of the field
+value_asked : (id : FieldId) → HasForm id → (t : Tree) → faults_of t (One (asked_scalar id)) ≡ [] → IfSome (field_of id t) (IsAsked id)
+value_asked id (inl mac) t h = macs_asked id mac.whole mac.may mac.reads t (subst (λ s. faults_of t (One s) ≡ []) mac.scalar h)
+value_asked id (inr (inl ip)) t h = prefixes_asked id ip.whole ip.may ip.reads t (subst (λ s. faults_of t (One s) ≡ []) ip.scalar h)
+value_asked id (inr (inr number)) t h =
+    number_asked id number.low number.high number.small (λ k least most. record { is = refl; may = number.may k least most }) t (subst (λ s. faults_of t (One s) ≡ []) number.scalar h)
+
 module _ (pairs : List Pair) (right : IsRight maps.Rule pairs) where
-  number : (name : List ℕ) (id : FieldId) (most : ℕ) → row_at name (keys_of maps.Rule).rows ≡ Some (row name (One (Number 0 most)) Never Nothing) → most ≤ 0xffff → tag_bit id ≡ 0 → ((field : Field) → IsNumber 0 most field → MayAsk id field) → Asks pairs (name, id)
-  number name id most at small bit may =
-      asks pairs name id (row name (One (Number 0 most)) Never Nothing) right at
-      (number_asked id 0 most small (λ k least top. record { is = refl; may = may (number_field id k) (record { from = omega arith; to = omega (arith, bit); whole = refl }) }))
+  key_asks : (k : List ℕ × FieldId) → IsKey k → Asks pairs k
+  key_asks k key = asks pairs k.0 k.1 key.row right key.at (λ t h. value_asked k.1 key.form t (scalar_right k.1 t (subst (λ kind. faults_of t kind ≡ []) key.kind h)))
 
-  vlan : Asks pairs (codes "vlan_vid", VlanVid)
-  vlan =
-      asks pairs (codes "vlan_vid") VlanVid (row (codes "vlan_vid") (One (Number 1 4094)) Never Nothing) right refl
-      (number_asked VlanVid 1 4094 (omega arith) (λ k least top. record { is = refl; may = record { from = omega arith; to = omega arith; whole = refl } }))
-
-  mac : (name : List ℕ) (id : FieldId) → row_at name (keys_of maps.Rule).rows ≡ Some (row name (One MaskedMac) Never Nothing) → ids.all_ones id ≡ 2 ^ 48 - 1 → ((field : Field) → IsMasked 48 field → MayAsk id field) → ((text : List ℕ) → text_field id text ≡ mac_field id text) → Asks pairs (name, id)
-  mac name id at whole may by_mac = asks pairs name id (row name (One MaskedMac) Never Nothing) right at (macs_asked id whole may by_mac)
-
-  net : (name : List ℕ) (id : FieldId) → row_at name (keys_of maps.Rule).rows ≡ Some (row name (One Prefix) Never Nothing) → ids.all_ones id ≡ 2 ^ 32 - 1 → ((field : Field) → IsPrefix 32 field → MayAsk id field) → ((text : List ℕ) → text_field id text ≡ ip_field id (ip4_of text) (net4_of text)) → Asks pairs (name, id)
-  net name id at whole may by_ip = asks pairs name id (row name (One Prefix) Never Nothing) right at (prefixes_asked id whole may by_ip)
+  all_ask : (ks : List (List ℕ × FieldId)) → AllByRecursion IsKey ks → AllByRecursion (Asks pairs) ks
+  all_ask [] keys = tt
+  all_ask (k ∷ ks) keys = (key_asks k keys.0, all_ask ks keys.1)
 
   every_field : AllByRecursion (Asks pairs) match_keys
-  every_field = (
-    mac (codes "eth_src") EthSrc refl refl (λ field m. m) (λ text. refl),
-    (
-      mac (codes "eth_dst") EthDst refl refl (λ field m. m) (λ text. refl),
-      (
-        number (codes "eth_type") EthType 0xffff refl (omega arith) refl (λ field m. m),
-        (
-          vlan,
-          (
-            number (codes "vlan_pcp") VlanPcp 7 refl (omega arith) refl (λ field m. m),
-            (
-              number (codes "ip_proto") IpProto 255 refl (omega arith) refl (λ field m. m),
-              (
-                net (codes "ipv4_src") Ipv4Src refl refl (λ field m. m) (λ text. refl),
-                (
-                  net (codes "ipv4_dst") Ipv4Dst refl refl (λ field m. m) (λ text. refl),
-                  (
-                    number (codes "tcp_src") TcpSrc 0xffff refl (omega arith) refl (λ field m. m),
-                    (
-                      number (codes "tcp_dst") TcpDst 0xffff refl (omega arith) refl (λ field m. m),
-                      (
-                        number (codes "udp_src") UdpSrc 0xffff refl (omega arith) refl (λ field m. m),
-                        (
-                          number (codes "udp_dst") UdpDst 0xffff refl (omega arith) refl (λ field m. m),
-                          (
-                            number (codes "icmpv4_type") Icmpv4Type 255 refl (omega arith) refl (λ field m. m),
-                            (
-                              number (codes "icmpv4_code") Icmpv4Code 255 refl (omega arith) refl (λ field m. m),
-                              (
-                                number (codes "arp_op") ArpOp 0xffff refl (omega arith) refl (λ field m. m),
-                                (
-                                  net (codes "arp_spa") ArpSpa refl refl (λ field m. m) (λ text. refl),
-                                  (
-                                    net (codes "arp_tpa") ArpTpa refl refl (λ field m. m) (λ text. refl),
-                                    tt,
-                                  ),
-                                ),
-                              ),
-                            ),
-                          ),
-                        ),
-                      ),
-                    ),
-                  ),
-                ),
-              ),
-            ),
-          ),
-        ),
-      ),
-    ),
-  )
+  every_field = all_ask match_keys every_key
 
   pub fields_may : AllByRecursion (λ f. MayAsk f.field.id f.field) (fields_by (keys_of maps.Rule).spellings match_keys pairs)
   fields_may = fields_ask pairs match_keys every_field

@@ -1,6 +1,7 @@
 pub mod Right
 pub mod Values
 pub mod Addresses
+pub mod AskedForms
 pub mod Fields
 pub mod KeyRanges
 pub mod Stands

@@ -2,15 +2,17 @@
 use Rattle.std.specs.Prelude.{◌≡◌, ℕ, ◌+◌, ◌^◌, ◌<◌, ◌≤◌, ◌==◌, ◌⊎◌, if◌then◌else◌, List, [], ◌∷◌, ◌++◌, Option, Some, None, MatchOption}
 use Rattle.net_base.specs.declared.field.Field.{Field}
 use Rattle.net_base.specs.declared.field.FieldId.{FieldId}
-use Rattle.net_base.specs.declared.field.FieldId.TheVariants.{EthDst, EthSrc, Ipv4Src, Ipv4Dst, ArpSpa, ArpTpa}
 use Rattle.net_base.specs.Address.{SpellsMac, mac_value, ip4_text, net4_text}
 use Rattle.net_base.specs.Field.{exact, prefix}
 use Rattle.yaml_tree.specs.declared.tree.Pair.{Pair}
 use Rattle.yaml_tree.specs.declared.tree.Tree.{Tree}
 use Rattle.conf_shape.specs.declared.kinds.MapKind.TheVariants.{Rule}
+use Rattle.conf_shape.specs.declared.kinds.Scalar.{Scalar}
+use Rattle.conf_shape.specs.declared.kinds.Scalar.TheVariants.{MaskedMac, Prefix}
 use Rattle.conf_shape.specs.declared.raw.RawField.{RawField}
 use Rattle.conf_shape.specs.Keys.{keys_of}
 use Rattle.conf_shape.specs.Sections.{key_text}
+use Rattle.conf_shape.specs.Scalars.{asked_scalar}
 use Rattle.conf_shape.specs.Values.{tag_bit, spelled_at, raw_field_or, ahead}
 use Rattle.law_checks.specs.Values.{IsNumber, IsText}
 
@@ -53,14 +55,14 @@ pub record AsksPrefix (id : FieldId) (t : Tree) (asked : Option Field) : Type 0 
   pub is : IsText t (net4_text ip len)
   pub field : asked ≡ (if len == 0 then None else Some (prefix id ip len))
 
+-- by what the value has to be
+abbrev pub AsksBy : Scalar → FieldId → Tree → Option Field → Type 0
+AsksBy MaskedMac id t asked = AsksMac id t asked ⊎ AsksMaskedMac id t asked
+AsksBy Prefix id t asked = AsksAddress id t asked ⊎ AsksPrefix id t asked
+AsksBy scalar id t asked = AsksNumber id t asked
+
 abbrev pub Asks : FieldId → Tree → Option Field → Type 0
-Asks EthSrc t asked = AsksMac EthSrc t asked ⊎ AsksMaskedMac EthSrc t asked
-Asks EthDst t asked = AsksMac EthDst t asked ⊎ AsksMaskedMac EthDst t asked
-Asks Ipv4Src t asked = AsksAddress Ipv4Src t asked ⊎ AsksPrefix Ipv4Src t asked
-Asks Ipv4Dst t asked = AsksAddress Ipv4Dst t asked ⊎ AsksPrefix Ipv4Dst t asked
-Asks ArpSpa t asked = AsksAddress ArpSpa t asked ⊎ AsksPrefix ArpSpa t asked
-Asks ArpTpa t asked = AsksAddress ArpTpa t asked ⊎ AsksPrefix ArpTpa t asked
-Asks id t asked = AsksNumber id t asked
+Asks id t asked = AsksBy (asked_scalar id) id t asked
 
 -- ---- the fields
 

@@ -19,9 +19,9 @@ use Rattle.conf_shape.specs.declared.raw.RawRouter.{RawRouter}
 use Rattle.conf_shape.specs.declared.raw.RawRule.{RawRule}
 use Rattle.conf_shape.specs.declared.raw.RawStackEnd.{RawStackEnd}
 use Rattle.conf_shape.specs.declared.raw.RawVlan.{RawVlan}
+use Rattle.conf_shape.specs.Keys.{match_keys}
 use Rattle.conf_shape.specs.Reads.{value_at}
 use Rattle.conf_shape.specs.Sections.{key_text}
-use Rattle.conf_shape.specs.Values.{match_keys}
 use Rattle.law_checks.specs.Fields.{FieldsSay}
 use Rattle.law_checks.specs.Values.{IsFlag, IsNumber, IsText, IsPermission, IsLabelOf, IsVlanOf, IsPortOf, IsMac, IsAddress, IsNetwork, Each, IsList, IsOneOrList, IsMap, AreMaps, Given, Needed, IsNumbered}
 

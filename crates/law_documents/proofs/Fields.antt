@@ -4,15 +4,17 @@ use Rattle.std.proofs.Common.{inl, inr, refl, ap, subst}
 use Rattle.std.proofs.lemmas.Option.{none-some, same_Some}
 use Rattle.net_base.specs.declared.field.Field.{Field}
 use Rattle.net_base.specs.declared.field.FieldId.{FieldId}
-use Rattle.net_base.specs.declared.field.FieldId.TheVariants.{EthDst, EthSrc, Ipv4Src, Ipv4Dst, ArpSpa, ArpTpa}
 use Rattle.yaml_tree.specs.declared.tree.Pair.{Pair}
 use Rattle.yaml_tree.specs.declared.tree.Tree.{Tree, out-Tree}
 use Rattle.conf_shape.specs.declared.kinds.MapKind.TheVariants.{Rule}
+use Rattle.conf_shape.specs.declared.kinds.Scalar.{Scalar}
+use Rattle.conf_shape.specs.declared.kinds.Scalar.TheVariants.{MaskedMac, Prefix}
 use Rattle.conf_shape.specs.declared.raw.RawField.{RawField}
 use Rattle.conf_shape.specs.Keys.{keys_of}
 use Rattle.conf_shape.specs.Sections.{key_text, spells}
+use Rattle.conf_shape.specs.Scalars.{asked_scalar}
 use Rattle.conf_shape.specs.Values.{spelled_at, raw_field_or, ahead}
-use Rattle.law_checks.specs.Fields.{Asks, AsksMac, AsksMaskedMac, AsksAddress, AsksPrefix, FieldSays, FieldsSay}
+use Rattle.law_checks.specs.Fields.{Asks, AsksBy, AsksMac, AsksMaskedMac, AsksAddress, AsksPrefix, FieldSays, FieldsSay}
 use Rattle.law_checks.proofs.Members.{IsIn}
 use Rattle.law_documents.specs.Forms.{IsScalar}
 use Rattle.law_documents.specs.Leads.{IsEntry}
@@ -29,14 +31,13 @@ ip_scalar : (id : FieldId) (t : Tree) (asked : Option Field) → AsksAddress id 
 ip_scalar id t asked (inl a) = text_scalar t _ a.is
 ip_scalar id t asked (inr a) = text_scalar t _ a.is
 
+asks_by_scalar : (s : Scalar) (id : FieldId) (t : Tree) (asked : Option Field) → AsksBy s id t asked → IsScalar (out-Tree t)
+asks_by_scalar MaskedMac id t asked a = mac_scalar id t asked a
+asks_by_scalar Prefix id t asked a = ip_scalar id t asked a
+asks_by_scalar s id t asked a = number_scalar t a.0 a.1
+
 asks_scalar : (id : FieldId) (t : Tree) (asked : Option Field) → Asks id t asked → IsScalar (out-Tree t)
-asks_scalar EthSrc t asked a = mac_scalar EthSrc t asked a
-asks_scalar EthDst t asked a = mac_scalar EthDst t asked a
-asks_scalar Ipv4Src t asked a = ip_scalar Ipv4Src t asked a
-asks_scalar Ipv4Dst t asked a = ip_scalar Ipv4Dst t asked a
-asks_scalar ArpSpa t asked a = ip_scalar ArpSpa t asked a
-asks_scalar ArpTpa t asked a = ip_scalar ArpTpa t asked a
-asks_scalar id t asked a = number_scalar t a.0 a.1
+asks_scalar id t asked a = asks_by_scalar (asked_scalar id) id t asked a
 
 -- ---- keys in any spelling
 

@@ -20,7 +20,7 @@ use Rattle.conf_shape.specs.declared.raw.RawRule.{RawRule}
 use Rattle.conf_shape.specs.declared.raw.RawStackEnd.{RawStackEnd}
 use Rattle.conf_shape.specs.declared.refused.ConfCause.TheVariants.{Conflict}
 use Rattle.conf_shape.specs.declared.refused.ConfFault.{ConfFault}
-use Rattle.conf_shape.specs.Values.{match_keys}
+use Rattle.conf_shape.specs.Keys.{match_keys}
 use Rattle.conf_resolve.specs.declared.ordered.OrderedConf.{OrderedConf}
 use Rattle.conf_resolve.specs.InOrder.{port_site, ordered}
 use Rattle.conf_resolve.specs.Resolved.{to_list, items_of, once, number_named, dp_of, port_of, resolved}

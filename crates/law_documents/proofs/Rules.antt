@@ -11,12 +11,12 @@ use Rattle.conf_shape.specs.declared.kinds.Kind.{Kind}
 use Rattle.conf_shape.specs.declared.kinds.Kind.TheVariants.{Map, Maps, MapOrMaps}
 use Rattle.conf_shape.specs.declared.kinds.MapKind.TheVariants as maps
 use Rattle.conf_shape.specs.Faults.{faults_of}
-use Rattle.conf_shape.specs.Keys.{Keys, keys_of}
+use Rattle.conf_shape.specs.Keys.{Keys, keys_of, match_keys}
 use Rattle.conf_shape.specs.Raw.{output_of, rule_with, rule_of, acl_of_entry}
 use Rattle.conf_shape.specs.Reads.{entries_of, entries_at, port_of}
 use Rattle.conf_shape.specs.Scalars.{map_kind}
 use Rattle.conf_shape.specs.Sections.{canonical, key_text, spells, under_key}
-use Rattle.conf_shape.specs.Values.{match_keys, field_in, field_of, spelled_at, raw_field_or, raw_field, ahead, fields_by}
+use Rattle.conf_shape.specs.Values.{field_in, field_of, spelled_at, raw_field_or, raw_field, ahead, fields_by}
 use Rattle.law_checks.proofs.Right.{HasKind}
 use Rattle.law_documents.proofs.Clash.{clash, is_spelled, spelled_itself, text_itself, same_text}
 use Rattle.law_documents.proofs.Kept.{Entries, entries_kept, Keeps, IsRead, port_read, read_items, items_kept, one_or_list_kept}
