@@ -1,6 +1,6 @@
 -- The raw configuration of a tree, key by key: what is written, and where a key isn't given its default by
 -- the tables.
-use Rattle.std.specs.Prelude.{ℕ, ◌-◌, ◌^◌, Bool, is_some, List, [], map, codes, Option, None, option_and_then, unwrap_or}
+use Rattle.std.specs.Prelude.{ℕ, ◌-◌, ◌^◌, Bool, is_some, List, [], ◌∷◌, map, codes, Option, None, option_and_then, unwrap_or}
 use Rattle.net_base.specs.declared.address.Mac.{Mac}
 use Rattle.net_base.specs.declared.net4.Net4.{Net4}
 use Rattle.net_base.specs.declared.numbers.DpId.{DpId}
@@ -57,15 +57,29 @@ stack_end_of t = let pairs = entries_of t in record {
   port = unwrap_or (option_at port_of (codes "port") pairs) (port_refs.Name []);
 }
 
-abbrev pub port_flags : List Pair → PortFlags
-port_flags pairs = record {
-  enabled = flag_at (kinds.Interface None) (codes "enabled") pairs;
-  unicast_flood = flag_at (kinds.Interface None) (codes "unicast_flood") pairs;
-  opstatus_reconf = flag_at (kinds.Interface None) (codes "opstatus_reconf") pairs;
-  output_only = flag_at (kinds.Interface None) (codes "output_only") pairs;
-  hairpin = flag_at (kinds.Interface None) (codes "hairpin") pairs;
-  permanent_learn = flag_at (kinds.Interface None) (codes "permanent_learn") pairs;
+-- the flags of an interface: each key with its field, and what is made of a value for each key
+abbrev pub port_flag_keys : List (List ℕ × (PortFlags → Bool))
+port_flag_keys =
+    (codes "enabled", λ flags. flags.enabled) ∷
+    (codes "unicast_flood", λ flags. flags.unicast_flood) ∷
+    (codes "opstatus_reconf", λ flags. flags.opstatus_reconf) ∷
+    (codes "output_only", λ flags. flags.output_only) ∷
+    (codes "hairpin", λ flags. flags.hairpin) ∷
+    (codes "permanent_learn", λ flags. flags.permanent_learn) ∷
+    []
+
+abbrev pub port_flags_by : (List ℕ → Bool) → PortFlags
+port_flags_by value = record {
+  enabled = value (codes "enabled");
+  unicast_flood = value (codes "unicast_flood");
+  opstatus_reconf = value (codes "opstatus_reconf");
+  output_only = value (codes "output_only");
+  hairpin = value (codes "hairpin");
+  permanent_learn = value (codes "permanent_learn");
 }
+
+abbrev pub port_flags : List Pair → PortFlags
+port_flags pairs = port_flags_by (λ name. flag_at (kinds.Interface None) name pairs)
 
 -- the number of an interface is its key, or else `number`
 abbrev pub port_number : Key → List Pair → ℕ
@@ -88,13 +102,25 @@ port_with key pairs = record {
 abbrev pub port_of_entry : Pair → RawPort
 port_of_entry p = port_with p.key (entries_of p.value)
 
-abbrev pub drop_flags : List Pair → DropFlags
-drop_flags pairs = record {
-  spoofed = flag_at kinds.Datapath (codes "drop_spoofed_faucet_mac") pairs;
-  broadcast = flag_at kinds.Datapath (codes "drop_broadcast_source_address") pairs;
-  bpdu = flag_at kinds.Datapath (codes "drop_bpdu") pairs;
-  lldp = flag_at kinds.Datapath (codes "drop_lldp") pairs;
+-- the flags of a datapath, in the same way
+abbrev pub drop_flag_keys : List (List ℕ × (DropFlags → Bool))
+drop_flag_keys =
+    (codes "drop_spoofed_faucet_mac", λ flags. flags.spoofed) ∷
+    (codes "drop_broadcast_source_address", λ flags. flags.broadcast) ∷
+    (codes "drop_bpdu", λ flags. flags.bpdu) ∷
+    (codes "drop_lldp", λ flags. flags.lldp) ∷
+    []
+
+abbrev pub drop_flags_by : (List ℕ → Bool) → DropFlags
+drop_flags_by value = record {
+  spoofed = value (codes "drop_spoofed_faucet_mac");
+  broadcast = value (codes "drop_broadcast_source_address");
+  bpdu = value (codes "drop_bpdu");
+  lldp = value (codes "drop_lldp");
 }
+
+abbrev pub drop_flags : List Pair → DropFlags
+drop_flags pairs = drop_flags_by (λ name. flag_at kinds.Datapath name pairs)
 
 abbrev pub datapath_id : List Pair → DpId
 datapath_id pairs = record { 0 = unwrap_or (option_and_then (number_of 0 (2 ^ 64 - 1)) (value_at (codes "dp_id") pairs)) 0 }

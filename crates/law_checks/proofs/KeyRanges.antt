@@ -19,12 +19,12 @@ use Rattle.conf_shape.specs.declared.refused.ConfCause.TheVariants.{OutOfRange, 
 use Rattle.conf_shape.specs.declared.raw.OneOrList.TheVariants as one_or_list
 use Rattle.conf_shape.specs.declared.kinds.Kind.{Kind}
 use Rattle.conf_shape.specs.declared.kinds.Kind.TheVariants.{One, Several, Map, Maps}
-use Rattle.conf_shape.specs.declared.kinds.Scalar.TheVariants.{Number, Name, StationMac, Vip, Destination}
+use Rattle.conf_shape.specs.declared.kinds.Scalar.TheVariants.{Name, StationMac, Vip, Destination}
 use Rattle.conf_shape.specs.declared.kinds.MapKind.{MapKind}
 use Rattle.conf_shape.specs.declared.kinds.MapKind.TheVariants as maps
 use Rattle.conf_shape.specs.Addresses.{station_cause}
 use Rattle.conf_shape.specs.Faults.{faults_of, entry_of, map_faults, first_fault}
-use Rattle.conf_shape.specs.Keys.{Count, OwnKey, OwnName}
+use Rattle.conf_shape.specs.Keys.{OwnKey, OwnName}
 use Rattle.conf_shape.specs.Raw.{names_by, port_of_entry, datapath_of_entry, vip_of, route_of, mac_at, vlan_of_entry, output_of, rule_with, rule_of, acl_of_entry, router_of_entry, raw_of}
 use Rattle.conf_shape.specs.Reads.{value_at, number_of, words_of, text_of, items_of, entries_of, entries_at, words_at, text_in, text_at, default_of, default_number, default_text, port_or, port_of, vlan_or, vlan_of, label_of, own_number, number_at, one_or_list_in, one_or_list_of}
 use Rattle.conf_shape.specs.Sections.{key_text, has_text, named_once, named_kind, under_key}
@@ -33,6 +33,7 @@ use Rattle.conf_shape.specs.Written.{IsRight, Takes}
 use Rattle.conf_resolve.specs.InRange.{NamesVlan, AreNames, PortIsInRange, DpIsInRange, VlanIsInRange, OutputIsInRange, RuleIsInRange, IsInRange}
 use Rattle.conf_resolve.specs.Resolved.{items_of as outputs_of}
 use Rattle.law_checks.proofs.Right.{document_right, map_right, entry_right, each_right, value_right, takes_by, below_right, items_right, all_through, all_read, listed_right}
+use Rattle.law_checks.proofs.Bounds.{least_of, most_of, ranged, HasRange, timeout_range, arp_timeout_range, port_hosts_range, vlan_hosts_range}
 use Rattle.law_checks.proofs.Values.{number_or, own_range, number_bounds, within_bounds, text_right, text_or, name_or, named_right, numbered_right}
 use Rattle.law_checks.proofs.Addresses.{IsDestination, station_right, vip_right, network_right, no_network, gateway_below}
 use Rattle.law_checks.proofs.Fields.{fields_may, fields_apart}
@@ -52,11 +53,9 @@ module _ (m : MapKind) (label : List ℕ) (pairs : List Pair) where
       }
 
 -- a number with a default
-number_in_range : (m : MapKind) (name : List ℕ) (pairs : List Pair) (low high default : ℕ) → default_of m name ≡ Count default → high < 2 ^ 32 → low ≤ default → default ≤ high
-    → IfSome (value_at name pairs) (λ t. faults_of t (One (Number low high)) ≡ []) → (low ≤ number_at m name pairs) × (number_at m name pairs ≤ high)
-number_in_range m name pairs low high default is small least most h =
-    subst (λ d. (low ≤ unwrap_or (option_and_then (number_of 0 (2 ^ 32 - 1)) (value_at name pairs)) (default_number d)) × (unwrap_or (option_and_then (number_of 0 (2 ^ 32 - 1)) (value_at name pairs)) (default_number d) ≤ high)) (sym is)
-    (number_or low high default small least most (value_at name pairs) h)
+number_in_range : (m : MapKind) (name : List ℕ) (pairs : List Pair) → HasRange m name
+    → IfSome (value_at name pairs) (λ t. faults_of t (One (ranged m name)) ≡ []) → (least_of m name ≤ number_at m name pairs) × (number_at m name pairs ≤ most_of m name)
+number_in_range m name pairs range h = number_or (least_of m name) (most_of m name) (default_number (default_of m name)) range.small range.least range.most (value_at name pairs) h
 
 -- the number of an interface or a VLAN
 own_bounds : (low high : ℕ) (k : Key) (o : Option Tree) → IfSome (own_number low high k o) (λ n. (low ≤ n) × (n ≤ high))
@@ -95,9 +94,8 @@ module _ (number : Option ℕ) where
       names_right (maps.Interface None) label pairs refl refl is (port_takes (codes "name") (One Name) refl (λ n. refl) pairs right) (port_takes (codes "description") (One Name) refl (λ n. refl) pairs right)
 
   port_hosts : (pairs : List Pair) → IsRight (maps.Interface number) pairs → (1 ≤ number_at (maps.Interface None) (codes "max_hosts") pairs) × (number_at (maps.Interface None) (codes "max_hosts") pairs ≤ 16384)
-  unfolding default_of
   port_hosts pairs right =
-      number_in_range (maps.Interface None) (codes "max_hosts") pairs 1 16384 255 refl (omega arith) (omega arith) (omega arith) (port_takes (codes "max_hosts") (One (Number 1 16384)) refl (λ n. refl) pairs right)
+      number_in_range (maps.Interface None) (codes "max_hosts") pairs port_hosts_range (port_takes (codes "max_hosts") (One (ranged (maps.Interface None) (codes "max_hosts"))) refl (λ n. refl) pairs right)
 
 port_right : (p : Pair) (number : Option ℕ) → IsLabel (key_text p.key) → IsRight (maps.Interface number) (entries_of p.value) → PortIsInRange (port_of_entry p)
 port_right p number label right =
@@ -127,15 +125,13 @@ unfolding default_of
 dp_names label pairs is right = names_right maps.Datapath label pairs refl refl is (value_right maps.Datapath (codes "name") (One Name) refl pairs right) (value_right maps.Datapath (codes "description") (One Name) refl pairs right)
 
 dp_timeout : (pairs : List Pair) → IsRight maps.Datapath pairs → IsTimeout (number_at maps.Datapath (codes "timeout") pairs)
-unfolding default_of
 dp_timeout pairs right =
-    let r = number_in_range maps.Datapath (codes "timeout") pairs 1 604800 300 refl (omega arith) (omega arith) (omega arith) (value_right maps.Datapath (codes "timeout") (One (Number 1 604800)) refl pairs right) in
+    let r = number_in_range maps.Datapath (codes "timeout") pairs timeout_range (value_right maps.Datapath (codes "timeout") (One (ranged maps.Datapath (codes "timeout"))) refl pairs right) in
     record { least = r.0; most = r.1 }
 
 dp_arp_timeout : (pairs : List Pair) → IsRight maps.Datapath pairs → IsTimeout (number_at maps.Datapath (codes "arp_neighbor_timeout") pairs)
-unfolding default_of
 dp_arp_timeout pairs right =
-    let r = number_in_range maps.Datapath (codes "arp_neighbor_timeout") pairs 1 604800 30 refl (omega arith) (omega arith) (omega arith) (value_right maps.Datapath (codes "arp_neighbor_timeout") (One (Number 1 604800)) refl pairs right) in
+    let r = number_in_range maps.Datapath (codes "arp_neighbor_timeout") pairs arp_timeout_range (value_right maps.Datapath (codes "arp_neighbor_timeout") (One (ranged maps.Datapath (codes "arp_neighbor_timeout"))) refl pairs right) in
     record { least = r.0; most = r.1 }
 
 dp_id : (o : Option Tree) → unwrap_or (option_and_then (number_of 0 (2 ^ 64 - 1)) o) 0 < 2 ^ 64
@@ -214,9 +210,8 @@ module _ (number : Option ℕ) where
       names_right (maps.Vlan None) label pairs refl refl is (vlan_takes (codes "name") (One Name) refl (λ n. refl) pairs right) (vlan_takes (codes "description") (One Name) refl (λ n. refl) pairs right)
 
   vlan_hosts : (pairs : List Pair) → IsRight (maps.Vlan number) pairs → (1 ≤ number_at (maps.Vlan None) (codes "max_hosts") pairs) × (number_at (maps.Vlan None) (codes "max_hosts") pairs ≤ 16384)
-  unfolding default_of
   vlan_hosts pairs right =
-      number_in_range (maps.Vlan None) (codes "max_hosts") pairs 1 16384 255 refl (omega arith) (omega arith) (omega arith) (vlan_takes (codes "max_hosts") (One (Number 1 16384)) refl (λ n. refl) pairs right)
+      number_in_range (maps.Vlan None) (codes "max_hosts") pairs vlan_hosts_range (vlan_takes (codes "max_hosts") (One (ranged (maps.Vlan None) (codes "max_hosts"))) refl (λ n. refl) pairs right)
 
   vlan_mac : (pairs : List Pair) → IsRight (maps.Vlan number) pairs → IsStation (mac_at pairs).0
   vlan_mac pairs right =

@@ -3,11 +3,13 @@ pub mod Values
 pub mod Addresses
 pub mod AskedForms
 pub mod Fields
+pub mod Bounds
 pub mod KeyRanges
 pub mod Stands
 pub mod Asked
 pub mod Says
 pub mod Alone
+pub mod Flags
 pub mod AloneFields
 pub mod AloneParts
 pub mod Members

@@ -1,5 +1,5 @@
 -- A raw configuration says what its document says, part by part, the least first.
-use Rattle.std.proofs.Common.{◌≡◌, ℕ, ◌-◌, ◌^◌, ◌≤◌, Bool, true, false, List, [], ◌∷◌, Option, Some, None, Ok, refl, sym, subst, arith}
+use Rattle.std.proofs.Common.{◌≡◌, ℕ, ◌-◌, ◌^◌, ◌≤◌, Bool, false, List, [], ◌∷◌, Option, Some, None, Ok, refl, sym, subst, arith}
 use Rattle.std.specs.Prelude.{map, codes, IfSome, IsSomeAnd, MatchOption, unwrap_or, option_and_then}
 use Rattle.std.specs.Option.{option_map, option_map_or}
 use Rattle.net_base.specs.AddressReading.{spelled_mac, pair_at, next_at}
@@ -24,19 +24,21 @@ use Rattle.conf_shape.specs.declared.raw.RawRule.{RawRule}
 use Rattle.conf_shape.specs.declared.raw.RawStackEnd.{RawStackEnd}
 use Rattle.conf_shape.specs.Faults.{faults_of, first_fault}
 use Rattle.conf_shape.specs.Keys.{Nothing, OwnKey, row, keys_of}
-use Rattle.conf_shape.specs.Raw.{acls_at, names_by, port_flags, port_with, port_of_entry, drop_flags, datapath_with, datapath_of_entry, vip_of, route_of, mac_at, vlan_with, vlan_of_entry, output_of, rule_with, rule_of, acl_of_entry, router_of_entry, raw_of}
-use Rattle.conf_shape.specs.Reads.{value_at, flag_of, permission_of, number_of, text_of, words_of, items_of, entries_of, words_at, entries_at, option_at, list_at, one_or_list_of, default_of, default_flag, default_number, default_text, flag_at, number_at, text_at, label_of, port_of, vlan_of}
+use Rattle.conf_shape.specs.Raw.{acls_at, names_by, port_flag_keys, port_flags_by, port_flags, port_with, port_of_entry, drop_flag_keys, drop_flags_by, drop_flags, datapath_with, datapath_of_entry, vip_of, route_of, mac_at, vlan_with, vlan_of_entry, output_of, rule_with, rule_of, acl_of_entry, router_of_entry, raw_of}
+use Rattle.conf_shape.specs.Reads.{value_at, permission_of, number_of, text_of, words_of, items_of, entries_of, words_at, entries_at, option_at, list_at, one_or_list_of, default_of, default_flag, default_number, default_text, flag_at, number_at, text_at, label_of, port_of, vlan_of}
 use Rattle.conf_shape.specs.Sections.{key_text, row_at, named_kind, number_or_name}
 use Rattle.conf_shape.specs.Values.{mac_of, net_of, ip_of}
 use Rattle.conf_shape.specs.Written.{IsRight, Takes, IsTextAlone}
 use Rattle.law_checks.specs.Values as says
-use Rattle.law_checks.specs.Values.{IsFlag, IsNumber, IsText, IsPermission, IsLabelOf, IsVlanOf, IsPortOf, IsMac, IsAddress, IsNetwork, Each, IsList, IsOneOrList, IsMap, AreMaps, Needed, IsNumbered}
-use Rattle.law_checks.specs.Says.{NamesSay, AclNamesSay, PortFlagsSay, StackEndSays, PortSays, DropFlagsSay, PrioritySays, DpSays, RouteSays, RouteItemSays, VlanSays, OutputSays, ActionsSay, RuleSays, RuleItemSays, AclSays, RouterSays, TopSays, Says}
+use Rattle.law_checks.specs.Values.{IsNumber, IsText, IsPermission, IsLabelOf, IsVlanOf, IsPortOf, IsMac, IsAddress, IsNetwork, Each, IsList, IsOneOrList, IsMap, AreMaps, Needed, IsNumbered}
+use Rattle.law_checks.specs.Says.{FlagSays, NumberSays, TextSays, NamesSay, AclNamesSay, PortFlagsSay, StackEndSays, PortSays, DropFlagsSay, PrioritySays, DpSays, RouteSays, RouteItemSays, VlanSays, OutputSays, ActionsSay, RuleSays, RuleItemSays, AclSays, RouterSays, TopSays, Says}
 use Rattle.law_checks.proofs.Right.{document_fine, each_right, value_right}
 use Rattle.law_checks.proofs.Values.{named_right}
 use Rattle.law_checks.proofs.KeyRanges.{port_takes, vlan_takes, once_right}
 use Rattle.law_checks.proofs.Asked.{fields_say}
-use Rattle.law_checks.proofs.Stands.{stands, is_there, needed_there, flag_stands, number_stands, option_number_stands, text_stands, permission_stands, label_stands, vlan_stands, port_stands, mac_stands, vip_stands, destination_stands, gateway_stands, each_map, list_stands, map_stands, ports_stand, maps_stand, IsRightBy, numbered_stands, numbered_found}
+use Rattle.law_checks.proofs.Bounds.{least_of, most_of, ranged, HasRange, timeout_range, arp_timeout_range, port_hosts_range, vlan_hosts_range}
+use Rattle.law_checks.proofs.Flags.{port_fields, drop_fields, ports_take, flag_says, flags_say}
+use Rattle.law_checks.proofs.Stands.{stands, is_there, needed_there, number_stands, option_number_stands, text_stands, permission_stands, label_stands, vlan_stands, port_stands, mac_stands, vip_stands, destination_stands, gateway_stands, each_map, list_stands, map_stands, ports_stand, maps_stand, IsRightBy, numbered_stands, numbered_found}
 
 -- ---- keys
 
@@ -46,12 +48,11 @@ needed : {A : Type 0} (m : MapKind) (name : List ℕ) (kind : Kind) → row_at n
 needed m name kind at takes P read some pairs right = is_there P kind read some (value_at name pairs) (needed_there m (row name kind Always Nothing) at refl pairs right) (value_right m name kind takes pairs right)
 
 module _ (m : MapKind) (name : List ℕ) (pairs : List Pair) where
-  flag_says : (default : Bool) → default_flag (default_of m name) ≡ default → IfSome (value_at name pairs) (λ t. faults_of t (One Flag) ≡ []) → says.Given name pairs (flag_at m name pairs ≡ default) (λ t. IsFlag t (flag_at m name pairs))
-  flag_says default is h = stands IsFlag (One Flag) (λ o. unwrap_or (option_and_then flag_of o) (default_flag (default_of m name))) default is (flag_stands (default_flag (default_of m name))) (value_at name pairs) h
-
-  number_says : (low high default : ℕ) → high ≤ 2 ^ 32 - 1 → default_number (default_of m name) ≡ default → IfSome (value_at name pairs) (λ t. faults_of t (One (Number low high)) ≡ []) → says.Given name pairs (number_at m name pairs ≡ default) (λ t. IsNumber t (number_at m name pairs))
-  number_says low high default small is h =
-      stands IsNumber (One (Number low high)) (λ o. unwrap_or (option_and_then (number_of 0 (2 ^ 32 - 1)) o) (default_number (default_of m name))) default is (number_stands low high (2 ^ 32 - 1) (default_number (default_of m name)) small) (value_at name pairs) h
+  number_says : HasRange m name → IfSome (value_at name pairs) (λ t. faults_of t (One (ranged m name)) ≡ []) → NumberSays m name pairs (number_at m name pairs)
+  number_says range h =
+      let default = default_number (default_of m name) in
+      let small : most_of m name ≤ 2 ^ 32 - 1 = omega (arith, range.small) in
+      stands IsNumber (One (ranged m name)) (λ o. unwrap_or (option_and_then (number_of 0 (2 ^ 32 - 1)) o) default) default refl (number_stands (least_of m name) (most_of m name) (2 ^ 32 - 1) default small) (value_at name pairs) h
 
   text_says : (s : Scalar) (own default : List ℕ) → IsTextAlone s → default_text own (default_of m name) ≡ default → IfSome (value_at name pairs) (λ t. faults_of t (One s) ≡ []) → says.Given name pairs (text_at m name own pairs ≡ default) (λ t. IsText t (text_at m name own pairs))
   text_says s own default alone is h = stands IsText (One s) (λ o. unwrap_or (option_and_then text_of o) (default_text own (default_of m name))) default is (text_stands s alone (default_text own (default_of m name))) (value_at name pairs) h
@@ -93,23 +94,14 @@ module _ (number : Option ℕ) (pairs : List Pair) (right : IsRight (maps.Interf
   port_takes_one name s none some = port_takes number name (One s) none some pairs right
 
   port_flags_say : PortFlagsSay pairs (port_flags pairs)
-  unfolding default_of
-  port_flags_say = record {
-    enabled = flag_says (maps.Interface None) (codes "enabled") pairs true refl (port_takes_one (codes "enabled") Flag refl (λ n. refl));
-    unicast_flood = flag_says (maps.Interface None) (codes "unicast_flood") pairs true refl (port_takes_one (codes "unicast_flood") Flag refl (λ n. refl));
-    opstatus_reconf = flag_says (maps.Interface None) (codes "opstatus_reconf") pairs true refl (port_takes_one (codes "opstatus_reconf") Flag refl (λ n. refl));
-    output_only = flag_says (maps.Interface None) (codes "output_only") pairs false refl (port_takes_one (codes "output_only") Flag refl (λ n. refl));
-    hairpin = flag_says (maps.Interface None) (codes "hairpin") pairs false refl (port_takes_one (codes "hairpin") Flag refl (λ n. refl));
-    permanent_learn = flag_says (maps.Interface None) (codes "permanent_learn") pairs false refl (port_takes_one (codes "permanent_learn") Flag refl (λ n. refl));
-  }
+  port_flags_say = flags_say port_flag_keys port_flags_by port_fields (maps.Interface number) (maps.Interface None) (ports_take number) pairs right
 
   port_names_say : (key : Key) → NamesSay key pairs (names_by (maps.Interface None) (key_text key) pairs)
   unfolding default_of
   port_names_say key = names_say (maps.Interface None) key pairs (λ own. refl) (λ own. refl) (port_takes_one (codes "name") Name refl (λ n. refl)) (port_takes_one (codes "description") Name refl (λ n. refl))
 
-  port_hosts_say : says.Given (codes "max_hosts") pairs (number_at (maps.Interface None) (codes "max_hosts") pairs ≡ 255) (λ t. IsNumber t (number_at (maps.Interface None) (codes "max_hosts") pairs))
-  unfolding default_of
-  port_hosts_say = number_says (maps.Interface None) (codes "max_hosts") pairs 1 16384 255 (omega arith) refl (port_takes_one (codes "max_hosts") (Number 1 16384) refl (λ n. refl))
+  port_hosts_say : NumberSays (maps.Interface None) (codes "max_hosts") pairs (number_at (maps.Interface None) (codes "max_hosts") pairs)
+  port_hosts_say = number_says (maps.Interface None) (codes "max_hosts") pairs port_hosts_range (port_takes_one (codes "max_hosts") (ranged (maps.Interface None) (codes "max_hosts")) refl (λ n. refl))
 
 port_number_right : (number : Option ℕ) (pairs : List Pair) → IsRight (maps.Interface number) pairs → IsRightBy 1 0xffffff00 number (value_at (codes "number") pairs)
 port_number_right None pairs right = (needed_there (maps.Interface None) (row (codes "number") (Given 1 0xffffff00) UnlessNumbered OwnKey) refl refl pairs right, value_right (maps.Interface None) (codes "number") (Given 1 0xffffff00) refl pairs right)
@@ -150,37 +142,25 @@ module _ (pairs : List Pair) (right : IsRight maps.Datapath pairs) where
   dp_takes name s takes = value_right maps.Datapath name (One s) takes pairs right
 
   drops_say : DropFlagsSay pairs (drop_flags pairs)
-  unfolding default_of
-  drops_say = record {
-    spoofed = flag_says maps.Datapath (codes "drop_spoofed_faucet_mac") pairs true refl (dp_takes (codes "drop_spoofed_faucet_mac") Flag refl);
-    broadcast = flag_says maps.Datapath (codes "drop_broadcast_source_address") pairs true refl (dp_takes (codes "drop_broadcast_source_address") Flag refl);
-    bpdu = flag_says maps.Datapath (codes "drop_bpdu") pairs true refl (dp_takes (codes "drop_bpdu") Flag refl);
-    lldp = flag_says maps.Datapath (codes "drop_lldp") pairs true refl (dp_takes (codes "drop_lldp") Flag refl);
-  }
+  drops_say = flags_say drop_flag_keys drop_flags_by drop_fields maps.Datapath maps.Datapath refl pairs right
 
   dp_names_say : (key : Key) → NamesSay key pairs (names_by maps.Datapath (key_text key) pairs)
   unfolding default_of
   dp_names_say key = names_say maps.Datapath key pairs (λ own. refl) (λ own. refl) (dp_takes (codes "name") Name refl) (dp_takes (codes "description") Name refl)
 
-  dp_hardware : says.Given (codes "hardware") pairs (text_at maps.Datapath (codes "hardware") [] pairs ≡ codes "Open vSwitch") (λ t. IsText t (text_at maps.Datapath (codes "hardware") [] pairs))
-  unfolding default_of
-  dp_hardware = text_says maps.Datapath (codes "hardware") pairs Words [] (codes "Open vSwitch") (record { no_flag = refl; no_number = λ n. refl }) refl (dp_takes (codes "hardware") Words refl)
+  dp_hardware : TextSays maps.Datapath (codes "hardware") pairs (text_at maps.Datapath (codes "hardware") [] pairs)
+  dp_hardware = text_says maps.Datapath (codes "hardware") pairs Words [] (default_text [] (default_of maps.Datapath (codes "hardware"))) (record { no_flag = refl; no_number = λ n. refl }) refl (dp_takes (codes "hardware") Words refl)
 
-  dp_timeout_says : says.Given (codes "timeout") pairs (number_at maps.Datapath (codes "timeout") pairs ≡ 300) (λ t. IsNumber t (number_at maps.Datapath (codes "timeout") pairs))
-  unfolding default_of
-  dp_timeout_says = number_says maps.Datapath (codes "timeout") pairs 1 604800 300 (omega arith) refl (dp_takes (codes "timeout") (Number 1 604800) refl)
-
-  dp_arp_timeout_says : says.Given (codes "arp_neighbor_timeout") pairs (number_at maps.Datapath (codes "arp_neighbor_timeout") pairs ≡ 30) (λ t. IsNumber t (number_at maps.Datapath (codes "arp_neighbor_timeout") pairs))
-  unfolding default_of
-  dp_arp_timeout_says = number_says maps.Datapath (codes "arp_neighbor_timeout") pairs 1 604800 30 (omega arith) refl (dp_takes (codes "arp_neighbor_timeout") (Number 1 604800) refl)
+  dp_number_says : (name : List ℕ) → HasRange maps.Datapath name → NumberSays maps.Datapath name pairs (number_at maps.Datapath name pairs)
+  dp_number_says name range = number_says maps.Datapath name pairs range (dp_takes name (ranged maps.Datapath name) range.takes)
 
 dp_says : (key : Key) (pairs : List Pair) → IsRight maps.Datapath pairs → DpSays key pairs (datapath_with key pairs)
 dp_says key pairs right = record {
   names = dp_names_say pairs right key;
   id = needed maps.Datapath (codes "dp_id") (One (Number 0 (2 ^ 64 - 1))) refl refl IsNumber (λ o. unwrap_or (option_and_then (number_of 0 (2 ^ 64 - 1)) o) 0) (number_stands 0 (2 ^ 64 - 1) (2 ^ 64 - 1) 0 (omega arith)) pairs right;
   hardware = dp_hardware pairs right;
-  timeout = dp_timeout_says pairs right;
-  arp_timeout = dp_arp_timeout_says pairs right;
+  timeout = dp_number_says pairs right (codes "timeout") timeout_range;
+  arp_timeout = dp_number_says pairs right (codes "arp_neighbor_timeout") arp_timeout_range;
   stack_priority = stands (IsMap PrioritySays) (Map maps.DatapathStack) (λ o. option_and_then (number_of 0 (2 ^ 32 - 1)) (value_at (codes "priority") (option_map_or entries_of o []))) None refl
       (map_stands PrioritySays maps.DatapathStack (λ pairs. option_and_then (number_of 0 (2 ^ 32 - 1)) (value_at (codes "priority") pairs)) priority_says) (value_at (codes "stack") pairs) (value_right maps.Datapath (codes "stack") (Map maps.DatapathStack) refl pairs right);
   drops = drops_say pairs right;
@@ -226,13 +206,11 @@ module _ (number : Option ℕ) (pairs : List Pair) (right : IsRight (maps.Vlan n
   unfolding default_of
   vlan_names_say key = names_say (maps.Vlan None) key pairs (λ own. refl) (λ own. refl) (vlan_takes_one (codes "name") Name refl (λ n. refl)) (vlan_takes_one (codes "description") Name refl (λ n. refl))
 
-  vlan_hosts_say : says.Given (codes "max_hosts") pairs (number_at (maps.Vlan None) (codes "max_hosts") pairs ≡ 255) (λ t. IsNumber t (number_at (maps.Vlan None) (codes "max_hosts") pairs))
-  unfolding default_of
-  vlan_hosts_say = number_says (maps.Vlan None) (codes "max_hosts") pairs 1 16384 255 (omega arith) refl (vlan_takes_one (codes "max_hosts") (Number 1 16384) refl (λ n. refl))
+  vlan_hosts_say : NumberSays (maps.Vlan None) (codes "max_hosts") pairs (number_at (maps.Vlan None) (codes "max_hosts") pairs)
+  vlan_hosts_say = number_says (maps.Vlan None) (codes "max_hosts") pairs vlan_hosts_range (vlan_takes_one (codes "max_hosts") (ranged (maps.Vlan None) (codes "max_hosts")) refl (λ n. refl))
 
-  vlan_flood_says : says.Given (codes "unicast_flood") pairs (flag_at (maps.Vlan None) (codes "unicast_flood") pairs ≡ true) (λ t. IsFlag t (flag_at (maps.Vlan None) (codes "unicast_flood") pairs))
-  unfolding default_of
-  vlan_flood_says = flag_says (maps.Vlan None) (codes "unicast_flood") pairs true refl (vlan_takes_one (codes "unicast_flood") Flag refl (λ n. refl))
+  vlan_flood_says : FlagSays (maps.Vlan None) (codes "unicast_flood") pairs (flag_at (maps.Vlan None) (codes "unicast_flood") pairs)
+  vlan_flood_says = flag_says (maps.Vlan None) (codes "unicast_flood") pairs (vlan_takes_one (codes "unicast_flood") Flag refl (λ n. refl))
 
   vlan_mac_says : says.Given (codes "faucet_mac") pairs ((mac_at pairs).0 ≡ 0x0e ∷ 0 ∷ 0 ∷ 0 ∷ 0 ∷ 1 ∷ []) (λ t. IsMac t (mac_at pairs))
   vlan_mac_says =

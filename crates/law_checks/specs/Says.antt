@@ -1,10 +1,13 @@
 -- What a raw configuration says of the document that it was read from: each value that is written and has an
 -- effect, and where a key isn't written its default.
-use Rattle.std.specs.Prelude.{◌≡◌, ℕ, true, false, is_some, List, [], ◌∷◌, codes, Option, None, IsSomeAnd}
+use Rattle.std.specs.Prelude.{◌≡◌, ℕ, Bool, false, is_some, List, [], ◌∷◌, codes, Option, None, IsSomeAnd}
+use Rattle.std.specs.List.{AllByRecursion}
 use Rattle.conf_types.specs.declared.vlan.Route.{Route}
 use Rattle.yaml_tree.specs.declared.tree.Key.{Key}
 use Rattle.yaml_tree.specs.declared.tree.Pair.{Pair}
 use Rattle.yaml_tree.specs.declared.tree.Tree.{Tree, out-Tree}
+use Rattle.conf_shape.specs.declared.kinds.MapKind.{MapKind}
+use Rattle.conf_shape.specs.declared.kinds.MapKind.TheVariants as maps
 use Rattle.conf_shape.specs.declared.raw.DropFlags.{DropFlags}
 use Rattle.conf_shape.specs.declared.raw.OneOrList.TheVariants as several
 use Rattle.conf_shape.specs.declared.raw.PortFlags.{PortFlags}
@@ -20,7 +23,8 @@ use Rattle.conf_shape.specs.declared.raw.RawRule.{RawRule}
 use Rattle.conf_shape.specs.declared.raw.RawStackEnd.{RawStackEnd}
 use Rattle.conf_shape.specs.declared.raw.RawVlan.{RawVlan}
 use Rattle.conf_shape.specs.Keys.{match_keys}
-use Rattle.conf_shape.specs.Reads.{value_at}
+use Rattle.conf_shape.specs.Raw.{port_flag_keys, drop_flag_keys}
+use Rattle.conf_shape.specs.Reads.{value_at, default_of, default_flag, default_number, default_text}
 use Rattle.conf_shape.specs.Sections.{key_text}
 use Rattle.law_checks.specs.Fields.{FieldsSay}
 use Rattle.law_checks.specs.Values.{IsFlag, IsNumber, IsText, IsPermission, IsLabelOf, IsVlanOf, IsPortOf, IsMac, IsAddress, IsNetwork, Each, IsList, IsOneOrList, IsMap, AreMaps, Given, Needed, IsNumbered}
@@ -35,15 +39,25 @@ pub record AclNamesSay (pairs : List Pair) (acls : RawAclNames) : Type 0 where
   pub one : Given (codes "acl_in") pairs (acls.one ≡ None) (λ t. IsSomeAnd acls.one (IsLabelOf (out-Tree t)))
   pub list : Given (codes "acls_in") pairs (acls.list ≡ None) (λ t. IsSomeAnd acls.list (IsList (λ item. IsLabelOf (out-Tree item)) t))
 
+-- ---- flags, numbers and texts, with the defaults that the tables have for a kind of map
+
+abbrev pub FlagSays : MapKind → List ℕ → List Pair → Bool → Type 0
+FlagSays m name pairs flag = Given name pairs (flag ≡ default_flag (default_of m name)) (λ t. IsFlag t flag)
+
+-- each of these flags
+abbrev pub FlagsSay : {R : Type 0} → MapKind → List (List ℕ × (R → Bool)) → List Pair → R → Type 0
+FlagsSay {R} m keys pairs flags = AllByRecursion (λ (k : List ℕ × (R → Bool)). FlagSays m k.0 pairs (k.1 flags)) keys
+
+abbrev pub NumberSays : MapKind → List ℕ → List Pair → ℕ → Type 0
+NumberSays m name pairs number = Given name pairs (number ≡ default_number (default_of m name)) (λ t. IsNumber t number)
+
+abbrev pub TextSays : MapKind → List ℕ → List Pair → List ℕ → Type 0
+TextSays m name pairs text = Given name pairs (text ≡ default_text [] (default_of m name)) (λ t. IsText t text)
+
 -- ---- datapaths and interfaces
 
-pub record PortFlagsSay (pairs : List Pair) (flags : PortFlags) : Type 0 where
-  pub enabled : Given (codes "enabled") pairs (flags.enabled ≡ true) (λ t. IsFlag t flags.enabled)
-  pub unicast_flood : Given (codes "unicast_flood") pairs (flags.unicast_flood ≡ true) (λ t. IsFlag t flags.unicast_flood)
-  pub opstatus_reconf : Given (codes "opstatus_reconf") pairs (flags.opstatus_reconf ≡ true) (λ t. IsFlag t flags.opstatus_reconf)
-  pub output_only : Given (codes "output_only") pairs (flags.output_only ≡ false) (λ t. IsFlag t flags.output_only)
-  pub hairpin : Given (codes "hairpin") pairs (flags.hairpin ≡ false) (λ t. IsFlag t flags.hairpin)
-  pub permanent_learn : Given (codes "permanent_learn") pairs (flags.permanent_learn ≡ false) (λ t. IsFlag t flags.permanent_learn)
+abbrev pub PortFlagsSay : List Pair → PortFlags → Type 0
+PortFlagsSay pairs flags = FlagsSay (maps.Interface None) port_flag_keys pairs flags
 
 pub record StackEndSays (pairs : List Pair) (end : RawStackEnd) : Type 0 where
   pub dp : Needed (codes "dp") pairs (λ t. IsText t end.dp)
@@ -57,15 +71,12 @@ pub record PortSays (key : Key) (pairs : List Pair) (port : RawPort) : Type 0 wh
   pub native : Given (codes "native_vlan") pairs (port.native ≡ None) (λ t. IsSomeAnd port.native (IsVlanOf (out-Tree t)))
   pub tagged : Given (codes "tagged_vlans") pairs (port.tagged ≡ []) (λ t. IsList (λ item. IsVlanOf (out-Tree item)) t port.tagged)
   pub acls : AclNamesSay pairs port.acls
-  pub max_hosts : Given (codes "max_hosts") pairs (port.max_hosts ≡ 255) (λ t. IsNumber t port.max_hosts)
+  pub max_hosts : NumberSays (maps.Interface None) (codes "max_hosts") pairs port.max_hosts
   pub mirror : Given (codes "mirror") pairs (port.mirror ≡ several.List []) (λ t. IsOneOrList (λ item. IsPortOf (out-Tree item)) t port.mirror)
   pub stack : Given (codes "stack") pairs (port.stack ≡ None) (λ t. IsSomeAnd port.stack (IsMap StackEndSays t))
 
-pub record DropFlagsSay (pairs : List Pair) (drops : DropFlags) : Type 0 where
-  pub spoofed : Given (codes "drop_spoofed_faucet_mac") pairs (drops.spoofed ≡ true) (λ t. IsFlag t drops.spoofed)
-  pub broadcast : Given (codes "drop_broadcast_source_address") pairs (drops.broadcast ≡ true) (λ t. IsFlag t drops.broadcast)
-  pub bpdu : Given (codes "drop_bpdu") pairs (drops.bpdu ≡ true) (λ t. IsFlag t drops.bpdu)
-  pub lldp : Given (codes "drop_lldp") pairs (drops.lldp ≡ true) (λ t. IsFlag t drops.lldp)
+abbrev pub DropFlagsSay : List Pair → DropFlags → Type 0
+DropFlagsSay pairs drops = FlagsSay maps.Datapath drop_flag_keys pairs drops
 
 -- the priority in the stack, where `stack` of a datapath gives it
 abbrev pub PrioritySays : List Pair → Option ℕ → Type 0
@@ -74,9 +85,9 @@ PrioritySays pairs priority = Given (codes "priority") pairs (priority ≡ None)
 pub record DpSays (key : Key) (pairs : List Pair) (dp : RawDp) : Type 0 where
   pub names : NamesSay key pairs dp.names
   pub id : Needed (codes "dp_id") pairs (λ t. IsNumber t dp.id.0)
-  pub hardware : Given (codes "hardware") pairs (dp.hardware ≡ codes "Open vSwitch") (λ t. IsText t dp.hardware)
-  pub timeout : Given (codes "timeout") pairs (dp.timeout ≡ 300) (λ t. IsNumber t dp.timeout)
-  pub arp_timeout : Given (codes "arp_neighbor_timeout") pairs (dp.arp_timeout ≡ 30) (λ t. IsNumber t dp.arp_timeout)
+  pub hardware : TextSays maps.Datapath (codes "hardware") pairs dp.hardware
+  pub timeout : NumberSays maps.Datapath (codes "timeout") pairs dp.timeout
+  pub arp_timeout : NumberSays maps.Datapath (codes "arp_neighbor_timeout") pairs dp.arp_timeout
   pub stack_priority : Given (codes "stack") pairs (dp.stack_priority ≡ None) (λ t. IsMap PrioritySays t dp.stack_priority)
   pub drops : DropFlagsSay pairs dp.drops
   pub ports : Needed (codes "interfaces") pairs (λ t. IsMap (AreMaps PortSays) t dp.ports)
@@ -100,8 +111,8 @@ pub record VlanSays (key : Key) (pairs : List Pair) (vlan : RawVlan) : Type 0 wh
   pub mac : Given (codes "faucet_mac") pairs (vlan.mac.0 ≡ 0x0e ∷ 0 ∷ 0 ∷ 0 ∷ 0 ∷ 1 ∷ []) (λ t. IsMac t vlan.mac)
   pub vips : Given (codes "faucet_vips") pairs (vlan.vips ≡ []) (λ t. IsList IsNetwork t vlan.vips)
   pub routes : Given (codes "routes") pairs (vlan.routes ≡ []) (λ t. IsList (IsMap RouteItemSays) t vlan.routes)
-  pub max_hosts : Given (codes "max_hosts") pairs (vlan.max_hosts ≡ 255) (λ t. IsNumber t vlan.max_hosts)
-  pub unicast_flood : Given (codes "unicast_flood") pairs (vlan.unicast_flood ≡ true) (λ t. IsFlag t vlan.unicast_flood)
+  pub max_hosts : NumberSays (maps.Vlan None) (codes "max_hosts") pairs vlan.max_hosts
+  pub unicast_flood : FlagSays (maps.Vlan None) (codes "unicast_flood") pairs vlan.unicast_flood
 
 -- ---- ACLs and routers
 

@@ -15,7 +15,7 @@ use Rattle.conf_shape.specs.declared.refused.ConfCause.TheVariants.{OutOfRange}
 use Rattle.conf_shape.specs.declared.raw.RawDp.{RawDp}
 use Rattle.conf_shape.specs.Faults.{faults_of}
 use Rattle.conf_shape.specs.Keys.{keys_of}
-use Rattle.conf_shape.specs.Raw.{acls_at, names_by, stack_end_of, port_flags, port_with, port_of_entry, drop_flags, stack_priority, datapath_with, datapath_of_entry}
+use Rattle.conf_shape.specs.Raw.{acls_at, names_by, stack_end_of, port_flags_by, port_flags, port_with, port_of_entry, drop_flags_by, drop_flags, stack_priority, datapath_with, datapath_of_entry}
 use Rattle.conf_shape.specs.Reads.{number_of, items_of, entries_of, entries_at, text_at, label_of, port_of, vlan_of, own_number}
 use Rattle.conf_shape.specs.Scalars.{is_name}
 use Rattle.conf_shape.specs.Sections.{key_text, under_key}
@@ -64,14 +64,7 @@ module _ (number : Option ℕ) (ps qs : List Pair) (e : Entries (maps.Interface 
   looked = look (maps.Interface number) (spelled_itself (keys_of (maps.Interface number))) ps qs e
 
   flags_same : port_flags ps ≡ port_flags qs
-  flags_same =
-      let enabled = flag_same (maps.Interface number) ps qs looked (maps.Interface None) (codes "enabled") in
-      let unicast_flood = flag_same (maps.Interface number) ps qs looked (maps.Interface None) (codes "unicast_flood") in
-      let opstatus_reconf = flag_same (maps.Interface number) ps qs looked (maps.Interface None) (codes "opstatus_reconf") in
-      let output_only = flag_same (maps.Interface number) ps qs looked (maps.Interface None) (codes "output_only") in
-      let hairpin = flag_same (maps.Interface number) ps qs looked (maps.Interface None) (codes "hairpin") in
-      let permanent_learn = flag_same (maps.Interface number) ps qs looked (maps.Interface None) (codes "permanent_learn") in
-      λ i. record { enabled = enabled i; unicast_flood = unicast_flood i; opstatus_reconf = opstatus_reconf i; output_only = output_only i; hairpin = hairpin i; permanent_learn = permanent_learn i }
+  flags_same = λ i. port_flags_by (λ name. flag_same (maps.Interface number) ps qs looked (maps.Interface None) name i)
 
   port_same : (k : Key) → port_with k ps ≡ port_with k qs
   port_same k =
@@ -106,12 +99,7 @@ module _ (ps qs : List Pair) (e : Entries maps.Datapath ps qs) where
   looked_dp = look maps.Datapath (spelled_itself (keys_of maps.Datapath)) ps qs e
 
   drops_same : drop_flags ps ≡ drop_flags qs
-  drops_same =
-      let spoofed = flag_same maps.Datapath ps qs looked_dp maps.Datapath (codes "drop_spoofed_faucet_mac") in
-      let broadcast = flag_same maps.Datapath ps qs looked_dp maps.Datapath (codes "drop_broadcast_source_address") in
-      let bpdu = flag_same maps.Datapath ps qs looked_dp maps.Datapath (codes "drop_bpdu") in
-      let lldp = flag_same maps.Datapath ps qs looked_dp maps.Datapath (codes "drop_lldp") in
-      λ i. record { spoofed = spoofed i; broadcast = broadcast i; bpdu = bpdu i; lldp = lldp i }
+  drops_same = λ i. drop_flags_by (λ name. flag_same maps.Datapath ps qs looked_dp maps.Datapath name i)
 
   priority_same : stack_priority ps ≡ stack_priority qs
   priority_same =
