@@ -1,0 +1,5 @@
+mod Gathering
+mod Going
+mod Looking
+mod Stepping
+mod Telling

@@ -1,0 +1,36 @@
+use Rattle.std.proofs.Common.{true, true≢false, refl}
+use Rattle.fg_outside.specs.HubStep.{said}
+use Rattle.watch_hub.proofs.Going.{does_say, goes_by, goes_still, keeps_same}
+use Rattle.watch_hub.proofs.watch.WatchHub.say.Goals as goal
+
+pub returns-then-self-clause-step : goal.returns-then-self-clause-step
+returns-then-self-clause-step g c = record {
+  does = c.if-self.true;
+  along =
+      goes_still g.H.Hub.may g.F.Files.faults g.F.Files.absences c.args.self.now c.args.self.now.file c.args.self.now.spent
+      (keeps_same g.F.Files.faults g.F.Files.absences c.args.self.now.file);
+  running = λ r. r;
+}
+
+pub returns-in-Memory-clause-step : goal.returns-in-Memory-clause-step
+returns-in-Memory-clause-step g c = record {
+  does = refl;
+  along =
+      goes_by g.H.Hub.may g.F.Files.faults g.F.Files.absences c.args.self.now c.say.new.self c.args.self.now.file true (said c.args.conn c.args.piece.now c.say.result) c.say.ensures.step
+      (keeps_same g.F.Files.faults g.F.Files.absences c.args.self.now.file);
+  running = λ r. absurd (true≢false r);
+}
+
+pub returns-in_default : goal.returns-in_default
+returns-in_default g c = record {
+  step = record {
+    does = does_say g.H.Hub.may g.F.Files.contents g.F.Files.faults g.F.Files.absences c.args.self.now _ c.args.conn c.args.piece.now c.say.result c.in_default.not-Memory (record { hub = c.say.ensures.step; went = refl });
+    along =
+        goes_by g.H.Hub.may g.F.Files.faults g.F.Files.absences c.args.self.now c.say.new.self c.args.self.now.file c.args.self.now.spent (said c.args.conn c.args.piece.now c.say.result) c.say.ensures.step
+        (keeps_same g.F.Files.faults g.F.Files.absences c.args.self.now.file);
+    running = λ r. r;
+  };
+  gone = c.say.ensures.gone;
+  taken = c.say.ensures.taken;
+  faults = c.say.ensures.faults;
+}
