@@ -18,7 +18,7 @@ use Rattle.ctl_world.specs.declared.frames.Front.{Front}
 use Rattle.ctl_world.specs.declared.frames.Front.TheVariants.{Part, Frame, Bad}
 use Rattle.ctl_world.specs.Connections.{conn_with, is_open}
 use Rattle.ctl_world.specs.Frames.{front}
-use Rattle.ctl_world.specs.Staying.{leaves}
+use Rattle.switch_session.specs.Staying.{leaves}
 use Rattle.ctl_world.specs.World.{World}
 use Rattle.ctl_packets.specs.Changes.{packet_changes}
 use Rattle.ctl_core.specs.Hearing.{has_frame, hear_next, read, says, unread}

@@ -8,5 +8,4 @@ pub mod SoundChanges
 pub mod SoundEnds
 pub mod SoundKept
 pub mod SoundPlaces
-pub mod Stays
 pub mod Steps

@@ -3,7 +3,6 @@ pub mod Ends
 pub mod Frames
 pub mod Lost
 pub mod Saying
-pub mod Staying
 pub mod TablesSaid
 pub mod World
 pub mod Alike

@@ -4,10 +4,9 @@ ghost use Rattle.switch_session.specs.declared.quiet.Quiet.TheVariants.{Well};
 ghost use Rattle.switch_session.specs.declared.state.Step.TheVariants.{Nothing};
 ghost use Rattle.switch_session.specs.Connections.{due_at, next_id};
 ghost use Rattle.switch_session.specs.Stages.{leads};
-ghost use Rattle.ctl_world.specs.Staying.{leaves};
+ghost use Rattle.switch_session.specs.Staying.{leaves};
 ghost use Rattle.ctl_world.specs.Connections.{change, conn_of, conn_with, gap, has_number, is_of, is_open, put, with_asked, with_dp, with_fed, with_heard, with_looked, with_said, with_sent, without};
 
-use crate::staying::leaves;
 use net_base::{DpId, Moment, NoMemory};
 use of_match::Tables;
 use of13_codec::Message;
@@ -189,7 +188,7 @@ impl Conns {
         ensures exact { result ≡ option_map_or (λ c. leaves c.session.state message.now xid) (conn_with self.now number) true }
     {
         match self.get(number) {
-            Some(conn) => leaves(&conn.session, message, xid),
+            Some(conn) => conn.session.stays(message, xid),
             None => true,
         }
     }

@@ -9,7 +9,6 @@ pub mod laws;
 mod now;
 mod said;
 mod saying;
-mod staying;
 mod world;
 
 pub use conns::{Conn, Conns};

@@ -8,6 +8,7 @@ mod ports;
 mod quiet;
 mod session;
 mod state;
+mod staying;
 mod stream;
 
 pub use closing::Closing;

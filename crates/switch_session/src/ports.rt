@@ -7,7 +7,7 @@ use std::alloc::Global;
 use std::marker::Model;
 
 /// As many ports are told at most; further ones are passed over.
-const MOST: usize = 4096;
+pub(crate) const MOST: usize = 4096;
 
 /// OFPPC_PORT_DOWN of a port's config, and OFPPS_LINK_DOWN of its state (OpenFlow 1.3, 7.2.1).
 const PORT_DOWN: u32 = 1;
@@ -55,7 +55,8 @@ pub(crate) fn told_of(port: &PortDesc) -> Option<PortTold>
     })
 }
 
-fn knows(ports: &[PortTold], no: PortNo) -> bool
+/// Whether a port of this number was told.
+pub(crate) fn knows(ports: &[PortTold], no: PortNo) -> bool
     ensures { result ≡ knows ports.now no }
 {
     ports.iter().any(|port| port.no == no)

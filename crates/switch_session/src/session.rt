@@ -1,14 +1,16 @@
-ghost use Rattle.std.specs.Prelude.{◌≡◌, ◌<◌, Some, length, IfOk, OnOk, OnErr};
+ghost use Rattle.std.specs.Prelude.{◌≡◌, ◌<◌, Some, length, IfOk, IsTrue, OnOk, OnErr};
 ghost use Rattle.std.specs.Borrow.{sem};
 ghost use Rattle.std.specs.Io.BufRead.{Rests};
 ghost use Rattle.switch_session.specs.Connections.{opened, fed, next_id, due_at, asks_echo};
 ghost use Rattle.switch_session.specs.Frames.{Cuts, OnNotYet};
 ghost use Rattle.switch_session.specs.Stages.{leads};
+ghost use Rattle.switch_session.specs.Staying.{leaves};
 ghost use Rattle.switch_session.specs.contracts.session.Session.{the_row};
 
 use crate::ports::PortTold;
 use crate::quiet::{Quiet, make_due};
 use crate::state::{Stage, State, Step};
+use crate::staying::leaves;
 use crate::stream::{Got, Stream};
 use net_base::{Moment, NoMemory};
 use of13_codec::Message;
@@ -117,6 +119,15 @@ impl Session {
         ensures err { OnErr result (self.new ≡ self.old) }
     {
         self.state.hear(self.alloc, message, xid)
+    }
+
+    /// Whether hearing a message leaves the stage, what is awaited and the ports told as they are. Of some that
+    /// do, as an ERROR behind a closing, the answer is `false`.
+    pub fn stays(&self, message: &Message, xid: u32) -> bool
+        ensures left { IsTrue result → (leads self.now.state message.now xid).0 ≡ self.now.state }
+        ensures exact { result ≡ leaves self.now.state message.now xid }
+    {
+        leaves(&self.state, message, xid)
     }
 
     /// Notes that a barrier or a port request was said with this transaction id.

@@ -9,7 +9,7 @@ use of13_codec::{Message, PortDesc};
 use std::alloc::Global;
 
 /// OFPPR_DELETE, the reason of a PORT_STATUS for a port that is gone (OpenFlow 1.3, 7.4.3).
-const DELETE: u8 = 1;
+pub(crate) const DELETE: u8 = 1;
 
 /// The bit of OpenFlow 1.3 in a HELLO's bitmap of versions (7.5.1).
 const VERSION_BIT: u32 = 1 << 4;
@@ -92,7 +92,7 @@ impl State {
     }
 
     /// Whether the outstanding barrier or port request has this transaction id.
-    fn awaits(&self, xid: u32) -> bool
+    pub(crate) fn awaits(&self, xid: u32) -> bool
         ensures { result ≡ awaits self.now xid }
     {
         match self.awaited {

@@ -7,7 +7,7 @@ use Rattle.ctl_world.specs.declared.conns.Conn.{Conn}
 use Rattle.ctl_world.specs.Alike.{IsAlike}
 use Rattle.ctl_world.specs.Connections.{change, conn_with, with_heard}
 use Rattle.ctl_world.specs.Ends.{forget_lost}
-use Rattle.ctl_world.specs.Staying.{leaves}
+use Rattle.switch_session.specs.Staying.{leaves}
 use Rattle.ctl_world.specs.World.{World}
 use Rattle.ctl_core.specs.Changes.{step_changes}
 use Rattle.ctl_core.specs.Hearing.{follow}

@@ -10,7 +10,7 @@ use Rattle.switch_session.specs.declared.state.Stage.TheVariants.{Greeting, Feat
 use Rattle.switch_session.specs.declared.state.Step.TheVariants.{Wiped, Settled}
 use Rattle.switch_session.specs.Stages.{State, answered, awaited, awaits, changed_port, described, heard, heard_in, leads, passed}
 use Rattle.switch_session.specs.Told.{forget, knows, tell, told_anew, told_of}
-use Rattle.ctl_world.specs.Staying.{differs, is_passed, is_told, leaves, leaves_ports}
+use Rattle.switch_session.specs.Staying.{differs, is_passed, is_told, leaves, leaves_ports}
 
 -- ---- ports
 
