@@ -2,6 +2,7 @@
 use Rattle.std.specs.Prelude.{ℕ, List, [], ◌∷◌, ◌++◌}
 use Rattle.std.specs.Option.{option_map_or}
 use Rattle.neighbour_resolve.specs.declared.asks.Outgoing.{Outgoing}
+use Rattle.of_match.specs.declared.action.TheConstants.{CONTROLLER}
 use Rattle.of13_codec.specs.declared.message.Message.{Message}
 use Rattle.of13_codec.specs.declared.message.Message.TheVariants as messages
 use Rattle.switch_session.specs.Connections.{next_id}
@@ -32,4 +33,4 @@ repeat number m xid w = add_said (said.Message number m xid ∷ []) w
 
 -- a frame that a switch is told to send (PACKET_OUT, 7.3.7): no buffered packet, and it comes from the controller
 abbrev pub packet_out : Outgoing → Message
-packet_out out = messages.PacketOut (record { buffer = 0xffffffff; in_port = 0xfffffffd; actions = out.actions; payload = out.frame })
+packet_out out = messages.PacketOut (record { buffer = 0xffffffff; in_port = CONTROLLER; actions = out.actions; payload = out.frame })

@@ -5,15 +5,13 @@ use crate::said::Said;
 use crate::world::World;
 use neighbour_resolve::Outgoing;
 use net_base::NoMemory;
+use of_match::CONTROLLER;
 use of13_codec::{Message, PacketOut};
 
 /// No buffered packet (OpenFlow 1.3, 7.3.7).
 const NO_BUFFER: u32 = 0xffff_ffff;
 
-/// OFPP_CONTROLLER: the packet comes from the controller (7.2.1).
-const CONTROLLER: u32 = 0xffff_fffd;
-
-/// The message that tells a switch to send a frame (PACKET_OUT, 7.3.7).
+/// The message that tells a switch to send a frame, which comes from the controller (PACKET_OUT, 7.3.7).
 pub fn packet_out(out: Outgoing) -> Message
     ensures { result ≡ packet_out out }
 {
