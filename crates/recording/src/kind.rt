@@ -1,5 +1,5 @@
 ghost use Rattle.std.specs.Prelude.{◌≡◌, ℕ};
-ghost use Rattle.recording.specs.Kinds.{kind_of, is_length, is_moment};
+ghost use Rattle.recording.specs.Kinds.{number_of, kind_of, is_length, is_moment};
 
 /// The kinds of records that are read.
 #[derive(Clone, Copy, Debug, PartialEq, Eq)]
@@ -31,6 +31,19 @@ impl RecordKind {
             4 => Some(RecordKind::Reload),
             5 => Some(RecordKind::Moment),
             _ => None,
+        }
+    }
+
+    /// The number of the kind.
+    pub fn number(self) -> u8
+        ensures { result ≡ number_of self }
+    {
+        match self {
+            RecordKind::Open => 1,
+            RecordKind::Bytes => 2,
+            RecordKind::Close => 3,
+            RecordKind::Reload => 4,
+            RecordKind::Moment => 5,
         }
     }
 

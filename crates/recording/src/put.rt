@@ -1,7 +1,10 @@
 ghost use Rattle.std.specs.Prelude.{◌≡◌, ℕ, ◌+◌, ◌^◌, ◌<◌, ◌≤◌, [], ◌∷◌, ◌++◌, length, take, Option, OnOk, OnErr, IfOk};
 ghost use Rattle.std.specs.Option.{option_copied};
+ghost use Rattle.recording.specs.Kinds.{number_of};
+ghost use Rattle.recording.specs.Layout.{Spells};
 ghost use Rattle.recording.specs.Written.{number, laid, written, error_bytes, sent, closed};
 
+use crate::kind::RecordKind;
 use crate::written::SwitchError;
 use byteorder::{BigEndian, ByteOrder};
 use net_base::{Bytes, NoMemory};
@@ -80,6 +83,23 @@ fn put_record(
         out.truncate(start);
     }
     put
+}
+
+/// Adds the record of what happened, as it is read: `conn` is 0 where the kind has none. After `NoMemory` the
+/// bytes are as they were.
+pub fn put_read(
+    out: &mut Bytes,
+    moment: u64,
+    kind: RecordKind,
+    conn: u32,
+    body: &[u8],
+) -> Result<(), NoMemory>
+    ensures ok { OnOk result (out.new ≡ out.old ++ laid moment (number_of kind) conn body.now) }
+    ensures spelled { length body.now < 2 ^ 32
+        → Spells (record { moment = moment; kind = kind; conn = conn; body = body.now }) (laid moment (number_of kind) conn body.now) }
+    ensures err { OnErr result (out.new ≡ out.old) }
+{
+    put_record(out, moment, kind.number(), conn, body)
 }
 
 /// Adds the record of one message that was sent on a connection: one of 2^32 bytes or more has no record

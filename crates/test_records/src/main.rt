@@ -1,6 +1,6 @@
 //! Cases of recordings: each line of the input is a case, and is printed with its answer; an empty line,
 //! and one that begins with `#`, is printed as it is. `records DIGITS..` are the bytes of the recording from
-//! there on, and `turns WORD..` is what becomes of it.
+//! there on, `turns WORD..` is what becomes of it, and `again WORD..` what is recorded of its turns.
 #![tactic(auto)]
 
 mod turns;
@@ -10,7 +10,7 @@ use net_base::{Bytes, NoMemory};
 use std::alloc::Global;
 use std::io;
 use test_lines::{Answers, answered, bytes_of};
-use turns::write_turns;
+use turns::{write_again, write_turns};
 
 /// The bytes of the recording that the lines speak of.
 #[derive(Drop)]
@@ -26,6 +26,10 @@ impl Answers for Bench {
             ("turns", text) => {
                 out.push_str(" => ")?;
                 write_turns(&mut out, alloc, self.records.as_slice(), text)?;
+            }
+            ("again", text) => {
+                out.push_str(" => ")?;
+                write_again(&mut out, alloc, self.records.as_slice(), text)?;
             }
             _ => {}
         }

@@ -1,8 +1,9 @@
 //! A recording, turn by turn.
 
-use fg_outside::{CallNos, Happening, Hub, MemSource, Source, Turn};
+use fg_outside::{CallNos, Happening, Hub, MemSource, Source, SureSink, SureSource, Turn};
 use net_base::{Bytes, NoMemory};
 use recording::ScriptHub;
+use recording_hub::RecordingHub;
 use std::alloc::Global;
 use std::fmt::Write;
 
@@ -25,11 +26,7 @@ fn write_turn(out: &mut String, turn: &Turn) -> Result<(), NoMemory> {
 }
 
 /// The next turns, so many.
-fn write_next(
-    out: &mut String,
-    hub: &mut ScriptHub<MemSource>,
-    count: u32,
-) -> Result<(), NoMemory> {
+fn write_next<H: Hub>(out: &mut String, hub: &mut H, count: u32) -> Result<(), NoMemory> {
     for _ in 0..count {
         write_turn(out, &hub.turn())?;
     }
@@ -37,11 +34,7 @@ fn write_next(
 }
 
 /// What a word asks of a hub: `next=COUNT` turns, to say something to a connection or to close it.
-fn write_word(
-    out: &mut String,
-    hub: &mut ScriptHub<MemSource>,
-    word: &str,
-) -> Result<(), NoMemory> {
+fn write_word<H: Hub>(out: &mut String, hub: &mut H, word: &str) -> Result<(), NoMemory> {
     let (name, number) = word.split_once('=').unwrap_or((word, ""));
     let number = number.parse::<u32>().unwrap_or(0);
     match name {
@@ -87,4 +80,25 @@ pub fn write_turns(
         write_word(out, &mut hub, word)?;
     }
     write_rest(out, alloc, hub)
+}
+
+/// Writes what becomes of a recording whose turns are recorded again: the text is how many bytes the sink has room
+/// for, and then what is asked; behind stand whether the new recording broke off, and its bytes.
+pub fn write_again(
+    out: &mut String,
+    alloc: Global,
+    records: &[u8],
+    text: &str,
+) -> Result<(), NoMemory> {
+    let mut words = text.split_whitespace();
+    let room = words.next().unwrap_or("").parse::<usize>().unwrap_or(0);
+    let source = SureSource::new(Bytes::from_slice(alloc, records)?);
+    let sink = SureSink::new(alloc, room)?;
+    let mut hub = RecordingHub::new(alloc, ScriptHub::new(alloc, source), sink);
+    for word in words {
+        write_word(out, &mut hub, word)?;
+    }
+    write!(out, "broken {}, wrote ", hub.has_failed())?;
+    let (_, sink) = hub.into_parts();
+    out.push_str(hex::encode(alloc, sink.as_slice())?.as_str())
 }

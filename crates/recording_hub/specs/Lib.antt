@@ -1,0 +1,4 @@
+pub mod Recorded
+pub mod Recorder
+pub mod RecordingHub
+pub mod RecordedStory
