@@ -1,5 +1,9 @@
+mod ChangeLemmas
+mod FaultLemmas
 mod GoneLemmas
 mod HubLemmas
 mod LinkLemmas
 mod MapLemmas
+mod QuietLemmas
 mod RunLemmas
+mod WriteLemmas

@@ -1,5 +1,5 @@
 -- What a map has at each number once one of its entries was set.
-use Rattle.std.proofs.Common.{◌≡◌, ◌≢◌, ◌⊎◌, ℕ, Bool, true, false, Option, Some, refl, sym, ◌∙◌, ap, inl, inr, arith}
+use Rattle.std.proofs.Common.{◌≡◌, ◌≢◌, ◌⊎◌, ℕ, Bool, true, false, Option, refl, sym, ◌∙◌, ap, inl, inr, arith}
 use Rattle.std.proofs.lemmas.Bool.{cases_eq}
 use Rattle.std.proofs.lemmas.Map.Lookups.{exact_unsigned}
 use Rattle.std.specs.Cmp.{Equal-is}
@@ -28,7 +28,7 @@ set_again conn first value old mid new a b = record {
   elsewhere = λ other ne. b.elsewhere other ne ∙ a.elsewhere other ne;
 }
 
-same_or : {X : Type 0} (conn other : ℕ) (old new : BTreeMap ℕ X) (value : X) → get nat_cmp old conn ≡ Some value → IsSet conn (Some value) old new → (other ≡ conn) ⊎ (other ≢ conn) → get nat_cmp new other ≡ get nat_cmp old other
+same_or : {X : Type 0} (conn other : ℕ) (old new : BTreeMap ℕ X) (value : Option X) → get nat_cmp old conn ≡ value → IsSet conn value old new → (other ≡ conn) ⊎ (other ≢ conn) → get nat_cmp new other ≡ get nat_cmp old other
 same_or conn other old new value was set either =
     elim either [
       | inl e ↦ ap (λ n. get nat_cmp new n) e ∙ set.here ∙ sym was ∙ sym (ap (λ n. get nat_cmp old n) e)
@@ -36,5 +36,5 @@ same_or conn other old new value was set either =
     ]
 
 -- an entry set to what it was
-pub same_by : {X : Type 0} (conn : ℕ) (old new : BTreeMap ℕ X) (value : X) → get nat_cmp old conn ≡ Some value → IsSet conn (Some value) old new → IsSame old new
-same_by conn old new value was set = λ other. same_or conn other old new value was set (cases_eq other conn)
+pub same_at : {X : Type 0} (conn : ℕ) (value : Option X) (old new : BTreeMap ℕ X) → get nat_cmp old conn ≡ value → IsSet conn value old new → IsSame old new
+same_at conn value old new was set = λ other. same_or conn other old new value was set (cases_eq other conn)
