@@ -2,7 +2,7 @@
 use Rattle.std.specs.Prelude.{◌≡◌, ◌≤◌, ℕ, ◌+◌, ◌-◌, ◌^◌, min, List, [], ◌∷◌, ◌++◌, length, Option, Some}
 use Rattle.fg_outside.specs.declared.hub.Happening.TheVariants.{Reload}
 use Rattle.fg_outside.specs.Contents.{Contents}
-use Rattle.fg_outside.specs.HubStep.{HubStep, Event, happening, saying, closing, happenings, story, Story}
+use Rattle.fg_outside.specs.HubStep.{HubStep, Event, happening, saying, closing, happenings, Story}
 use Rattle.watch_hub.specs.declared.watch.Watch.{Watch}
 use Rattle.watch_hub.specs.Texts.{AreTold, missed, refreshed_by}
 use Rattle.watch_hub.specs.Watch.{every_in, files_in, hub_in, last_in, looked_in, name_in, waiting_in}
