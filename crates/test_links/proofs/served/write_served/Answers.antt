@@ -1,4 +1,4 @@
-use Rattle.std.proofs.Common.{◌≡◌, ℕ, length, take, ap, arith}
+use Rattle.std.proofs.Common.{length, ap, arith}
 use Rattle.std.proofs.lemmas.List.{length-take}
 use Rattle.test_links.proofs.FewLinks.{links_in_le}
 use Rattle.test_links.proofs.served.write_served.Goals as goal
