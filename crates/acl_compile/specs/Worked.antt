@@ -5,6 +5,7 @@ use Rattle.net_base.specs.declared.field.FieldId.TheVariants.{EthType, VlanVid, 
 use Rattle.net_base.specs.Field.{exact}
 use Rattle.of_match.specs.declared.action.Instr.{Instr}
 use Rattle.of_match.specs.declared.entry.Entry.{Entry}
+use Rattle.of_match.specs.declared.ether_type.TheConstants.{IPV4}
 use Rattle.conf_types.specs.declared.acl.PortRef.TheVariants.{No, Name}
 use Rattle.conf_types.specs.declared.acl.Rule.{Rule}
 use Rattle.conf_types.specs.declared.datapath.Dp.{Dp}
@@ -73,7 +74,7 @@ office = record {
 
 -- web packets go on, and to ports 4, 2 (named twice), 1 and 3
 abbrev pub web : Rule
-web = record { fields = exact EthType 0x0800 ∷ exact IpProto 6 ∷ exact TcpDst 80 ∷ []; allow = true; output = No 2 ∷ Name (codes "two") ∷ No 1 ∷ No 3 ∷ []; mirror = Name (codes "four") ∷ [] }
+web = record { fields = exact EthType IPV4 ∷ exact IpProto 6 ∷ exact TcpDst 80 ∷ []; allow = true; output = No 2 ∷ Name (codes "two") ∷ No 1 ∷ No 3 ∷ []; mirror = Name (codes "four") ∷ [] }
 
 -- packets of a VLAN and a priority go on
 abbrev pub of_vlan : ℕ → Rule

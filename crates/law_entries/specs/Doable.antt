@@ -12,6 +12,7 @@ use Rattle.of_match.specs.declared.action.Action.TheVariants.{PushVlan, PopVlan,
 use Rattle.of_match.specs.declared.action.Instr.{Instr}
 use Rattle.of_match.specs.declared.action.Instr.TheVariants.{Goto, Apply}
 use Rattle.of_match.specs.declared.entry.Entry.{Entry}
+use Rattle.of_match.specs.declared.ether_type.TheConstants.{IPV4, VLAN_TAG}
 
 -- ---- where an entry leads
 
@@ -35,13 +36,13 @@ abbrev pub tags_asked : List Field → ℕ
 tags_asked fields = if list_any asks_for_tag fields then 1 else 0
 
 abbrev pub asks_for_ipv4 : Field → Bool
-asks_for_ipv4 f = is_whole EthType f && f.value == 0x0800
+asks_for_ipv4 f = is_whole EthType f && f.value == IPV4
 
 -- ---- what an action needs
 
--- a tag of the type 0x8100, which is one of the two that a switch takes
+-- a VLAN tag and no provider's, which is one of the two that a switch takes
 abbrev pub PushesTag : Action → Type 0
-PushesTag (PushVlan eth_type) = eth_type ≡ 0x8100
+PushesTag (PushVlan eth_type) = eth_type ≡ VLAN_TAG
 PushesTag a = Unit {0}
 
 -- a packet has Ethernet addresses, and a VLAN identifier where it has a tag; no other field is set

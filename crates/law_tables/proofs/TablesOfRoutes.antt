@@ -37,7 +37,8 @@ use Rattle.plan_base.specs.declared.table.Table.TheVariants as table
 use Rattle.plan_base.specs.Actions as action
 use Rattle.plan_base.specs.Entries.{entry}
 use Rattle.plan_base.specs.Fields.{eth_dst, eth_type, vid_field, ipv4_dst, ip_proto, icmpv4_type, arp_tpa}
-use Rattle.route_compile.specs.declared.gateways.TheConstants.{IPV4, ARP, ICMP, ECHO_REQUEST}
+use Rattle.route_compile.specs.declared.gateways.TheConstants.{ICMP, ECHO_REQUEST}
+use Rattle.of_match.specs.declared.ether_type.TheConstants.{ARP, IPV4}
 use Rattle.route_compile.specs.Gateways.{has_gateway, has_entrance, is_entrance}
 use Rattle.route_compile.specs.Routes.{ipv4_for, item_fields, led_to, item_entry, no_route, fib}
 use Rattle.route_compile.specs.Vips.{only_to_controller, arp_entry, echo_entry, heard_entry, end_entry, vip_slice}

@@ -20,7 +20,7 @@ use Rattle.conf_types.specs.Configuration.{Configuration, vlan_with}
 use Rattle.conf_types.specs.Lists.{is_among}
 use Rattle.conf_types.specs.Membership.{is_native_in, is_tagged_in}
 use Rattle.packet_way.specs.Admission.{admitted_to, is_tagged, with_tag, tagged_with}
-use Rattle.plan_base.specs.declared.actions.TheConstants.{VLAN_TAG}
+use Rattle.of_match.specs.declared.ether_type.TheConstants.{VLAN_TAG}
 use Rattle.plan_base.specs.Actions.{push_tag, set_vid}
 use Rattle.vlan_compile.specs.Vlans.{native_vlan}
 use Rattle.plan_units.specs.Facts.{found}

@@ -17,6 +17,7 @@ use Rattle.conf_types.specs.Membership.{has_edge_member, member_of}
 use Rattle.conf_types.specs.Networks.{vip_for}
 use Rattle.of_match.specs.declared.action.Action.{Action}
 use Rattle.of_match.specs.declared.action.Action.TheVariants.{Output, PushVlan, Set}
+use Rattle.of_match.specs.declared.ether_type.TheConstants.{VLAN_TAG}
 use Rattle.pkt_view.specs.Replies.{arp_request}
 use Rattle.neighbour_resolve.specs.declared.asks.Outgoing.{Outgoing}
 
@@ -27,7 +28,7 @@ out_of ports = map (λ port. Output port 0) ports
 
 -- a tag of the VLAN is put on (IEEE 802.1Q, 9.5; OpenFlow 1.3, 7.2.3.7: 0x1000 says that there is a tag)
 abbrev pub tag_with : (vid : ℕ) → List Action
-tag_with vid = PushVlan 0x8100 ∷ Set (exact VlanVid (0x1000 + vid)) ∷ []
+tag_with vid = PushVlan VLAN_TAG ∷ Set (exact VlanVid (0x1000 + vid)) ∷ []
 
 -- out of the native members as it is; then, where there are any, out of the tagged ones with a tag
 abbrev pub send_in : (vid : ℕ) → (native tagged : List ℕ) → List Action

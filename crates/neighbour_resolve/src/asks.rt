@@ -5,6 +5,7 @@ ghost use Rattle.neighbour_resolve.specs.Asks.{ask, ask_on, native_ports, out_of
 
 use conf_types::{Conf, Dp, Member, Vlan};
 use net_base::{Bytes, DpId, Field, FieldId, Ip4, NoMemory, PortNo, Vid};
+use of_match::ether_type::VLAN_TAG;
 use of_match::{Action, Actions};
 use pkt_view::arp_request;
 use std::alloc::Global;
@@ -16,9 +17,6 @@ pub struct Outgoing {
     pub frame: Bytes,
     pub actions: Actions,
 }
-
-/// The EtherType of a VLAN tag (IEEE 802.1Q, 9.5).
-const TAG: u16 = 0x8100;
 
 /// In the field of the VLAN identifier: there is a tag (OpenFlow 1.3, 7.2.3.7).
 const TAG_THERE: u16 = 0x1000;
@@ -39,7 +37,7 @@ fn put_tag(actions: &mut Actions, vid: Vid) -> Result<(), NoMemory>
     ensures { OnOk result (actions.new ≡ actions.old ++ tag_with vid) }
 {
     let value = u128::from(TAG_THERE + vid.get());
-    actions.push(Action::PushVlan(TAG))?;
+    actions.push(Action::PushVlan(VLAN_TAG))?;
     actions.push(Action::Set(Field::exact(FieldId::VlanVid, value)))
 }
 

@@ -3,6 +3,7 @@ use Rattle.std.specs.Prelude.{◌≡◌, ℕ, ◌<◌, ◌^◌, ◌⊎◌}
 use Rattle.std.specs.List.{AllByRecursion}
 use Rattle.net_base.specs.declared.address.Ip4.{Ip4}
 use Rattle.net_base.specs.Address.{IsSixBytes}
+use Rattle.of_match.specs.declared.ether_type.TheConstants.{ARP, IPV4, SERVICE_TAG, VLAN_TAG}
 use Rattle.of_match.specs.declared.packet.Tag.{Tag}
 use Rattle.of_match.specs.declared.packet.L4.{L4}
 use Rattle.of_match.specs.declared.packet.L4.TheVariants.{None as NoL4, Tcp, Udp, Icmp}
@@ -12,7 +13,7 @@ use Rattle.of_match.specs.declared.packet.Packet.{Packet}
 
 -- a tag's type is one that shows a tag, and its numbers fit their bits (IEEE 802.1Q, 9.5 and 9.6)
 pub record IsTag (tag : Tag) : Type 0 where
-  pub tpid : (tag.tpid ≡ 0x8100) ⊎ (tag.tpid ≡ 0x88a8)
+  pub tpid : (tag.tpid ≡ VLAN_TAG) ⊎ (tag.tpid ≡ SERVICE_TAG)
   pub pcp : tag.pcp < 2 ^ 3
   pub vid : tag.vid < 2 ^ 12
 
@@ -26,8 +27,8 @@ AgreesWithProto proto (Icmp kind code) = proto ≡ 1
 -- what is there behind the EtherType is what it announces
 abbrev pub AgreesWithType : ℕ → Upper → Type 0
 AgreesWithType eth_type NoUpper = Unit {0}
-AgreesWithType eth_type (Arp op spa tpa) = eth_type ≡ 0x0806
-AgreesWithType eth_type (V4 src dst proto ttl l4) = (eth_type ≡ 0x0800) × AgreesWithProto proto l4
+AgreesWithType eth_type (Arp op spa tpa) = eth_type ≡ ARP
+AgreesWithType eth_type (V4 src dst proto ttl l4) = (eth_type ≡ IPV4) × AgreesWithProto proto l4
 
 -- the numbers of a transport header fit (RFC 9293, 3.1; RFC 768; RFC 792)
 abbrev pub FitsL4 : L4 → Type 0

@@ -3,6 +3,7 @@
 
 mod action;
 mod entry;
+pub mod ether_type;
 mod hit;
 mod ingress;
 pub mod laws;

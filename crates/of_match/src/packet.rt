@@ -6,7 +6,7 @@ use std::alloc::Global;
 /// A VLAN tag (IEEE 802.1Q, 9.3).
 #[derive(Clone, Copy, Debug, PartialEq, Eq)]
 pub struct Tag {
-    /// The EtherType that shows the tag, 0x8100 or 0x88a8.
+    /// The EtherType that shows the tag, that of a VLAN tag or of a provider's.
     pub tpid: u16,
     /// The priority, 0 to 7.
     pub pcp: u8,

@@ -2,6 +2,7 @@
 use Rattle.std.specs.Prelude.{ℕ, Bool, true, false, List, [], ◌∷◌, Option, Some, None, if◌then◌else◌}
 use Rattle.std.specs.Option.{option_map_or}
 use Rattle.of_match.specs.Hit.{outermost}
+use Rattle.of_match.specs.declared.ether_type.TheConstants.{VLAN_TAG}
 use Rattle.of_match.specs.declared.packet.Packet.{Packet}
 use Rattle.of_match.specs.declared.packet.Tag.{Tag}
 use Rattle.conf_types.specs.declared.datapath.Port.{Port}
@@ -18,7 +19,7 @@ is_tagged (tag ∷ tags) = true
 
 -- the packet with a tag of the VLAN (IEEE 802.1Q, 9.3)
 abbrev pub with_tag : ℕ → Packet → Packet
-with_tag vid p = record p { tags = record { tpid = 0x8100; pcp = 0; dei = false; vid = vid } ∷ p.tags }
+with_tag vid p = record p { tags = record { tpid = VLAN_TAG; pcp = 0; dei = false; vid = vid } ∷ p.tags }
 
 -- an admitted packet has a tag of its VLAN from here on: one that came without a tag gets one
 abbrev pub tagged_with : ℕ → Packet → Packet

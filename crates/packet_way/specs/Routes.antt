@@ -6,6 +6,7 @@ use Rattle.net_base.specs.declared.address.Ip4.{Ip4}
 use Rattle.net_base.specs.declared.address.Mac.{Mac}
 use Rattle.net_base.specs.declared.net4.Net4.{Net4}
 use Rattle.net_base.specs.declared.numbers.DpId.{DpId}
+use Rattle.of_match.specs.declared.ether_type.TheConstants.{ARP, IPV4}
 use Rattle.of_match.specs.declared.packet.L4.{L4}
 use Rattle.of_match.specs.declared.packet.L4.TheVariants.{Icmp}
 use Rattle.of_match.specs.declared.packet.Packet.{Packet}
@@ -129,6 +130,6 @@ routed items v p =
     if length v.vips == 0 then GoesOn v.vid p
     else if is_arp_for v.vips p.upper then ToController
     else if not (is_same p.dst.0 v.mac.0) then GoesOn v.vid p
-    else if p.eth_type == 0x0800 then routed_to items p
-    else if p.eth_type == 0x0806 then ToController
+    else if p.eth_type == IPV4 then routed_to items p
+    else if p.eth_type == ARP then ToController
     else Ends

@@ -7,6 +7,7 @@ use Rattle.net_base.specs.declared.net4.Net4.{Net4}
 use Rattle.net_base.specs.declared.numbers.DpId.{DpId}
 use Rattle.net_base.specs.Field.{exact}
 use Rattle.net_base.specs.declared.field.FieldId.TheVariants.{EthType}
+use Rattle.of_match.specs.declared.ether_type.TheConstants.{ARP, IPV4, VLAN_TAG}
 use Rattle.of_match.specs.declared.packet.L4.{L4}
 use Rattle.of_match.specs.declared.packet.L4.TheVariants as l4
 use Rattle.of_match.specs.declared.packet.Packet.{Packet}
@@ -106,7 +107,7 @@ abbrev pub host : ℕ → ℕ → ℕ → ℕ → ℕ → HostRec
 host id port vid n learned = record { dp = dp id; port = port; vid = vid; mac = station n; learned = record { 0 = learned } }
 
 abbrev pub tag : ℕ → Tag
-tag vid = record { tpid = 0x8100; pcp = 0; dei = false; vid = vid }
+tag vid = record { tpid = VLAN_TAG; pcp = 0; dei = false; vid = vid }
 
 -- a frame of type 0x0801, with nothing behind it
 abbrev pub frame : Mac → Mac → List Tag → Packet
@@ -158,7 +159,7 @@ one_neighbour = record { moment = 0; running = dp 1 ∷ []; ups = up 1 1 ∷ [];
 
 -- an IPv4 packet of 10.0.1.1
 abbrev pub v4 : Mac → Mac → List Tag → Ip4 → ℕ → ℕ → L4 → Packet
-v4 dst src tags to proto ttl l4 = record { dst = dst; src = src; tags = tags; eth_type = 0x0800; upper = upper.V4 (ip 1 1) to proto ttl l4; rest = [] }
+v4 dst src tags to proto ttl l4 = record { dst = dst; src = src; tags = tags; eth_type = IPV4; upper = upper.V4 (ip 1 1) to proto ttl l4; rest = [] }
 
 -- a UDP packet of which nothing behind its header is there
 abbrev pub udp : Ip4 → ℕ → Packet
@@ -168,7 +169,7 @@ abbrev pub ping : Ip4 → Packet
 ping to = v4 gateway (station 1) (tag 100 ∷ []) to 1 64 (l4.Icmp 8 0)
 
 abbrev pub arp : Mac → Ip4 → Packet
-arp dst target = record { dst = dst; src = station 1; tags = tag 100 ∷ []; eth_type = 0x0806; upper = upper.Arp 1 (ip 1 1) target; rest = [] }
+arp dst target = record { dst = dst; src = station 1; tags = tag 100 ∷ []; eth_type = ARP; upper = upper.Arp 1 (ip 1 1) target; rest = [] }
 
 -- ---- two routes, of which one leads into the other's network
 

@@ -4,11 +4,9 @@ ghost use Rattle.packet_way.specs.Admission.{admitted_to, with_tag, tagged_with}
 
 use conf_types::Port;
 use net_base::{NoMemory, TryCopy, Vid};
+use of_match::ether_type::VLAN_TAG;
 use of_match::{Packet, Tag};
 use std::alloc::Global;
-
-/// The EtherType of a VLAN tag (IEEE 802.1Q, 9.6).
-const VLAN_TAG: u16 = 0x8100;
 
 /// The tagged VLAN of a port with this number.
 fn tagged_vlan(port: &Port, vid: u16) -> Option<Vid>

@@ -4,10 +4,12 @@ ghost use Rattle.std.specs.Option.{option_copied, option_map, option_map_or};
 ghost use Rattle.conf_types.specs.Configuration.{vlan_with};
 ghost use Rattle.conf_types.specs.Lists.{is_same};
 ghost use Rattle.conf_types.specs.Networks.{is_held};
+ghost use Rattle.of_match.specs.declared.ether_type.TheConstants.{ARP, IPV4};
 ghost use Rattle.packet_way.specs.Routes.{mac_of_neighbour, resolved, vip_item, neighbour_item, network_item, route_item, items_of, route_list, item_holds, longer, longest, is_echo_l4, is_echo_request, destination, is_arp_for, hop_less, moved_to, sent_on, led_by, routed_to, routed};
 
 use conf_types::{Conf, NeighRec, Vlan};
 use net_base::{DpId, Ip4, Items, Mac, Net4, NoMemory, TryCopy, Vid};
+use of_match::ether_type::{ARP, IPV4};
 use of_match::{L4, Packet, Tags, Upper};
 use std::alloc::Global;
 
@@ -385,12 +387,12 @@ fn go_on(alloc: Global, vid: Vid, packet: &Packet) -> Result<Routed, NoMemory>
 /// What becomes of a packet for the gateway of a VLAN.
 fn route_here(alloc: Global, items: &[RouteItem], packet: &Packet) -> Result<Routed, NoMemory>
     ensures { IfOk result
-        (λ made. made ≡ (if packet.now.eth_type == 0x0800 then routed_to items.now packet.now
-        else (if packet.now.eth_type == 0x0806 then Routed.ToController else Routed.Ends))) }
+        (λ made. made ≡ (if packet.now.eth_type == IPV4 then routed_to items.now packet.now
+        else (if packet.now.eth_type == ARP then Routed.ToController else Routed.Ends))) }
 {
-    if packet.eth_type == 0x0800 {
+    if packet.eth_type == IPV4 {
         routed_to(alloc, items, packet)
-    } else if packet.eth_type == 0x0806 {
+    } else if packet.eth_type == ARP {
         Ok(Routed::ToController)
     } else {
         Ok(Routed::Ends)

@@ -2,6 +2,7 @@
 use Rattle.std.specs.Prelude.{ℕ, suc, ◌≤◌, ◌+◌, ◌-◌, ◌*◌, ◌/◌, ◌%◌, Bool, ◌==◌, ◌&&◌, ◌||◌, not, nat_le, if◌then◌else◌, List, ◌∷◌, Option, Some, None, length, take, drop, slice_index}
 use Rattle.net_base.specs.declared.address.Mac.{Mac}
 use Rattle.net_base.specs.declared.address.Ip4.{Ip4}
+use Rattle.of_match.specs.declared.ether_type.TheConstants.{ARP, IPV4, SERVICE_TAG, VLAN_TAG}
 use Rattle.pkt_view.specs.declared.frame.FrameView.{FrameView}
 use Rattle.pkt_view.specs.declared.frame.UpperView.{UpperView}
 use Rattle.pkt_view.specs.declared.frame.UpperView.TheVariants.{None as NoView, Arp as ArpView, V4 as V4View}
@@ -42,7 +43,7 @@ HasFixedPart (V4 header body) = 20 ≤ length header
 
 -- the types that show a tag (IEEE 802.1Q, 9.5)
 abbrev pub is_tag_type : ℕ → Bool
-is_tag_type t = (t == 0x8100) || (t == 0x88a8)
+is_tag_type t = (t == VLAN_TAG) || (t == SERVICE_TAG)
 
 -- how many tags stand in a row at the front, each four bytes of which the first two are such a type
 unfoldable pub tag_count : List ℕ → ℕ
@@ -59,10 +60,10 @@ has_type frame = nat_le (type_place frame + 2) (length frame) && not (is_tag_typ
 
 -- ---- behind the EtherType
 
--- an ARP packet for Ethernet (1) and IPv4 (0x0800), whose addresses have 6 and 4 bytes (RFC 826)
+-- an ARP packet for Ethernet (1) and IPv4, whose addresses have 6 and 4 bytes (RFC 826)
 abbrev pub is_arp : ℕ → List ℕ → Bool
 is_arp eth_type payload =
-    (eth_type == 0x0806) && nat_le 28 (length payload) && (number_at 2 0 payload == 1) && (number_at 2 2 payload == 0x0800) && (slice_index payload 4 == 6) && (slice_index payload 5 == 4)
+    (eth_type == ARP) && nat_le 28 (length payload) && (number_at 2 0 payload == 1) && (number_at 2 2 payload == IPV4) && (slice_index payload 4 == 6) && (slice_index payload 5 == 4)
 
 -- the length of an IPv4 header, which has it in words of 32 bits (RFC 791, 3.1, IHL)
 abbrev pub header_len : List ℕ → ℕ
@@ -71,7 +72,7 @@ header_len payload = 4 * (slice_index payload 0 % 16)
 -- an IPv4 packet whose header is there, with its fixed part of 20 bytes
 abbrev pub is_ipv4 : ℕ → List ℕ → Bool
 is_ipv4 eth_type payload =
-    (eth_type == 0x0800) && nat_le 20 (length payload) && (slice_index payload 0 / 16 == 4) && nat_le 20 (header_len payload) && nat_le (header_len payload) (length payload)
+    (eth_type == IPV4) && nat_le 20 (length payload) && (slice_index payload 0 / 16 == 4) && nat_le 20 (header_len payload) && nat_le (header_len payload) (length payload)
 
 unfoldable pub upper_parts : ℕ → List ℕ → UpperParts
 upper_parts eth_type payload =

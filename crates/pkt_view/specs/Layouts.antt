@@ -4,6 +4,7 @@ use Rattle.std.specs.List.{flat_map}
 use Rattle.net_base.specs.declared.address.Mac.{Mac}
 use Rattle.net_base.specs.declared.address.Ip4.{Ip4}
 use Rattle.net_base.specs.Address.{IsSixBytes}
+use Rattle.of_match.specs.declared.ether_type.TheConstants.{ARP, IPV4}
 use Rattle.of_match.specs.declared.packet.Tag.{Tag}
 use Rattle.of_match.specs.declared.packet.L4.{L4}
 use Rattle.of_match.specs.declared.packet.L4.TheVariants.{None as NoL4, Tcp, Udp, Icmp}
@@ -40,7 +41,7 @@ pub record IsArp (payload : List ℕ) (op : ℕ) (sha : Mac) (spa : Ip4) (tha : 
 -- a frame of such a packet, without tag and padding: what is read of it, and its bytes, in which the
 -- EtherType, hardware and protocol type, the lengths of their addresses and the operation stand one by one
 pub record ShowsArp (frame : List ℕ) (dst : Mac) (op : ℕ) (sha : Mac) (spa : Ip4) (tha : Mac) (tpa : Ip4) : Type 0 where
-  pub read : parts frame ≡ Some (record { dst = dst; src = sha; tags = []; eth_type = 0x0806; payload = drop 14 frame; upper = Arp op sha spa tha tpa })
+  pub read : parts frame ≡ Some (record { dst = dst; src = sha; tags = []; eth_type = ARP; payload = drop 14 frame; upper = Arp op sha spa tha tpa })
   pub row : frame ≡ dst.0 ++ sha.0 ++ (0x08 ∷ 0x06 ∷ 0 ∷ 1 ∷ 0x08 ∷ 0x00 ∷ 6 ∷ 4 ∷ 0 ∷ op ∷ []) ++ sha.0 ++ number 4 spa.0 ++ tha.0 ++ number 4 tpa.0
 
 -- ---- IPv4 (RFC 791, 3.1)
@@ -80,8 +81,8 @@ header_bytes h =
 
 abbrev pub IsUpper : ℕ → List ℕ → UpperParts → Type 0
 IsUpper eth_type payload Unknown = Unit {0}
-IsUpper eth_type payload (Arp op sha spa tha tpa) = (eth_type ≡ 0x0806) × IsArp payload op sha spa tha tpa
-IsUpper eth_type payload (V4 header body) = (eth_type ≡ 0x0800) × IsHeader header × (payload ≡ header ++ body)
+IsUpper eth_type payload (Arp op sha spa tha tpa) = (eth_type ≡ ARP) × IsArp payload op sha spa tha tpa
+IsUpper eth_type payload (V4 header body) = (eth_type ≡ IPV4) × IsHeader header × (payload ≡ header ++ body)
 
 -- ---- TCP, UDP and ICMP in IPv4 (RFC 9293, 3.1; RFC 768; RFC 792)
 

@@ -3,6 +3,7 @@ use Rattle.std.specs.Prelude.{ℕ, ◌+◌, ◌-◌, ◌%◌, ◌^◌, Bool, ◌
 use Rattle.net_base.specs.declared.address.Mac.{Mac}
 use Rattle.net_base.specs.declared.address.Ip4.{Ip4}
 use Rattle.net_base.specs.Address.{is_group}
+use Rattle.of_match.specs.declared.ether_type.TheConstants.{ARP, IPV4}
 use Rattle.pkt_view.specs.Numbers.{number_at, number}
 use Rattle.pkt_view.specs.Checksum.{internet_checksum}
 use Rattle.pkt_view.specs.Frame.{UpperParts, Unknown, Arp, V4, FrameParts}
@@ -13,11 +14,11 @@ untagged dst src eth_type payload = dst.0 ++ src.0 ++ number 2 eth_type ++ paylo
 
 -- ---- ARP (RFC 826)
 
--- a packet for Ethernet (1) and IPv4 (0x0800), whose addresses have 6 and 4 bytes: operation, sender
+-- a packet for Ethernet (1) and IPv4, whose addresses have 6 and 4 bytes: operation, sender
 -- and target
 abbrev pub arp_packet : ℕ → Mac → Ip4 → Mac → Ip4 → List ℕ
 arp_packet op sha spa tha tpa =
-    number 2 1 ++ number 2 0x0800 ++ (6 ∷ 4 ∷ []) ++ number 2 op ++ sha.0 ++ number 4 spa.0 ++ tha.0 ++ number 4 tpa.0
+    number 2 1 ++ number 2 IPV4 ++ (6 ∷ 4 ∷ []) ++ number 2 op ++ sha.0 ++ number 4 spa.0 ++ tha.0 ++ number 4 tpa.0
 
 abbrev pub broadcast : Mac
 broadcast = record { 0 = 0xff ∷ 0xff ∷ 0xff ∷ 0xff ∷ 0xff ∷ 0xff ∷ [] }
@@ -27,11 +28,11 @@ not_known = record { 0 = 0 ∷ 0 ∷ 0 ∷ 0 ∷ 0 ∷ 0 ∷ [] }
 
 -- a request (1) to all, for the target's hardware address
 abbrev pub arp_request : Mac → Ip4 → Ip4 → List ℕ
-arp_request src spa tpa = untagged broadcast src 0x0806 (arp_packet 1 src spa not_known tpa)
+arp_request src spa tpa = untagged broadcast src ARP (arp_packet 1 src spa not_known tpa)
 
 -- a reply (2) to the one that asked
 abbrev pub arp_reply : Mac → Ip4 → Mac → Ip4 → List ℕ
-arp_reply src spa dst tpa = untagged dst src 0x0806 (arp_packet 2 src spa dst tpa)
+arp_reply src spa dst tpa = untagged dst src ARP (arp_packet 2 src spa dst tpa)
 
 -- ---- ICMP echo (RFC 792, Echo or Echo Reply Message)
 
@@ -78,7 +79,7 @@ unfoldable pub reply_icmp : List ℕ → List ℕ
 reply_icmp icmp = with_checksum (0 ∷ 0 ∷ []) (drop 4 icmp)
 
 abbrev pub echo_frame : Mac → Mac → List ℕ → List ℕ → List ℕ
-echo_frame src dst header icmp = untagged dst src 0x0800 (reply_header header (length icmp) ++ reply_icmp icmp)
+echo_frame src dst header icmp = untagged dst src IPV4 (reply_header header (length icmp) ++ reply_icmp icmp)
 
 -- whether an answer is due: none to a group address, and none but to an echo request that is whole
 abbrev pub is_echo_due : Mac → List ℕ → List ℕ → Bool

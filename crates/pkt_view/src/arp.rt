@@ -1,8 +1,10 @@
 ghost use Rattle.std.specs.Prelude.{◌≡◌, IfOk};
+ghost use Rattle.of_match.specs.declared.ether_type.TheConstants.{ARP};
 ghost use Rattle.pkt_view.specs.Replies.{untagged, arp_packet, arp_request, arp_reply};
 
 use crate::bytes::{put_ip4, put_u16};
 use net_base::{Bytes, Ip4, Mac, NoMemory};
+use of_match::ether_type::{ARP, IPV4};
 use std::alloc::Global;
 
 // The operations (RFC 826).
@@ -19,13 +21,13 @@ struct End {
 
 // An untagged frame that carries an ARP packet.
 fn arp_frame(alloc: Global, dst: Mac, op: u16, sender: End, target: End) -> Result<Bytes, NoMemory>
-    ensures { IfOk result (λ frame. frame ≡ untagged dst sender.hardware 0x0806 (arp_packet op sender.hardware sender.protocol target.hardware target.protocol)) }
+    ensures { IfOk result (λ frame. frame ≡ untagged dst sender.hardware ARP (arp_packet op sender.hardware sender.protocol target.hardware target.protocol)) }
 {
     let mut frame = Bytes::from_slice(alloc, &dst.0)?;
     frame.append(&sender.hardware.0)?;
-    put_u16(&mut frame, 0x0806)?;
+    put_u16(&mut frame, ARP)?;
     put_u16(&mut frame, 1)?;
-    put_u16(&mut frame, 0x0800)?;
+    put_u16(&mut frame, IPV4)?;
     frame.append(&[6, 4])?;
     put_u16(&mut frame, op)?;
     frame.append(&sender.hardware.0)?;

@@ -6,6 +6,7 @@ use crate::bytes::{put_u16, u16_at};
 use crate::frame::{FrameView, UpperView};
 use crate::sum::checksum;
 use net_base::{Bytes, Mac, NoMemory};
+use of_match::ether_type::IPV4;
 use std::alloc::Global;
 
 /// The longest IPv4 packet that is answered.
@@ -107,7 +108,7 @@ fn echo_frame(
 {
     let mut frame = Bytes::from_slice(alloc, &dst.0)?;
     frame.append(&src.0)?;
-    put_u16(&mut frame, 0x0800)?;
+    put_u16(&mut frame, IPV4)?;
     put_header(alloc, &mut frame, header, icmp.len() as u16)?;
     put_icmp(alloc, &mut frame, icmp)?;
     Ok(frame)

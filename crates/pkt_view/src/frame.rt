@@ -4,17 +4,7 @@ ghost use Rattle.pkt_view.specs.Frame.{shown, shown_upper, is_tag_type, tag_coun
 
 use crate::bytes::{ip4_at, mac_at, u16_at};
 use net_base::{Ip4, Mac};
-
-/// The EtherType of a VLAN tag (IEEE 802.1Q, 9.5).
-const CUSTOMER_TAG: u16 = 0x8100;
-
-/// The EtherType of a provider's VLAN tag.
-const SERVICE_TAG: u16 = 0x88a8;
-
-/// The EtherTypes of ARP (RFC 826) and IPv4 (RFC 894).
-const ARP: u16 = 0x0806;
-
-const IPV4: u16 = 0x0800;
+use of_match::ether_type::{ARP, IPV4, SERVICE_TAG, VLAN_TAG};
 
 /// What lies behind a frame's EtherType.
 #[derive(Clone, Copy, Debug)]
@@ -54,7 +44,7 @@ pub struct FrameView<'a> {
 fn is_tag_type(eth_type: u16) -> bool
     ensures { result ≡ is_tag_type eth_type }
 {
-    eth_type == CUSTOMER_TAG || eth_type == SERVICE_TAG
+    eth_type == VLAN_TAG || eth_type == SERVICE_TAG
 }
 
 /// The length of the tags in a row at the front.

@@ -11,6 +11,7 @@ ghost use Rattle.pkt_view.specs.Layouts.{tag_bytes, frame_of, parts_of, IsArp, S
 ghost use Rattle.pkt_view.specs.Numbers.{number};
 ghost use Rattle.pkt_view.specs.Packets.{tags_of, l4_of, l4_len, upper_of, rest_of, packet};
 ghost use Rattle.pkt_view.specs.Replies.{untagged, arp_packet, arp_request, arp_reply, reply_header, reply_icmp, echo_upper};
+ghost use Rattle.of_match.specs.declared.ether_type.TheConstants.{ARP, IPV4};
 ghost use Rattle.of_match.specs.declared.packet.Tag.{Tag};
 ghost use Rattle.of_match.specs.declared.packet.L4.TheVariants.{Tcp, Udp, Icmp};
 ghost use Rattle.of_match.specs.declared.packet.Upper.TheVariants.{V4 as V4Part};
@@ -68,8 +69,8 @@ pub fn echo_reply_exchanges_addresses()
 /// packet (RFC 791, 3.1) exactly where it is one.
 pub fn what_is_read_behind_the_type_stands_there()
     ensures there { (eth_type : ℕ) (payload : List ℕ) → All (λ b. b < 256) payload → IsUpper eth_type payload (upper_parts eth_type payload) }
-    ensures arp { (payload : List ℕ) (op : ℕ) (sha : Mac) (spa : Ip4) (tha : Mac) (tpa : Ip4) → IsArp payload op sha spa tha tpa → upper_parts 0x0806 payload ≡ Arp op sha spa tha tpa }
-    ensures ipv4 { (header body : List ℕ) → IsHeader header → upper_parts 0x0800 (header ++ body) ≡ V4 header body }
+    ensures arp { (payload : List ℕ) (op : ℕ) (sha : Mac) (spa : Ip4) (tha : Mac) (tpa : Ip4) → IsArp payload op sha spa tha tpa → upper_parts ARP payload ≡ Arp op sha spa tha tpa }
+    ensures ipv4 { (header body : List ℕ) → IsHeader header → upper_parts IPV4 (header ++ body) ≡ V4 header body }
 {}
 
 /// The ports of TCP and UDP, and type and code of ICMP, are read behind an IPv4 header exactly where they
@@ -113,12 +114,12 @@ pub fn arp_frames_show_who_asks_and_who_answers()
 /// bytes under right checksums, and from no group address (RFC 792; RFC 791, 3.1).
 pub fn an_answer_is_due_to_an_echo_request()
     ensures { (src from : Mac) (eth_type : ℕ) (payload : List ℕ) → All (λ b. b < 256) payload
-        → IsSome (echo_upper src from (upper_parts eth_type payload)) ↔ ((eth_type ≡ 0x0800) × (is_group from ≡ false) × IsEchoRequest payload) }
+        → IsSome (echo_upper src from (upper_parts eth_type payload)) ↔ ((eth_type ≡ IPV4) × (is_group from ≡ false) × IsEchoRequest payload) }
 {}
 
 /// The answer to an echo request is an echo reply with right checksums, from its destination to its
 /// source, and has its identifier, sequence number and data (RFC 792).
 pub fn an_echo_request_gets_its_reply()
     ensures { (src from : Mac) (e : Echo) (padding : List ℕ) → is_group from ≡ false → IsEcho 8 e
-        → (a : Echo) × IsEcho 0 a × Answers e a × (echo_upper src from (upper_parts 0x0800 (header_of e ++ message_of 8 e ++ padding)) ≡ Some (untagged from src 0x0800 (header_of a ++ message_of 0 a))) }
+        → (a : Echo) × IsEcho 0 a × Answers e a × (echo_upper src from (upper_parts IPV4 (header_of e ++ message_of 8 e ++ padding)) ≡ Some (untagged from src IPV4 (header_of a ++ message_of 0 a))) }
 {}

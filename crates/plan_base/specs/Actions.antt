@@ -4,7 +4,8 @@ use Rattle.net_base.specs.declared.address.Mac.{Mac}
 use Rattle.of_match.specs.declared.action.TheConstants.{CONTROLLER, IN_PORT}
 use Rattle.of_match.specs.declared.action.Action.{Action}
 use Rattle.of_match.specs.declared.action.Action.TheVariants.{Output, PushVlan, PopVlan, DecTtl, Set}
-use Rattle.plan_base.specs.declared.actions.TheConstants.{VLAN_TAG, WHOLE_PACKET}
+use Rattle.of_match.specs.declared.ether_type.TheConstants.{VLAN_TAG}
+use Rattle.plan_base.specs.declared.actions.TheConstants.{WHOLE_PACKET}
 use Rattle.plan_base.specs.Fields.{eth_dst, eth_src, vid_field}
 
 -- by a port

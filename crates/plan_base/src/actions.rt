@@ -3,10 +3,8 @@ ghost use Rattle.plan_base.specs.Actions.{out, to_controller, to_ingress, push_t
 
 use crate::fields::{eth_dst, eth_src, vid_field};
 use net_base::{Mac, PortNo, Vid};
+use of_match::ether_type::VLAN_TAG;
 use of_match::{Action, CONTROLLER, IN_PORT};
-
-/// The EtherType of a VLAN tag (IEEE 802.1Q, 9.6).
-pub const VLAN_TAG: u16 = 0x8100;
 
 /// The packet whole, and not only its front (OpenFlow 1.3, 7.2.5, OFPCML_NO_BUFFER).
 pub const WHOLE_PACKET: u16 = 0xffff;

@@ -59,7 +59,7 @@ pub fn untagged() -> Field
     Field::exact(FieldId::VlanVid, 0)
 }
 
-/// The protocol above IPv4. It asks for EtherType 0x0800 before it.
+/// The protocol above IPv4. It asks for the EtherType of IPv4 before it.
 pub fn ip_proto(number: u8) -> Field
     ensures { result ≡ ip_proto number }
 {
@@ -73,7 +73,7 @@ pub fn icmpv4_type(number: u8) -> Field
     Field::exact(FieldId::Icmpv4Type, u128::from(number))
 }
 
-/// The target's protocol address in ARP. It asks for EtherType 0x0806 before it.
+/// The target's protocol address in ARP. It asks for the EtherType of ARP before it.
 pub fn arp_tpa(ip: Ip4) -> Field
     ensures { result ≡ arp_tpa ip.0 }
 {
@@ -81,7 +81,7 @@ pub fn arp_tpa(ip: Ip4) -> Field
 }
 
 /// The destination's IPv4 address in a network: `None` where the prefix has no bits, so that every
-/// address is of the network. It asks for EtherType 0x0800 before it.
+/// address is of the network. It asks for the EtherType of IPv4 before it.
 pub fn ipv4_dst(net: Net4) -> Option<Field>
     ensures { result ≡ ipv4_dst net.ip.0 net.len }
 {

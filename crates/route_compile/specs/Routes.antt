@@ -17,7 +17,7 @@ use Rattle.plan_base.specs.declared.table.Table.TheVariants.{Ipv4Route, Vip, Des
 use Rattle.plan_base.specs.Fields.{eth_dst, eth_type, vid_field, ipv4_dst}
 use Rattle.plan_base.specs.Actions.{to_controller, set_eth_src, set_eth_dst, set_vid, dec_ttl}
 use Rattle.plan_base.specs.Entries.{leads_to, entry}
-use Rattle.route_compile.specs.declared.gateways.TheConstants.{IPV4}
+use Rattle.of_match.specs.declared.ether_type.TheConstants.{IPV4}
 use Rattle.route_compile.specs.Gateways.{has_gateway}
 
 -- packets of IPv4 to the VLAN's gateway

@@ -3,13 +3,14 @@ use Rattle.std.specs.Prelude.{None, List, [], ◌∷◌, ◌++◌, map, if◌the
 use Rattle.net_base.specs.declared.net4.Net4.{Net4}
 use Rattle.of_match.specs.declared.action.Instr.{Instr}
 use Rattle.of_match.specs.declared.entry.Entry.{Entry}
+use Rattle.of_match.specs.declared.ether_type.TheConstants.{ARP, IPV4}
 use Rattle.conf_types.specs.declared.datapath.Dp.{Dp}
 use Rattle.conf_types.specs.declared.vlan.Vlan.{Vlan}
 use Rattle.plan_base.specs.declared.table.Table.TheVariants.{Vip}
 use Rattle.plan_base.specs.Fields.{eth_dst, eth_type, vid_field, ip_proto, icmpv4_type, arp_tpa}
 use Rattle.plan_base.specs.Actions.{to_controller}
 use Rattle.plan_base.specs.Entries.{leads_to, entry}
-use Rattle.route_compile.specs.declared.gateways.TheConstants.{IPV4, ARP, ICMP, ECHO_REQUEST}
+use Rattle.route_compile.specs.declared.gateways.TheConstants.{ICMP, ECHO_REQUEST}
 use Rattle.route_compile.specs.Gateways.{has_gateway}
 
 abbrev pub only_to_controller : List Instr

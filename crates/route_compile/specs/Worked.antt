@@ -8,6 +8,7 @@ use Rattle.net_base.specs.declared.field.FieldId.TheVariants.{EthDst, EthType, V
 use Rattle.net_base.specs.Field.{exact}
 use Rattle.of_match.specs.declared.action.Instr.{Instr}
 use Rattle.of_match.specs.declared.entry.Entry.{Entry}
+use Rattle.of_match.specs.declared.ether_type.TheConstants.{IPV4}
 use Rattle.conf_types.specs.declared.datapath.Dp.{Dp}
 use Rattle.conf_types.specs.declared.datapath.Port.{Port}
 use Rattle.conf_types.specs.declared.state.NeighRec.{NeighRec}
@@ -59,7 +60,7 @@ neighbours = neighbour 1 100 (ip 1 1) true ∷ neighbour 1 200 (ip 2 2) true ∷
 
 -- packets of IPv4 to the gateway of VLAN 100
 abbrev pub for_office : List Field → List Field
-for_office more = exact EthDst 0x0e0000000001 ∷ exact EthType 0x0800 ∷ exact VlanVid 0x1064 ∷ more
+for_office more = exact EthDst 0x0e0000000001 ∷ exact EthType IPV4 ∷ exact VlanVid 0x1064 ∷ more
 
 -- and a prefix of their destination
 abbrev pub to_prefix : ℕ → ℕ → List Field

@@ -4,12 +4,6 @@ ghost use Rattle.route_compile.specs.Gateways.{is_entrance, has_entrance, has_ga
 use conf_types::{Dp, Port, Vlan};
 use net_base::Vid;
 
-/// The EtherType of IPv4 (RFC 894).
-pub const IPV4: u16 = 0x0800;
-
-/// The EtherType of ARP (RFC 826).
-pub const ARP: u16 = 0x0806;
-
 /// The protocol number of ICMP (RFC 792).
 pub const ICMP: u8 = 1;
 

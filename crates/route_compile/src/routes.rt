@@ -2,9 +2,10 @@ ghost use Rattle.std.specs.Prelude.{◌≡◌, ◌++◌, min, map, IfOk, OnOk};
 ghost use Rattle.conf_types.specs.Count.{counted};
 ghost use Rattle.route_compile.specs.Routes.{item_fields, led_to, item_entry, no_route, fib};
 
-use crate::gateways::{IPV4, has_gateway};
+use crate::gateways::has_gateway;
 use conf_types::{Conf, Dp, NeighRec, Tally, Vlan};
 use net_base::{Fields, Net4, NoMemory};
+use of_match::ether_type::IPV4;
 use of_match::{Actions, Entries, Entry, Instrs};
 use packet_way::{RouteItem, Target, route_list};
 use plan_base::{

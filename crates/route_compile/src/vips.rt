@@ -2,9 +2,10 @@ ghost use Rattle.std.specs.Prelude.{◌≡◌, ◌++◌, map, IfOk, OnOk};
 ghost use Rattle.conf_types.specs.Count.{counted};
 ghost use Rattle.route_compile.specs.Vips.{only_to_controller, arp_entry, echo_entry, heard_entry, end_entry, vip_slice};
 
-use crate::gateways::{ARP, ECHO_REQUEST, ICMP, IPV4, has_gateway};
+use crate::gateways::{ECHO_REQUEST, ICMP, has_gateway};
 use conf_types::{Conf, Dp, Tally, Vlan};
 use net_base::{Net4, NoMemory};
+use of_match::ether_type::{ARP, IPV4};
 use of_match::{Actions, Entries, Entry, Instrs};
 use plan_base::{
     Table, arp_tpa, eth_dst, eth_type, icmpv4_type, ip_proto, leads_to, make_entry, to_controller,
