@@ -6,7 +6,6 @@ pub mod Stable
 pub mod Owners
 pub mod Distinct
 pub mod Units
-pub mod Runs
 pub mod Opened
 pub mod Accepted
 pub mod Start

@@ -1,18 +1,15 @@
 -- The cold start as tables, from the plan.
-use Rattle.std.proofs.Common.{◌≡◌, ℕ, List, [], ◌∷◌, map, IsPermutation, ◌∙◌}
+use Rattle.std.proofs.Common.{◌≡◌, List, [], ◌∷◌, map, IsPermutation, ◌∙◌}
 use Rattle.std.specs.Prelude.{Contains}
 use Rattle.std.specs.List.{AllByRecursion}
 use Rattle.std.proofs.lemmas.List.Sorted.{IsPermutation-sym, Contains-permutation}
 use Rattle.of_match.specs.declared.entry.Command.TheVariants.{Add, DeleteAll}
 use Rattle.of_match.specs.declared.entry.Entry.{Entry}
-use Rattle.of_match.specs.declared.packet.Packet.{Packet}
-use Rattle.of_match.specs.declared.packet.Sent.{Sent}
 use Rattle.of_match.specs.FlowTables.{IsInKeyOrder}
 use Rattle.of_match.specs.Settled.{SettlesInTurn}
 use Rattle.conf_types.specs.declared.datapath.Dp.{Dp}
 use Rattle.conf_types.specs.Configuration.{Configuration}
 use Rattle.conf_types.specs.State.{State}
-use Rattle.law_runs.specs.Runs.{SendsJust}
 use Rattle.law_runs.specs.Members.{of_all, all_by}
 use Rattle.plan_base.specs.Accepted.{IsFlowEntry}
 use Rattle.plan_units.specs.Laws.{IsSetting}
@@ -22,7 +19,6 @@ use Rattle.cold_start.proofs.Accepted.{plan_is_accepted}
 use Rattle.cold_start.proofs.Distinct.{plan_differs}
 use Rattle.cold_start.proofs.Opened.{opened}
 use Rattle.cold_start.proofs.Permuted.{order_after_all, added_permuted}
-use Rattle.cold_start.proofs.Runs.{sends_carried}
 use Rattle.cold_start.proofs.Sorted.{added, ordered_distinct}
 
 module _ (conf : Configuration) (now : State) (d : Dp) where
@@ -38,14 +34,8 @@ module _ (conf : Configuration) (now : State) (d : Dp) where
     unfolding cold
     cold_same = added_permuted [] (plan conf now d) (plan_differs conf now d s)
 
-    there : (e : Entry) → Contains (plan conf now d) e → Contains (cold conf now d) e
-    there e c = Contains-permutation (plan conf now d) (cold conf now d) e cold_same c
-
     back : (e : Entry) → Contains (cold conf now d) e → Contains (plan conf now d) e
     back e c = Contains-permutation (cold conf now d) (plan conf now d) e (IsPermutation-sym (plan conf now d) (cold conf now d) cold_same) c
 
     pub cold_is_accepted : AllByRecursion IsFlowEntry (cold conf now d)
     cold_is_accepted = all_by IsFlowEntry (cold conf now d) (λ e c. of_all IsFlowEntry (plan conf now d) (plan_is_accepted conf now d s) e (back e c))
-
-    pub cold_sends : (port t : ℕ) (p : Packet) (outs : List Sent) → SendsJust (plan conf now d) port t p outs → SendsJust (cold conf now d) port t p outs
-    cold_sends port t p outs sent = sends_carried (plan conf now d) (cold conf now d) there back port t p outs sent

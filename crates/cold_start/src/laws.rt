@@ -1,20 +1,16 @@
 //! What holds of every cold start. A function's contract is the law, and its body is at most a call of the
 //! law that it rests on.
 
-ghost use Rattle.std.specs.Prelude.{◌≡◌, ◌<◌, ◌^◌, ℕ, List, [], ◌∷◌, map, Contains, IsPermutation};
+ghost use Rattle.std.specs.Prelude.{◌≡◌, List, [], ◌∷◌, map, Contains, IsPermutation};
 ghost use Rattle.std.specs.List.{AllByRecursion, flat_map};
 ghost use Rattle.of_match.specs.declared.entry.Command.TheVariants.{Add, DeleteAll};
 ghost use Rattle.of_match.specs.declared.entry.Entry.{Entry};
-ghost use Rattle.of_match.specs.declared.packet.Packet.{Packet};
 ghost use Rattle.of_match.specs.FlowTables.{IsInKeyOrder};
 ghost use Rattle.of_match.specs.Settled.{SettlesInTurn};
-ghost use Rattle.of_match.specs.Shaped.{IsShaped};
 ghost use Rattle.conf_types.specs.declared.datapath.Dp.{Dp};
 ghost use Rattle.conf_types.specs.Configuration.{Configuration};
 ghost use Rattle.conf_types.specs.State.{State};
-ghost use Rattle.packet_way.specs.Description.{sends};
 ghost use Rattle.plan_base.specs.Accepted.{IsFlowEntry, HaveDistinctKeys};
-ghost use Rattle.law_runs.specs.Runs.{SendsJust};
 ghost use Rattle.plan_units.specs.declared.unit.Unit.{Unit};
 ghost use Rattle.plan_units.specs.Laws.{IsSetting};
 ghost use Rattle.plan_units.specs.Units.{entries, plan};
