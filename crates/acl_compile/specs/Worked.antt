@@ -12,28 +12,13 @@ use Rattle.conf_types.specs.declared.datapath.Dp.{Dp}
 use Rattle.conf_types.specs.declared.datapath.Port.{Port}
 use Rattle.conf_types.specs.declared.vlan.Vlan.{Vlan}
 use Rattle.conf_types.specs.Configuration.{Configuration}
+use Rattle.conf_types.specs.Worked.{edge, datapath, vlan}
 
 abbrev pub row : ℕ → ℕ → List Field → List Instr → Entry
 row table priority fields instrs = record { key = record { table = table; priority = priority; fields = fields }; instrs = instrs }
 
 abbrev pub port : ℕ → List ℕ → Bool → List (List ℕ) → Port
-port number name enabled acls = record {
-  no = number;
-  name = name;
-  description = name;
-  enabled = enabled;
-  native = Some 100;
-  tagged = [];
-  acls = acls;
-  output_only = false;
-  hairpin = false;
-  unicast_flood = true;
-  permanent_learn = false;
-  opstatus_reconf = true;
-  max_hosts = 255;
-  mirror = [];
-  stack = None;
-}
+port number name enabled acls = record (edge number (Some 100) []) { name = name; enabled = enabled; acls = acls }
 
 -- two ACLs in turn
 abbrev pub both : List (List ℕ)
@@ -43,34 +28,11 @@ abbrev pub first_port : Port
 first_port = port 1 (codes "one") true both
 
 -- interface 3 is disabled
-abbrev pub datapath : Dp
-datapath = record {
-  id = record { 0 = 1 };
-  name = codes "sw1";
-  description = codes "sw1";
-  hardware = codes "sw1";
-  timeout = 300;
-  arp_timeout = 30;
-  stack_priority = None;
-  drop_spoofed = true;
-  drop_broadcast = true;
-  drop_bpdu = true;
-  drop_lldp = true;
-  ports = first_port ∷ port 2 (codes "two") true [] ∷ port 3 (codes "three") false [] ∷ port 4 (codes "four") true [] ∷ [];
-}
+abbrev pub switch : Dp
+switch = datapath 1 None (first_port ∷ port 2 (codes "two") true [] ∷ port 3 (codes "three") false [] ∷ port 4 (codes "four") true [] ∷ [])
 
 abbrev pub office : Vlan
-office = record {
-  vid = 100;
-  name = codes "office";
-  description = codes "office";
-  mac = record { 0 = 14 ∷ 0 ∷ 0 ∷ 0 ∷ 0 ∷ 1 ∷ [] };
-  vips = [];
-  routes = [];
-  acls = both;
-  max_hosts = 255;
-  unicast_flood = true;
-}
+office = record (vlan 100 []) { acls = both }
 
 -- web packets go on, and to ports 4, 2 (named twice), 1 and 3
 abbrev pub web : Rule
@@ -82,7 +44,7 @@ of_vlan vid = record { fields = exact VlanVid (0x1000 + vid) ∷ exact VlanPcp 3
 
 abbrev pub conf : Configuration
 conf = record {
-  dps = datapath ∷ [];
+  dps = switch ∷ [];
   vlans = office ∷ [];
   acls =
       record { name = codes "tags"; rules = of_vlan 200 ∷ of_vlan 100 ∷ [] }

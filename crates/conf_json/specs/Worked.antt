@@ -1,58 +1,22 @@
 -- A configuration and its text, worked out by hand: what module `worked` cites.
-use Rattle.std.specs.Prelude.{ℕ, true, false, Some, None, List, [], ◌∷◌, ◌++◌, codes}
+use Rattle.std.specs.Prelude.{ℕ, Some, None, List, [], ◌∷◌, ◌++◌, codes}
 use Rattle.conf_types.specs.declared.datapath.Dp.{Dp}
 use Rattle.conf_types.specs.declared.datapath.Port.{Port}
 use Rattle.conf_types.specs.declared.vlan.Vlan.{Vlan}
 use Rattle.conf_types.specs.Configuration.{Configuration}
+use Rattle.conf_types.specs.Worked.{edge, datapath, vlan}
 
 -- an interface of the VLAN 100
 abbrev pub host : ℕ → List ℕ → List ℕ → Port
-host number name description = record {
-  no = number;
-  name = name;
-  description = description;
-  enabled = true;
-  native = Some 100;
-  tagged = [];
-  acls = [];
-  output_only = false;
-  hairpin = false;
-  unicast_flood = true;
-  permanent_learn = false;
-  opstatus_reconf = true;
-  max_hosts = 255;
-  mirror = [];
-  stack = None;
-}
+host number name description = record (edge number (Some 100) []) { name = name; description = description }
 
 abbrev pub switch : Dp
-switch = record {
-  id = record { 0 = 1 };
-  name = codes "sw1";
-  description = codes "sw1";
-  hardware = codes "Open vSwitch";
-  timeout = 300;
-  arp_timeout = 30;
-  stack_priority = None;
-  drop_spoofed = true;
-  drop_broadcast = true;
-  drop_bpdu = true;
-  drop_lldp = true;
-  ports = host 1 (codes "host1") (codes "host1 network namespace") ∷ host 2 (codes "host2") (codes "host2 network namespace") ∷ [];
-}
+switch =
+    let ports = host 1 (codes "host1") (codes "host1 network namespace") ∷ host 2 (codes "host2") (codes "host2 network namespace") ∷ [] in
+    record (datapath 1 None ports) { name = codes "sw1"; description = codes "sw1"; hardware = codes "Open vSwitch" }
 
 abbrev pub office : Vlan
-office = record {
-  vid = 100;
-  name = codes "office";
-  description = codes "office network";
-  mac = record { 0 = 14 ∷ 0 ∷ 0 ∷ 0 ∷ 0 ∷ 1 ∷ [] };
-  vips = [];
-  routes = [];
-  acls = [];
-  max_hosts = 255;
-  unicast_flood = true;
-}
+office = record (vlan 100 []) { name = codes "office"; description = codes "office network" }
 
 -- the configuration of examples/quick-start
 abbrev pub quick_start : Configuration

@@ -11,3 +11,4 @@ pub mod Routing
 pub mod RuleFields
 pub mod State
 pub mod Valid
+pub mod Worked

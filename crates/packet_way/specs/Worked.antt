@@ -1,10 +1,9 @@
 -- Configurations, states and packets of which the way is worked out by hand: what the functions of
 -- module `worked` cite.
-use Rattle.std.specs.Prelude.{ℕ, ◌≤◌, ◌+◌, ◌*◌, Bool, true, false, Option, Some, None, List, [], ◌∷◌}
+use Rattle.std.specs.Prelude.{ℕ, ◌≤◌, ◌+◌, ◌*◌, Bool, true, false, Some, None, List, [], ◌∷◌}
 use Rattle.net_base.specs.declared.address.Ip4.{Ip4}
 use Rattle.net_base.specs.declared.address.Mac.{Mac}
 use Rattle.net_base.specs.declared.net4.Net4.{Net4}
-use Rattle.net_base.specs.declared.numbers.DpId.{DpId}
 use Rattle.net_base.specs.Field.{exact}
 use Rattle.net_base.specs.declared.field.FieldId.TheVariants.{EthType}
 use Rattle.of_match.specs.declared.ether_type.TheConstants.{ARP, IPV4, VLAN_TAG}
@@ -24,15 +23,9 @@ use Rattle.conf_types.specs.declared.state.UpRec.{UpRec}
 use Rattle.conf_types.specs.declared.vlan.Vlan.{Vlan}
 use Rattle.conf_types.specs.Configuration.{Configuration}
 use Rattle.conf_types.specs.State.{State}
+use Rattle.conf_types.specs.Worked.{dp, station, gateway, ip, edge, datapath, vlan}
 
 -- ---- parts
-
-abbrev pub dp : ℕ → DpId
-dp n = record { 0 = n }
-
--- the station 02:00:00:00:00:n
-abbrev pub station : ℕ → Mac
-station n = record { 0 = 2 ∷ 0 ∷ 0 ∷ 0 ∷ 0 ∷ n ∷ [] }
 
 abbrev pub broadcast : Mac
 broadcast = record { 0 = 255 ∷ 255 ∷ 255 ∷ 255 ∷ 255 ∷ 255 ∷ [] }
@@ -43,62 +36,6 @@ bridges = record { 0 = 1 ∷ 0x80 ∷ 0xc2 ∷ 0 ∷ 0 ∷ 0 ∷ [] }
 
 abbrev pub cisco_bridges : Mac
 cisco_bridges = record { 0 = 1 ∷ 0 ∷ 0x0c ∷ 0xcc ∷ 0xcc ∷ 0xcd ∷ [] }
-
--- 0e:00:00:00:00:01
-abbrev pub gateway : Mac
-gateway = record { 0 = 14 ∷ 0 ∷ 0 ∷ 0 ∷ 0 ∷ 1 ∷ [] }
-
--- the address 10.0.a.b
-abbrev pub ip : ℕ → ℕ → Ip4
-ip a b = record { 0 = 0x0a000000 + a * 256 + b }
-
-abbrev pub edge : ℕ → Option ℕ → List ℕ → Port
-edge number native tagged = record {
-  no = number;
-  name = [];
-  description = [];
-  enabled = true;
-  native = native;
-  tagged = tagged;
-  acls = [];
-  output_only = false;
-  hairpin = false;
-  unicast_flood = true;
-  permanent_learn = false;
-  opstatus_reconf = true;
-  max_hosts = 255;
-  mirror = [];
-  stack = None;
-}
-
-abbrev pub datapath : ℕ → Option ℕ → List Port → Dp
-datapath id priority ports = record {
-  id = dp id;
-  name = id ∷ [];
-  description = [];
-  hardware = [];
-  timeout = 300;
-  arp_timeout = 30;
-  stack_priority = priority;
-  drop_spoofed = true;
-  drop_broadcast = true;
-  drop_bpdu = true;
-  drop_lldp = true;
-  ports = ports;
-}
-
-abbrev pub vlan : ℕ → List Net4 → Vlan
-vlan vid vips = record {
-  vid = vid;
-  name = [];
-  description = [];
-  mac = gateway;
-  vips = vips;
-  routes = [];
-  acls = [];
-  max_hosts = 255;
-  unicast_flood = true;
-}
 
 abbrev pub up : ℕ → ℕ → UpRec
 up id port = record { dp = dp id; port = port }
@@ -163,10 +100,10 @@ v4 dst src tags to proto ttl l4 = record { dst = dst; src = src; tags = tags; et
 
 -- a UDP packet of which nothing behind its header is there
 abbrev pub udp : Ip4 → ℕ → Packet
-udp to ttl = v4 gateway (station 1) (tag 100 ∷ []) to 17 ttl l4.None
+udp to ttl = v4 (gateway 1) (station 1) (tag 100 ∷ []) to 17 ttl l4.None
 
 abbrev pub ping : Ip4 → Packet
-ping to = v4 gateway (station 1) (tag 100 ∷ []) to 1 64 (l4.Icmp 8 0)
+ping to = v4 (gateway 1) (station 1) (tag 100 ∷ []) to 1 64 (l4.Icmp 8 0)
 
 abbrev pub arp : Mac → Ip4 → Packet
 arp dst target = record { dst = dst; src = station 1; tags = tag 100 ∷ []; eth_type = ARP; upper = upper.Arp 1 (ip 1 1) target; rest = [] }

@@ -4,9 +4,10 @@
 ghost use Rattle.std.specs.Prelude.{◌≡◌, true, false, Some, None, [], ◌∷◌};
 ghost use Rattle.of_match.specs.declared.packet.L4.TheVariants as l4;
 ghost use Rattle.of_match.specs.declared.action.TheConstants.{CONTROLLER};
+ghost use Rattle.conf_types.specs.Worked.{dp, station, gateway, ip, edge, datapath, vlan};
 ghost use Rattle.packet_way.specs.Description.{sends};
 ghost use Rattle.packet_way.specs.Leaving.{sent};
-ghost use Rattle.packet_way.specs.Worked.{LengthsFit, dp, station, broadcast, bridges, cisco_bridges, gateway, ip, edge, datapath, vlan, tag, frame, plain, nothing_learned, mirrored, settled, two_ports, two_vlans, one_neighbour, v4, udp, ping, arp, two_routes, two_gateways, ring, ring_with, all_up, link_down, host, learned, ruled};
+ghost use Rattle.packet_way.specs.Worked.{LengthsFit, broadcast, bridges, cisco_bridges, tag, frame, plain, nothing_learned, mirrored, settled, two_ports, two_vlans, one_neighbour, v4, udp, ping, arp, two_routes, two_gateways, ring, ring_with, all_up, link_down, host, learned, ruled};
 
 /// Ports 1 and 2 are native in a VLAN and port 3 is tagged there, and nothing is learned: to a station
 /// that isn't known a packet goes to all others and to the controller. A tag with identifier 0 is a
@@ -38,7 +39,7 @@ pub fn a_mirrored_port()
 
 /// What is dropped, and what isn't flooded, by the settings of a datapath, a VLAN and a port.
 pub fn drops_and_floods_by_settings()
-    ensures gateway { sends plain nothing_learned (dp 1) 1 (frame (station 9) gateway []) ≡ [] }
+    ensures gateway { sends plain nothing_learned (dp 1) 1 (frame (station 9) (gateway 1) []) ≡ [] }
     ensures broadcast { sends plain nothing_learned (dp 1) 1 (frame (station 9) broadcast []) ≡ [] }
     ensures bridges { sends plain nothing_learned (dp 1) 1 (frame bridges (station 1) []) ≡ [] }
     ensures cisco_bridges { sends plain nothing_learned (dp 1) 1 (frame cisco_bridges (station 1) []) ≡ [] }
@@ -87,9 +88,9 @@ pub fn sources_by_what_is_learned()
 pub fn routed_between_two_vlans()
     ensures no_hairpin { (fit : LengthsFit) → sends (two_vlans fit false) one_neighbour (dp 1) 1 (udp (ip 2 2) 64) ≡ [] }
     ensures hairpin { (fit : LengthsFit) → sends (two_vlans fit true) one_neighbour (dp 1) 1 (udp (ip 2 2) 64)
-        ≡ sent 1 (v4 (station 2) gateway (tag 200 ∷ []) (ip 2 2) 17 63 l4.None) ∷ [] }
+        ≡ sent 1 (v4 (station 2) (gateway 1) (tag 200 ∷ []) (ip 2 2) 17 63 l4.None) ∷ [] }
     ensures two_hops { (fit : LengthsFit) → sends (two_vlans fit true) one_neighbour (dp 1) 1 (udp (ip 2 2) 2)
-        ≡ sent 1 (v4 (station 2) gateway (tag 200 ∷ []) (ip 2 2) 17 1 l4.None) ∷ [] }
+        ≡ sent 1 (v4 (station 2) (gateway 1) (tag 200 ∷ []) (ip 2 2) 17 1 l4.None) ∷ [] }
     ensures one_hop { (fit : LengthsFit) → sends (two_vlans fit true) one_neighbour (dp 1) 1 (udp (ip 2 2) 1) ≡ [] }
     ensures no_hop { (fit : LengthsFit) → sends (two_vlans fit true) one_neighbour (dp 1) 1 (udp (ip 2 2) 0) ≡ [] }
     ensures unresolved { (fit : LengthsFit) → sends (two_vlans fit true) one_neighbour (dp 1) 1 (udp (ip 2 3) 1) ≡ sent CONTROLLER (udp (ip 2 3) 1) ∷ [] }
@@ -98,20 +99,20 @@ pub fn routed_between_two_vlans()
     ensures no_prefix { (fit : LengthsFit) → sends (two_vlans fit true) one_neighbour (dp 1) 1 (udp (ip 3 1) 64) ≡ [] }
     ensures arp_for_a_vip { (fit : LengthsFit) → sends (two_vlans fit true) one_neighbour (dp 1) 1 (arp broadcast (ip 1 254)) ≡ sent CONTROLLER (arp broadcast (ip 1 254)) ∷ [] }
     ensures arp_for_another { (fit : LengthsFit) → sends (two_vlans fit false) one_neighbour (dp 1) 1 (arp broadcast (ip 2 254)) ≡ [] }
-    ensures arp_to_the_gateway { (fit : LengthsFit) → sends (two_vlans fit false) one_neighbour (dp 1) 1 (arp gateway (ip 1 9)) ≡ sent CONTROLLER (arp gateway (ip 1 9)) ∷ [] }
-    ensures other_type { (fit : LengthsFit) → sends (two_vlans fit true) one_neighbour (dp 1) 1 (frame gateway (station 1) (tag 100 ∷ [])) ≡ [] }
+    ensures arp_to_the_gateway { (fit : LengthsFit) → sends (two_vlans fit false) one_neighbour (dp 1) 1 (arp (gateway 1) (ip 1 9)) ≡ sent CONTROLLER (arp (gateway 1) (ip 1 9)) ∷ [] }
+    ensures other_type { (fit : LengthsFit) → sends (two_vlans fit true) one_neighbour (dp 1) 1 (frame (gateway 1) (station 1) (tag 100 ∷ [])) ≡ [] }
 {}
 
 /// Routes to 10.9.0.0/16, 10.9.1.0/24 and 10.9.2.0/24, of which the last one's gateway isn't known.
 pub fn the_longest_prefix_whose_gateway_is_known()
-    ensures longer { (fit : LengthsFit) → sends (two_routes fit) two_gateways (dp 1) 1 (v4 gateway (station 1) [] (record { 0 = 0x0a090105 }) 17 64 l4.None)
-        ≡ sent 2 (v4 (station 8) gateway [] (record { 0 = 0x0a090105 }) 17 63 l4.None) ∷ [] }
-    ensures shorter { (fit : LengthsFit) → sends (two_routes fit) two_gateways (dp 1) 1 (v4 gateway (station 1) [] (record { 0 = 0x0a090305 }) 17 64 l4.None)
-        ≡ sent 2 (v4 (station 7) gateway [] (record { 0 = 0x0a090305 }) 17 63 l4.None) ∷ [] }
-    ensures unresolved { (fit : LengthsFit) → sends (two_routes fit) two_gateways (dp 1) 1 (v4 gateway (station 1) [] (record { 0 = 0x0a090205 }) 17 64 l4.None)
-        ≡ sent 2 (v4 (station 7) gateway [] (record { 0 = 0x0a090205 }) 17 63 l4.None) ∷ [] }
-    ensures neighbour { (fit : LengthsFit) → sends (two_routes fit) two_gateways (dp 1) 1 (v4 gateway (station 1) [] (ip 1 8) 17 64 l4.None)
-        ≡ sent 2 (v4 (station 8) gateway [] (ip 1 8) 17 63 l4.None) ∷ [] }
+    ensures longer { (fit : LengthsFit) → sends (two_routes fit) two_gateways (dp 1) 1 (v4 (gateway 1) (station 1) [] (record { 0 = 0x0a090105 }) 17 64 l4.None)
+        ≡ sent 2 (v4 (station 8) (gateway 1) [] (record { 0 = 0x0a090105 }) 17 63 l4.None) ∷ [] }
+    ensures shorter { (fit : LengthsFit) → sends (two_routes fit) two_gateways (dp 1) 1 (v4 (gateway 1) (station 1) [] (record { 0 = 0x0a090305 }) 17 64 l4.None)
+        ≡ sent 2 (v4 (station 7) (gateway 1) [] (record { 0 = 0x0a090305 }) 17 63 l4.None) ∷ [] }
+    ensures unresolved { (fit : LengthsFit) → sends (two_routes fit) two_gateways (dp 1) 1 (v4 (gateway 1) (station 1) [] (record { 0 = 0x0a090205 }) 17 64 l4.None)
+        ≡ sent 2 (v4 (station 7) (gateway 1) [] (record { 0 = 0x0a090205 }) 17 63 l4.None) ∷ [] }
+    ensures neighbour { (fit : LengthsFit) → sends (two_routes fit) two_gateways (dp 1) 1 (v4 (gateway 1) (station 1) [] (ip 1 8) 17 64 l4.None)
+        ≡ sent 2 (v4 (station 8) (gateway 1) [] (ip 1 8) 17 63 l4.None) ∷ [] }
 {}
 
 /// A ring of three datapaths, of which the first is the root. While its link to the second is down,

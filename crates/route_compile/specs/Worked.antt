@@ -15,14 +15,10 @@ use Rattle.conf_types.specs.declared.state.NeighRec.{NeighRec}
 use Rattle.conf_types.specs.declared.vlan.Route.{Route}
 use Rattle.conf_types.specs.declared.vlan.Vlan.{Vlan}
 use Rattle.conf_types.specs.Configuration.{Configuration}
-use Rattle.packet_way.specs.Worked.{station, ip, edge, datapath, vlan}
+use Rattle.conf_types.specs.Worked.{station, gateway, ip, edge, datapath, vlan}
 
 abbrev pub row : ℕ → ℕ → List Field → List Instr → Entry
 row table priority fields instrs = record { key = record { table = table; priority = priority; fields = fields }; instrs = instrs }
-
--- the address 0e:00:00:00:00:n
-abbrev pub gateway : ℕ → Mac
-gateway n = record { 0 = 14 ∷ 0 ∷ 0 ∷ 0 ∷ 0 ∷ n ∷ [] }
 
 -- tagged in both VLANs
 abbrev pub port : Port
