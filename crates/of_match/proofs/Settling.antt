@@ -1,10 +1,12 @@
--- Commands of distinct keys settle to one result in every order.
-use Rattle.std.proofs.Common.{◌≡◌, ℕ, zero, suc, ◌<◌, List, [], ◌∷◌, length, get_or, set, Option, Some, None, IsSome, length-set, refl, sym, ap, ◌∙◌, arith}
-use Rattle.std.specs.List.{AllByRecursion, swap}
+-- Commands of distinct keys settle to one result in every order, and the delete of all to empty tables.
+use Rattle.std.proofs.Common.{◌≡◌, ℕ, zero, suc, ◌<◌, Bool, true, false, List, [], ◌∷◌, length, get_or, set, Option, Some, None, IsSome, length-set, refl, sym, ap, ◌∙◌, true≢false, arith}
+use Rattle.std.specs.List.{AllByRecursion, list_any, swap}
 use Rattle.std.specs.List.Sorted.{SwapsInRange, apply_swaps}
+use Rattle.std.proofs.lemmas.List.Sorted.{length_permutation, list_any-IsPermutation}
 use Rattle.of_match.specs.declared.entry.Key.{Key}
 use Rattle.of_match.specs.declared.entry.Entry.{Entry}
 use Rattle.of_match.specs.declared.entry.Command.{Command}
+use Rattle.of_match.specs.declared.entry.Command.TheVariants.{Add, DeleteStrict, DeleteAll}
 use Rattle.of_match.specs.FlowTables.{after}
 use Rattle.of_match.specs.Settled.{after_all, Settles, key_of, AreOfDistinctKeys}
 use Rattle.of_match.proofs.Places.{all_at}
@@ -110,3 +112,22 @@ swaps cs (p ∷ ps) within all =
 pub settles_once : (tables : List Entry) (commands : List Command) (settled : List Entry) → AreOfDistinctKeys commands → Settles tables commands settled → settled ≡ after_all tables commands
 settles_once tables commands settled distinct s =
     s.leads ∙ ap (after_all tables) s.reordered.is ∙ (swaps commands s.reordered.moves s.reordered.below (all_apart commands distinct)).leads tables
+
+-- ---- the delete of all
+
+abbrev is_wipe : Command → Bool
+is_wipe DeleteAll = true
+is_wipe _ = false
+
+only_wipe : (order : List Command) → length order ≡ 1 → true ≡ list_any is_wipe order → order ≡ DeleteAll ∷ []
+only_wipe [] n e = absurd (true≢false e)
+only_wipe (DeleteAll ∷ []) n e = refl
+only_wipe (Add entry ∷ []) n e = absurd (true≢false e)
+only_wipe (DeleteStrict key ∷ []) n e = absurd (true≢false e)
+only_wipe (c ∷ d ∷ more) n e = absurd (omega (arith, n))
+
+-- where it stands alone, the tables are empty behind it
+pub wiped : (tables settled : List Entry) → Settles tables (DeleteAll ∷ []) settled → settled ≡ []
+wiped tables settled s =
+    let is : s.order ≡ DeleteAll ∷ [] = only_wipe s.order (length_permutation (DeleteAll ∷ []) s.order s.reordered) (list_any-IsPermutation is_wipe (DeleteAll ∷ []) s.order s.reordered) in
+    s.leads ∙ ap (after_all tables) is
