@@ -11,7 +11,7 @@ ghost use Rattle.plan_units.specs.Units.{is_of_group, hosts_of};
 
 use conf_types::{Conf, Dp, DpIds, HostRec, HostRecs};
 use net_base::{DpId, Items, Mac, NoMemory, Vid};
-use packet_way::Now;
+use packet_way::{Now, host_with};
 use std::alloc::Global;
 
 /// The datapaths of the group with this number, so that it isn't worked out for each host.
@@ -54,27 +54,6 @@ pub(crate) fn hosts_of(alloc: Global, conf: &Conf, now: &Now, dp: &Dp) -> Result
     hosts_on(alloc, now.hosts.as_slice(), ids.as_slice())
 }
 
-/// Whether it is the host of the VLAN with this address, in the group with this number.
-fn is_host(conf: &Conf, group: DpId, vid: Vid, mac: Mac, host: &HostRec) -> bool
-    ensures { result ≡ ((group_of conf.now host.now.dp).0 == group.0 && (host.now.vid == vid && is_same host.now.mac.0 mac.0)) }
-{
-    conf.is_host_in(group, vid, host) && host.has_mac(mac)
-}
-
-fn find_in<'a>(
-    conf: &Conf,
-    hosts: &'a [HostRec],
-    group: DpId,
-    vid: Vid,
-    mac: Mac,
-) -> Option<&'a HostRec>
-    ensures { option_copied result ≡ find (λ h. (group_of conf.now h.dp).0 == group.0 && (h.vid == vid && is_same h.mac.0 mac.0)) hosts.now }
-{
-    hosts
-        .iter()
-        .find(|host| is_host(conf, group, vid, mac, host))
-}
-
 /// The host of a datapath's group with this address in the VLAN; `None` exactly where there is none.
 pub(crate) fn find_host<'a>(
     conf: &Conf,
@@ -85,5 +64,5 @@ pub(crate) fn find_host<'a>(
 ) -> Option<&'a HostRec>
     ensures { option_copied result ≡ find (λ h. h.vid == vid && is_same h.mac.0 mac.0) (filter (is_of_group conf.now dp.now) hosts.now) }
 {
-    find_in(conf, hosts, conf.group_number(dp.id), vid, mac)
+    host_with(conf, hosts, dp, vid, mac)
 }

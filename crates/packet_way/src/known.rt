@@ -27,8 +27,8 @@ fn is_host(conf: &Conf, host: &HostRec, group: DpId, vid: Vid, mac: Mac) -> bool
     conf.is_host_in(group, vid, host) && host.has_mac(mac)
 }
 
-/// The host of the datapath's group with this address in the VLAN.
-fn host_with<'a>(
+/// The host of the datapath's group with this address in the VLAN; `None` where there is none.
+pub fn host_with<'a>(
     conf: &Conf,
     hosts: &'a [HostRec],
     dp: &Dp,

@@ -16,7 +16,7 @@ mod verdict;
 pub mod worked;
 
 pub use drops::{BRIDGE_GROUP, BROADCAST, LLDP, PVST_GROUP};
-pub use known::Onward;
+pub use known::{Onward, host_with};
 pub use now::Now;
 pub use paths::make_paths;
 pub use routes::{RouteItem, RouteItems, Routed, Target, route_list};
