@@ -14,7 +14,7 @@ use Rattle.neighbour_resolve.specs.Kept.{kept_neighbours, last_of_each, may_stay
 use Rattle.neighbour_resolve.specs.Parts.{AreSomeOf}
 use Rattle.neighbour_resolve.specs.declared.neighbour.Want.{Want}
 use Rattle.neighbour_resolve.specs.declared.neighbour.Want.TheVariants.{Added, Known, Full}
-use Rattle.neighbour_resolve.specs.Table.{IsTable, answer, gives_way, is_known, is_same, neighbours_after, replaced}
+use Rattle.neighbour_resolve.specs.Table.{IsTable, outcome, gives_way, is_known, is_same, neighbours_after, replaced}
 
 -- ---- one key
 
@@ -174,7 +174,7 @@ told_known stays told limit ns false true is_known is_full is = is
 told_known stays told limit ns false false is_known is_full is = pushed_table limit told ns is_known (grind (arith, nat_tests)) is
 
 pub told_table : (stays : NeighRec → Bool) (told : NeighRec) (limit : ℕ) (ns : List NeighRec) → IsTable (record { limit = limit; neighbours = ns })
-    → IsTable (record { limit = limit; neighbours = neighbours_after stays told ns (answer (record { limit = limit; neighbours = ns }) told) })
+    → IsTable (record { limit = limit; neighbours = neighbours_after stays told ns (outcome (record { limit = limit; neighbours = ns }) told) })
 told_table stays told limit ns is = told_known stays told limit ns (is_known ns told) (nat_le limit (length ns)) refl refl is
 
 -- what holds of all by their keys, and of what is told
@@ -183,7 +183,7 @@ told_each P by_key stays told ns Known here all = some_each P by_key (replaced s
 told_each P by_key stays told ns Full here all = all
 told_each P by_key stays told ns Added here all = all_push P ns told all here
 
-pub told_by : (stays : NeighRec → Bool) (told : NeighRec) (limit : ℕ) (ns after : List NeighRec) (said : Want) → said ≡ answer (record { limit = limit; neighbours = ns }) told → after ≡ neighbours_after stays told ns said
+pub told_by : (stays : NeighRec → Bool) (told : NeighRec) (limit : ℕ) (ns after : List NeighRec) (said : Want) → said ≡ outcome (record { limit = limit; neighbours = ns }) told → after ≡ neighbours_after stays told ns said
     → IsTable (record { limit = limit; neighbours = ns }) → IsTable (record { limit = limit; neighbours = after })
 told_by stays told limit ns after said answered left is =
     subst (λ list. IsTable (record { limit = limit; neighbours = list })) (sym (left ∙ ap (neighbours_after stays told ns) answered)) (told_table stays told limit ns is)

@@ -11,7 +11,7 @@ use Rattle.conf_types.specs.Routing.{vips_of}
 use Rattle.conf_types.specs.State.{IsHost, IsNeighbour, IsSameNeighbour, IsValidState, State}
 use Rattle.neighbour_resolve.specs.Due.{after_due}
 use Rattle.neighbour_resolve.specs.Kept.{kept_neighbours, last_of_each, may_stay, regrouped}
-use Rattle.neighbour_resolve.specs.Table.{IsTable, Table, after_told, answer, off_group}
+use Rattle.neighbour_resolve.specs.Table.{IsTable, Table, after_told, outcome, off_group}
 use Rattle.neighbour_resolve.specs.Parts.{AreSomeOf}
 use Rattle.neighbour_resolve.proofs.Keys.{all_map, due_some, filter_some, kept_table, last_some, some_each, some_table, told_each, told_table}
 
@@ -54,7 +54,7 @@ module _ (conf : Configuration) (state : State) where
       let table : Table = record { limit = limit; neighbours = state.neighbours } in
       let ns = (after_told stays told table).neighbours in
       let kept = told_table stays told limit state.neighbours (record { within = within; keys = valid.neighbour_keys }) in
-      with_neighbours ns valid (told_each (IsNeighbour conf state) neighbour_by_key stays told state.neighbours (answer table told) is valid.neighbours)
+      with_neighbours ns valid (told_each (IsNeighbour conf state) neighbour_by_key stays told state.neighbours (outcome table told) is valid.neighbours)
       (record { within = omega (arith, kept.within); keys = kept.keys })
 
   -- ---- under a new configuration

@@ -58,10 +58,10 @@ resolved group vid ip mac timeout now = record {
 abbrev pub stays : (wanted : Bool) → NeighRec → Bool
 stays wanted n = wanted && is_some n.mac
 
--- ---- the answer, and the table behind it
+-- ---- the outcome, and the table behind it
 
-abbrev pub answer : Table → NeighRec → Want
-answer table told =
+abbrev pub outcome : Table → NeighRec → Want
+outcome table told =
     if is_known table.neighbours told then Known
     else if nat_le table.limit (length table.neighbours) then Full
     else Added
@@ -80,7 +80,7 @@ neighbours_after stays told neighbours Full = neighbours
 neighbours_after stays told neighbours Added = neighbours ++ told ∷ []
 
 abbrev pub after_told : (stays : NeighRec → Bool) → NeighRec → Table → Table
-after_told stays told table = record table { neighbours = neighbours_after stays told table.neighbours (answer table told) }
+after_told stays told table = record table { neighbours = neighbours_after stays told table.neighbours (outcome table told) }
 
 -- ---- what is let go
 

@@ -3,7 +3,7 @@ ghost use Rattle.conf_types.specs.Lists.{EachBefore};
 ghost use Rattle.conf_types.specs.State.{IsSameNeighbour};
 ghost use Rattle.neighbour_resolve.specs.Due.{after_due, is_due, said};
 ghost use Rattle.neighbour_resolve.specs.Kept.{kept};
-ghost use Rattle.neighbour_resolve.specs.Table.{after_told, answer, gives_way, is_known, neighbours_after, off_group, replaced, resolved, stays, unresolved};
+ghost use Rattle.neighbour_resolve.specs.Table.{after_told, outcome, gives_way, is_known, neighbours_after, off_group, replaced, resolved, stays, unresolved};
 
 use crate::kept::kept_neighbours;
 use crate::neighbour::{Due, Want, is_due, is_same, next};
@@ -60,7 +60,7 @@ fn replace(neighbours: &mut [NeighRec], told: &NeighRec, leave_resolved: bool)
 /// Takes in what is told. A neighbour that is new finds room in what the table has taken.
 fn tell(neighbours: &mut Vec<NeighRec>, limit: u32, told: NeighRec, leave_resolved: bool) -> Want
     requires { limit ≤ vec_capacity neighbours.old }
-    ensures answer { result ≡ answer (record { limit = limit; neighbours = neighbours.old.items }) told }
+    ensures outcome { result ≡ outcome (record { limit = limit; neighbours = neighbours.old.items }) told }
     ensures list { neighbours.new.items ≡ neighbours_after (stays leave_resolved) told neighbours.old.items result }
     ensures capacity { vec_capacity neighbours.old ≤ vec_capacity neighbours.new }
 {
@@ -144,7 +144,7 @@ impl Neighbours {
     /// Takes in that an address is wanted. A neighbour that isn't resolved begins anew: it was not
     /// asked yet, and is due now.
     pub fn want(&mut self, group: DpId, vid: Vid, ip: Ip4, now: Moment) -> Want
-        ensures answer { result ≡ answer self.old (unresolved group vid ip now) }
+        ensures outcome { result ≡ outcome self.old (unresolved group vid ip now) }
         ensures list { self.new ≡ after_told (stays true) (unresolved group vid ip now) self.old }
     {
         let told = NeighRec {
@@ -169,7 +169,7 @@ impl Neighbours {
         timeout: u32,
         now: Moment,
     ) -> Want
-        ensures answer { result ≡ answer self.old (resolved group vid ip mac timeout now) }
+        ensures outcome { result ≡ outcome self.old (resolved group vid ip mac timeout now) }
         ensures list { self.new ≡ after_told (stays false) (resolved group vid ip mac timeout now) self.old }
     {
         let told = NeighRec {
