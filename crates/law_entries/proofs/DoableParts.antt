@@ -1,13 +1,11 @@
 -- Entries that can be done, by their parts.
-use Rattle.std.specs.Prelude.{◌≡◌, ℕ, ◌+◌, ◌/◌, ◌%◌, ◌<◌, ◌≤◌, Bool, true, false, ◌==◌, ◌||◌, List, [], ◌∷◌, ◌++◌, map, Option, Some, None, option_to_list, if◌then◌else◌}
+use Rattle.std.specs.Prelude.{◌≡◌, ℕ, ◌+◌, ◌/◌, ◌%◌, ◌<◌, ◌≤◌, Bool, true, false, ◌==◌, ◌||◌, List, [], ◌∷◌, ◌++◌, map, Option, Some, None, if◌then◌else◌}
 use Rattle.std.specs.List.{AllByRecursion, list_any}
-use Rattle.std.specs.Option.{option_map}
-use Rattle.std.proofs.Common.{refl, sym, ap, subst, arith}
+use Rattle.std.proofs.Common.{sym, ap, subst, arith}
 use Rattle.net_base.specs.declared.field.Field.{Field}
 use Rattle.net_base.specs.Numbers.{IsVid}
 use Rattle.of_match.specs.declared.action.Action.{Action}
 use Rattle.of_match.specs.declared.action.Action.TheVariants.{Output, PushVlan, PopVlan, DecTtl, Set}
-use Rattle.of_match.specs.declared.entry.Entry.{Entry}
 use Rattle.conf_types.specs.declared.datapath.Dp.{Dp}
 use Rattle.conf_types.specs.declared.datapath.Port.{Port}
 use Rattle.conf_types.specs.Membership.{is_native_in, mirrors_of}
@@ -17,7 +15,6 @@ use Rattle.plan_base.specs.Actions.{out, pop_tag}
 use Rattle.plan_base.specs.Entries.{table_number, leads_to, entry}
 use Rattle.plan_base.specs.Fields.{vid_field}
 use Rattle.plan_base.specs.Sending.{outs, copied, sent}
-use Rattle.law_runs.specs.Members.{all_mapped, all_by}
 use Rattle.law_entries.specs.Doable.{LeadsOn, has_present, asks_for_tag, tags_asked, AreDoable, DoesDoable, CanBeDone}
 
 -- ---- tables
@@ -70,13 +67,6 @@ present vid is = ap (λ n. n % 2 == 1) (before_vid vid is)
 
 pub asks_among : (vid : ℕ) → IsVid vid → (more : List Field) → list_any asks_for_tag (vid_field vid ∷ more) ≡ true
 asks_among vid is more = ap (λ (b : Bool). b || list_any asks_for_tag more) (present vid is)
-
-pub each : {A : Type 0} (f : A → Entry) → ((x : A) → CanBeDone (f x)) → (xs : List A) → AllByRecursion CanBeDone (map f xs)
-each f h xs = all_mapped CanBeDone f xs (all_by (λ x. CanBeDone (f x)) xs (λ x c. h x))
-
-pub of_option : {A : Type 0} (f : A → Entry) (o : Option A) → ((x : A) → o ≡ Some x → CanBeDone (f x)) → AllByRecursion CanBeDone (option_to_list (option_map f o))
-of_option f None h = tt
-of_option f (Some x) h = (h x refl, tt)
 
 -- ---- actions
 

@@ -1,6 +1,6 @@
 -- Each row of the tables can be done.
-use Rattle.std.specs.Prelude.{◌≡◌, ℕ, ◌+◌, ◌<◌, ◌==◌, ◌&&◌, ◌||◌, not, Bool, true, false, List, [], ◌∷◌, ◌++◌, map, filter, length, Option, Some, None, option_to_list, if◌then◌else◌}
-use Rattle.std.specs.List.{AllByRecursion, filter_map, cons_option, enumerate_from, list_any}
+use Rattle.std.specs.Prelude.{◌≡◌, ℕ, ◌+◌, ◌<◌, ◌==◌, ◌&&◌, not, Bool, true, false, List, [], ◌∷◌, ◌++◌, map, filter, length, Option, Some, None, if◌then◌else◌}
+use Rattle.std.specs.List.{AllByRecursion, cons_option, list_any}
 use Rattle.std.specs.Option.{option_map, option_map_or}
 use Rattle.std.proofs.Common.{refl, arith, subst}
 use Rattle.std.proofs.lemmas.Option.{none-some, same_Some}
@@ -10,8 +10,6 @@ use Rattle.net_base.specs.declared.field.Field.{Field}
 use Rattle.net_base.specs.declared.numbers.DpId.{DpId}
 use Rattle.net_base.specs.Numbers.{IsVid}
 use Rattle.of_match.specs.declared.action.Action.{Action}
-use Rattle.of_match.specs.declared.entry.Entry.{Entry}
-use Rattle.stack_paths.specs.Chosen.{hop_of}
 use Rattle.stack_paths.specs.Stack.{Stack}
 use Rattle.conf_types.specs.declared.acl.Rule.{Rule}
 use Rattle.conf_types.specs.declared.datapath.Dp.{Dp}
@@ -19,12 +17,11 @@ use Rattle.conf_types.specs.declared.datapath.Port.{Port}
 use Rattle.conf_types.specs.declared.state.HostRec.{HostRec}
 use Rattle.conf_types.specs.declared.state.NeighRec.{NeighRec}
 use Rattle.conf_types.specs.declared.vlan.Vlan.{Vlan}
-use Rattle.conf_types.specs.Attached.{rules_of}
-use Rattle.conf_types.specs.Configuration.{Configuration, port_with, vlan_with}
+use Rattle.conf_types.specs.Configuration.{Configuration, vlan_with}
 use Rattle.conf_types.specs.Groups.{group_of}
-use Rattle.conf_types.specs.Membership.{is_accepting, is_stack, is_native_in, has_edge_member, mirrors_of}
+use Rattle.conf_types.specs.Membership.{is_native_in, mirrors_of}
 use Rattle.conf_types.specs.Routing.{routing_set}
-use Rattle.conf_types.specs.State.{is_permanent, is_stale}
+use Rattle.conf_types.specs.State.{is_stale}
 use Rattle.conf_types.specs.Valid.{IsValid}
 use Rattle.packet_way.specs.declared.routes.RouteItem.{RouteItem}
 use Rattle.packet_way.specs.declared.routes.Target.{Target}
@@ -36,32 +33,31 @@ use Rattle.plan_base.specs.Actions.{out, to_controller, to_ingress, push_tag, se
 use Rattle.plan_base.specs.Entries.{table_number, leads_to, entry}
 use Rattle.plan_base.specs.Fields.{in_port, eth_src, eth_dst, vid_field, untagged, group_src, ipv4_dst}
 use Rattle.plan_base.specs.Sending.{mirrored, copied, sent}
-use Rattle.plan_base.proofs.Each.{all_from, all_filter_map}
+use Rattle.plan_base.proofs.Each.{all_filter_map}
 use Rattle.acl_compile.specs.declared.place.Place.{Place}
 use Rattle.acl_compile.specs.declared.place.Place.TheVariants.{AtPort, AtVlan}
 use Rattle.acl_compile.specs.Places.{table_at, next_at, field_at}
-use Rattle.acl_compile.specs.Rows.{rule_priority, rule_entry, rule_entry_for, rule_fields, denial}
-use Rattle.acl_compile.specs.Slices.{acl_entries, rule_entries, port_acl, vlan_acl, port_entry, has_acls}
+use Rattle.acl_compile.specs.Rows.{rule_entry_for}
+use Rattle.acl_compile.specs.Slices.{port_acl, vlan_acl}
 use Rattle.acl_compile.specs.Targets.{targets}
 use Rattle.vlan_compile.specs.declared.flood.Flood.{Flood}
 use Rattle.vlan_compile.specs.declared.flood.Flood.TheVariants.{Group, Unicast}
 use Rattle.vlan_compile.specs.declared.flood.Ingress.{Ingress}
 use Rattle.vlan_compile.specs.declared.flood.Ingress.TheVariants.{Any, At}
-use Rattle.vlan_compile.specs.Admissions.{admissions, from_stacks, from_edges, from_stack, without_tag, with_tag, next_in}
-use Rattle.vlan_compile.specs.Destinations.{destinations, at_port, over_stack, sent_back}
-use Rattle.vlan_compile.specs.Floods.{floods, floods_to, flood_entry, flood_actions, flood_priority, from_fields, to_fields, has_flooded, is_apart, is_in, flooded, by_each, by_port, popped}
+use Rattle.vlan_compile.specs.Admissions.{admissions, without_tag, with_tag, next_in}
+use Rattle.vlan_compile.specs.Destinations.{from_its_port, to_its_port, destinations, sent_back}
+use Rattle.vlan_compile.specs.Floods.{floods, flood_entry, flood_actions, flood_priority, from_fields, to_fields, is_in, flooded, by_each, by_port, popped}
 use Rattle.vlan_compile.specs.Misses.{misses, miss, has_host, is_full}
-use Rattle.vlan_compile.specs.Sources.{sources, at_its_port, elsewhere, heard_copies}
-use Rattle.vlan_compile.specs.Vlans.{native_vlan, tagged_vlans, vlans_of}
+use Rattle.vlan_compile.specs.Sources.{sources, heard_copies}
 use Rattle.vlan_compile.proofs.Valid.{native_numbered, vlan_numbered}
-use Rattle.route_compile.specs.Gateways.{has_gateway}
-use Rattle.route_compile.specs.Routes.{ipv4_for, item_fields, fib, item_entry, led_to, no_route}
+use Rattle.route_compile.specs.Routes.{ipv4_for, item_fields, fib, item_entry, led_to}
 use Rattle.route_compile.specs.Vips.{vip_slice, arp_entry, echo_entry, heard_entry, end_entry}
-use Rattle.law_runs.specs.Members.{all_joined, all_mapped, all_flat, all_by}
-use Rattle.plan_units.specs.Fixed.{drops, bridge_drops, lldp_drops, broadcast_drops, drop, gateways, from_group, passes, fixed}
+use Rattle.law_runs.specs.Members.{of_all, all_joined, all_mapped, all_flat, all_by}
+use Rattle.plan_units.specs.Fixed.{drops, drop, from_group, passes}
+use Rattle.plan_units.specs.Parts.{port_acl_by, vlan_acl_by, admissions_by, drops_by, misses_by, sources_by, fib_by, vips_by, destinations_by, floods_by}
 use Rattle.law_entries.specs.Doable.{tags_asked, asks_for_tag, AreDoable, CanBeDone}
 use Rattle.law_entries.proofs.WholeParts.{all_when}
-use Rattle.law_entries.proofs.DoableParts.{IsLater, IsOutput, made, tagged, before_vid, asks_among, each, of_option, outputs_first, outputs, popped_first, sent_done, outs_are, numbers_are, copied_are}
+use Rattle.law_entries.proofs.DoableParts.{IsLater, IsOutput, made, tagged, before_vid, asks_among, outputs_first, outputs, popped_first, sent_done, outs_are, numbers_are, copied_are}
 
 -- an entry that ends
 ends : (t : Table) (priority : ℕ) (fields : List Field) → CanBeDone (entry t priority fields [])
@@ -90,28 +86,14 @@ module _ (d : Dp) (at : Place) where
   rule_done priority rule fields =
       made (table_at at) priority fields (map out (targets at d rule)) (if rule.allow then Some (next_at at) else None) (later_at rule.allow) (outputs fields (tags_asked fields) (map out (targets at d rule)) (numbers_are (targets at d rule)))
 
-  of_rule : (priority : ℕ) (rule : Rule) (o : Option (List Field)) (more : List Entry) → AllByRecursion CanBeDone more
-      → AllByRecursion CanBeDone (cons_option (option_map (rule_entry_for at d priority rule) o) more)
-  of_rule priority rule None more all = all
-  of_rule priority rule (Some fields) more all = (rule_done priority rule fields, all)
-
-  of_rules : (n : ℕ) (rules : List Rule) → AllByRecursion CanBeDone (filter_map (λ numbered. rule_entry at d (rule_priority numbered.0) numbered.1) (enumerate_from n rules))
-  of_rules n [] = tt
-  of_rules n (rule ∷ more) = of_rule (rule_priority n) rule (rule_fields at rule.fields) _ (of_rules (n + 1) more)
-
-  of_acls : (conf : Configuration) (acls : List (List ℕ)) → AllByRecursion CanBeDone (acl_entries at conf d acls)
-  of_acls conf acls = all_joined CanBeDone (rule_entries at d (rules_of conf acls)) (denial at ∷ []) (of_rules 0 (rules_of conf acls)) (ends (table_at at) 1 (field_at at ∷ []), tt)
-
 module _ (conf : Configuration) (d : Dp) where
   pub port_acl_done : (i : Port) → AllByRecursion CanBeDone (port_acl conf d i)
-  port_acl_done i = by (is_accepting i && has_acls i.acls)
-    where
-      by : (b : Bool) → AllByRecursion CanBeDone (if b then acl_entries (AtPort i.no) conf d i.acls else if is_accepting i || is_stack i then port_entry i.no ∷ [] else [])
-      by true = of_acls d (AtPort i.no) conf i.acls
-      by false = all_when CanBeDone (is_accepting i || is_stack i) (port_entry i.no ∷ []) (passes_on table.PortAcl 1 (in_port i.no ∷ []) table.Admission (omega arith), tt)
+  port_acl_done i =
+      port_acl_by CanBeDone conf d i (λ priority rule fields c is. rule_done d (AtPort i.no) priority rule fields) (ends table.PortAcl 1 (field_at (AtPort i.no) ∷ []))
+      (passes_on table.PortAcl 1 (in_port i.no ∷ []) table.Admission (omega arith))
 
   pub vlan_acl_done : (v : Vlan) → AllByRecursion CanBeDone (vlan_acl conf d v)
-  vlan_acl_done v = all_when CanBeDone (has_acls v.acls && has_edge_member d v.vid) (acl_entries (AtVlan v.vid) conf d v.acls) (of_acls d (AtVlan v.vid) conf v.acls)
+  vlan_acl_done v = vlan_acl_by CanBeDone conf d v (λ priority rule fields c is. rule_done d (AtVlan v.vid) priority rule fields) (ends (table_at (AtVlan v.vid)) 1 (field_at (AtVlan v.vid) ∷ []))
 
   -- ---- table 1
 
@@ -141,12 +123,8 @@ module _ (conf : Configuration) (d : Dp) where
 
     pub admissions_done : IsValid conf → AllByRecursion CanBeDone (admissions conf d i)
     admissions_done valid =
-        all_joined CanBeDone (from_stacks conf i) (from_edges conf d i)
-        (all_when CanBeDone (is_stack i) (map (from_stack i) conf.vlans)
-        (each (from_stack i) (λ v. passes_on table.Admission 40 (in_port i.no ∷ vid_field v.vid ∷ []) table.Destination (omega arith)) conf.vlans))
-        (all_when CanBeDone (is_accepting i) (option_to_list (option_map (without_tag d i) (native_vlan conf i)) ++ map (with_tag d i) (tagged_vlans conf i))
-        (all_joined CanBeDone (option_to_list (option_map (without_tag d i) (native_vlan conf i))) (map (with_tag d i) (tagged_vlans conf i))
-        (of_option (without_tag d i) (native_vlan conf i) (λ v e. without_tag_done v (native_numbered conf valid i v e))) (each (with_tag d i) with_tag_done (tagged_vlans conf i))))
+        admissions_by CanBeDone conf d i (λ v. passes_on table.Admission 40 (in_port i.no ∷ vid_field v.vid ∷ []) table.Destination (omega arith))
+        (λ v e. without_tag_done v (native_numbered conf valid i v e)) with_tag_done
 
     -- ---- table 3
 
@@ -163,25 +141,20 @@ module _ (conf : Configuration) (d : Dp) where
         by false false = made table.Source 10 fields (to_controller ∷ []) (Some table.Ipv4Route) (omega arith) (outputs fields (tags_asked fields) (to_controller ∷ []) (tt, tt))
 
     pub misses_done : (hosts : List HostRec) → AllByRecursion CanBeDone (misses conf d i hosts)
-    misses_done hosts = all_when CanBeDone (is_accepting i) (map (miss conf hosts d i) (vlans_of conf i)) (each (miss conf hosts d i) (miss_done hosts) (vlans_of conf i))
+    misses_done hosts = misses_by CanBeDone conf d i hosts (miss_done hosts)
 
   pub sources_done : (h : HostRec) (moment : ℕ) → AllByRecursion CanBeDone (sources conf d h moment)
   sources_done h moment =
-      all_joined CanBeDone (if h.dp.0 == d.id.0 then at_its_port conf moment h ∷ [] else []) (if is_permanent conf h then elsewhere h ∷ [] else [])
-      (all_when CanBeDone (h.dp.0 == d.id.0) (at_its_port conf moment h ∷ []) (
-        made table.Source 30 fields (heard_copies conf moment h) (Some table.Ipv4Route) (omega arith)
-            (outputs fields (tags_asked fields) (heard_copies conf moment h) (all_when IsOutput (is_stale conf moment h) (to_controller ∷ []) (tt, tt))),
-        tt,
-      ))
-      (all_when CanBeDone (is_permanent conf h) (elsewhere h ∷ []) (ends table.Source 20 (eth_src h.mac ∷ vid_field h.vid ∷ []), tt))
-    where
-      fields : List Field
-      fields = in_port h.port ∷ eth_src h.mac ∷ vid_field h.vid ∷ []
+      let fields = in_port h.port ∷ eth_src h.mac ∷ vid_field h.vid ∷ [] in
+      sources_by CanBeDone conf d h moment
+      (made table.Source 30 fields (heard_copies conf moment h) (Some table.Ipv4Route) (omega arith)
+      (outputs fields (tags_asked fields) (heard_copies conf moment h) (all_when IsOutput (is_stale conf moment h) (to_controller ∷ []) (tt, tt))))
+      (ends table.Source 20 (eth_src h.mac ∷ vid_field h.vid ∷ []))
 
   -- ---- table 7
 
   pub destinations_done : (h : HostRec) → IsVid h.vid → (stack : Stack) → AllByRecursion CanBeDone (destinations d h stack)
-  destinations_done h is stack = by (h.dp.0 == d.id.0)
+  destinations_done h is stack = destinations_by CanBeDone d h stack (λ q e. here q) (λ hop e. made table.Destination 10 fields (out hop ∷ []) None tt (outputs fields (tags_asked fields) (out hop ∷ []) (tt, tt)))
     where
       fields : List Field
       fields = eth_dst h.mac ∷ vid_field h.vid ∷ []
@@ -190,16 +163,11 @@ module _ (conf : Configuration) (d : Dp) where
       back q true = sent_done (in_port q.no ∷ fields) d h.vid q to_ingress (copied_are d q.no to_ingress tt)
       back q false = tt
 
-      here : (o : Option Port) → AllByRecursion CanBeDone (option_map_or (at_port d h) o [])
-      here None = tt
-      here (Some q) = (
+      here : (q : Port) → CanBeDone (from_its_port d h q) × CanBeDone (to_its_port d h q)
+      here q = (
         tagged table.Destination 20 (in_port q.no ∷ fields) (sent_back d q h) None tt (asks_among h.vid is []) (back q q.hairpin),
-        (tagged table.Destination 10 fields (sent d h.vid q (out q.no)) None tt (asks_among h.vid is []) (sent_done fields d h.vid q (out q.no) (copied_are d q.no (out q.no) tt)), tt),
+        tagged table.Destination 10 fields (sent d h.vid q (out q.no)) None tt (asks_among h.vid is []) (sent_done fields d h.vid q (out q.no) (copied_are d q.no (out q.no) tt)),
       )
-
-      by : (b : Bool) → AllByRecursion CanBeDone (if b then option_map_or (at_port d h) (port_with d.ports h.port) [] else option_to_list (option_map (over_stack h) (hop_of stack d.id h.dp)))
-      by true = here (port_with d.ports h.port)
-      by false = of_option (over_stack h) (hop_of stack d.id h.dp) (λ hop e. made table.Destination 10 fields (out hop ∷ []) None tt (outputs fields (tags_asked fields) (out hop ∷ []) (tt, tt)))
 
   -- ---- table 8
 
@@ -243,14 +211,8 @@ module _ (conf : Configuration) (d : Dp) where
         by true = outputs_first fields 1 tags (popped native) (by_each_are from _) (popped_done fields native (by_each_are from _))
         by false = tt
 
-    floods_to_done : (flood : Flood) → AllByRecursion CanBeDone (floods_to stack d v flood)
-    floods_to_done flood =
-        all_joined CanBeDone (if has_flooded stack d v then flood_entry stack d v flood Any ∷ [] else []) (map (λ i. flood_entry stack d v flood (At i.no)) (filter (is_apart d v) d.ports))
-        (all_when CanBeDone (has_flooded stack d v) (flood_entry stack d v flood Any ∷ []) (flood_done flood Any, tt))
-        (each (λ (i : Port). flood_entry stack d v flood (At i.no)) (λ i. flood_done flood (At i.no)) (filter (is_apart d v) d.ports))
-
     pub floods_done : AllByRecursion CanBeDone (floods d v stack)
-    floods_done = all_joined CanBeDone (floods_to stack d v Unicast) (floods_to stack d v Group) (floods_to_done Unicast) (floods_to_done Group)
+    floods_done = floods_by CanBeDone d v stack flood_done
 
 -- ---- table 4
 
@@ -309,38 +271,29 @@ module _ (v : Vlan) (is : IsVid v.vid) where
 
   pub fib_done : (conf : Configuration) → IsValid conf → (neighbours : List NeighRec) (d : Dp) → AllByRecursion CanBeDone (fib conf neighbours d v)
   fib_done conf valid neighbours d =
-      let items = route_list conf neighbours (group_of conf d.id) v.vid in
-      all_when CanBeDone (has_gateway d v) (map (item_entry v) items ++ no_route v ∷ [])
-      (all_joined CanBeDone (map (item_entry v) items) (no_route v ∷ [])
-      (all_mapped CanBeDone (item_entry v) items (all_from {P = GoesInVlan} {Q = λ (item : RouteItem). CanBeDone (item_entry v item)} (λ item there. item_done item there) items (items_in_vlans neighbours (group_of conf d.id) conf valid v.vid)))
-      (ends table.Ipv4Route 9 (ipv4_for v), tt))
+      let group = group_of conf d.id in
+      fib_by CanBeDone conf neighbours d v (λ item c. item_done item (of_all GoesInVlan (route_list conf neighbours group v.vid) (items_in_vlans neighbours group conf valid v.vid) item c)) (ends table.Ipv4Route 9 (ipv4_for v))
 
 -- ---- table 6
 
 pub vips_done : (d : Dp) (v : Vlan) → AllByRecursion CanBeDone (vip_slice d v)
 vips_done d v =
-    all_when CanBeDone (has_gateway d v) (map (arp_entry v) v.vips ++ echo_entry v ∷ heard_entry v ∷ end_entry v ∷ [])
-    (all_joined CanBeDone (map (arp_entry v) v.vips) (echo_entry v ∷ heard_entry v ∷ end_entry v ∷ []) (each (arp_entry v) (λ vip. handed table.Vip 30 (arp_entry v vip).key.fields) v.vips)
-    (handed table.Vip 30 (echo_entry v).key.fields, (handed table.Vip 20 (heard_entry v).key.fields, (ends table.Vip 10 (end_entry v).key.fields, tt))))
+    vips_by CanBeDone d v (λ vip. handed table.Vip 30 (arp_entry v vip).key.fields) (handed table.Vip 30 (echo_entry v).key.fields)
+    (handed table.Vip 20 (heard_entry v).key.fields) (ends table.Vip 10 (end_entry v).key.fields)
 
 -- ---- what stands once
 
 drop_done : (priority : ℕ) (f : Field) → CanBeDone (drop priority f)
 drop_done priority f = ends table.Admission priority (f ∷ [])
 
-drops_done : (conf : Configuration) (d : Dp) → AllByRecursion CanBeDone (drops conf d)
-drops_done conf d =
-    all_joined CanBeDone (bridge_drops d) _ (all_when CanBeDone d.drop_bpdu _ (drop_done 33 _, (drop_done 33 _, tt)))
-    (all_joined CanBeDone (lldp_drops d) _ (all_when CanBeDone d.drop_lldp _ (drop_done 32 _, tt))
-    (all_joined CanBeDone (broadcast_drops d) _ (all_when CanBeDone d.drop_broadcast _ (drop_done 31 _, tt))
-    (all_when CanBeDone d.drop_spoofed _ (each (λ mac. drop 30 (eth_src mac)) (λ mac. drop_done 30 (eth_src mac)) (gateways conf)))))
+pub drops_done : (conf : Configuration) (d : Dp) → AllByRecursion CanBeDone (drops conf d)
+drops_done conf d = drops_by CanBeDone conf d (drop_done 33 _) (drop_done 33 _) (drop_done 32 _) (drop_done 31 _) (λ mac c. drop_done 30 (eth_src mac))
 
-pub fixed_done : (conf : Configuration) (d : Dp) → AllByRecursion CanBeDone (fixed conf d)
-fixed_done conf d =
-    all_joined CanBeDone (drops conf d) (from_group ∷ passes) (drops_done conf d) (
-      passes_on table.Source 40 (group_src ∷ []) table.Ipv4Route (omega arith),
-      (
-        passes_on table.Ipv4Route 0 [] table.Ipv6Route (omega arith),
-        (passes_on table.Ipv6Route 0 [] table.Vip (omega arith), (passes_on table.Vip 0 [] table.Destination (omega arith), (passes_on table.Destination 0 [] table.Flood (omega arith), tt))),
-      ),
-    )
+pub groups_done : AllByRecursion CanBeDone (from_group ∷ passes)
+groups_done = (
+  passes_on table.Source 40 (group_src ∷ []) table.Ipv4Route (omega arith),
+  (
+    passes_on table.Ipv4Route 0 [] table.Ipv6Route (omega arith),
+    (passes_on table.Ipv6Route 0 [] table.Vip (omega arith), (passes_on table.Vip 0 [] table.Destination (omega arith), (passes_on table.Destination 0 [] table.Flood (omega arith), tt))),
+  ),
+)

@@ -1,7 +1,7 @@
 -- The entries of ACLs are short: a rule sends by each interface of its datapath at most once.
-use Rattle.std.specs.Prelude.{◌≡◌, ℕ, ◌+◌, ◌≤◌, ◌&&◌, ◌||◌, nat_lt, Bool, true, false, cond, List, [], ◌∷◌, length, map, filter, Option, Some, None, Contains, if◌then◌else◌}
-use Rattle.std.specs.List.{AllByRecursion, list_any, filter_map, cons_option, enumerate_from}
-use Rattle.std.specs.Option.{option_map, option_map_or, option_and_then}
+use Rattle.std.specs.Prelude.{◌≡◌, ℕ, ◌+◌, ◌≤◌, nat_lt, Bool, true, false, cond, List, [], ◌∷◌, length, map, filter, Option, Some, None, Contains, if◌then◌else◌}
+use Rattle.std.specs.List.{AllByRecursion, list_any, filter_map}
+use Rattle.std.specs.Option.{option_map_or, option_and_then}
 use Rattle.std.proofs.Common.{refl, subst, arith}
 use Rattle.std.proofs.lemmas.List.{length-append, length-map}
 use Rattle.std.proofs.lemmas.Bool.{ltb-true}
@@ -9,7 +9,6 @@ use Rattle.std.proofs.lemmas.Option.{same_Some, none-some}
 use Rattle.net_base.specs.declared.field.Field.{Field}
 use Rattle.net_base.specs.declared.field.FieldId.TheVariants.{VlanVid}
 use Rattle.net_base.specs.FieldId.{number_of}
-use Rattle.of_match.specs.declared.entry.Entry.{Entry}
 use Rattle.conf_types.specs.declared.acl.Acl.{Acl}
 use Rattle.conf_types.specs.declared.acl.PortRef.{PortRef}
 use Rattle.conf_types.specs.declared.acl.Rule.{Rule}
@@ -19,7 +18,6 @@ use Rattle.conf_types.specs.declared.vlan.Vlan.{Vlan}
 use Rattle.conf_types.specs.Attached.{rules_of, acl_named, port_named, names_in, is_named}
 use Rattle.conf_types.specs.Configuration.{Configuration}
 use Rattle.conf_types.specs.Lists.{is_same}
-use Rattle.conf_types.specs.Membership.{is_accepting, is_stack, has_edge_member}
 use Rattle.conf_types.specs.Valid.{IsValid, IsRule}
 use Rattle.plan_base.specs.declared.table.Table.TheVariants.{PortAcl, Admission}
 use Rattle.plan_base.specs.Actions.{out}
@@ -28,11 +26,12 @@ use Rattle.plan_base.proofs.Each.{all_filter_map}
 use Rattle.acl_compile.specs.declared.place.Place.{Place}
 use Rattle.acl_compile.specs.declared.place.Place.TheVariants.{AtPort, AtVlan}
 use Rattle.acl_compile.specs.Places.{table_at, next_at, field_at}
-use Rattle.acl_compile.specs.Rows.{rule_priority, rule_entry, rule_entry_for, rule_fields, with_vid, asks_for_another, denial}
-use Rattle.acl_compile.specs.Slices.{acl_entries, rule_entries, port_acl, vlan_acl, port_entry, has_acls}
+use Rattle.acl_compile.specs.Rows.{rule_entry_for, rule_fields, with_vid, asks_for_another}
+use Rattle.acl_compile.specs.Slices.{port_acl, vlan_acl}
 use Rattle.acl_compile.specs.Targets.{target, targets, may_go}
-use Rattle.law_runs.specs.Members.{all_joined, all_flat, all_if, all_by, of_all, in_mapped}
+use Rattle.law_runs.specs.Members.{all_flat, all_by, of_all, in_mapped}
 use Rattle.plan_units.specs.Facts.{found}
+use Rattle.plan_units.specs.Parts.{OfRules, port_acl_by, vlan_acl_by}
 use Rattle.law_entries.specs.Short.{IsShort}
 use Rattle.law_entries.proofs.ShortCounts.{once_fewer}
 use Rattle.law_entries.proofs.ShortFields.{few_fields}
@@ -103,17 +102,10 @@ module _ (d : Dp) (ports : length d.ports ≤ 256) (at : Place) where
 
   -- ---- entries
 
-  of_rule : (priority : ℕ) (rule : Rule) (o : Option (List Field)) → ((fields : List Field) → o ≡ Some fields → length fields ≤ 64)
-      → (more : List Entry) → AllByRecursion IsShort more → AllByRecursion IsShort (cons_option (option_map (rule_entry_for at d priority rule) o) more)
-  of_rule priority rule None few more all = all
-  of_rule priority rule (Some fields) few more all =
-      (short (table_at at) priority fields (map out (targets at d rule)) (if rule.allow then Some (next_at at) else None) (few fields refl) (targets_few rule), all)
-
-  of_rules : (n : ℕ) (rules : List Rule) → AllByRecursion IsRule rules → AllByRecursion IsShort (filter_map (λ numbered. rule_entry at d (rule_priority numbered.0) numbered.1) (enumerate_from n rules))
-  of_rules n [] all = tt
-  of_rules n (rule ∷ more) all =
-      let formed = all.0 in
-      of_rule (rule_priority n) rule (rule_fields at rule.fields) (rule_fields_few at rule.fields (few_fields rule.fields formed.fields.ascending)) _ (of_rules (n + 1) more all.1)
+  rule_short : (priority : ℕ) (rule : Rule) (fields : List Field) → IsRule rule → rule_fields at rule.fields ≡ Some fields → IsShort (rule_entry_for at d priority rule fields)
+  rule_short priority rule fields formed is =
+      short (table_at at) priority fields (map out (targets at d rule)) (if rule.allow then Some (next_at at) else None)
+      (rule_fields_few at rule.fields (few_fields rule.fields formed.fields.ascending) fields is) (targets_few rule)
 
   are_rules : (conf : Configuration) → IsValid conf → (acls : List (List ℕ)) → AllByRecursion IsRule (rules_of conf acls)
   are_rules conf valid acls =
@@ -124,17 +116,14 @@ module _ (d : Dp) (ports : length d.ports ≤ 256) (at : Place) where
       of name None is = tt
       of name (Some acl) is = of_all (λ (x : Acl). AllByRecursion IsRule x.rules) conf.acls valid.acls.rules acl (found (λ x. is_same x.name name) conf.acls acl is).within
 
-  of_acls : (conf : Configuration) → IsValid conf → (acls : List (List ℕ)) → AllByRecursion IsShort (acl_entries at conf d acls)
-  of_acls conf valid acls =
-      all_joined IsShort (rule_entries at d (rules_of conf acls)) (denial at ∷ []) (of_rules 0 (rules_of conf acls) (are_rules conf valid acls))
-      (ends (table_at at) 1 (field_at at ∷ []) (omega arith), tt)
+  rules_short : (conf : Configuration) → IsValid conf → (acls : List (List ℕ)) → OfRules IsShort at d (rules_of conf acls)
+  rules_short conf valid acls = λ priority rule fields c is. rule_short priority rule fields (of_all IsRule (rules_of conf acls) (are_rules conf valid acls) rule c) is
 
 module _ (conf : Configuration) (valid : IsValid conf) (d : Dp) (ports : length d.ports ≤ 256) where
   pub port_acl_short : (i : Port) → AllByRecursion IsShort (port_acl conf d i)
   port_acl_short i =
-      all_if IsShort (is_accepting i && has_acls i.acls) (acl_entries (AtPort i.no) conf d i.acls) _ (λ is. of_acls d ports (AtPort i.no) conf valid i.acls)
-      (λ is. all_if IsShort (is_accepting i || is_stack i) (port_entry i.no ∷ []) [] (λ is. (short PortAcl 1 (in_port i.no ∷ []) [] (Some Admission) (omega arith) (omega arith), tt)) (λ is. tt))
+      port_acl_by IsShort conf d i (rules_short d ports (AtPort i.no) conf valid i.acls) (ends PortAcl 1 (field_at (AtPort i.no) ∷ []) (omega arith))
+      (short PortAcl 1 (in_port i.no ∷ []) [] (Some Admission) (omega arith) (omega arith))
 
   pub vlan_acl_short : (v : Vlan) → AllByRecursion IsShort (vlan_acl conf d v)
-  vlan_acl_short v =
-      all_if IsShort (has_acls v.acls && has_edge_member d v.vid) (acl_entries (AtVlan v.vid) conf d v.acls) [] (λ is. of_acls d ports (AtVlan v.vid) conf valid v.acls) (λ is. tt)
+  vlan_acl_short v = vlan_acl_by IsShort conf d v (rules_short d ports (AtVlan v.vid) conf valid v.acls) (ends (table_at (AtVlan v.vid)) 1 (field_at (AtVlan v.vid) ∷ []) (omega arith))

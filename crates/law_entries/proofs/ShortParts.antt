@@ -1,16 +1,12 @@
 -- Entries that are short by their parts.
-use Rattle.std.specs.Prelude.{◌≡◌, ℕ, ◌<◌, ◌≤◌, Bool, true, false, List, [], ◌∷◌, length, map, Option, Some, None, option_to_list, if◌then◌else◌}
-use Rattle.std.specs.List.{AllByRecursion}
-use Rattle.std.specs.Option.{option_map}
+use Rattle.std.specs.Prelude.{◌≡◌, ℕ, ◌<◌, ◌≤◌, Bool, true, false, List, [], ◌∷◌, length, Option, Some, None, if◌then◌else◌}
 use Rattle.std.proofs.Common.{refl, arith}
 use Rattle.net_base.specs.declared.field.Field.{Field}
 use Rattle.of_match.specs.declared.action.Action.{Action}
 use Rattle.of_match.specs.declared.action.Instr.{Instr}
-use Rattle.of_match.specs.declared.entry.Entry.{Entry}
 use Rattle.plan_base.specs.declared.table.Table.{Table}
 use Rattle.plan_base.specs.declared.table.Table.TheVariants.{PortAcl, Admission, VlanAcl, Source, Ipv4Route, Ipv6Route, Vip, Destination, Flood}
 use Rattle.plan_base.specs.Entries.{table_number, leads_to, entry}
-use Rattle.law_runs.specs.Members.{all_mapped, all_by}
 use Rattle.law_entries.specs.Short.{count_actions, IsShort}
 
 low : (table : Table) → table_number table < 0xff
@@ -49,12 +45,3 @@ led_if false first second a c = c
 pub length_if : {A : Type 0} (most : ℕ) (b : Bool) (xs ys : List A) → length xs ≤ most → length ys ≤ most → length (if b then xs else ys) ≤ most
 length_if most true xs ys a c = a
 length_if most false xs ys a c = c
-
--- ---- one for each of some
-
-pub each : {A : Type 0} (f : A → Entry) → ((x : A) → IsShort (f x)) → (xs : List A) → AllByRecursion IsShort (map f xs)
-each f h xs = all_mapped IsShort f xs (all_by (λ x. IsShort (f x)) xs (λ x c. h x))
-
-pub of_option : {A : Type 0} (f : A → Entry) → ((x : A) → IsShort (f x)) → (o : Option A) → AllByRecursion IsShort (option_to_list (option_map f o))
-of_option f h None = tt
-of_option f h (Some x) = (h x, tt)

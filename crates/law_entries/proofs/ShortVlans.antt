@@ -1,21 +1,19 @@
 -- The entries of admission, sources, destinations and floods are short: a packet goes by each interface and
 -- the four that mirror it at most once.
-use Rattle.std.specs.Prelude.{◌≡◌, ℕ, ◌+◌, ◌*◌, ◌≤◌, ◌==◌, ◌&&◌, not, Bool, true, List, [], ◌∷◌, ◌++◌, length, map, filter, count_by, Option, Some, None, Contains, option_to_list, if◌then◌else◌}
+use Rattle.std.specs.Prelude.{◌≡◌, ℕ, ◌+◌, ◌*◌, ◌≤◌, ◌==◌, ◌&&◌, not, Bool, true, List, [], ◌∷◌, ◌++◌, length, filter, count_by, Some, None, Contains, if◌then◌else◌}
 use Rattle.std.specs.List.{AllByRecursion}
-use Rattle.std.specs.Option.{option_map, option_map_or}
-use Rattle.std.proofs.Common.{refl, arith}
+use Rattle.std.proofs.Common.{arith}
 use Rattle.std.proofs.lemmas.Bool.{and_parts}
 use Rattle.std.proofs.lemmas.List.{length-append, length-map}
 use Rattle.of_match.specs.declared.action.Action.{Action}
-use Rattle.stack_paths.specs.Chosen.{hop_of}
 use Rattle.stack_paths.specs.Stack.{Stack}
 use Rattle.conf_types.specs.declared.datapath.Dp.{Dp}
 use Rattle.conf_types.specs.declared.datapath.Port.{Port}
 use Rattle.conf_types.specs.declared.state.HostRec.{HostRec}
 use Rattle.conf_types.specs.declared.vlan.Vlan.{Vlan}
-use Rattle.conf_types.specs.Configuration.{Configuration, port_with}
-use Rattle.conf_types.specs.Membership.{is_accepting, is_stack, is_native_in, is_mirror_of, mirrors_of}
-use Rattle.conf_types.specs.State.{is_permanent, is_stale}
+use Rattle.conf_types.specs.Configuration.{Configuration}
+use Rattle.conf_types.specs.Membership.{is_native_in, is_mirror_of, mirrors_of}
+use Rattle.conf_types.specs.State.{is_stale}
 use Rattle.plan_base.specs.declared.table.Table.TheVariants as table
 use Rattle.plan_base.specs.Actions.{out, to_controller, to_ingress, pop_tag, push_tag, set_vid}
 use Rattle.plan_base.specs.Entries.{leads_to}
@@ -25,17 +23,17 @@ use Rattle.vlan_compile.specs.declared.flood.Flood.{Flood}
 use Rattle.vlan_compile.specs.declared.flood.Flood.TheVariants.{Group, Unicast}
 use Rattle.vlan_compile.specs.declared.flood.Ingress.{Ingress}
 use Rattle.vlan_compile.specs.declared.flood.Ingress.TheVariants.{Any, At}
-use Rattle.vlan_compile.specs.Admissions.{admissions, from_stacks, from_edges, from_stack, without_tag, with_tag, next_in}
-use Rattle.vlan_compile.specs.Destinations.{destinations, at_port, over_stack, sent_back}
-use Rattle.vlan_compile.specs.Floods.{floods, floods_to, flood_entry, flood_actions, flood_priority, from_fields, to_fields, has_flooded, is_apart, is_in, flooded, is_flooded, may_get, by_each, by_port, popped}
+use Rattle.vlan_compile.specs.Admissions.{admissions, from_stack, without_tag, with_tag, next_in}
+use Rattle.vlan_compile.specs.Destinations.{from_its_port, to_its_port, destinations, sent_back}
+use Rattle.vlan_compile.specs.Floods.{floods, flood_entry, flood_actions, flood_priority, from_fields, to_fields, is_in, flooded, is_flooded, may_get, by_each, by_port, popped}
 use Rattle.vlan_compile.specs.Misses.{misses, miss, has_host, is_full}
-use Rattle.vlan_compile.specs.Sources.{sources, at_its_port, elsewhere, heard_copies}
-use Rattle.vlan_compile.specs.Vlans.{native_vlan, tagged_vlans, vlans_of}
-use Rattle.law_runs.specs.Members.{all_joined, all_if, all_by, all_filtered, of_all}
+use Rattle.vlan_compile.specs.Sources.{sources, heard_copies}
+use Rattle.law_runs.specs.Members.{all_by, all_filtered, of_all}
 use Rattle.plan_units.specs.Facts.{found}
+use Rattle.plan_units.specs.Parts.{admissions_by, destinations_by, floods_by, misses_by, sources_by}
 use Rattle.law_entries.specs.Short.{IsShort}
 use Rattle.law_entries.proofs.ShortCounts.{filter_count, filter_fewer, filter_parts, flat_fewer}
-use Rattle.law_entries.proofs.ShortParts.{short, led, led_if, length_if, each, of_option}
+use Rattle.law_entries.proofs.ShortParts.{short, led, led_if, length_if}
 
 popped_few : (actions : List Action) → length (popped actions) ≤ 1 + length actions
 popped_few [] = omega arith
@@ -85,33 +83,24 @@ module _ (d : Dp) (ports : length d.ports ≤ 256) (mirrors : AllByRecursion (λ
     from_stack_short v = short table.Admission 40 (in_port i.no ∷ vid_field v.vid ∷ []) [] (Some table.Destination) (omega arith) (omega arith)
 
     pub admissions_short : AllByRecursion IsShort (admissions conf d i)
-    admissions_short =
-        all_joined IsShort (from_stacks conf i) (from_edges conf d i)
-        (all_if IsShort (is_stack i) (map (from_stack i) conf.vlans) [] (λ is. each (from_stack i) from_stack_short conf.vlans) (λ is. tt))
-        (all_if IsShort (is_accepting i) (option_to_list (option_map (without_tag d i) (native_vlan conf i)) ++ map (with_tag d i) (tagged_vlans conf i)) []
-        (λ is. all_joined IsShort (option_to_list (option_map (without_tag d i) (native_vlan conf i))) (map (with_tag d i) (tagged_vlans conf i))
-        (of_option (without_tag d i) without_tag_short (native_vlan conf i)) (each (with_tag d i) with_tag_short (tagged_vlans conf i)))
-        (λ is. tt))
+    admissions_short = admissions_by IsShort conf d i from_stack_short (λ v e. without_tag_short v) with_tag_short
 
   -- ---- table 7
 
   pub destinations_short : (h : HostRec) (stack : Stack) → AllByRecursion IsShort (destinations d h stack)
   destinations_short h stack =
-      all_if IsShort (h.dp.0 == d.id.0) (option_map_or (at_port d h) (port_with d.ports h.port) []) (option_to_list (option_map (over_stack h) (hop_of stack d.id h.dp)))
-      (λ is. here (port_with d.ports h.port) (λ q e. (found (λ p. p.no == h.port) d.ports q e).within))
-      (λ is. of_option (over_stack h) (λ hop. short table.Destination 10 (eth_dst h.mac ∷ vid_field h.vid ∷ []) (out hop ∷ []) None (omega arith) (omega arith)) (hop_of stack d.id h.dp))
+      destinations_by IsShort d h stack (λ q e. here q (found (λ p. p.no == h.port) d.ports q e).within)
+      (λ hop e. short table.Destination 10 (eth_dst h.mac ∷ vid_field h.vid ∷ []) (out hop ∷ []) None (omega arith) (omega arith))
     where
       back : (q : Port) → Contains d.ports q → length (sent_back d q h) ≤ 6
       back q c = length_if 6 q.hairpin (sent d h.vid q to_ingress) [] (sent_few h.vid q c to_ingress) (omega arith)
 
-      here : (o : Option Port) → ((q : Port) → o ≡ Some q → Contains d.ports q) → AllByRecursion IsShort (option_map_or (at_port d h) o [])
-      here None within = tt
-      here (Some q) within =
-          let c = within q refl in
+      here : (q : Port) → Contains d.ports q → IsShort (from_its_port d h q) × IsShort (to_its_port d h q)
+      here q c =
           let first = back q c in
           let second = sent_few h.vid q c (out q.no) in (
             short table.Destination 20 (in_port q.no ∷ eth_dst h.mac ∷ vid_field h.vid ∷ []) (sent_back d q h) None (omega arith) (omega (arith, first)),
-            (short table.Destination 10 (eth_dst h.mac ∷ vid_field h.vid ∷ []) (sent d h.vid q (out q.no)) None (omega arith) (omega (arith, second)), tt),
+            short table.Destination 10 (eth_dst h.mac ∷ vid_field h.vid ∷ []) (sent d h.vid q (out q.no)) None (omega arith) (omega (arith, second)),
           )
 
   -- ---- table 8
@@ -161,14 +150,8 @@ module _ (d : Dp) (ports : length d.ports ≤ 256) (mirrors : AllByRecursion (λ
     flood_short flood from =
         short table.Flood (flood_priority flood from) (from_fields from ++ to_fields flood v.vid) (flood_actions stack d v flood from) None (from_few from flood v.vid) (flood_few flood from)
 
-    floods_to_short : (flood : Flood) → AllByRecursion IsShort (floods_to stack d v flood)
-    floods_to_short flood =
-        all_joined IsShort (if has_flooded stack d v then flood_entry stack d v flood Any ∷ [] else []) (map (λ i. flood_entry stack d v flood (At i.no)) (filter (is_apart d v) d.ports))
-        (all_if IsShort (has_flooded stack d v) (flood_entry stack d v flood Any ∷ []) [] (λ is. (flood_short flood Any, tt)) (λ is. tt))
-        (each (λ (i : Port). flood_entry stack d v flood (At i.no)) (λ i. flood_short flood (At i.no)) (filter (is_apart d v) d.ports))
-
     pub floods_short : AllByRecursion IsShort (floods d v stack)
-    floods_short = all_joined IsShort (floods_to stack d v Unicast) (floods_to stack d v Group) (floods_to_short Unicast) (floods_to_short Group)
+    floods_short = floods_by IsShort d v stack flood_short
 
 -- ---- table 3
 
@@ -182,12 +165,10 @@ module _ (conf : Configuration) (d : Dp) where
   }
 
   pub misses_short : (i : Port) (hosts : List HostRec) → AllByRecursion IsShort (misses conf d i hosts)
-  misses_short i hosts = all_if IsShort (is_accepting i) (map (miss conf hosts d i) (vlans_of conf i)) [] (λ is. each (miss conf hosts d i) (miss_short hosts i) (vlans_of conf i)) (λ is. tt)
+  misses_short i hosts = misses_by IsShort conf d i hosts (miss_short hosts i)
 
   pub sources_short : (h : HostRec) (moment : ℕ) → AllByRecursion IsShort (sources conf d h moment)
   sources_short h moment =
       let heard = length_if 1 (is_stale conf moment h) (to_controller ∷ []) [] (omega arith) (omega arith) in
-      all_joined IsShort (if h.dp.0 == d.id.0 then at_its_port conf moment h ∷ [] else []) (if is_permanent conf h then elsewhere h ∷ [] else [])
-      (all_if IsShort (h.dp.0 == d.id.0) (at_its_port conf moment h ∷ []) []
-      (λ is. (short table.Source 30 (in_port h.port ∷ eth_src h.mac ∷ vid_field h.vid ∷ []) (heard_copies conf moment h) (Some table.Ipv4Route) (omega arith) (omega (arith, heard)), tt)) (λ is. tt))
-      (all_if IsShort (is_permanent conf h) (elsewhere h ∷ []) [] (λ is. (short table.Source 20 (eth_src h.mac ∷ vid_field h.vid ∷ []) [] None (omega arith) (omega arith), tt)) (λ is. tt))
+      sources_by IsShort conf d h moment (short table.Source 30 (in_port h.port ∷ eth_src h.mac ∷ vid_field h.vid ∷ []) (heard_copies conf moment h) (Some table.Ipv4Route) (omega arith) (omega (arith, heard)))
+      (short table.Source 20 (eth_src h.mac ∷ vid_field h.vid ∷ []) [] None (omega arith) (omega arith))

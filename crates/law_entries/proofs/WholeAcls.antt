@@ -1,20 +1,17 @@
 -- The entries of ACLs: a rule sends by interfaces of its datapath.
-use Rattle.std.specs.Prelude.{◌≡◌, ℕ, ◌+◌, ◌==◌, ◌&&◌, ◌||◌, not, Bool, true, false, cond, List, [], ◌∷◌, map, Option, Some, None, if◌then◌else◌}
-use Rattle.std.specs.List.{AllByRecursion, filter_map, cons_option, enumerate_from}
-use Rattle.std.specs.Option.{option_map}
+use Rattle.std.specs.Prelude.{◌≡◌, ℕ, ◌==◌, not, Bool, true, false, cond, List, [], ◌∷◌, map, Some, None, if◌then◌else◌}
+use Rattle.std.specs.List.{AllByRecursion, filter_map}
 use Rattle.std.proofs.Common.{subst}
 use Rattle.std.proofs.lemmas.Option.{same_Some, none-some, option_and_then_some}
 use Rattle.net_base.specs.declared.field.Field.{Field}
 use Rattle.net_base.specs.Numbers.{IsPortNo}
-use Rattle.of_match.specs.declared.entry.Entry.{Entry}
 use Rattle.conf_types.specs.declared.acl.PortRef.{PortRef}
 use Rattle.conf_types.specs.declared.acl.Rule.{Rule}
 use Rattle.conf_types.specs.declared.datapath.Dp.{Dp}
 use Rattle.conf_types.specs.declared.datapath.Port.{Port}
 use Rattle.conf_types.specs.declared.vlan.Vlan.{Vlan}
-use Rattle.conf_types.specs.Attached.{rules_of, is_named, port_named, names_in}
+use Rattle.conf_types.specs.Attached.{is_named, port_named, names_in}
 use Rattle.conf_types.specs.Configuration.{Configuration}
-use Rattle.conf_types.specs.Membership.{is_accepting, is_stack, has_edge_member}
 use Rattle.conf_types.proofs.Found.{all_found}
 use Rattle.plan_base.specs.declared.table.Table.TheVariants.{Admission}
 use Rattle.plan_base.specs.Actions.{out}
@@ -22,12 +19,13 @@ use Rattle.plan_base.proofs.Each.{all_filter, all_filter_map}
 use Rattle.acl_compile.specs.declared.place.Place.{Place}
 use Rattle.acl_compile.specs.declared.place.Place.TheVariants.{AtPort, AtVlan}
 use Rattle.acl_compile.specs.Places.{next_at}
-use Rattle.acl_compile.specs.Rows.{rule_priority, rule_entry, rule_entry_for, rule_fields, denial}
-use Rattle.acl_compile.specs.Slices.{acl_entries, rule_entries, port_acl, vlan_acl, port_entry, has_acls}
+use Rattle.acl_compile.specs.Rows.{rule_entry_for}
+use Rattle.acl_compile.specs.Slices.{port_acl, vlan_acl}
 use Rattle.acl_compile.specs.Targets.{may_go, once, target, targets}
-use Rattle.law_runs.specs.Members.{all_joined, all_by}
+use Rattle.law_runs.specs.Members.{all_by}
+use Rattle.plan_units.specs.Parts.{port_acl_by, vlan_acl_by}
 use Rattle.law_entries.specs.Whole.{SendsWhole}
-use Rattle.law_entries.proofs.WholeParts.{all_when, outs_whole, led}
+use Rattle.law_entries.proofs.WholeParts.{outs_whole, led}
 
 all_once : (P : ℕ → Type 0) (ns : List ℕ) → AllByRecursion P ns → AllByRecursion P (once ns)
 all_once P [] all = tt
@@ -56,24 +54,8 @@ module _ (d : Dp) (numbers : AllByRecursion (λ (p : Port). IsPortNo p.no) d.por
     rule_whole : (priority : ℕ) (rule : Rule) (fields : List Field) → SendsWhole (rule_entry_for at d priority rule fields)
     rule_whole priority rule fields = led (map out (targets at d rule)) (if rule.allow then Some (next_at at) else None) (outs_whole (targets at d rule) (are_targets rule))
 
-    of_rule : (priority : ℕ) (rule : Rule) (o : Option (List Field)) (more : List Entry) → AllByRecursion SendsWhole more
-        → AllByRecursion SendsWhole (cons_option (option_map (rule_entry_for at d priority rule) o) more)
-    of_rule priority rule None more all = all
-    of_rule priority rule (Some fields) more all = (rule_whole priority rule fields, all)
-
-    of_rules : (n : ℕ) (rules : List Rule) → AllByRecursion SendsWhole (filter_map (λ numbered. rule_entry at d (rule_priority numbered.0) numbered.1) (enumerate_from n rules))
-    of_rules n [] = tt
-    of_rules n (rule ∷ more) = of_rule (rule_priority n) rule (rule_fields at rule.fields) _ (of_rules (n + 1) more)
-
-    of_acls : (conf : Configuration) (acls : List (List ℕ)) → AllByRecursion SendsWhole (acl_entries at conf d acls)
-    of_acls conf acls = all_joined SendsWhole (rule_entries at d (rules_of conf acls)) (denial at ∷ []) (of_rules 0 (rules_of conf acls)) (tt, tt)
-
   pub port_acl_whole : (conf : Configuration) (i : Port) → AllByRecursion SendsWhole (port_acl conf d i)
-  port_acl_whole conf i = by (is_accepting i && has_acls i.acls)
-    where
-      by : (b : Bool) → AllByRecursion SendsWhole (if b then acl_entries (AtPort i.no) conf d i.acls else if is_accepting i || is_stack i then port_entry i.no ∷ [] else [])
-      by true = of_acls (AtPort i.no) conf i.acls
-      by false = all_when SendsWhole (is_accepting i || is_stack i) (port_entry i.no ∷ []) (led [] (Some Admission) tt, tt)
+  port_acl_whole conf i = port_acl_by SendsWhole conf d i (λ priority rule fields c is. rule_whole (AtPort i.no) priority rule fields) tt (led [] (Some Admission) tt)
 
   pub vlan_acl_whole : (conf : Configuration) (v : Vlan) → AllByRecursion SendsWhole (vlan_acl conf d v)
-  vlan_acl_whole conf v = all_when SendsWhole (has_acls v.acls && has_edge_member d v.vid) (acl_entries (AtVlan v.vid) conf d v.acls) (of_acls (AtVlan v.vid) conf v.acls)
+  vlan_acl_whole conf v = vlan_acl_by SendsWhole conf d v (λ priority rule fields c is. rule_whole (AtVlan v.vid) priority rule fields) tt

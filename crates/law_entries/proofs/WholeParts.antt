@@ -1,12 +1,10 @@
 -- Actions and entries by their parts.
-use Rattle.std.specs.Prelude.{◌≡◌, ℕ, ◌==◌, ◌&&◌, Bool, true, false, List, [], ◌∷◌, map, Option, Some, None, option_to_list, if◌then◌else◌}
+use Rattle.std.specs.Prelude.{◌≡◌, ℕ, ◌==◌, ◌&&◌, Bool, true, false, List, [], ◌∷◌, map, Option, Some, None, if◌then◌else◌}
 use Rattle.std.specs.List.{AllByRecursion}
-use Rattle.std.specs.Option.{option_map}
 use Rattle.std.proofs.Common.{refl, arith, eqb-true}
 use Rattle.net_base.specs.Numbers.{IsPortNo}
 use Rattle.of_match.specs.declared.action.TheConstants.{CONTROLLER}
 use Rattle.of_match.specs.declared.action.Action.{Action}
-use Rattle.of_match.specs.declared.entry.Entry.{Entry}
 use Rattle.conf_types.specs.declared.datapath.Dp.{Dp}
 use Rattle.conf_types.specs.declared.datapath.Port.{Port}
 use Rattle.conf_types.specs.Membership.{is_native_in, is_mirror_of}
@@ -15,8 +13,8 @@ use Rattle.plan_base.specs.Actions.{out, to_controller, to_ingress, pop_tag}
 use Rattle.plan_base.specs.Entries.{leads_to}
 use Rattle.plan_base.specs.Sending.{mirrored, copied, sent}
 use Rattle.plan_base.proofs.Each.{all_from, all_filter}
-use Rattle.law_runs.specs.Members.{all_joined, all_mapped, all_by}
-use Rattle.law_entries.specs.Whole.{IsWhole, DoesWhole, SendsWhole}
+use Rattle.law_runs.specs.Members.{all_joined, all_mapped}
+use Rattle.law_entries.specs.Whole.{IsWhole, DoesWhole}
 
 pub all_when : {A : Type 0} (P : A → Type 0) (b : Bool) (xs : List A) → AllByRecursion P xs → AllByRecursion P (if b then xs else [])
 all_when P true xs all = all
@@ -63,10 +61,3 @@ led [] None all = tt
 led [] (Some table) all = (tt, tt)
 led (a ∷ more) None all = (all, tt)
 led (a ∷ more) (Some table) all = (all, (tt, tt))
-
-pub each : {A : Type 0} (f : A → Entry) → ((x : A) → SendsWhole (f x)) → (xs : List A) → AllByRecursion SendsWhole (map f xs)
-each f h xs = all_mapped SendsWhole f xs (all_by (λ x. SendsWhole (f x)) xs (λ x c. h x))
-
-pub of_option : {A : Type 0} (f : A → Entry) → ((x : A) → SendsWhole (f x)) → (o : Option A) → AllByRecursion SendsWhole (option_to_list (option_map f o))
-of_option f h None = tt
-of_option f h (Some x) = (h x, tt)

@@ -1,5 +1,6 @@
 pub mod Fixed
 pub mod Units
+pub mod Parts
 pub mod Tables
 pub mod Steps
 pub mod Laws
