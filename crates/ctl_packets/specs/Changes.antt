@@ -46,7 +46,7 @@ has_room wants.Known = true
 has_room wants.Full = false
 
 abbrev pub has_room_for_wanted : (group : DpId) → (vid : ℕ) → Ip4 → World → Bool
-has_room_for_wanted group vid ip w = has_room (neighbours.answer w.neighbours (neighbours.unresolved group vid ip w.moment))
+has_room_for_wanted group vid ip w = has_room (neighbours.outcome w.neighbours (neighbours.unresolved group vid ip w.moment))
 
 -- the address lies in the network of a VLAN, and isn't known there
 abbrev pub gleans_to : (group : DpId) → (vid : ℕ) → Ip4 → World → Bool
@@ -63,7 +63,7 @@ gleans dp vid frame w = option_map_or (λ ip. gleans_to (group_of w.conf dp) vid
 abbrev pub has_room_for_heard : DpId → (vid : ℕ) → World → Sender → Bool
 has_room_for_heard dp vid w s =
     let group = group_of w.conf dp in
-    has_room (neighbours.answer w.neighbours (neighbours.resolved group vid s.ip s.mac (least_time w.conf group w.conf.dps * 1000) w.moment))
+    has_room (neighbours.outcome w.neighbours (neighbours.resolved group vid s.ip s.mac (least_time w.conf group w.conf.dps * 1000) w.moment))
 
 abbrev pub hears : DpId → (vid : ℕ) → FrameParts → World → Bool
 hears dp vid frame w = option_map_or (has_room_for_heard dp vid w) (heard_sender w.conf vid frame) false

@@ -148,7 +148,7 @@ neighbours_told keep n six ns all wants.Known = each ns all
     each (m ∷ ms) all = (elim (gives_way keep n m) as (λ b. IsNeighbour (if b then n else m)) [ true ↦ six | false ↦ all.0 ], each ms all.1)
 
 table_told : (keep : NeighRec → Bool) (n : NeighRec) → IsNeighbour n → (t : Neighbours) → AllByRecursion IsNeighbour t.neighbours → AllByRecursion IsNeighbour (after_told keep n t).neighbours
-table_told keep n six t all = neighbours_told keep n six t.neighbours all (table.answer t n)
+table_told keep n six t all = neighbours_told keep n six t.neighbours all (table.outcome t n)
 
 with_any : {A : Type 0} (f : A → World) (o : Option A) (w : World) → ((a : A) → IsAddressed (f a)) → IsAddressed w → IsAddressed (option_map_or f o w)
 with_any f (Some a) w each none = each a

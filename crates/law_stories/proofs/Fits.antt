@@ -1,12 +1,10 @@
 -- By the stage of a connection, what was said of the tables on it; and what a message that is heard leaves of that.
-use Rattle.std.proofs.Common.{◌≡◌, ℕ, ◌==◌, Bool, true, false, Option, Some, None, List, [], ◌∷◌, ◌++◌, nat_lt, length, true≢false, arith, refl, sym, ap, subst, ◌∙◌, if◌then◌else◌}
-use Rattle.std.specs.List.{AllByRecursion, list_any}
+use Rattle.std.proofs.Common.{◌≡◌, ℕ, ◌==◌, Bool, true, false, Option, Some, None, List, [], ◌∷◌, ◌++◌, nat_lt, refl, sym, subst, ◌∙◌, if◌then◌else◌}
+use Rattle.std.specs.List.{AllByRecursion}
 use Rattle.std.proofs.lemmas.Option.{none-some}
-use Rattle.std.proofs.lemmas.List.Sorted.{length_permutation, list_any-IsPermutation}
-use Rattle.of_match.specs.declared.entry.Command.{Command}
-use Rattle.of_match.specs.declared.entry.Command.TheVariants.{Add, DeleteAll, DeleteStrict}
+use Rattle.of_match.specs.declared.entry.Command.TheVariants.{DeleteAll}
 use Rattle.of_match.specs.declared.entry.Entry.{Entry}
-use Rattle.of_match.specs.Settled.{Settles, after_all}
+use Rattle.of_match.proofs.Settling.{wiped}
 use Rattle.of13_codec.specs.declared.message.Message.{Message}
 use Rattle.of13_codec.specs.declared.message.Message.TheVariants as messages
 use Rattle.switch_session.specs.declared.closing.Closing.TheVariants.{WrongVersion}
@@ -86,22 +84,6 @@ abbrev Goes : State × Step → List Entry → Told → Type 0
 Goes r sent told = After r.1 r.0.stage r.0.awaited sent told
 
 -- ---- batches, one behind the other
-
-abbrev is_wipe : Command → Bool
-is_wipe DeleteAll = true
-is_wipe _ = false
-
-only_wipe : (order : List Command) → length order ≡ 1 → true ≡ list_any is_wipe order → order ≡ DeleteAll ∷ []
-only_wipe [] n e = absurd (true≢false e)
-only_wipe (DeleteAll ∷ []) n e = refl
-only_wipe (Add entry ∷ []) n e = absurd (true≢false e)
-only_wipe (DeleteStrict key ∷ []) n e = absurd (true≢false e)
-only_wipe (c ∷ d ∷ more) n e = absurd (omega (arith, n))
-
-wiped : (held between : List Entry) → Settles held (DeleteAll ∷ []) between → between ≡ []
-wiped held between s =
-    let is : s.order ≡ DeleteAll ∷ [] = only_wipe s.order (length_permutation (DeleteAll ∷ []) s.order s.reordered) (list_any-IsPermutation is_wipe (DeleteAll ∷ []) s.order s.reordered) in
-    s.leads ∙ ap (after_all held) is
 
 -- the wipe and its barrier lead to no entries
 wiped_leads : (wipe xid : ℕ) → LeadsTo ((delete_all, wipe) ∷ (messages.BarrierRequest, xid) ∷ []) []

@@ -1,31 +1,19 @@
 -- Each entry that a datapath is to have stands in one table, whatever was learned.
-use Rattle.std.specs.Prelude.{◌≡◌, ◌==◌, [], Option, Some, None, Contains}
-use Rattle.std.specs.List.{AllByRecursion, flat_map}
+use Rattle.std.specs.Prelude.{◌≡◌, ◌==◌, [], Option, Some, None}
+use Rattle.std.specs.List.{AllByRecursion}
 use Rattle.std.specs.Option.{option_map_or}
 use Rattle.std.proofs.Common.{arith, refl}
 use Rattle.std.proofs.lemmas.Bool.Decides.{nat_tests}
 use Rattle.net_base.specs.declared.numbers.DpId.{DpId}
 use Rattle.of_match.proofs.AfterOrder.{all_map}
 use Rattle.conf_types.specs.declared.datapath.Dp.{Dp}
-use Rattle.conf_types.specs.declared.datapath.Port.{Port}
-use Rattle.conf_types.specs.declared.state.HostRec.{HostRec}
-use Rattle.conf_types.specs.declared.vlan.Vlan.{Vlan}
 use Rattle.conf_types.specs.Configuration.{Configuration, dp_with}
 use Rattle.conf_types.specs.State.{State}
-use Rattle.conf_types.specs.Valid.{DatapathIsWithin, IsValid}
-use Rattle.packet_way.specs.Known.{stack_of}
-use Rattle.acl_compile.specs.Slices.{port_acl, vlan_acl}
-use Rattle.vlan_compile.specs.Admissions.{admissions}
-use Rattle.vlan_compile.specs.Sources.{sources}
-use Rattle.route_compile.specs.Vips.{vip_slice}
-use Rattle.law_runs.specs.Members.{all_by, all_flat, all_joined, of_all}
+use Rattle.conf_types.specs.Valid.{IsValid}
 use Rattle.plan_units.specs.Facts.{found}
-use Rattle.plan_units.specs.Fixed.{fixed}
-use Rattle.plan_units.specs.Units.{hosts_of, of_host, of_port, of_routes, of_vlan, plan}
+use Rattle.plan_units.specs.Units.{plan}
 use Rattle.law_entries.specs.Short.{IsShort}
-use Rattle.law_entries.proofs.ShortAcls.{port_acl_short, vlan_acl_short}
-use Rattle.law_entries.proofs.ShortRoutes.{fib_short, fixed_short, vips_short}
-use Rattle.law_entries.proofs.ShortVlans.{admissions_short, destinations_short, floods_short, misses_short, sources_short}
+use Rattle.law_entries.proofs.ShortPlan.{plan_short}
 use Rattle.cold_start.specs.Cold.{cold}
 use Rattle.ctl_world.specs.World.{World, now}
 use Rattle.ctl_settle.specs.Settling.{wanted}
@@ -33,37 +21,9 @@ use Rattle.law_stories.proofs.Fits.{IsLow}
 use Rattle.law_stories.proofs.Leading.{low_added}
 
 module _ (conf : Configuration) (valid : IsValid conf) (now : State) (d : Dp) (dp : DpId) (is_dp : dp_with conf.dps dp ≡ Some d) where
-  within : DatapathIsWithin conf d
-  within = of_all (DatapathIsWithin conf) conf.dps valid.limits.each d (found (λ e. e.id.0 == dp.0) conf.dps d is_dp).within
-
-  port_short : (i : Port) → Contains d.ports i → AllByRecursion IsShort (of_port conf now d i)
-  port_short i c =
-      all_joined IsShort (port_acl conf d i) _ (port_acl_short conf valid d within.ports i)
-      (all_joined IsShort (admissions conf d i) _ (admissions_short d within.ports within.mirrors conf i c) (misses_short conf d i now.hosts))
-
-  vlan_short : (v : Vlan) → AllByRecursion IsShort (of_vlan conf now d v)
-  vlan_short v =
-      all_joined IsShort (vlan_acl conf d v) _ (vlan_acl_short conf valid d within.ports v)
-      (all_joined IsShort (vip_slice d v) _ (vips_short d v) (floods_short d within.ports within.mirrors (stack_of conf now.ups) v))
-
-  host_short : (h : HostRec) → AllByRecursion IsShort (of_host conf now d h)
-  host_short h =
-      all_joined IsShort (sources conf d h now.moment) _ (sources_short conf d h now.moment) (destinations_short d within.ports within.mirrors h (stack_of conf now.ups))
-
-  plan_short : AllByRecursion IsShort (plan conf now d)
-  plan_short =
-      all_joined IsShort (fixed conf d) _ (fixed_short conf d)
-      (all_joined IsShort (flat_map (of_port conf now d) d.ports) _
-      (all_flat IsShort (of_port conf now d) d.ports (all_by (λ i. AllByRecursion IsShort (of_port conf now d i)) d.ports port_short))
-      (all_joined IsShort (flat_map (of_vlan conf now d) conf.vlans) _
-      (all_flat IsShort (of_vlan conf now d) conf.vlans (all_by (λ v. AllByRecursion IsShort (of_vlan conf now d v)) conf.vlans (λ v c. vlan_short v)))
-      (all_joined IsShort (flat_map (of_host conf now d) (hosts_of conf now d)) _
-      (all_flat IsShort (of_host conf now d) (hosts_of conf now d) (all_by (λ h. AllByRecursion IsShort (of_host conf now d h)) (hosts_of conf now d) (λ h c. host_short h)))
-      (all_flat IsShort (of_routes conf now d) conf.vlans (all_by (λ v. AllByRecursion IsShort (of_routes conf now d v)) conf.vlans (λ v c. fib_short conf now.neighbours d v))))))
-
   cold_low : AllByRecursion IsLow (cold conf now d)
   unfolding cold
-  cold_low = low_added [] (plan conf now d) tt (all_map IsShort IsLow (λ e short. let less = short.table in grind (arith, nat_tests)) (plan conf now d) plan_short)
+  cold_low = low_added [] (plan conf now d) tt (all_map IsShort IsLow (λ e short. let less = short.table in grind (arith, nat_tests)) (plan conf now d) (plan_short conf now d valid (found (λ e. e.id.0 == dp.0) conf.dps d is_dp).within))
 
 pub wanted_low : (w : World) (dp : DpId) → IsValid w.conf → AllByRecursion IsLow (wanted w dp)
 wanted_low w dp valid = by (dp_with w.conf.dps dp) refl
