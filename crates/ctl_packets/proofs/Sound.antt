@@ -23,6 +23,7 @@ use Rattle.host_learn.proofs.LearnedValid.{learned_valid}
 use Rattle.host_learn.proofs.Lists.{found_passes}
 use Rattle.of_match.specs.InPort.{in_port}
 use Rattle.of13_codec.specs.declared.packet_in.PacketIn.{PacketIn}
+use Rattle.flow_messages.specs.declared.messages.TheConstants.{COOKIE}
 use Rattle.pkt_view.specs.Frame.{FrameParts, UpperParts, Unknown, Arp, V4, parts}
 use Rattle.neighbour_resolve.specs.declared.hearing.Sender.{Sender}
 use Rattle.neighbour_resolve.specs.Answers.{answer}
@@ -33,7 +34,7 @@ use Rattle.neighbour_resolve.proofs.Valid.{told_valid}
 use Rattle.ctl_world.specs.Saying.{packet_out, say}
 use Rattle.ctl_world.specs.World.{IsSound, World, now, running, ups}
 use Rattle.ctl_world.proofs.SoundChanges.{say_sound}
-use Rattle.ctl_packets.specs.Packets.{destination, glean, glean_at, glean_in, glean_to, hear, hear_from, is_for_gateway, is_resolved, learn, least_time, network_vlan, outgoing, packet_at, packet_by, packet_in, packet_of_table, reply, want}
+use Rattle.ctl_packets.specs.Packets.{destination, gateways, glean, glean_at, glean_in, glean_to, hear_neighbour, hear_sender, is_for_gateway, is_resolved, learn, least_time, network_vlan, outgoing, packet_at, packet_by, packet_in, packet_of_table, reply, routes, sources, want}
 
 -- what holds with any value, and without one, holds with what there is
 with_any : {A : Type 0} (f : A → World) (o : Option A) (w : World) → ((a : A) → o ≡ Some a → IsSound (f a)) → IsSound w → IsSound (option_map_or f o w)
@@ -118,10 +119,10 @@ module _ (dp : DpId) (w : World) (runs : is_running (running w) dp ≡ true) (so
         | inr other ↦ let e = rw other at is in absurd (cc)
       ]
 
-  hear_sound : (vid : ℕ) (frame : FrameParts) → IsSound (hear dp vid frame w)
+  hear_sound : (vid : ℕ) (frame : FrameParts) → IsSound (hear_neighbour dp vid frame w)
   hear_sound vid frame =
       let group = group_of w.conf dp in
-      with_any (hear_from dp vid w) (heard_sender w.conf vid frame) w
+      with_any (hear_sender dp vid w) (heard_sender w.conf vid frame) w
       (λ s some. told_sound (stays false) (resolved group vid s.ip s.mac (least_time w.conf group w.conf.dps * 1000) w.moment) w
       (record { address = sender_address vid frame.src frame.upper s some; runs = group_runs w.conf dp (running w) runs }) sound) sound
 
@@ -138,13 +139,13 @@ module _ (m : PacketIn) (number : ℕ) (dp : DpId) (w : World) (valid : IsValid 
   table_sound port vid frame runs =
       let learned = learn dp port vid frame.src w in
       let gleaned = glean dp vid frame w in
-      let answered = reply number dp port vid frame (hear dp vid frame w) in
-      elim (m.table == 3) as (λ b. IsSound (if b then learned else if m.table == 4 then gleaned else if m.table == 6 then answered else w)) [
+      let answered = reply number dp port vid frame (hear_neighbour dp vid frame w) in
+      elim (m.table == sources) as (λ b. IsSound (if b then learned else if m.table == routes then gleaned else if m.table == gateways then answered else w)) [
         | true ↦ learn_sound dp port vid frame.src w valid runs sound
-        | false ↦ elim (m.table == 4) as (λ b. IsSound (if b then gleaned else if m.table == 6 then answered else w)) [
+        | false ↦ elim (m.table == routes) as (λ b. IsSound (if b then gleaned else if m.table == gateways then answered else w)) [
           | true ↦ glean_sound dp w runs sound vid frame
-          | false ↦ elim (m.table == 6) as (λ b. IsSound (if b then answered else w)) [
-            | true ↦ reply_sound number dp port vid frame (hear dp vid frame w) (hear_sound dp w runs sound vid frame)
+          | false ↦ elim (m.table == gateways) as (λ b. IsSound (if b then answered else w)) [
+            | true ↦ reply_sound number dp port vid frame (hear_neighbour dp vid frame w) (hear_sound dp w runs sound vid frame)
             | false ↦ sound
           ]
         ]
@@ -159,7 +160,7 @@ module _ (m : PacketIn) (number : ℕ) (dp : DpId) (w : World) (valid : IsValid 
 
   pub packet_sound : IsSound (packet_in m number dp w)
   packet_sound =
-      let ours : Bool = m.cookie == 0x5adc15c0 in
+      let ours : Bool = m.cookie == COOKIE in
       elim (cases_Bool (ours && is_running (running w) dp)) [
         | inl counts ↦ rw counts (with_any (packet_by m number dp w) (in_port m.fields) w (λ port some. by_sound port (and_parts ours (is_running (running w) dp) counts).1) sound)
         | inr other ↦ rw other sound

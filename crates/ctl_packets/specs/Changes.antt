@@ -13,6 +13,7 @@ use Rattle.host_learn.specs.declared.learn.Learn.TheVariants.{Learned, Moved, Re
 use Rattle.host_learn.specs.Learning as hosts
 use Rattle.of_match.specs.InPort.{in_port}
 use Rattle.of13_codec.specs.declared.packet_in.PacketIn.{PacketIn}
+use Rattle.flow_messages.specs.declared.messages.TheConstants.{COOKIE}
 use Rattle.pkt_view.specs.Frame.{FrameParts, parts}
 use Rattle.neighbour_resolve.specs.declared.hearing.Sender.{Sender}
 use Rattle.neighbour_resolve.specs.declared.neighbour.Want.{Want}
@@ -21,7 +22,7 @@ use Rattle.neighbour_resolve.specs.Counted.{counted_vid}
 use Rattle.neighbour_resolve.specs.Hearing.{heard_sender}
 use Rattle.neighbour_resolve.specs.Table as neighbours
 use Rattle.ctl_world.specs.World.{World, running, ups}
-use Rattle.ctl_packets.specs.Packets.{destination, is_for_gateway, is_resolved, least_time, network_vlan}
+use Rattle.ctl_packets.specs.Packets.{destination, gateways, is_for_gateway, is_resolved, least_time, network_vlan, routes, sources}
 
 -- ---- hosts
 
@@ -65,17 +66,17 @@ has_room_for_heard dp vid w s =
     let group = group_of w.conf dp in
     has_room (neighbours.outcome w.neighbours (neighbours.resolved group vid s.ip s.mac (least_time w.conf group w.conf.dps * 1000) w.moment))
 
-abbrev pub hears : DpId → (vid : ℕ) → FrameParts → World → Bool
-hears dp vid frame w = option_map_or (has_room_for_heard dp vid w) (heard_sender w.conf vid frame) false
+abbrev pub hears_neighbour : DpId → (vid : ℕ) → FrameParts → World → Bool
+hears_neighbour dp vid frame w = option_map_or (has_room_for_heard dp vid w) (heard_sender w.conf vid frame) false
 
 -- ---- the whole
 
--- by the table that sent it: that of sources, of routes, and of what the gateways answer
+-- by the table that sent it
 abbrev pub table_changes : (table : ℕ) → DpId → (port vid : ℕ) → FrameParts → World → Bool
 table_changes table dp port vid frame w =
-    if table == 3 then learns dp port vid frame.src w
-    else if table == 4 then gleans dp vid frame w
-    else table == 6 && hears dp vid frame w
+    if table == sources then learns dp port vid frame.src w
+    else if table == routes then gleans dp vid frame w
+    else table == gateways && hears_neighbour dp vid frame w
 
 -- its one tag is of a VLAN that the port is an edge member of
 abbrev pub frame_changes : PacketIn → DpId → World → (port : ℕ) → FrameParts → Bool
@@ -87,4 +88,4 @@ port_changes m dp w port = option_map_or (frame_changes m dp w port) (parts m.pa
 -- of a datapath that runs, with the cookie of this controller, and the port that it came in by
 abbrev pub packet_changes : PacketIn → DpId → World → Bool
 packet_changes m dp w =
-    m.cookie == 0x5adc15c0 && is_running (running w) dp && option_map_or (port_changes m dp w) (in_port m.fields) false
+    m.cookie == COOKIE && is_running (running w) dp && option_map_or (port_changes m dp w) (in_port m.fields) false

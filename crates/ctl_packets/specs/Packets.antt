@@ -19,6 +19,9 @@ use Rattle.conf_types.specs.State.{is_running}
 use Rattle.host_learn.specs.Learning.{learned}
 use Rattle.of_match.specs.InPort.{in_port}
 use Rattle.of13_codec.specs.declared.packet_in.PacketIn.{PacketIn}
+use Rattle.flow_messages.specs.declared.messages.TheConstants.{COOKIE}
+use Rattle.plan_base.specs.declared.table.Table.TheVariants.{Ipv4Route, Source, Vip}
+use Rattle.plan_base.specs.Entries.{table_number}
 use Rattle.pkt_view.specs.Frame.{FrameParts, UpperParts, Unknown, Arp, V4, parts}
 use Rattle.pkt_view.specs.Numbers.{ip4_at}
 use Rattle.neighbour_resolve.specs.declared.asks.Outgoing.{Outgoing}
@@ -85,13 +88,13 @@ least_time conf group [] = 4294967
 least_time conf group (d ∷ ds) =
     if (group_of conf d.id).0 == group.0 then min d.arp_timeout (least_time conf group ds) else least_time conf group ds
 
-abbrev pub hear_from : DpId → (vid : ℕ) → World → Sender → World
-hear_from dp vid w s =
+abbrev pub hear_sender : DpId → (vid : ℕ) → World → Sender → World
+hear_sender dp vid w s =
     let group = group_of w.conf dp in
     record w { neighbours = after_told (stays false) (resolved group vid s.ip s.mac (least_time w.conf group w.conf.dps * 1000) w.moment) w.neighbours }
 
-abbrev pub hear : DpId → (vid : ℕ) → FrameParts → World → World
-hear dp vid frame w = option_map_or (hear_from dp vid w) (heard_sender w.conf vid frame) w
+abbrev pub hear_neighbour : DpId → (vid : ℕ) → FrameParts → World → World
+hear_neighbour dp vid frame w = option_map_or (hear_sender dp vid w) (heard_sender w.conf vid frame) w
 
 -- ---- answers
 
@@ -107,12 +110,22 @@ reply number dp port vid frame w =
 
 -- ---- the whole
 
--- by the table that sent it: that of sources, of routes, and of what the gateways answer
+-- the tables that send packets to the controller: that of sources, of routes, and of what the gateways answer
+abbrev pub sources : ℕ
+sources = table_number Source
+
+abbrev pub routes : ℕ
+routes = table_number Ipv4Route
+
+abbrev pub gateways : ℕ
+gateways = table_number Vip
+
+-- by the table that sent it
 abbrev pub packet_of_table : (table number : ℕ) → DpId → (port vid : ℕ) → FrameParts → World → World
 packet_of_table table number dp port vid frame w =
-    if table == 3 then learn dp port vid frame.src w
-    else if table == 4 then glean dp vid frame w
-    else if table == 6 then reply number dp port vid frame (hear dp vid frame w)
+    if table == sources then learn dp port vid frame.src w
+    else if table == routes then glean dp vid frame w
+    else if table == gateways then reply number dp port vid frame (hear_neighbour dp vid frame w)
     else w
 
 -- it counts where its one tag is of a VLAN that the port is an edge member of
@@ -126,4 +139,4 @@ packet_by m number dp w port = option_map_or (packet_at m number dp w port) (par
 -- of a datapath that runs, with the cookie of this controller, and the port that it came in by
 abbrev pub packet_in : PacketIn → (number : ℕ) → DpId → World → World
 packet_in m number dp w =
-    if m.cookie == 0x5adc15c0 && is_running (running w) dp then option_map_or (packet_by m number dp w) (in_port m.fields) w else w
+    if m.cookie == COOKIE && is_running (running w) dp then option_map_or (packet_by m number dp w) (in_port m.fields) w else w

@@ -1,7 +1,7 @@
 ghost use Rattle.std.specs.Prelude.{◌≡◌, ◌≤◌, false};
 ghost use Rattle.pkt_view.specs.Frame.{shown};
-ghost use Rattle.ctl_packets.specs.Changes.{hears};
-ghost use Rattle.ctl_packets.specs.Packets.{hear, least_time};
+ghost use Rattle.ctl_packets.specs.Changes.{hears_neighbour};
+ghost use Rattle.ctl_packets.specs.Packets.{hear_neighbour, least_time};
 
 use conf_types::{Conf, Dp};
 use ctl_world::World;
@@ -32,10 +32,10 @@ fn least_time(conf: &Conf, group: DpId, dps: &[Dp]) -> u32
 }
 
 /// The neighbour that a frame lets hear is known. Answers whether one was heard that there is room for.
-pub(crate) fn hear(world: &mut World, dp: DpId, vid: Vid, frame: &FrameView<'_>) -> bool
-    ensures done { world.new ≡ hear dp vid (shown frame.now) world.old }
+pub(crate) fn hear_neighbour(world: &mut World, dp: DpId, vid: Vid, frame: &FrameView<'_>) -> bool
+    ensures done { world.new ≡ hear_neighbour dp vid (shown frame.now) world.old }
     ensures same { result ≡ false → world.new ≡ world.old }
-    ensures told { result ≡ hears dp vid (shown frame.now) world.old }
+    ensures told { result ≡ hears_neighbour dp vid (shown frame.now) world.old }
 {
     let Some(sender) = heard_sender(&world.conf, vid, frame) else {
         return false;

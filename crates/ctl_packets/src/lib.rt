@@ -2,6 +2,7 @@
 //! looks for is wanted, that which it tells of is known, or it is answered.
 #![tactic(auto)]
 
+mod arrival;
 mod gleaning;
 mod hearing;
 pub mod laws;

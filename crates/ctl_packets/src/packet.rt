@@ -5,55 +5,47 @@ ghost use Rattle.ctl_world.specs.Alike.{IsAlike};
 ghost use Rattle.ctl_packets.specs.Changes.{packet_changes, port_changes, table_changes};
 ghost use Rattle.ctl_packets.specs.Packets.{packet_by, packet_in, packet_of_table};
 
+use crate::arrival::Arrival;
 use crate::gleaning::glean;
-use crate::hearing::hear;
+use crate::hearing::hear_neighbour;
 use crate::learning::learn;
 use crate::reply::reply;
 use ctl_world::World;
+use flow_messages::COOKIE;
 use neighbour_resolve::counted_vid;
-use net_base::{DpId, NoMemory, PortNo, Vid};
+use net_base::{DpId, NoMemory, PortNo};
 use of_match::in_port;
 use of13_codec::PacketIn;
 use pkt_view::{FrameView, view};
+use plan_base::Table;
 use std::alloc::Global;
 
-/// The cookie of every entry of this controller.
-const COOKIE: u64 = 0x5adc_15c0;
-
-/// The table of sources, of which an entry sends the packets of hosts that aren't fresh.
-const SOURCES: u8 = 3;
-
-/// The table of routes, of which an entry sends the packets for neighbours that aren't known.
-const ROUTES: u8 = 4;
-
-/// The table of the packets for gateways themselves.
-const GATEWAYS: u8 = 6;
-
-/// What a frame of a VLAN does, by the table that sent it. Answers whether something was learned.
+/// What a frame of a VLAN does, by the table that sent it: an entry of that of sources sends the packets of
+/// hosts that aren't fresh, one of that of routes those for neighbours that aren't known, and the next one
+/// those for gateways themselves. Answers whether something was learned.
 fn packet_of_table(
     alloc: Global,
     world: &mut World,
     table: u8,
-    conn: u32,
-    dp: DpId,
-    port: PortNo,
-    vid: Vid,
+    arrival: Arrival,
     frame: &FrameView<'_>,
 ) -> Result<bool, NoMemory>
     requires { HasFixedPart (shown_upper frame.now.upper) }
-    ensures done { OnOk result (world.new ≡ packet_of_table table conn dp port vid (shown frame.now) world.old) }
+    ensures done { OnOk result (world.new ≡ packet_of_table table arrival.conn arrival.dp arrival.port arrival.vid (shown frame.now) world.old) }
     ensures alike { IfOk result (λ changed. changed ≡ false → IsAlike world.new world.old) }
-    ensures told { IfOk result (λ changed. changed ≡ table_changes table dp port vid (shown frame.now) world.old) }
+    ensures told { IfOk result (λ changed. changed ≡ table_changes table arrival.dp arrival.port arrival.vid (shown frame.now) world.old) }
 {
-    match table {
-        SOURCES => learn(alloc, world, dp, port, vid, frame.src),
-        ROUTES => glean(alloc, world, dp, vid, frame),
-        GATEWAYS => {
-            let changed = hear(world, dp, vid, frame);
-            reply(alloc, world, conn, dp, port, vid, frame)?;
-            Ok(changed)
-        }
-        _ => Ok(false),
+    let Arrival { dp, port, vid, .. } = arrival;
+    if table == Table::Source.number() {
+        learn(alloc, world, dp, port, vid, frame.src)
+    } else if table == Table::Ipv4Route.number() {
+        glean(alloc, world, dp, vid, frame)
+    } else if table == Table::Vip.number() {
+        let changed = hear_neighbour(world, dp, vid, frame);
+        reply(alloc, world, arrival, frame)?;
+        Ok(changed)
+    } else {
+        Ok(false)
     }
 }
 
@@ -74,7 +66,15 @@ fn packet_by(
         return Ok(false);
     };
     match counted_vid(&world.conf, dp, port, &frame) {
-        Some(vid) => packet_of_table(alloc, world, packet.table, conn, dp, port, vid, &frame),
+        Some(vid) => {
+            let arrival = Arrival {
+                conn,
+                dp,
+                port,
+                vid,
+            };
+            packet_of_table(alloc, world, packet.table, arrival, &frame)
+        }
         None => Ok(false),
     }
 }

@@ -3,6 +3,7 @@ ghost use Rattle.pkt_view.specs.Frame.{shown};
 ghost use Rattle.ctl_world.specs.Alike.{IsAlike};
 ghost use Rattle.ctl_packets.specs.Packets.{outgoing, reply};
 
+use crate::arrival::Arrival;
 use conf_types::Conf;
 use ctl_world::{World, packet_out};
 use neighbour_resolve::{Outgoing, Reply, answer, send_back};
@@ -34,18 +35,16 @@ fn outgoing(
 pub(crate) fn reply(
     alloc: Global,
     world: &mut World,
-    conn: u32,
-    dp: DpId,
-    port: PortNo,
-    vid: Vid,
+    arrival: Arrival,
     frame: &FrameView<'_>,
 ) -> Result<(), NoMemory>
-    ensures done { OnOk result (world.new ≡ reply conn dp port vid (shown frame.now) world.old) }
+    ensures done { OnOk result (world.new ≡ reply arrival.conn arrival.dp arrival.port arrival.vid (shown frame.now) world.old) }
     ensures alike { OnOk result (IsAlike world.new world.old) }
 {
+    let Arrival { dp, port, vid, .. } = arrival;
     let made = answer(alloc, &world.conf, dp, port, frame)?;
     match outgoing(alloc, &world.conf, dp, port, vid, made)? {
-        Some(out) => world.say(conn, packet_out(out)),
+        Some(out) => world.say(arrival.conn, packet_out(out)),
         None => Ok(()),
     }
 }

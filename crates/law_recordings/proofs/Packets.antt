@@ -14,13 +14,14 @@ use Rattle.conf_types.specs.Links.{is_up}
 use Rattle.conf_types.specs.State.{is_running}
 use Rattle.host_learn.specs.Learning.{learned}
 use Rattle.of13_codec.specs.declared.packet_in.PacketIn.{PacketIn}
+use Rattle.flow_messages.specs.declared.messages.TheConstants.{COOKIE}
 use Rattle.pkt_view.specs.Frame.{FrameParts, parts}
 use Rattle.neighbour_resolve.specs.Answers.{answer}
 use Rattle.neighbour_resolve.specs.Counted.{counted_vid}
 use Rattle.neighbour_resolve.specs.Hearing.{heard_sender}
 use Rattle.ctl_world.specs.Saying.{packet_out, say}
 use Rattle.ctl_world.specs.World.{World, running, ups}
-use Rattle.ctl_packets.specs.Packets.{destination, glean, glean_at, glean_in, glean_to, hear, hear_from, is_for_gateway, is_resolved, learn, network_vlan, outgoing, packet_at, packet_by, packet_in, packet_of_table, reply, want}
+use Rattle.ctl_packets.specs.Packets.{destination, gateways, glean, glean_at, glean_in, glean_to, hear_neighbour, hear_sender, is_for_gateway, is_resolved, learn, network_vlan, outgoing, packet_at, packet_by, packet_in, packet_of_table, reply, routes, sources, want}
 use Rattle.law_recordings.proofs.Touches.{Keeps, Touch, any, both, either, itself, over, running_kept, say_keeps, touched, ups_kept}
 
 module _ (t : Touch) where
@@ -54,8 +55,8 @@ module _ (t : Touch) where
   glean_keeps : (dp : DpId) (vid : ℕ) (frame : FrameParts) → Keeps t (glean dp vid frame)
   glean_keeps dp vid frame w = any t w (vlan_with w.conf.vlans vid) (glean_at dp frame (touched t w)) (glean_at dp frame w) (λ v. glean_at_keeps dp frame v w)
 
-  hear_keeps : (dp : DpId) (vid : ℕ) (frame : FrameParts) → Keeps t (hear dp vid frame)
-  hear_keeps dp vid frame w = any t w (heard_sender w.conf vid frame) (hear_from dp vid (touched t w)) (hear_from dp vid w) (λ s. record { is = refl; moment = refl })
+  hear_keeps : (dp : DpId) (vid : ℕ) (frame : FrameParts) → Keeps t (hear_neighbour dp vid frame)
+  hear_keeps dp vid frame w = any t w (heard_sender w.conf vid frame) (hear_sender dp vid (touched t w)) (hear_sender dp vid w) (λ s. record { is = refl; moment = refl })
 
   reply_keeps : (number : ℕ) (dp : DpId) (port vid : ℕ) (frame : FrameParts) → Keeps t (reply number dp port vid frame)
   reply_keeps number dp port vid frame w =
@@ -67,12 +68,12 @@ module _ (t : Touch) where
       let v : World = touched t w in
       let learns : World → World = learn dp port vid frame.src in
       let gleans : World → World = glean dp vid frame in
-      let answers : World → World = λ u. reply number dp port vid frame (hear dp vid frame u) in
-      either t w.moment (table == 3) (learns v) (if table == 4 then gleans v else if table == 6 then answers v else v)
-      (learns w) (if table == 4 then gleans w else if table == 6 then answers w else w) (learn_keeps dp port vid frame.src w)
-      (either t w.moment (table == 4) (gleans v) (if table == 6 then answers v else v) (gleans w) (if table == 6 then answers w else w) (glean_keeps dp vid frame w)
-      (either t w.moment (table == 6) (answers v) v (answers w) w
-      (both t (hear dp vid frame) (reply number dp port vid frame) (hear_keeps dp vid frame) (reply_keeps number dp port vid frame) w) (itself t w)))
+      let answers : World → World = λ u. reply number dp port vid frame (hear_neighbour dp vid frame u) in
+      either t w.moment (table == sources) (learns v) (if table == routes then gleans v else if table == gateways then answers v else v)
+      (learns w) (if table == routes then gleans w else if table == gateways then answers w else w) (learn_keeps dp port vid frame.src w)
+      (either t w.moment (table == routes) (gleans v) (if table == gateways then answers v else v) (gleans w) (if table == gateways then answers w else w) (glean_keeps dp vid frame w)
+      (either t w.moment (table == gateways) (answers v) v (answers w) w
+      (both t (hear_neighbour dp vid frame) (reply number dp port vid frame) (hear_keeps dp vid frame) (reply_keeps number dp port vid frame) w) (itself t w)))
 
   at_keeps : (m : PacketIn) (number : ℕ) (dp : DpId) (port : ℕ) (frame : FrameParts) → Keeps t (λ w. packet_at m number dp w port frame)
   at_keeps m number dp port frame w =
@@ -86,8 +87,8 @@ module _ (t : Touch) where
   pub packet_in_keeps : (m : PacketIn) (number : ℕ) (dp : DpId) → Keeps t (packet_in m number dp)
   packet_in_keeps m number dp w =
       let by : World → World = λ u. option_map_or (packet_by m number dp u) (in_port m.fields) u in
-      let counts : List DpId → World = λ dps. if m.cookie == 0x5adc15c0 && is_running dps dp then by (touched t w) else touched t w in
+      let counts : List DpId → World = λ dps. if m.cookie == COOKIE && is_running dps dp then by (touched t w) else touched t w in
       over t w.moment (packet_in m number dp (touched t w)) (counts (running w)) (packet_in m number dp w)
       (ap counts (running_kept t w))
-      (either t w.moment (m.cookie == 0x5adc15c0 && is_running (running w) dp) (by (touched t w)) (touched t w) (by w) w
+      (either t w.moment (m.cookie == COOKIE && is_running (running w) dp) (by (touched t w)) (touched t w) (by w) w
       (any t w (in_port m.fields) (packet_by m number dp (touched t w)) (packet_by m number dp w) (λ port. by_keeps m number dp port w)) (itself t w))

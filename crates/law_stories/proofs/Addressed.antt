@@ -16,6 +16,7 @@ use Rattle.host_learn.specs.Learning.{learned}
 use Rattle.of13_codec.specs.declared.message.Message.{Message}
 use Rattle.of13_codec.specs.declared.message.Message.TheVariants as messages
 use Rattle.of13_codec.specs.declared.packet_in.PacketIn.{PacketIn}
+use Rattle.flow_messages.specs.declared.messages.TheConstants.{COOKIE}
 use Rattle.pkt_view.specs.Frame.{FrameParts, parts}
 use Rattle.flow_messages.specs.Messages.{delete_all}
 use Rattle.neighbour_resolve.specs.Answers.{answer}
@@ -36,7 +37,7 @@ use Rattle.ctl_world.specs.Ends.{close, ended, forget_lost}
 use Rattle.ctl_world.specs.Frames.{with_read}
 use Rattle.ctl_world.specs.Saying.{ask, packet_out, say, say_by}
 use Rattle.ctl_world.specs.World.{World, running, ups}
-use Rattle.ctl_packets.specs.Packets.{destination, glean, glean_at, glean_in, glean_to, hear as hear_packet, hear_from, is_for_gateway, is_resolved, learn, network_vlan, outgoing, packet_at, packet_by, packet_in, packet_of_table, reply, want}
+use Rattle.ctl_packets.specs.Packets.{destination, gateways, glean, glean_at, glean_in, glean_to, hear_neighbour, hear_sender, is_for_gateway, is_resolved, learn, network_vlan, outgoing, packet_at, packet_by, packet_in, packet_of_table, reply, routes, sources, want}
 use Rattle.ctl_core.specs.Hearing.{begin, echo, follow, hear_message, hear_on, heard_in, introduce, packet, read, replace, take_dp, turn_away, unfit, want_gateways, want_in}
 use Rattle.ctl_core.specs.Reloading.{close_each, close_of, reload, renew, vanished, want_all, want_each}
 use Rattle.ctl_core.specs.Turns.{feed, look, look_each, look_on, open_conn, pass, show, stir}
@@ -191,10 +192,10 @@ sender_six conf vid src six (Arp op sha spa tha tpa) = by (is_neighbour_address 
     by true false is = tt
     by true true is = subst IsSixBytes (sym (same_texts sha.0 src.0 is)) six
 
-hear_addressed : (dp : DpId) (vid : ℕ) (frame : FrameParts) → IsSixBytes frame.src.0 → (w : World) → IsAddressed w → IsAddressed (hear_packet dp vid frame w)
+hear_addressed : (dp : DpId) (vid : ℕ) (frame : FrameParts) → IsSixBytes frame.src.0 → (w : World) → IsAddressed w → IsAddressed (hear_neighbour dp vid frame w)
 hear_addressed dp vid frame six w known = by (heard_sender w.conf vid frame) (sender_six w.conf vid frame.src six frame.upper)
   where
-    by : (o : Option Sender) → IfSome o (λ s. IsSixBytes s.mac.0) → IsAddressed (option_map_or (hear_from dp vid w) o w)
+    by : (o : Option Sender) → IfSome o (λ s. IsSixBytes s.mac.0) → IsAddressed (option_map_or (hear_sender dp vid w) o w)
     by None is = known
     by (Some s) is = (known.0, table_told (stays false) _ is w.neighbours known.1, known.2)
 
@@ -206,10 +207,10 @@ table_addressed : (table number : ℕ) (dp : DpId) (port vid : ℕ) (frame : Fra
 table_addressed table number dp port vid frame six w known =
     let learned : World = learn dp port vid frame.src w in
     let gleaned : World = glean dp vid frame w in
-    let answered : World = reply number dp port vid frame (hear_packet dp vid frame w) in
-    either (table == 3) learned (if table == 4 then gleaned else if table == 6 then answered else w) (learn_addressed dp port vid frame.src six w known)
-    (either (table == 4) gleaned (if table == 6 then answered else w) (glean_addressed dp vid frame w known)
-    (either (table == 6) answered w (reply_addressed number dp port vid frame (hear_packet dp vid frame w) (hear_addressed dp vid frame six w known)) known))
+    let answered : World = reply number dp port vid frame (hear_neighbour dp vid frame w) in
+    either (table == sources) learned (if table == routes then gleaned else if table == gateways then answered else w) (learn_addressed dp port vid frame.src six w known)
+    (either (table == routes) gleaned (if table == gateways then answered else w) (glean_addressed dp vid frame w known)
+    (either (table == gateways) answered w (reply_addressed number dp port vid frame (hear_neighbour dp vid frame w) (hear_addressed dp vid frame six w known)) known))
 
 at_addressed : (m : PacketIn) (number : ℕ) (dp : DpId) (w : World) (port : ℕ) (frame : FrameParts) → IsSixBytes frame.src.0 → IsAddressed w → IsAddressed (packet_at m number dp w port frame)
 at_addressed m number dp w port frame six known =
@@ -224,7 +225,7 @@ by_addressed m number dp w port bytes known = by (parts m.payload) (source_six m
 
 packet_in_addressed : (m : PacketIn) (number : ℕ) (dp : DpId) (w : World) → AreBytes m.payload → IsAddressed w → IsAddressed (packet_in m number dp w)
 packet_in_addressed m number dp w bytes known =
-    either (m.cookie == 0x5adc15c0 && is_running (running w) dp) (option_map_or (packet_by m number dp w) (in_port m.fields) w) w
+    either (m.cookie == COOKIE && is_running (running w) dp) (option_map_or (packet_by m number dp w) (in_port m.fields) w) w
     (with_any (packet_by m number dp w) (in_port m.fields) w (λ port. by_addressed m number dp w port bytes known) known) known
 
 packet_addressed : (m : Message) → HasBytes m → (number : ℕ) (dp : Option DpId) (w : World) → IsAddressed w → IsAddressed (packet m number dp w)

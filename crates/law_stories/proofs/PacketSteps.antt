@@ -16,6 +16,7 @@ use Rattle.host_learn.specs.Learning.{learned}
 use Rattle.of13_codec.specs.declared.message.Message.{Message}
 use Rattle.of13_codec.specs.declared.message.Message.TheVariants as messages
 use Rattle.of13_codec.specs.declared.packet_in.PacketIn.{PacketIn}
+use Rattle.flow_messages.specs.declared.messages.TheConstants.{COOKIE}
 use Rattle.pkt_view.specs.Frame.{FrameParts, parts}
 use Rattle.neighbour_resolve.specs.declared.asks.Outgoing.{Outgoing}
 use Rattle.neighbour_resolve.specs.Answers.{answer}
@@ -25,7 +26,7 @@ use Rattle.ctl_world.specs.declared.conns.Conn.{Conn}
 use Rattle.ctl_world.specs.declared.said.Said.{Said}
 use Rattle.ctl_world.specs.Saying.{packet_out, say}
 use Rattle.ctl_world.specs.World.{World, running, ups}
-use Rattle.ctl_packets.specs.Packets.{destination, glean, glean_at, glean_in, glean_to, hear as hear_packet, hear_from, is_for_gateway, is_resolved, learn, network_vlan, outgoing, packet_at, packet_by, packet_in, packet_of_table, reply, want}
+use Rattle.ctl_packets.specs.Packets.{destination, gateways, glean, glean_at, glean_in, glean_to, hear_neighbour, hear_sender, is_for_gateway, is_resolved, learn, network_vlan, outgoing, packet_at, packet_by, packet_in, packet_of_table, reply, routes, sources, want}
 use Rattle.ctl_core.specs.Hearing.{packet}
 
 module _ (J : List Conn → List Said → Type 0)
@@ -61,8 +62,8 @@ module _ (J : List Conn → List Said → Type 0)
   glean_kept : (dp : DpId) (vid : ℕ) (frame : FrameParts) (w : World) → Kept w → Kept (glean dp vid frame w)
   glean_kept dp vid frame w holds = with_any (glean_at dp frame w) (vlan_with w.conf.vlans vid) w (λ v. glean_at_kept dp frame w v holds) holds
 
-  hear_kept : (dp : DpId) (vid : ℕ) (frame : FrameParts) (w : World) → Kept w → Kept (hear_packet dp vid frame w)
-  hear_kept dp vid frame w holds = with_any (hear_from dp vid w) (heard_sender w.conf vid frame) w (λ s. holds) holds
+  hear_kept : (dp : DpId) (vid : ℕ) (frame : FrameParts) (w : World) → Kept w → Kept (hear_neighbour dp vid frame w)
+  hear_kept dp vid frame w holds = with_any (hear_sender dp vid w) (heard_sender w.conf vid frame) w (λ s. holds) holds
 
   reply_kept : (number : ℕ) (dp : DpId) (port vid : ℕ) (frame : FrameParts) (w : World) → Kept w → Kept (reply number dp port vid frame w)
   reply_kept number dp port vid frame w holds =
@@ -72,10 +73,10 @@ module _ (J : List Conn → List Said → Type 0)
   table_kept table number dp port vid frame w holds =
       let learned : World = learn dp port vid frame.src w in
       let gleaned : World = glean dp vid frame w in
-      let answered : World = reply number dp port vid frame (hear_packet dp vid frame w) in
-      either (table == 3) learned (if table == 4 then gleaned else if table == 6 then answered else w) (learn_kept dp port vid frame.src w holds)
-      (either (table == 4) gleaned (if table == 6 then answered else w) (glean_kept dp vid frame w holds)
-      (either (table == 6) answered w (reply_kept number dp port vid frame (hear_packet dp vid frame w) (hear_kept dp vid frame w holds)) holds))
+      let answered : World = reply number dp port vid frame (hear_neighbour dp vid frame w) in
+      either (table == sources) learned (if table == routes then gleaned else if table == gateways then answered else w) (learn_kept dp port vid frame.src w holds)
+      (either (table == routes) gleaned (if table == gateways then answered else w) (glean_kept dp vid frame w holds)
+      (either (table == gateways) answered w (reply_kept number dp port vid frame (hear_neighbour dp vid frame w) (hear_kept dp vid frame w holds)) holds))
 
   at_kept : (m : PacketIn) (number : ℕ) (dp : DpId) (w : World) (port : ℕ) (frame : FrameParts) → Kept w → Kept (packet_at m number dp w port frame)
   at_kept m number dp w port frame holds =
@@ -86,7 +87,7 @@ module _ (J : List Conn → List Said → Type 0)
 
   packet_in_kept : (m : PacketIn) (number : ℕ) (dp : DpId) (w : World) → Kept w → Kept (packet_in m number dp w)
   packet_in_kept m number dp w holds =
-      either (m.cookie == 0x5adc15c0 && is_running (running w) dp) (option_map_or (packet_by m number dp w) (in_port m.fields) w) w
+      either (m.cookie == COOKIE && is_running (running w) dp) (option_map_or (packet_by m number dp w) (in_port m.fields) w) w
       (with_any (packet_by m number dp w) (in_port m.fields) w (λ port. by_kept m number dp w port holds) holds) holds
 
   pub packet_kept : (m : Message) (number : ℕ) (dp : Option DpId) (w : World) → Kept w → Kept (packet m number dp w)
