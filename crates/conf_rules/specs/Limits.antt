@@ -1,5 +1,5 @@
 -- Rule 16: the limits on the size of a configuration, in their order.
-use Rattle.std.specs.Prelude.{ℕ, ◌*◌, ◌+◌, ◌&&◌, Bool, List, [], ◌∷◌, ◌++◌, map, codes, length, sum_by, count_by, nat_lt, fold, min}
+use Rattle.std.specs.Prelude.{ℕ, ◌*◌, ◌+◌, ◌&&◌, Bool, List, [], ◌∷◌, ◌++◌, map, codes, length, sum_by, count_by, nat_lt}
 use Rattle.std.specs.List.{flat_map, list_any, zip}
 use Rattle.conf_types.specs.declared.datapath.Dp.{Dp}
 use Rattle.conf_types.specs.declared.vlan.Router.{Router}
@@ -130,8 +130,3 @@ routing_limits o conf =
 
 abbrev pub passed_limits : OrderedConf → Configuration → List ConfFault
 passed_limits o conf = part_limits o conf ++ (acl_limits o conf ++ routing_limits o conf)
-
--- ---- a sum, as far as a cap: what is counted where the whole may be too large for a number
-
-abbrev pub capped : {A : Type 0} → ℕ → (A → ℕ) → List A → ℕ
-capped cap f xs = fold (λ sum x. min cap (sum + f x)) 0 xs

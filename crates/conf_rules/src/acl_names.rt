@@ -6,23 +6,34 @@ ghost use Rattle.std.specs.List.{slice_get};
 ghost use Rattle.std.specs.Option.{option_copied};
 ghost use Rattle.conf_types.specs.Attached.{acl_named};
 ghost use Rattle.conf_types.specs.Lists.{is_same};
-ghost use Rattle.conf_rules.specs.AclPlaces.{acl_at};
+ghost use Rattle.conf_rules.specs.AclPlaces.{LeadToFirst};
 
 use conf_resolve::Resolved;
 use conf_types::Acl;
 use net_base::{NoMemory, Text};
 use std::alloc::Global;
 use std::collections::BTreeMap;
+use std::marker::Model;
 
 /// Of each name, the place of the first ACL that has it.
 type Places = BTreeMap<String, usize>;
 
-/// A configuration, and the places of its ACLs by their names.
+/// A configuration whose ACLs are each found by one look at a name. Contracts see the configuration.
 #[derive(Drop)]
-pub(crate) struct AclNames<'a> {
+pub struct AclNames<'a> {
     conf: &'a Resolved,
     places: Places,
-    ghost right: { (t : List ℕ) → acl_at conf.now.acls places t ≡ acl_named conf.now.acls t },
+}
+
+impl<'a> Model for AclNames<'a> {
+    ghost use Rattle.conf_types.specs.Configuration.{Configuration};
+    ghost use Rattle.conf_rules.specs.AclPlaces.{LeadToFirst};
+
+    ghost Value = { Configuration };
+
+    ghost view = { λ a. a.conf.now };
+
+    ghost invariant = { λ a. LeadToFirst a.conf.now.acls a.places };
 }
 
 /// From now on the name of the ACL leads to the place.
@@ -35,13 +46,19 @@ fn add_acl(alloc: Global, places: &mut Places, acl: &Acl, at: usize) -> Result<(
 }
 
 fn places_of(alloc: Global, acls: &[Acl]) -> Result<Places, NoMemory>
-    ensures { IfOk result (λ places. (t : List ℕ) → acl_at acls.now places t ≡ acl_named acls.now t) }
+    ensures { IfOk result (λ places. LeadToFirst acls.now places) }
 {
     let mut places = BTreeMap::new(alloc);
     for i in (0..acls.len()).rev() {
         add_acl(alloc, &mut places, &acls[i], i)?;
     }
     Ok(places)
+}
+
+fn place_of(places: &Places, name: &Text) -> Option<usize>
+    ensures { result ≡ get_by_text places.now name.now }
+{
+    places.get(name.as_str()).copied()
 }
 
 /// The ACL at the place, where there is one.
@@ -52,35 +69,31 @@ fn acl_at(acls: &[Acl], at: Option<usize>) -> Option<&Acl>
 }
 
 impl<'a> AclNames<'a> {
-    pub(crate) fn of(alloc: Global, conf: &'a Resolved) -> Result<AclNames<'a>, NoMemory>
-        ensures { IfOk result (λ made. made.conf.now ≡ conf.now) }
+    /// The ACLs of this configuration; the only error is that memory runs out.
+    pub fn of(alloc: Global, conf: &'a Resolved) -> Result<AclNames<'a>, NoMemory>
+        ensures { IfOk result (λ made. made ≡ conf.now) }
     {
         let places = places_of(alloc, conf.acls().as_slice())?;
         Ok(AclNames { conf, places })
     }
 
-    pub(crate) fn conf(&self) -> &Resolved
-        ensures { result.now ≡ self.now.conf.now }
+    /// The configuration.
+    pub fn conf(&self) -> &Resolved
+        ensures { result.now ≡ self.now }
     {
         self.conf
     }
 
-    fn place(&self, name: &Text) -> Option<usize>
-        ensures { result ≡ get_by_text self.now.places name.now }
-    {
-        self.places.get(name.as_str()).copied()
-    }
-
     /// The first ACL with the name.
-    pub(crate) fn find(&self, name: &Text) -> Option<&Acl>
-        ensures { option_copied result ≡ acl_named self.now.conf.now.acls name.now }
+    pub fn find(&self, name: &Text) -> Option<&Acl>
+        ensures { option_copied result ≡ acl_named self.now.acls name.now }
     {
-        acl_at(self.conf.acls().as_slice(), self.place(name))
+        acl_at(self.conf.acls().as_slice(), place_of(&self.places, name))
     }
 
     /// Whether an ACL has the name.
-    pub(crate) fn has(&self, name: &Text) -> bool
-        ensures { result ≡ is_some (acl_named self.now.conf.now.acls name.now) }
+    pub fn has(&self, name: &Text) -> bool
+        ensures { result ≡ is_some (acl_named self.now.acls name.now) }
     {
         self.find(name).is_some()
     }

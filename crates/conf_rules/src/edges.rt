@@ -8,21 +8,43 @@ use crate::vids::{see_all, see_some, seen_once};
 use conf_resolve::Resolved;
 use conf_types::{Dp, Port};
 use net_base::Vid;
+use std::marker::Model;
 
-/// A datapath, and a table of the VLANs of which it has edge ports.
+/// A datapath, with a table of the VLANs of which it has edge ports. Contracts see the datapath.
 #[derive(Drop)]
-pub(crate) struct Edges<'a> {
+pub struct Edges<'a> {
     dp: &'a Dp,
     seen: [bool; 4096],
-    ghost right: { (n : ℕ) → n < 4096 → slice_index_or seen n false ≡ has_edge_member dp.now n },
 }
 
-/// A configuration, and the VLANs of which some datapath has an edge port.
+impl<'a> Model for Edges<'a> {
+    ghost use Rattle.conf_types.specs.declared.datapath.Dp.{Dp};
+    ghost use Rattle.conf_rules.specs.Edges.{HasEdgesOf};
+
+    ghost Value = { Dp };
+
+    ghost view = { λ e. e.dp.now };
+
+    ghost invariant = { λ e. HasEdgesOf e.seen e.dp.now };
+}
+
+/// A configuration, with a table of the VLANs of which some datapath has an edge port. Contracts see
+/// the configuration.
 #[derive(Drop)]
-pub(crate) struct AllEdges<'a> {
+pub struct AllEdges<'a> {
     conf: &'a Resolved,
     seen: [bool; 4096],
-    ghost right: { (n : ℕ) → n < 4096 → slice_index_or seen n false ≡ list_any (λ d. has_edge_member d n) conf.now.dps },
+}
+
+impl<'a> Model for AllEdges<'a> {
+    ghost use Rattle.conf_types.specs.Configuration.{Configuration};
+    ghost use Rattle.conf_rules.specs.Edges.{HasEdgesOfAny};
+
+    ghost Value = { Configuration };
+
+    ghost view = { λ e. e.conf.now };
+
+    ghost invariant = { λ e. HasEdgesOfAny e.seen e.conf.now.dps };
 }
 
 /// From now on the VLANs of which the interface is an edge port are seen.
@@ -56,8 +78,9 @@ fn see_dps(dps: &[Dp]) -> [bool; 4096]
 }
 
 impl<'a> Edges<'a> {
-    pub(crate) fn of(dp: &'a Dp) -> Edges<'a>
-        ensures { result.dp.now ≡ dp.now }
+    /// The edge ports of this datapath.
+    pub fn of(dp: &'a Dp) -> Edges<'a>
+        ensures { result ≡ dp.now }
     {
         let mut seen = seen_once(None);
         see_ports(&mut seen, dp.ports.as_slice());
@@ -65,24 +88,25 @@ impl<'a> Edges<'a> {
     }
 
     /// Whether the datapath has an edge port of the VLAN.
-    pub(crate) fn has(&self, vid: Vid) -> bool
-        ensures { result ≡ has_edge_member self.now.dp.now vid }
+    pub fn has(&self, vid: Vid) -> bool
+        ensures { result ≡ has_edge_member self.now vid }
     {
         self.seen[usize::from(vid.get())]
     }
 }
 
 impl<'a> AllEdges<'a> {
-    pub(crate) fn of(conf: &'a Resolved) -> AllEdges<'a>
-        ensures { result.conf.now ≡ conf.now }
+    /// The edge ports of all datapaths of this configuration.
+    pub fn of(conf: &'a Resolved) -> AllEdges<'a>
+        ensures { result ≡ conf.now }
     {
         let seen = see_dps(conf.dps().as_slice());
         AllEdges { conf, seen }
     }
 
     /// Whether some datapath has an edge port of the VLAN.
-    pub(crate) fn has(&self, vid: Vid) -> bool
-        ensures { result ≡ list_any (λ d. has_edge_member d vid) self.now.conf.now.dps }
+    pub fn has(&self, vid: Vid) -> bool
+        ensures { result ≡ list_any (λ d. has_edge_member d vid) self.now.dps }
     {
         self.seen[usize::from(vid.get())]
     }

@@ -1,30 +1,17 @@
-//! The rules of a configuration, and the first place where one is broken.
+//! The sixteen rules of a configuration, each the list of the places where it is broken, and what
+//! looks for such places: places as they are told, and tables of what was seen.
 #![tactic(auto)]
 
 mod acl_names;
-mod acl_sizes;
-mod attached;
-mod dp_tables;
 mod edges;
-mod ends;
-mod limits;
-mod members;
-mod met_routes;
-mod met_vips;
-mod mirrored;
-mod names;
-mod numbered;
-mod numbered_ports;
 mod places;
-mod port_places;
-mod ports;
-mod routed;
-mod routing;
-mod rules;
 mod seen;
-mod sizes;
-mod targets;
-mod unknown;
 mod vids;
 
-pub use rules::find_broken_rule;
+pub use acl_names::AclNames;
+pub use edges::{AllEdges, Edges};
+pub use places::{
+    Found, acl_site, broken, dp_site, name_site, nth, port_site, router_site, under, under_port,
+};
+pub use seen::{different_len, see_name};
+pub use vids::{count_vids, see_all, see_some, see_vid, seen_once};

@@ -9,10 +9,10 @@ use net_base::{Items, Names, NoMemory, Text};
 use std::alloc::Global;
 
 /// The first place where a rule is broken; `None` where there is none.
-pub(crate) type Found = Result<Option<ConfFault>, NoMemory>;
+pub type Found = Result<Option<ConfFault>, NoMemory>;
 
 /// A rule is broken at a place.
-pub(crate) fn broken(alloc: Global, cause: ConfCause, site: Names) -> Found
+pub fn broken(alloc: Global, cause: ConfCause, site: Names) -> Found
     ensures { IfOk result (λ found. found ≡ Some (fault cause site)) }
 {
     let path = path_of(alloc, site.as_slice())?;
@@ -20,7 +20,7 @@ pub(crate) fn broken(alloc: Global, cause: ConfCause, site: Names) -> Found
 }
 
 /// The place under a key.
-pub(crate) fn under(alloc: Global, mut site: Names, key: &str) -> Result<Names, NoMemory>
+pub fn under(alloc: Global, mut site: Names, key: &str) -> Result<Names, NoMemory>
     ensures { IfOk result (λ made. made ≡ under site key.now) }
 {
     site.push(Text::from_str(alloc, key)?)?;
@@ -28,7 +28,7 @@ pub(crate) fn under(alloc: Global, mut site: Names, key: &str) -> Result<Names, 
 }
 
 /// A place in a list, counted from 0.
-pub(crate) fn nth(alloc: Global, site: Names, n: usize) -> Result<Names, NoMemory>
+pub fn nth(alloc: Global, site: Names, n: usize) -> Result<Names, NoMemory>
     ensures { IfOk result (λ made. made ≡ nth site n) }
 {
     let digits = n.to_string(alloc)?;
@@ -42,13 +42,15 @@ fn part_site(alloc: Global, section: &str, key: &Text) -> Result<Names, NoMemory
     under(alloc, site, key.as_str())
 }
 
-pub(crate) fn dp_site(alloc: Global, dp: &RawDp) -> Result<Names, NoMemory>
+/// The place of a datapath.
+pub fn dp_site(alloc: Global, dp: &RawDp) -> Result<Names, NoMemory>
     ensures { IfOk result (λ made. made ≡ dp_site dp.now) }
 {
     part_site(alloc, "dps", &dp.names.key)
 }
 
-pub(crate) fn port_site(alloc: Global, dp: &RawDp, port: &RawPort) -> Result<Names, NoMemory>
+/// The place of an interface.
+pub fn port_site(alloc: Global, dp: &RawDp, port: &RawPort) -> Result<Names, NoMemory>
     ensures { IfOk result (λ made. made ≡ port_site dp.now port.now) }
 {
     let site = under(alloc, dp_site(alloc, dp)?, "interfaces")?;
@@ -56,31 +58,28 @@ pub(crate) fn port_site(alloc: Global, dp: &RawDp, port: &RawPort) -> Result<Nam
 }
 
 /// The place under a key of an interface.
-pub(crate) fn under_port(
-    alloc: Global,
-    dp: &RawDp,
-    port: &RawPort,
-    key: &str,
-) -> Result<Names, NoMemory>
+pub fn under_port(alloc: Global, dp: &RawDp, port: &RawPort, key: &str) -> Result<Names, NoMemory>
     ensures { IfOk result (λ made. made ≡ under (port_site dp.now port.now) key.now) }
 {
     under(alloc, port_site(alloc, dp, port)?, key)
 }
 
-pub(crate) fn router_site(alloc: Global, router: &RawRouter) -> Result<Names, NoMemory>
+/// The place of a router.
+pub fn router_site(alloc: Global, router: &RawRouter) -> Result<Names, NoMemory>
     ensures { IfOk result (λ made. made ≡ router_site router.now) }
 {
     part_site(alloc, "routers", &router.name)
 }
 
-pub(crate) fn acl_site(alloc: Global, acl: &RawAcl) -> Result<Names, NoMemory>
+/// The place of an ACL.
+pub fn acl_site(alloc: Global, acl: &RawAcl) -> Result<Names, NoMemory>
     ensures { IfOk result (λ made. made ≡ codes "acls" ∷ acl.now.name ∷ []) }
 {
     part_site(alloc, "acls", &acl.name)
 }
 
 /// Where a name is written: under its key, or as the key of its map.
-pub(crate) fn name_site(alloc: Global, site: Names, names: &RawNames) -> Result<Names, NoMemory>
+pub fn name_site(alloc: Global, site: Names, names: &RawNames) -> Result<Names, NoMemory>
     ensures { IfOk result (λ made. made ≡ name_site site names.now) }
 {
     if names.has_name {

@@ -10,11 +10,7 @@ use std::alloc::Global;
 use std::collections::BTreeSet;
 
 /// Whether the name was seen; from now on it is.
-pub(crate) fn see_name(
-    alloc: Global,
-    seen: &mut BTreeSet<String>,
-    name: &Text,
-) -> Result<bool, NoMemory>
+pub fn see_name(alloc: Global, seen: &mut BTreeSet<String>, name: &Text) -> Result<bool, NoMemory>
     ensures was { IfOk result (λ was. was ≡ contains_text seen.old name.now) }
     ensures is { OnOk result ((t : List ℕ) → contains_text seen.new t ≡ (contains_text seen.old t || is_same name.now t)) }
 {
@@ -24,7 +20,7 @@ pub(crate) fn see_name(
 }
 
 /// How many different numbers these are.
-pub(crate) fn different_len(alloc: Global, numbers: &[u64]) -> Result<usize, NoMemory>
+pub fn different_len(alloc: Global, numbers: &[u64]) -> Result<usize, NoMemory>
     ensures { IfOk result (λ count. count ≡ different numbers.now) }
 {
     let mut seen = BTreeSet::new(alloc);

@@ -8,7 +8,7 @@ use conf_types::Vlan;
 use net_base::Vid;
 
 /// Whether the identifier was seen; from now on it is.
-pub(crate) fn see_vid(seen: &mut [bool; 4096], vid: Vid) -> bool
+pub fn see_vid(seen: &mut [bool; 4096], vid: Vid) -> bool
     ensures was { result ≡ slice_index_or seen.old vid false }
     ensures is { seen.new ≡ slice_set seen.old vid true }
     ensures within { vid < 4096 }
@@ -20,7 +20,7 @@ pub(crate) fn see_vid(seen: &mut [bool; 4096], vid: Vid) -> bool
 }
 
 /// Whether the identifier was seen; from now on it is. No identifier is never seen.
-pub(crate) fn see_some(seen: &mut [bool; 4096], vid: Option<Vid>) -> bool
+pub fn see_some(seen: &mut [bool; 4096], vid: Option<Vid>) -> bool
     ensures was { result ≡ option_map_or (λ v. slice_index_or seen.old v false) vid false }
     ensures is { (n : ℕ) → n < 4096 → slice_index_or seen.new n false ≡ (slice_index_or seen.old n false || option_map_or (λ v. v == n) vid false) }
     ensures within { IfSome vid (λ v. v < 4096) }
@@ -32,7 +32,7 @@ pub(crate) fn see_some(seen: &mut [bool; 4096], vid: Option<Vid>) -> bool
 }
 
 /// From now on these identifiers are seen.
-pub(crate) fn see_all(seen: &mut [bool; 4096], vids: &[Vid])
+pub fn see_all(seen: &mut [bool; 4096], vids: &[Vid])
     ensures { (n : ℕ) → n < 4096 → slice_index_or seen.new n false ≡ (slice_index_or seen.old n false || is_among vids.now n) }
 {
     for vid in vids {
@@ -41,7 +41,7 @@ pub(crate) fn see_all(seen: &mut [bool; 4096], vids: &[Vid])
 }
 
 /// A table in which the identifier was seen, if there is one, and nothing else.
-pub(crate) fn seen_once(vid: Option<Vid>) -> [bool; 4096]
+pub fn seen_once(vid: Option<Vid>) -> [bool; 4096]
     ensures { (n : ℕ) → n < 4096 → slice_index_or result n false ≡ option_map_or (λ v. v == n) vid false }
 {
     let mut seen = [false; 4096];
@@ -52,7 +52,7 @@ pub(crate) fn seen_once(vid: Option<Vid>) -> [bool; 4096]
 }
 
 /// How many VLANs have each identifier.
-pub(crate) fn count_vids(vlans: &[Vlan]) -> [usize; 4096]
+pub fn count_vids(vlans: &[Vlan]) -> [usize; 4096]
     ensures { (n : ℕ) → n < 4096 → slice_index result n ≡ count_by (λ v. v.vid == n) vlans.now }
 {
     let mut counts = [0; 4096];

@@ -1,0 +1,11 @@
+pub mod Below
+pub mod Capped
+pub mod Exchanged
+pub mod FirstRouters
+pub mod FirstVlans
+pub mod Gateways
+pub mod Joined
+pub mod MetRoutes
+pub mod MetVips
+pub mod Mirrors
+pub mod PortPlaces

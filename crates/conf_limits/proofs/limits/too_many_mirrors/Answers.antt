@@ -1,0 +1,15 @@
+use Rattle.std.proofs.Common.{sym, ◌∙◌}
+use Rattle.conf_rules.specs.Limits.{many_mirrors}
+use Rattle.conf_rules.specs.Places.{interfaces_of}
+use Rattle.conf_rules.proofs.Beside.{walked_pairs}
+use Rattle.conf_limits.proofs.limits.too_many_mirrors.Goals as goal
+
+pub returns-in-Some-2 : goal.returns-in-Some-2
+returns-in-Some-2 c =
+    (walked_pairs many_mirrors interfaces_of c.args.ordered.now.dps _ c.args.conf.now.dps _ c.loop-i.i c.raw_dp-item.result c.in-Some.dp.now _ c.as_slice-raw_dp-items.ensures c.loop-i-test.true c.raw_dp-item.is (c.as_slice-dps.ensures ∙ c.dps.ensures) c.in-Some.ensures.lookup.3.0 c.in-Some.ensures.lookup.1 c.loop-i.invariant).1
+    c.in-Some-2.found (sym c.in_ok-found.ensures ∙ c.in-Some-2.is)
+
+pub loop-i-preserved : goal.loop-i-preserved
+loop-i-preserved c =
+    (walked_pairs many_mirrors interfaces_of c.args.ordered.now.dps _ c.args.conf.now.dps _ c.loop-i.i c.raw_dp-item.result c.in-Some.dp.now _ c.as_slice-raw_dp-items.ensures c.loop-i-test.true c.raw_dp-item.is (c.as_slice-dps.ensures ∙ c.dps.ensures) c.in-Some.ensures.lookup.3.0 c.in-Some.ensures.lookup.1 c.loop-i.invariant).0
+    (sym c.in_ok-found.ensures ∙ c.in_default-2.is)

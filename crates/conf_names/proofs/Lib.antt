@@ -1,0 +1,4 @@
+pub mod FirstEnds
+pub mod Numbers
+pub mod SeenTagged
+pub mod Tables

@@ -1,9 +1,0 @@
-use Rattle.std.proofs.Common.{◌≡◌, drop}
-use Rattle.conf_rules.specs.Places.{first}
-use Rattle.conf_rules.specs.Ports.{lacking_of_acl}
-use Rattle.std.specs.List.{flat_map}
-use Rattle.conf_rules.proofs.targets.lacking_rules.Given as goal
-
--- none so far breaks the rule
-abbrev pub invariant-loop-acl : goal.invariant-loop-acl
-invariant-loop-acl l = first (flat_map lacking_of_acl (drop l.acl-index l.ordered.acls)) ≡ first (flat_map lacking_of_acl l.ordered.acls)
