@@ -2,8 +2,8 @@ ghost use Rattle.std.specs.Prelude.{◌≡◌, None, Ok, IfOk, IfErr, OnOk};
 ghost use Rattle.conf_resolve.specs.InRange.{IsInRange};
 ghost use Rattle.conf_check.specs.Accepted.{unless, meant_by, fault_of, conf_of, BreaksRule, IsRefused};
 
+use crate::rules::find_broken_rule;
 use conf_resolve::{arrange, resolve};
-use conf_rules::find_broken_rule;
 use conf_shape::{ConfFault, ConfRefused, RawConf, shape};
 use conf_types::Conf;
 use law_checks::ranges::a_document_of_the_right_shape_is_in_range;

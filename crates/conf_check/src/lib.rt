@@ -4,7 +4,9 @@
 
 mod checking;
 pub mod laws;
+mod rules;
 mod text;
 
 pub use checking::{check, conf_of_tree};
+pub use rules::find_broken_rule;
 pub use text::{TextRefused, conf_of_bytes};
