@@ -9,7 +9,7 @@ top=$(cd "$(dirname "$0")/.." && pwd)
 work=$(mktemp -d)
 trap 'rm -rf "$work"' EXIT
 rt=$(command -v rt || echo /opt/rattle/bin/rt)
-libraries=(net_base fg_outside yaml_subset conf_types conf_shape conf_resolve conf_rules conf_gather)
+libraries=(net_base fg_outside yaml_tree yaml_subset conf_types conf_shape conf_resolve conf_rules conf_names conf_limits law_checks conf_check conf_gather)
 
 mkdir -p "$work/crates/check_bench/src"
 for name in "${libraries[@]}"; do
@@ -23,15 +23,15 @@ cat >"$work/crates/check_bench/src/main.rt" <<'PROGRAM'
 //! the microseconds that it took.
 #![tactic(auto)]
 
+use conf_check::find_broken_rule;
 use conf_gather::gather;
 use conf_resolve::{arrange, resolve};
-use conf_rules::find_fault;
 use conf_shape::{RawConf, shape};
 use fg_outside::{Folder, Folders, HeldFile, HeldFiles, SureFiles};
 use net_base::{Bytes, Text};
 use std::time::Instant;
 use std::{env, fs, io};
-use yaml_subset::Tree;
+use yaml_tree::Tree;
 
 fn part(rt: &HostRuntime, name: &str, start: Instant) -> io::Result<()> {
     let spent = start.elapsed(rt)?;
@@ -47,7 +47,7 @@ fn check(rt: &HostRuntime, raw: &RawConf) -> io::Result<()> {
     let conf = resolve(rt.alloc(), &ordered)?;
     part(rt, "resolved", start)?;
     let start = Instant::now(rt)?;
-    let found = find_fault(rt.alloc(), &ordered, &conf)?.is_some();
+    let found = find_broken_rule(rt.alloc(), &ordered, &conf)?.is_some();
     part(rt, "checked", start)?;
     println!(rt; "faults: {}", u8::from(found))
 }

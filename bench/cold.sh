@@ -12,7 +12,7 @@ hosts=${1:-16384}
 work=$(mktemp -d)
 trap 'rm -rf "$work"' EXIT
 rt=$(command -v rt || echo /opt/rattle/bin/rt)
-reading=(net_base yaml_subset of_match stack_paths conf_types conf_shape conf_resolve conf_rules law_checks law_checks conf_check)
+reading=(net_base yaml_tree yaml_subset of_match stack_paths conf_types conf_shape conf_resolve conf_rules conf_names conf_limits law_checks conf_check)
 compiling=(packet_way state_check plan_base vlan_compile acl_compile route_compile law_runs plan_units cold_start)
 laws=(law_tables law_tables law_tables law_tables law_tables law_tables law_entries law_plans law_plans)
 writing=(of_wire of13_codec flow_messages opening_batch)
