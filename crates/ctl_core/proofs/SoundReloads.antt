@@ -1,5 +1,5 @@
 -- A reload leaves a world sound.
-use Rattle.std.proofs.Common.{◌≡◌, ℕ, List, [], ◌∷◌, ◌++◌, Result, Ok, Err, refl, map, subst}
+use Rattle.std.proofs.Common.{◌≡◌, ℕ, true, false, if◌then◌else◌, List, [], ◌∷◌, ◌++◌, Result, Ok, Err, refl, map, subst}
 use Rattle.std.specs.Prelude.{codes}
 use Rattle.net_base.specs.declared.numbers.DpId.{DpId}
 use Rattle.yaml_subset.specs.declared.fault.YamlFault.{YamlFault}
@@ -12,26 +12,26 @@ use Rattle.conf_shape.specs.declared.refused.ConfFault.{ConfFault}
 use Rattle.conf_check.specs.Accepted.{conf_of}
 use Rattle.neighbour_resolve.specs.Asks.{in_order}
 use Rattle.switch_session.specs.declared.closing.Closing.TheVariants.{UnknownDp}
-use Rattle.ctl_world.specs.declared.conns.Conn.{Conn}
 use Rattle.ctl_world.specs.declared.said.Said.TheVariants as said
-use Rattle.ctl_world.specs.Connections.{conn_of}
+use Rattle.ctl_world.specs.Connections.{is_open}
 use Rattle.ctl_world.specs.Ends.{close}
 use Rattle.ctl_world.specs.World.{IsSound, World, running}
 use Rattle.ctl_world.proofs.SoundChanges.{added_sound}
 use Rattle.ctl_world.proofs.SoundKept.{kept_sound}
 use Rattle.ctl_core.specs.Hearing.{want_in}
-use Rattle.ctl_core.specs.Reloading.{accepted, close_each, close_of, of_text, of_tree, reload, renew, vanished, want_all, want_each}
+use Rattle.ctl_core.specs.Reloading.{accepted, close_each, close_stray, of_text, of_tree, reload, renew, strays, want_all, want_each}
 use Rattle.ctl_core.proofs.SoundGateways.{want_holds}
-use Rattle.ctl_core.proofs.SoundSteps.{Holds, close_holds, with_any}
+use Rattle.ctl_core.proofs.SoundSteps.{Holds, close_holds}
 
 -- ---- the steps
 
-close_of_holds : (dp : DpId) (w : World) → Holds w → Holds (close_of dp w)
-close_of_holds dp w holds = with_any (λ (c : Conn). close UnknownDp c.number w) (conn_of w.conns dp) w (λ c. close_holds UnknownDp c.number w holds) holds
+stray_holds : (number : ℕ) (w : World) → Holds w → Holds (close_stray number w)
+stray_holds number w holds =
+    elim (is_open w.conns number) as (λ b. Holds (if b then close UnknownDp number w else w)) [ true ↦ close_holds UnknownDp number w holds | false ↦ holds ]
 
-close_each_holds : (dps : List DpId) (w : World) → Holds w → Holds (close_each dps w)
+close_each_holds : (numbers : List ℕ) (w : World) → Holds w → Holds (close_each numbers w)
 close_each_holds [] w holds = holds
-close_each_holds (dp ∷ dps) w holds = close_each_holds dps (close_of dp w) (close_of_holds dp w holds)
+close_each_holds (number ∷ numbers) w holds = close_each_holds numbers (close_stray number w) (stray_holds number w holds)
 
 renew_holds : (next : Configuration) (w : World) → IsValid next → IsSound w → Holds (renew next w)
 renew_holds next w valid sound = (valid, kept_sound next w sound valid)
@@ -56,8 +56,8 @@ module _ (of_document : (t : Tree) (conf : Configuration) → conf_of t ≡ Ok c
 
   by_sound : (read : Result Configuration (List ℕ)) → ((next : Configuration) → read ≡ Ok next → IsValid next) → (w : World) → Holds w → IsSound (reload read w)
   by_sound (Ok next) valid w holds =
-      let left : World = close_each (vanished next w.conns) w in
-      want_all_sound (renew next left) (renew_holds next left (valid next refl) (close_each_holds (vanished next w.conns) w holds).1)
+      let left : World = close_each (strays next w.conns) w in
+      want_all_sound (renew next left) (renew_holds next left (valid next refl) (close_each_holds (strays next w.conns) w holds).1)
   by_sound (Err cause) valid w holds = added_sound (said.Line (codes "reload: " ++ cause) ∷ []) w holds.1
 
   pub reload_sound : (text : List ℕ) (w : World) → IsValid w.conf → IsSound w → IsSound (reload (accepted text) w)

@@ -46,7 +46,7 @@ use Rattle.ctl_world.specs.World.{World, running, ups}
 use Rattle.ctl_packets.specs.Packets.{destination, glean, glean_at, glean_in, glean_to, hear as hear_packet, hear_from, is_for_gateway, is_resolved, learn, network_vlan, outgoing, packet_at, packet_by, packet_in, packet_of_table, reply, want}
 use Rattle.ctl_settle.specs.Settling.{ask_all, ask_due, ask_each, ask_on, batch, batch_on, batches, say_batch, say_due, say_each, settle, take_due, wanted}
 use Rattle.ctl_core.specs.Hearing.{begin, echo, follow, hear_message, hear_on, heard_in, introduce, packet, read, replace, take_dp, turn_away, unfit, want_gateways, want_in}
-use Rattle.ctl_core.specs.Reloading.{close_each, close_of, reload, renew, vanished, want_all, want_each}
+use Rattle.ctl_core.specs.Reloading.{close_each, close_stray, reload, renew, strays, want_all, want_each}
 use Rattle.ctl_core.specs.Turns.{feed, look, look_each, look_on, open_conn, pass, show, stir}
 use Rattle.ctl_core.proofs.Ordered.{AreOrdered, change_ordered, put_ordered, without_ordered}
 
@@ -289,12 +289,12 @@ module _ (P : Configuration → Type 0) where
 
   -- ---- a reload
 
-  close_of_stands : (dp : DpId) (w : World) → Stands P w → Stands P (close_of dp w)
-  close_of_stands dp w stands = with_any (λ (c : Conn). close UnknownDp c.number w) (conn_of w.conns dp) w (λ c. close_stands UnknownDp c.number w stands) stands
+  stray_stands : (number : ℕ) (w : World) → Stands P w → Stands P (close_stray number w)
+  stray_stands number w stands = either (is_open w.conns number) (close UnknownDp number w) w (close_stands UnknownDp number w stands) stands
 
-  close_each_stands : (dps : List DpId) (w : World) → Stands P w → Stands P (close_each dps w)
+  close_each_stands : (numbers : List ℕ) (w : World) → Stands P w → Stands P (close_each numbers w)
   close_each_stands [] w stands = stands
-  close_each_stands (dp ∷ dps) w stands = close_each_stands dps (close_of dp w) (close_of_stands dp w stands)
+  close_each_stands (number ∷ numbers) w stands = close_each_stands numbers (close_stray number w) (stray_stands number w stands)
 
   want_each_stands : (groups : List DpId) (w : World) → Stands P w → Stands P (want_each groups w)
   want_each_stands [] w stands = stands
@@ -305,8 +305,8 @@ module _ (P : Configuration → Type 0) where
 
   pub reload_stands : (read : Result Configuration (List ℕ)) → ((next : Configuration) → read ≡ Ok next → P next) → (w : World) → Stands P w → Stands P (reload read w)
   reload_stands (Ok next) valid w stands =
-      let left : World = close_each (vanished next w.conns) w in
-      want_all_stands (renew next left) (valid next refl, (close_each_stands (vanished next w.conns) w stands).1)
+      let left : World = close_each (strays next w.conns) w in
+      want_all_stands (renew next left) (valid next refl, (close_each_stands (strays next w.conns) w stands).1)
   reload_stands (Err cause) valid w stands = stands
 
   -- ---- a settling

@@ -1,7 +1,6 @@
 -- What a new configuration does.
-use Rattle.std.specs.Prelude.{◌≡◌, ℕ, Bool, not, is_some, List, [], ◌∷◌, ◌++◌, codes, filter, map, Option, Some, None, Result, Ok, Err}
+use Rattle.std.specs.Prelude.{◌≡◌, ℕ, Bool, false, not, is_some, if◌then◌else◌, List, [], ◌∷◌, ◌++◌, codes, filter, map, Option, Some, None, Result, Ok, Err}
 use Rattle.std.specs.Fmt.{decimal}
-use Rattle.std.specs.List.{filter_map}
 use Rattle.std.specs.Option.{option_map_or}
 use Rattle.net_base.specs.declared.numbers.DpId.{DpId}
 use Rattle.yaml_subset.specs.declared.fault.YamlFault.{YamlFault}
@@ -19,7 +18,7 @@ use Rattle.neighbour_resolve.specs.Kept as neighbours
 use Rattle.switch_session.specs.declared.closing.Closing.TheVariants.{UnknownDp}
 use Rattle.ctl_world.specs.declared.conns.Conn.{Conn}
 use Rattle.ctl_world.specs.declared.said.Said.TheVariants as said
-use Rattle.ctl_world.specs.Connections.{conn_of}
+use Rattle.ctl_world.specs.Connections.{is_open}
 use Rattle.ctl_world.specs.Ends.{close}
 use Rattle.ctl_world.specs.Saying.{add_said}
 use Rattle.ctl_world.specs.World.{World, running, ups}
@@ -48,20 +47,24 @@ abbrev pub Gives : Read → Result Configuration (List ℕ) → Type 0
 Gives (Accepted conf) read = read ≡ Ok conf
 Gives (Refused cause) read = read ≡ Err cause
 
--- ---- datapaths that the new configuration hasn't
+-- ---- connections of datapaths that the new configuration hasn't
 
 abbrev pub is_gone : Configuration → DpId → Bool
 is_gone next dp = not (is_some (dp_with next.dps dp))
 
-abbrev pub vanished : Configuration → List Conn → List DpId
-vanished next conns = in_order (filter (is_gone next) (filter_map (λ c. c.dp) conns))
+abbrev pub is_stray : Configuration → Conn → Bool
+is_stray next c = option_map_or (is_gone next) c.dp false
 
-abbrev pub close_of : DpId → World → World
-close_of dp w = option_map_or (λ c. close UnknownDp c.number w) (conn_of w.conns dp) w
+-- their numbers, in ascending order, in which connections stand
+abbrev pub strays : Configuration → List Conn → List ℕ
+strays next conns = map (λ c. c.number) (filter (is_stray next) conns)
 
-abbrev pub close_each : List DpId → World → World
+abbrev pub close_stray : (number : ℕ) → World → World
+close_stray number w = if is_open w.conns number then close UnknownDp number w else w
+
+abbrev pub close_each : List ℕ → World → World
 close_each [] w = w
-close_each (dp ∷ dps) w = close_each dps (close_of dp w)
+close_each (number ∷ numbers) w = close_each numbers (close_stray number w)
 
 -- ---- the new configuration
 
@@ -81,5 +84,5 @@ abbrev pub want_all : World → World
 want_all w = want_each (in_order (map (group_of w.conf) (running w))) w
 
 abbrev pub reload : Result Configuration (List ℕ) → World → World
-reload (Ok next) w = want_all (renew next (close_each (vanished next w.conns) w))
+reload (Ok next) w = want_all (renew next (close_each (strays next w.conns) w))
 reload (Err cause) w = add_said (said.Line (codes "reload: " ++ cause) ∷ []) w

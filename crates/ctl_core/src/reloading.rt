@@ -1,19 +1,18 @@
 //! What a new configuration does.
 
-ghost use Rattle.std.specs.Prelude.{◌≡◌, ◌++◌, ℕ, List, map, filter, false, is_ok, Ok, Err, IfOk, OnOk};
-ghost use Rattle.std.specs.List.{filter_map};
+ghost use Rattle.std.specs.Prelude.{◌≡◌, ◌++◌, ℕ, List, map, false, is_ok, Ok, Err, IfOk, OnOk};
 ghost use Rattle.conf_types.specs.Groups.{group_of};
 ghost use Rattle.ctl_world.specs.Alike.{IsAlike};
 ghost use Rattle.ctl_world.specs.World.{running};
 ghost use Rattle.conf_check.specs.Accepted.{IsTextRefused};
-ghost use Rattle.ctl_core.specs.Reloading.{Gives, accepted, close_each, close_of, is_gone, of_text, of_tree, reload, renew, vanished, want_all, want_each, yaml_fault_text};
+ghost use Rattle.ctl_core.specs.Reloading.{Gives, accepted, close_each, close_stray, is_stray, of_text, of_tree, reload, renew, strays, want_all, want_each, yaml_fault_text};
 
 use crate::gateways::want_in;
 use conf_causes::put_fault;
 use conf_check::{TextRefused, conf_of_bytes};
 use conf_gather::laws::a_file_is_read_by_the_grammar;
 use conf_shape::ConfFault;
-use conf_types::{Conf, DpIds};
+use conf_types::Conf;
 use ctl_settle::in_order;
 use ctl_world::laws::what_is_said_is_alike;
 use ctl_world::{Conn, Said, World};
@@ -80,48 +79,41 @@ fn read_text(alloc: Global, text: &[u8]) -> Result<Read, NoMemory>
     }
 }
 
-/// The datapaths that the switches of open connections are.
-fn dps_of(alloc: Global, conns: &[Conn]) -> Result<Vec<DpId>, NoMemory>
-    ensures { IfOk result (λ ids. ids.items ≡ filter_map (λ c. c.dp) conns.now) }
+/// Whether the switch of a connection is a datapath that the new configuration hasn't.
+fn is_stray(next: &Conf, conn: &Conn) -> bool
+    ensures { result ≡ is_stray next.now conn.now }
 {
-    conns.iter().filter_map(|conn| conn.dp).collect(alloc)
-}
-
-fn gone_from(alloc: Global, next: &Conf, dps: &[DpId]) -> Result<Vec<DpId>, NoMemory>
-    ensures { IfOk result (λ ids. ids.items ≡ filter (is_gone next.now) dps.now) }
-{
-    dps.iter()
-        .copied()
-        .filter(|dp| next.dp(*dp).is_none())
-        .collect(alloc)
-}
-
-/// The datapaths with a connection that the new configuration hasn't, by identifier.
-fn vanished(alloc: Global, next: &Conf, conns: &[Conn]) -> Result<DpIds, NoMemory>
-    ensures { IfOk result (λ ids. ids ≡ vanished next.now conns.now) }
-{
-    let dps = dps_of(alloc, conns)?;
-    let gone = gone_from(alloc, next, dps.as_slice())?;
-    in_order(alloc, gone.as_slice())
-}
-
-fn close_of(alloc: Global, world: &mut World, dp: DpId) -> Result<(), NoMemory>
-    ensures { OnOk result (world.new ≡ close_of dp world.old) }
-{
-    match world.conns.of(dp) {
-        Some(conn) => {
-            let number = conn.number;
-            world.close(alloc, Closing::UnknownDp, number)
-        }
-        None => Ok(()),
+    match conn.dp {
+        Some(dp) => next.dp(dp).is_none(),
+        None => false,
     }
 }
 
-fn close_each(alloc: Global, world: &mut World, dps: &[DpId]) -> Result<(), NoMemory>
-    ensures { OnOk result (world.new ≡ close_each dps.now world.old) }
+/// The numbers of the connections of datapaths that the new configuration hasn't, in ascending order.
+fn strays(alloc: Global, next: &Conf, conns: &[Conn]) -> Result<Vec<u32>, NoMemory>
+    ensures { IfOk result (λ numbers. numbers.items ≡ strays next.now conns.now) }
 {
-    for dp in dps {
-        close_of(alloc, world, *dp)?;
+    conns
+        .iter()
+        .filter(|conn| is_stray(next, conn))
+        .map(|conn| conn.number)
+        .collect(alloc)
+}
+
+fn close_stray(alloc: Global, world: &mut World, conn: u32) -> Result<(), NoMemory>
+    ensures { OnOk result (world.new ≡ close_stray conn world.old) }
+{
+    if !world.conns.is_open(conn) {
+        return Ok(());
+    }
+    world.close(alloc, Closing::UnknownDp, conn)
+}
+
+fn close_each(alloc: Global, world: &mut World, conns: &[u32]) -> Result<(), NoMemory>
+    ensures { OnOk result (world.new ≡ close_each conns.now world.old) }
+{
+    for conn in conns {
+        close_stray(alloc, world, *conn)?;
     }
     Ok(())
 }
@@ -168,7 +160,7 @@ fn want_all(alloc: Global, world: &mut World) -> Result<(), NoMemory>
 fn accept(alloc: Global, world: &mut World, next: Conf) -> Result<(), NoMemory>
     ensures { OnOk result (world.new ≡ reload (Ok next) world.old) }
 {
-    let gone = vanished(alloc, &next, world.conns.as_slice())?;
+    let gone = strays(alloc, &next, world.conns.as_slice())?;
     close_each(alloc, world, gone.as_slice())?;
     renew(alloc, world, next)?;
     want_all(alloc, world)
@@ -183,7 +175,7 @@ fn refuse(alloc: Global, world: &mut World, cause: &Text) -> Result<(), NoMemory
 }
 
 /// A text is to take the place of the configuration. One that has a configuration does so: the
-/// connections of datapaths that it hasn't are closed, what may stay is kept, and the gateways of the
+/// connections of datapaths that it hasn't are closed, by number, what may stay is kept, and the gateways of the
 /// groups that run are wanted. Any other changes nothing, and a line says why. Tells whether it did so.
 pub(crate) fn reload(alloc: Global, world: &mut World, text: &[u8]) -> Result<bool, NoMemory>
     ensures reloaded { OnOk result (world.new ≡ reload (accepted text.now) world.old) }

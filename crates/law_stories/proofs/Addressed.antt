@@ -32,14 +32,14 @@ use Rattle.switch_session.specs.declared.state.Step.TheVariants as steps
 use Rattle.switch_session.specs.Connections.{due_at, opened}
 use Rattle.switch_session.specs.Stages.{leads}
 use Rattle.ctl_world.specs.declared.conns.Conn.{Conn}
-use Rattle.ctl_world.specs.Connections.{change, conn_of, conn_with, put, with_asked, with_dp, with_fed, with_heard, with_looked, with_said}
+use Rattle.ctl_world.specs.Connections.{change, conn_of, conn_with, is_open, put, with_asked, with_dp, with_fed, with_heard, with_looked, with_said}
 use Rattle.ctl_world.specs.Ends.{close, ended, forget_lost}
 use Rattle.ctl_world.specs.Frames.{with_read}
 use Rattle.ctl_world.specs.Saying.{ask, packet_out, say, say_by}
 use Rattle.ctl_world.specs.World.{World, running, ups}
 use Rattle.ctl_packets.specs.Packets.{destination, gateways, glean, glean_at, glean_in, glean_to, hear_neighbour, hear_sender, is_for_gateway, is_resolved, learn, network_vlan, outgoing, packet_at, packet_by, packet_in, packet_of_table, reply, routes, sources, want}
 use Rattle.ctl_core.specs.Hearing.{begin, echo, follow, hear_message, hear_on, heard_in, introduce, packet, read, replace, take_dp, turn_away, unfit, want_gateways, want_in}
-use Rattle.ctl_core.specs.Reloading.{close_each, close_of, reload, renew, vanished, want_all, want_each}
+use Rattle.ctl_core.specs.Reloading.{close_each, close_stray, reload, renew, strays, want_all, want_each}
 use Rattle.ctl_core.specs.Turns.{feed, look, look_each, look_on, open_conn, pass, show, stir}
 use Rattle.std.specs.Prelude.{IfSome}
 use Rattle.std.specs.List.{AllByRecursion, cons_option, filter_map}
@@ -339,12 +339,12 @@ open_addressed number w known =
 
 -- ---- a reload
 
-close_of_addressed : (dp : DpId) (w : World) → IsAddressed w → IsAddressed (close_of dp w)
-close_of_addressed dp w known = with_any (λ (c : Conn). close UnknownDp c.number w) (conn_of w.conns dp) w (λ c. close_addressed UnknownDp c.number w known) known
+stray_addressed : (number : ℕ) (w : World) → IsAddressed w → IsAddressed (close_stray number w)
+stray_addressed number w known = either (is_open w.conns number) (close UnknownDp number w) w (close_addressed UnknownDp number w known) known
 
-close_each_addressed : (dps : List DpId) (w : World) → IsAddressed w → IsAddressed (close_each dps w)
+close_each_addressed : (numbers : List ℕ) (w : World) → IsAddressed w → IsAddressed (close_each numbers w)
 close_each_addressed [] w known = known
-close_each_addressed (dp ∷ dps) w known = close_each_addressed dps (close_of dp w) (close_of_addressed dp w known)
+close_each_addressed (number ∷ numbers) w known = close_each_addressed numbers (close_stray number w) (stray_addressed number w known)
 
 want_each_addressed : (groups : List DpId) (w : World) → IsAddressed w → IsAddressed (want_each groups w)
 want_each_addressed [] w known = known
@@ -377,6 +377,6 @@ renew_addressed next w known =
 
 pub reload_addressed : (text : Result Configuration (List ℕ)) (w : World) → IsAddressed w → IsAddressed (reload text w)
 reload_addressed (Ok next) w known =
-    let left : World = close_each (vanished next w.conns) w in
-    want_all_addressed (renew next left) (renew_addressed next left (close_each_addressed (vanished next w.conns) w known))
+    let left : World = close_each (strays next w.conns) w in
+    want_all_addressed (renew next left) (renew_addressed next left (close_each_addressed (strays next w.conns) w known))
 reload_addressed (Err cause) w known = known

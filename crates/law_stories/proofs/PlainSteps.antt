@@ -18,14 +18,14 @@ use Rattle.switch_session.specs.declared.quiet.Quiet.{Quiet}
 use Rattle.switch_session.specs.declared.quiet.Quiet.TheVariants as quiet
 use Rattle.switch_session.specs.Connections.{due_at}
 use Rattle.ctl_world.specs.declared.conns.Conn.{Conn}
-use Rattle.ctl_world.specs.Connections.{change, conn_of, conn_with, with_dp, with_fed, with_looked}
+use Rattle.ctl_world.specs.Connections.{change, conn_of, conn_with, is_open, with_dp, with_fed, with_looked}
 use Rattle.ctl_world.specs.Ends.{close, ended}
 use Rattle.ctl_world.specs.Frames.{with_read}
 use Rattle.ctl_world.specs.Saying.{packet_out, say}
 use Rattle.ctl_world.specs.World.{World, running}
 use Rattle.ctl_settle.specs.Settling.{ask_all, ask_due, ask_each, ask_on, say_due, take_due}
 use Rattle.ctl_core.specs.Hearing.{begin, echo, packet, read, replace, take_dp, want_gateways, want_in}
-use Rattle.ctl_core.specs.Reloading.{close_each, close_of, reload, renew, vanished, want_all, want_each}
+use Rattle.ctl_core.specs.Reloading.{close_each, close_stray, reload, renew, strays, want_all, want_each}
 use Rattle.ctl_core.specs.Turns.{feed, look, look_each, look_on, pass, show, stir}
 use Rattle.std.specs.Prelude.{IfSome}
 use Rattle.ctl_world.specs.declared.said.Said.{Said}
@@ -149,12 +149,12 @@ module _ (P : Way) (past : List Said) where
 
   -- ---- a reload
 
-  close_of_stays : (dp : DpId) (w : World) → Stays w → Stays (close_of dp w)
-  close_of_stays dp w stays = with_any (λ (c : Conn). close UnknownDp c.number w) (conn_of w.conns dp) w (λ c. close_stays UnknownDp c.number w stays) stays
+  stray_stays : (number : ℕ) (w : World) → Stays w → Stays (close_stray number w)
+  stray_stays number w stays = either (is_open w.conns number) (close UnknownDp number w) w (close_stays UnknownDp number w stays) stays
 
-  close_each_stays : (dps : List DpId) (w : World) → Stays w → Stays (close_each dps w)
+  close_each_stays : (numbers : List ℕ) (w : World) → Stays w → Stays (close_each numbers w)
   close_each_stays [] w stays = stays
-  close_each_stays (dp ∷ dps) w stays = close_each_stays dps (close_of dp w) (close_of_stays dp w stays)
+  close_each_stays (number ∷ numbers) w stays = close_each_stays numbers (close_stray number w) (stray_stays number w stays)
 
   want_each_stays : (groups : List DpId) (w : World) → Stays w → Stays (want_each groups w)
   want_each_stays [] w stays = stays
@@ -165,8 +165,8 @@ module _ (P : Way) (past : List Said) where
 
   pub reload_stays : (read : Result Configuration (List ℕ)) (w : World) → Stays w → Stays (reload read w)
   reload_stays (Ok next) w stays =
-      let left : World = close_each (vanished next w.conns) w in
-      want_all_stays (renew next left) (close_each_stays (vanished next w.conns) w stays)
+      let left : World = close_each (strays next w.conns) w in
+      want_all_stays (renew next left) (close_each_stays (strays next w.conns) w stays)
   reload_stays (Err cause) w stays = λ n.
       subst (λ t. IfSome (conn_with w.conns n) (λ c. OnConn P n c t)) (sym (more_said n past w.said (told.Line (codes "reload: " ++ cause) ∷ []))) (stays n)
 

@@ -37,7 +37,7 @@ use Rattle.ctl_world.specs.TablesSaid.{is_hello}
 use Rattle.ctl_world.specs.World.{World, running}
 use Rattle.ctl_settle.specs.Settling.{ask_all, ask_due, ask_each, ask_on, batch, batch_on, batches, say_batch, say_due, say_each, settle, take_due, wanted}
 use Rattle.ctl_core.specs.Hearing.{begin, echo, follow, hear_on, heard_in, introduce, packet, read, replace, take_dp, turn_away, unfit, unread, want_gateways, want_in, wipe}
-use Rattle.ctl_core.specs.Reloading.{close_each, close_of, reload, renew, vanished, want_all, want_each}
+use Rattle.ctl_core.specs.Reloading.{close_each, close_stray, reload, renew, strays, want_all, want_each}
 use Rattle.ctl_core.specs.Turns.{feed, look, look_each, look_on, pass, show, stir}
 use Rattle.law_stories.specs.Sayable.{is_answer}
 use Rattle.law_stories.proofs.Numbered.{has_it}
@@ -209,10 +209,16 @@ module _ (J : List Conn → List Said → Type 0) (single : Steps J) where
 
   -- ---- a reload
 
-  close_each_stays : (dps : List DpId) (w : World) → Stays w → Stays (close_each dps w)
+  stray_stays : (number : ℕ) (w : World) → Stays w → Stays (close_stray number w)
+  stray_stays number w stays = by (is_open w.conns number) refl
+    where
+      by : (b : Bool) → is_open w.conns number ≡ b → Stays (if b then close UnknownDp number w else w)
+      by true at = close_stays UnknownDp number w at stays
+      by false at = stays
+
+  close_each_stays : (numbers : List ℕ) (w : World) → Stays w → Stays (close_each numbers w)
   close_each_stays [] w stays = stays
-  close_each_stays (dp ∷ dps) w stays =
-      close_each_stays dps (close_of dp w) (with_found (λ (c : Conn). close UnknownDp c.number w) (is_of dp) w (λ c at. close_stays UnknownDp c.number w at stays) stays)
+  close_each_stays (number ∷ numbers) w stays = close_each_stays numbers (close_stray number w) (stray_stays number w stays)
 
   want_each_stays : (groups : List DpId) (w : World) → Stays w → Stays (want_each groups w)
   want_each_stays [] w stays = stays
@@ -223,8 +229,8 @@ module _ (J : List Conn → List Said → Type 0) (single : Steps J) where
 
   pub reload_stays : (read : Result Configuration (List ℕ)) (w : World) → Stays w → Stays (reload read w)
   reload_stays (Ok next) w stays =
-      let left : World = close_each (vanished next w.conns) w in
-      want_all_stays (renew next left) (close_each_stays (vanished next w.conns) w stays)
+      let left : World = close_each (strays next w.conns) w in
+      want_all_stays (renew next left) (close_each_stays (strays next w.conns) w stays)
   reload_stays (Err cause) w stays = single.tells (codes "reload: " ++ cause) w.conns w.said stays
 
   -- ---- a settling
