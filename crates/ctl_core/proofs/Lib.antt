@@ -1,7 +1,10 @@
 pub mod Heard
 pub mod HeardOn
 pub mod InOrder
+pub mod Numbered
+pub mod Openings
 pub mod Ordered
+pub mod PacketSteps
 pub mod ReloadSteps
 pub mod Rests
 pub mod SaidTables
@@ -14,3 +17,4 @@ pub mod SoundTurns
 pub mod Stands
 pub mod Stays
 pub mod TurnLooks
+pub mod Walk

@@ -15,8 +15,8 @@ use Rattle.ctl_world.specs.World.{World}
 use Rattle.switch_session.specs.Connections.{next_id}
 use Rattle.ctl_core.specs.Hearing.{has_frame, hear_frames, hear_front, hear_next, heard_in, read, says, unread}
 use Rattle.ctl_core.specs.Turns.{feed, hear, turn}
-use Rattle.law_stories.proofs.Numbered.{unlike}
-use Rattle.law_stories.proofs.Openings.{change_open, without_open, without_shut}
+use Rattle.ctl_core.proofs.Numbered.{unlike}
+use Rattle.ctl_core.proofs.Openings.{change_open, without_open, without_shut}
 use Rattle.law_stories.proofs.Singly.{Steps, feed_stays, heard_stays, read_stays, settle_stays}
 use Rattle.law_recordings.specs.Pieces.{known_only}
 use Rattle.law_recordings.proofs.Frames.{holding}

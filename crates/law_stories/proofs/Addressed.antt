@@ -1,5 +1,5 @@
 -- The addresses of the hosts and neighbours that were learned are Ethernet addresses, where what was heard is bytes.
-use Rattle.std.proofs.Common.{nat_lt, ◌<◌, filter, not, ◌≡◌, ℕ, ◌==◌, ◌&&◌, Bool, true, false, Option, Some, None, List, [], ◌∷◌, Result, Ok, Err, map, refl, sym, subst, if◌then◌else◌}
+use Rattle.std.proofs.Common.{nat_lt, ◌<◌, filter, not, ◌≡◌, ℕ, ◌==◌, ◌&&◌, Bool, true, false, Option, Some, None, List, [], ◌∷◌, Result, map, refl, sym, subst, if◌then◌else◌}
 use Rattle.std.specs.List.{list_any}
 use Rattle.std.specs.Option.{option_map, option_map_or}
 use Rattle.net_base.specs.declared.address.Ip4.{Ip4}
@@ -20,27 +20,21 @@ use Rattle.flow_messages.specs.declared.messages.TheConstants.{COOKIE}
 use Rattle.pkt_view.specs.Frame.{FrameParts, parts}
 use Rattle.flow_messages.specs.Messages.{delete_all}
 use Rattle.neighbour_resolve.specs.Answers.{answer}
-use Rattle.neighbour_resolve.specs.Asks.{in_order}
 use Rattle.neighbour_resolve.specs.Counted.{counted_vid}
 use Rattle.neighbour_resolve.specs.Hearing.{heard_sender}
 use Rattle.switch_session.specs.declared.closing.Closing.{Closing}
-use Rattle.switch_session.specs.declared.closing.Closing.TheVariants.{BadFrame, Replaced, Silent, UnknownDp, WrongVersion}
-use Rattle.switch_session.specs.declared.quiet.Quiet.{Quiet}
-use Rattle.switch_session.specs.declared.quiet.Quiet.TheVariants as quiet
-use Rattle.switch_session.specs.declared.state.Step.{Step}
-use Rattle.switch_session.specs.declared.state.Step.TheVariants as steps
-use Rattle.switch_session.specs.Connections.{due_at, opened}
-use Rattle.switch_session.specs.Stages.{leads}
+use Rattle.switch_session.specs.declared.closing.Closing.TheVariants.{BadFrame}
+use Rattle.switch_session.specs.Connections.{opened}
 use Rattle.ctl_world.specs.declared.conns.Conn.{Conn}
-use Rattle.ctl_world.specs.Connections.{change, conn_of, conn_with, is_open, put, with_asked, with_dp, with_fed, with_heard, with_looked, with_said}
+use Rattle.ctl_world.specs.Connections.{change, conn_with, put, with_asked, with_dp, with_fed, with_heard, with_looked, with_said}
 use Rattle.ctl_world.specs.Ends.{close, ended, forget_lost}
 use Rattle.ctl_world.specs.Frames.{with_read}
 use Rattle.ctl_world.specs.Saying.{ask, packet_out, say, say_by}
 use Rattle.ctl_world.specs.World.{World, running, ups}
 use Rattle.ctl_packets.specs.Packets.{destination, gateways, glean, glean_at, glean_in, glean_to, hear_neighbour, hear_sender, is_for_gateway, is_resolved, learn, network_vlan, outgoing, packet_at, packet_by, packet_in, packet_of_table, reply, routes, sources, want}
-use Rattle.ctl_core.specs.Hearing.{begin, echo, follow, hear_message, hear_on, heard_in, introduce, packet, read, replace, take_dp, turn_away, unfit, want_gateways, want_in}
-use Rattle.ctl_core.specs.Reloading.{close_each, close_stray, reload, renew, strays, want_all, want_each}
-use Rattle.ctl_core.specs.Turns.{feed, look, look_each, look_on, open_conn, pass, show, stir}
+use Rattle.ctl_core.specs.Hearing.{heard_in, packet, read, take_dp, want_gateways}
+use Rattle.ctl_core.specs.Reloading.{reload, renew}
+use Rattle.ctl_core.specs.Turns.{feed, open_conn, pass}
 use Rattle.std.specs.Prelude.{IfSome}
 use Rattle.std.specs.List.{AllByRecursion, cons_option, filter_map}
 use Rattle.net_base.specs.Address.{IsSixBytes, is_group}
@@ -64,12 +58,13 @@ use Rattle.neighbour_resolve.specs.declared.neighbour.Want.TheVariants as wants
 use Rattle.neighbour_resolve.specs.Due.{next}
 use Rattle.neighbour_resolve.specs.Hearing.{upper_sender}
 use Rattle.neighbour_resolve.specs.Kept.{last_of_each, may_stay, regrouped}
-use Rattle.neighbour_resolve.specs.Table.{Table as Neighbours, after_told, gives_way, neighbours_after, resolved, stays, unresolved}
+use Rattle.neighbour_resolve.specs.Table.{Table as Neighbours, after_told, gives_way, neighbours_after, stays, unresolved}
 use Rattle.neighbour_resolve.specs.Table as table
 use Rattle.of_match.proofs.AfterOrder.{all_append, all_filter}
 use Rattle.pkt_view.specs.Frame.{UpperParts, Unknown, Arp, V4}
 use Rattle.ctl_world.specs.Connections.{has_number, without}
 use Rattle.ctl_core.specs.Hearing.{want_gateways, want_routes}
+use Rattle.ctl_core.proofs.Walk.{Setup, Steps, either, heard_kept, pass_kept, reload_kept, wants_by, with_any}
 use Rattle.law_stories.proofs.PacketBytes.{AreBytes, HasBytes, behind_bytes, source_six}
 
 abbrev pub IsHost : HostRec → Type 0
@@ -151,35 +146,27 @@ neighbours_told keep n six ns all wants.Known = each ns all
 table_told : (keep : NeighRec → Bool) (n : NeighRec) → IsNeighbour n → (t : Neighbours) → AllByRecursion IsNeighbour t.neighbours → AllByRecursion IsNeighbour (after_told keep n t).neighbours
 table_told keep n six t all = neighbours_told keep n six t.neighbours all (table.outcome t n)
 
-with_any : {A : Type 0} (f : A → World) (o : Option A) (w : World) → ((a : A) → IsAddressed (f a)) → IsAddressed w → IsAddressed (option_map_or f o w)
-with_any f (Some a) w each none = each a
-with_any f None w each none = none
-
-either : (b : Bool) (v w : World) → IsAddressed v → IsAddressed w → IsAddressed (if b then v else w)
-either true v w here there = here
-either false v w here there = there
-
 -- ---- packets
 
 glean_in_addressed : (group : DpId) (ip : Ip4) (w : World) (vid : ℕ) → IsAddressed w → IsAddressed (glean_in group ip w vid)
-glean_in_addressed group ip w vid known = either (is_resolved w.neighbours.neighbours group vid ip.0) w (want group vid ip w) known (known.0, table_told (stays true) (unresolved group vid ip w.moment) tt w.neighbours known.1, known.2)
+glean_in_addressed group ip w vid known = either IsAddressed (is_resolved w.neighbours.neighbours group vid ip.0) w (want group vid ip w) known (known.0, table_told (stays true) (unresolved group vid ip w.moment) tt w.neighbours known.1, known.2)
 
 glean_to_addressed : (group : DpId) (vid : ℕ) (ip : Ip4) (w : World) → IsAddressed w → IsAddressed (glean_to group vid ip w)
-glean_to_addressed group vid ip w known = with_any (glean_in group ip w) (network_vlan w.conf vid ip.0) w (λ v. glean_in_addressed group ip w v known) known
+glean_to_addressed group vid ip w known = with_any IsAddressed (glean_in group ip w) (network_vlan w.conf vid ip.0) w (λ v. glean_in_addressed group ip w v known) known
 
 glean_at_addressed : (dp : DpId) (frame : FrameParts) (w : World) (v : Vlan) → IsAddressed w → IsAddressed (glean_at dp frame w v)
 glean_at_addressed dp frame w v known =
     let to : Ip4 → World = λ ip. glean_to (group_of w.conf dp) v.vid ip w in
-    either (is_for_gateway v frame) (option_map_or to (destination frame.upper) w) w
-    (with_any to (destination frame.upper) w (λ ip. glean_to_addressed (group_of w.conf dp) v.vid ip w known) known) known
+    either IsAddressed (is_for_gateway v frame) (option_map_or to (destination frame.upper) w) w
+    (with_any IsAddressed to (destination frame.upper) w (λ ip. glean_to_addressed (group_of w.conf dp) v.vid ip w known) known) known
 
 glean_addressed : (dp : DpId) (vid : ℕ) (frame : FrameParts) (w : World) → IsAddressed w → IsAddressed (glean dp vid frame w)
-glean_addressed dp vid frame w known = with_any (glean_at dp frame w) (vlan_with w.conf.vlans vid) w (λ v. glean_at_addressed dp frame w v known) known
+glean_addressed dp vid frame w known = with_any IsAddressed (glean_at dp frame w) (vlan_with w.conf.vlans vid) w (λ v. glean_at_addressed dp frame w v known) known
 
 learn_addressed : (dp : DpId) (port vid : ℕ) (mac : Mac) → IsSixBytes mac.0 → (w : World) → IsAddressed w → IsAddressed (learn dp port vid mac w)
 learn_addressed dp port vid mac six w known =
     let heard : HostRec = record { dp = dp; port = port; vid = vid; mac = mac; learned = w.moment } in
-    either (is_up (ups w) dp port) (record w { hosts = learned w.conf w.hosts heard }) w
+    either IsAddressed (is_up (ups w) dp port) (record w { hosts = learned w.conf w.hosts heard }) w
     (hosts_learned w.conf heard six w.hosts.hosts known.0 (learning.answer w.conf w.hosts heard), known.1, known.2) known
 
 sender_six : (conf : Configuration) (vid : ℕ) (src : Mac) → IsSixBytes src.0 → (upper : UpperParts) → IfSome (upper_sender conf vid src upper) (λ s. IsSixBytes s.mac.0)
@@ -201,20 +188,20 @@ hear_addressed dp vid frame six w known = by (heard_sender w.conf vid frame) (se
 
 reply_addressed : (number : ℕ) (dp : DpId) (port vid : ℕ) (frame : FrameParts) (w : World) → IsAddressed w → IsAddressed (reply number dp port vid frame w)
 reply_addressed number dp port vid frame w known =
-    with_any (λ out. say number (packet_out out) w) (outgoing w.conf dp port vid (answer w.conf dp port frame)) w (λ out. said_addressed number (packet_out out) w known) known
+    with_any IsAddressed (λ out. say number (packet_out out) w) (outgoing w.conf dp port vid (answer w.conf dp port frame)) w (λ out. said_addressed number (packet_out out) w known) known
 
 table_addressed : (table number : ℕ) (dp : DpId) (port vid : ℕ) (frame : FrameParts) → IsSixBytes frame.src.0 → (w : World) → IsAddressed w → IsAddressed (packet_of_table table number dp port vid frame w)
 table_addressed table number dp port vid frame six w known =
     let learned : World = learn dp port vid frame.src w in
     let gleaned : World = glean dp vid frame w in
     let answered : World = reply number dp port vid frame (hear_neighbour dp vid frame w) in
-    either (table == sources) learned (if table == routes then gleaned else if table == gateways then answered else w) (learn_addressed dp port vid frame.src six w known)
-    (either (table == routes) gleaned (if table == gateways then answered else w) (glean_addressed dp vid frame w known)
-    (either (table == gateways) answered w (reply_addressed number dp port vid frame (hear_neighbour dp vid frame w) (hear_addressed dp vid frame six w known)) known))
+    either IsAddressed (table == sources) learned (if table == routes then gleaned else if table == gateways then answered else w) (learn_addressed dp port vid frame.src six w known)
+    (either IsAddressed (table == routes) gleaned (if table == gateways then answered else w) (glean_addressed dp vid frame w known)
+    (either IsAddressed (table == gateways) answered w (reply_addressed number dp port vid frame (hear_neighbour dp vid frame w) (hear_addressed dp vid frame six w known)) known))
 
 at_addressed : (m : PacketIn) (number : ℕ) (dp : DpId) (w : World) (port : ℕ) (frame : FrameParts) → IsSixBytes frame.src.0 → IsAddressed w → IsAddressed (packet_at m number dp w port frame)
 at_addressed m number dp w port frame six known =
-    with_any (λ vid. packet_of_table m.table number dp port vid frame w) (counted_vid w.conf dp port frame) w (λ vid. table_addressed m.table number dp port vid frame six w known) known
+    with_any IsAddressed (λ vid. packet_of_table m.table number dp port vid frame w) (counted_vid w.conf dp port frame) w (λ vid. table_addressed m.table number dp port vid frame six w known) known
 
 by_addressed : (m : PacketIn) (number : ℕ) (dp : DpId) (w : World) (port : ℕ) → AreBytes m.payload → IsAddressed w → IsAddressed (packet_by m number dp w port)
 by_addressed m number dp w port bytes known = by (parts m.payload) (source_six m.payload bytes)
@@ -225,8 +212,8 @@ by_addressed m number dp w port bytes known = by (parts m.payload) (source_six m
 
 packet_in_addressed : (m : PacketIn) (number : ℕ) (dp : DpId) (w : World) → AreBytes m.payload → IsAddressed w → IsAddressed (packet_in m number dp w)
 packet_in_addressed m number dp w bytes known =
-    either (m.cookie == COOKIE && is_running (running w) dp) (option_map_or (packet_by m number dp w) (in_port m.fields) w) w
-    (with_any (packet_by m number dp w) (in_port m.fields) w (λ port. by_addressed m number dp w port bytes known) known) known
+    either IsAddressed (m.cookie == COOKIE && is_running (running w) dp) (option_map_or (packet_by m number dp w) (in_port m.fields) w) w
+    (with_any IsAddressed (packet_by m number dp w) (in_port m.fields) w (λ port. by_addressed m number dp w port bytes known) known) known
 
 packet_addressed : (m : Message) → HasBytes m → (number : ℕ) (dp : Option DpId) (w : World) → IsAddressed w → IsAddressed (packet m number dp w)
 packet_addressed (messages.PacketIn m) bytes number (Some dp) w known = packet_in_addressed m number dp w bytes known
@@ -243,84 +230,43 @@ gateways_told : (group : DpId) (vlans : List Vlan) (moment : Moment) (t : Neighb
 gateways_told group [] moment t all = all
 gateways_told group (v ∷ vs) moment t all = gateways_told group vs moment (want_routes group v.vid v.routes moment t) (routes_told group v.vid v.routes moment t all)
 
-want_addressed : (group : DpId) (w : World) → IsAddressed w → IsAddressed (want_in group w)
-want_addressed group w known =
-    either (list_any (λ dp. (group_of w.conf dp).0 == group.0) (running w)) (record w { neighbours = want_gateways group w.conf.vlans w.moment w.neighbours }) w
-    (known.0, gateways_told group w.conf.vlans w.moment w.neighbours known.1, known.2) known
+single : Steps IsAddressed
+single = record {
+  sends = λ number out w known. said_addressed number (packet_out out) w known;
+  asks_echo = λ number w known. said_addressed number (messages.EchoRequest []) w known;
+  closes = λ cause number w at known. close_addressed cause number w known;
+  looks = λ number w known. changed (with_looked w.moment) (λ d all. all) number w known;
+  shows = λ moment w known. known;
+  ages = λ w known. (all_filter IsHost _ w.hosts.hosts known.0, known.1, known.2);
+  wants = λ group w known. wants_by IsAddressed group w (known.0, gateways_told group w.conf.vlans w.moment w.neighbours known.1, known.2) known;
+  tells = λ text w known. known;
+}
 
 -- ---- one message
 
-replace_addressed : (dp : DpId) (w : World) → IsAddressed w → IsAddressed (replace dp w)
-replace_addressed dp w known = with_any (λ (c : Conn). close Replaced c.number w) (conn_of w.conns dp) w (λ c. close_addressed Replaced c.number w known) known
-
-introduce_addressed : (number : ℕ) (dp : DpId) (cause : Option Closing) (w : World) → IsAddressed w → IsAddressed (introduce number dp cause w)
-introduce_addressed number dp (Some cause) w known = close_addressed cause number w known
-introduce_addressed number dp None w known =
-    asked_addressed number messages.PortDescRequest (take_dp number dp (replace dp w)) (take_addressed number dp (replace dp w) (replace_addressed dp w known))
-
-begin_addressed : (dp : Option DpId) (w : World) → IsAddressed w → IsAddressed (begin dp w)
-begin_addressed None w known = known
-begin_addressed (Some dp) w known = want_addressed (group_of w.conf dp) w known
-
-echo_addressed : (m : Message) (number xid : ℕ) (w : World) → IsAddressed w → IsAddressed (echo m number xid w)
-echo_addressed (messages.EchoRequest payload) number xid w known = known
-echo_addressed m number xid w known = known
-
-turn_away_addressed : (cause : Closing) (number xid : ℕ) (w : World) → IsAddressed w → IsAddressed (turn_away cause number xid w)
-turn_away_addressed WrongVersion number xid w known = close_addressed WrongVersion number w known
-turn_away_addressed cause number xid w known = close_addressed cause number w known
-
-follow_addressed : (step : Step) (m : Message) → HasBytes m → (xid number : ℕ) (dp : Option DpId) (w : World) → IsAddressed w → IsAddressed (follow step m xid number dp w)
-follow_addressed steps.Nothing m bytes xid number dp w known = known
-follow_addressed steps.AskFeatures m bytes xid number dp w known = said_addressed number messages.FeaturesRequest w known
-follow_addressed (steps.Features id n_tables auxiliary) m bytes xid number dp w known = introduce_addressed number id (unfit w.conf id n_tables auxiliary) w known
-follow_addressed steps.PortsKnown m bytes xid number dp w known = asked_addressed number messages.BarrierRequest (say number delete_all w) (said_addressed number delete_all w known)
-follow_addressed steps.Wiped m bytes xid number dp w known = begin_addressed dp w known
-follow_addressed steps.Settled m bytes xid number dp w known = known
-follow_addressed (steps.PortChanged port) m bytes xid number dp w known = known
-follow_addressed steps.Packet m bytes xid number dp w known = packet_addressed m bytes number dp w known
-follow_addressed steps.Echo m bytes xid number dp w known = echo_addressed m number xid w known
-follow_addressed (steps.Close cause) m bytes xid number dp w known = turn_away_addressed cause number xid w known
-
-hear_on_addressed : (m : Message) → HasBytes m → (xid number : ℕ) (w : World) (c : Conn) → IsAddressed w → IsAddressed (hear_on m xid number w c)
-hear_on_addressed m bytes xid number w c known =
-    let v : World = record w { conns = change number (with_heard m xid) w.conns } in
-    follow_addressed (leads c.session.state m xid).1 m bytes xid number c.dp (forget_lost v) (forgotten v (changed (with_heard m xid) (λ d all. all) number w known))
-
-hear_message_addressed : (m : Message) → HasBytes m → (xid number : ℕ) (w : World) → IsAddressed w → IsAddressed (hear_message m xid number w)
-hear_message_addressed m bytes xid number w known = with_any (hear_on m xid number w) (conn_with w.conns number) w (λ c. hear_on_addressed m bytes xid number w c known) known
+setup : Setup IsAddressed
+setup = record {
+  hears = λ m xid number w known. forgotten (record w { conns = change number (with_heard m xid) w.conns }) (changed (with_heard m xid) (λ d all. all) number w known);
+  features = λ number w known. said_addressed number messages.FeaturesRequest w known;
+  takes = λ number dp w known. take_addressed number dp w known;
+  ports = λ number w known. asked_addressed number messages.PortDescRequest w known;
+  wipes = λ number w known. asked_addressed number messages.BarrierRequest (say number delete_all w) (said_addressed number delete_all w known);
+  answers = λ number payload xid w at known. known;
+  refuses = λ number xid w at known. known;
+}
 
 pub heard_addressed : (heard : Option (Message × ℕ)) → IfSome heard (λ s. HasBytes s.0) → (number : ℕ) (w : World) → IsAddressed w → IsAddressed (heard_in heard number w)
-heard_addressed (Some heard) bytes number w known = hear_message_addressed heard.0 bytes heard.1 number w known
-heard_addressed None bytes number w known = close_addressed BadFrame number w known
+heard_addressed heard bytes number w known =
+    heard_kept IsAddressed single setup heard (λ s is. packet_addressed s.0 (subst (λ (o : Option (Message × ℕ)). IfSome o (λ x. HasBytes x.0)) is bytes)) number w
+    (close_addressed BadFrame number w known) known
 
 pub read_addressed : (number : ℕ) (w : World) → IsAddressed w → IsAddressed (read number w)
 read_addressed number w known = changed with_read (λ c all. behind_bytes c.session.unread all) number w known
 
--- ---- what opens and what comes
-
--- ---- the clock
-
-stir_addressed : (due : Quiet) (number : ℕ) (w : World) → IsAddressed w → IsAddressed (stir due number w)
-stir_addressed quiet.Well number w known = known
-stir_addressed quiet.Echo number w known = said_addressed number (messages.EchoRequest []) w known
-stir_addressed quiet.Silent number w known = close_addressed Silent number w known
-
-look_on_addressed : (w : World) (c : Conn) → IsAddressed w → IsAddressed (look_on w c)
-look_on_addressed w c known =
-    stir_addressed (due_at c.session w.moment) c.number (record w { conns = change c.number (with_looked w.moment) w.conns }) (changed (with_looked w.moment) (λ d all. all) c.number w known)
-
-look_addressed : (number : ℕ) (w : World) → IsAddressed w → IsAddressed (look number w)
-look_addressed number w known = with_any (look_on w) (conn_with w.conns number) w (λ c. look_on_addressed w c known) known
-
-each_addressed : (numbers : List ℕ) (w : World) → IsAddressed w → IsAddressed (look_each numbers w)
-each_addressed [] w known = known
-each_addressed (number ∷ numbers) w known = each_addressed numbers (look number w) (look_addressed number w known)
+-- ---- what opens and what comes, and the clock
 
 pub pass_addressed : (moment : ℕ) (w : World) → IsAddressed w → IsAddressed (pass moment w)
-pass_addressed moment w known =
-    let is = each_addressed (map (λ (c : Conn). c.number) w.conns) (show moment w) known in
-    (all_filter IsHost _ (look_each (map (λ (c : Conn). c.number) w.conns) (show moment w)).hosts.hosts is.0, is.1, is.2)
+pass_addressed moment w known = pass_kept IsAddressed single moment w known
 
 pub feed_addressed : (number : ℕ) (piece : List ℕ) (w : World) → AreBytes piece → IsAddressed w → IsAddressed (feed number piece w)
 feed_addressed number [] w bytes known = changed (with_fed [] w.moment) (λ c all. all) number w known
@@ -338,20 +284,6 @@ open_addressed number w known =
     said_addressed number (messages.Hello 4 (Some 16)) (record w { conns = put c w.conns }) (known.0, known.1, put_read c w.conns tt known.2)
 
 -- ---- a reload
-
-stray_addressed : (number : ℕ) (w : World) → IsAddressed w → IsAddressed (close_stray number w)
-stray_addressed number w known = either (is_open w.conns number) (close UnknownDp number w) w (close_addressed UnknownDp number w known) known
-
-close_each_addressed : (numbers : List ℕ) (w : World) → IsAddressed w → IsAddressed (close_each numbers w)
-close_each_addressed [] w known = known
-close_each_addressed (number ∷ numbers) w known = close_each_addressed numbers (close_stray number w) (stray_addressed number w known)
-
-want_each_addressed : (groups : List DpId) (w : World) → IsAddressed w → IsAddressed (want_each groups w)
-want_each_addressed [] w known = known
-want_each_addressed (group ∷ groups) w known = want_each_addressed groups (want_in group w) (want_addressed group w known)
-
-want_all_addressed : (w : World) → IsAddressed w → IsAddressed (want_all w)
-want_all_addressed w known = want_each_addressed (in_order (map (group_of w.conf) (running w))) w known
 
 last_six : (ns : List NeighRec) → AllByRecursion IsNeighbour ns → AllByRecursion IsNeighbour (last_of_each ns)
 last_six [] all = tt
@@ -376,7 +308,4 @@ renew_addressed next w known =
     )
 
 pub reload_addressed : (text : Result Configuration (List ℕ)) (w : World) → IsAddressed w → IsAddressed (reload text w)
-reload_addressed (Ok next) w known =
-    let left : World = close_each (strays next w.conns) w in
-    want_all_addressed (renew next left) (renew_addressed next left (close_each_addressed (strays next w.conns) w known))
-reload_addressed (Err cause) w known = known
+reload_addressed text w known = reload_kept IsAddressed single text (λ next v is kept. renew_addressed next v kept) w known

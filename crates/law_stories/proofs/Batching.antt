@@ -23,7 +23,7 @@ use Rattle.ctl_world.specs.World.{World}
 use Rattle.ctl_settle.specs.Settling.{batch, batch_on, say_batch, say_each, wanted}
 use Rattle.ctl_settle.proofs.Batches.{AreByNumber}
 use Rattle.law_stories.proofs.Fits.{EndsIn, Told}
-use Rattle.law_stories.proofs.Numbered.{of_with}
+use Rattle.ctl_core.proofs.Numbered.{of_with}
 use Rattle.law_stories.proofs.Ways.{At, Holds, OnConn, Way, ask_to, changed_to, say_to}
 
 abbrev pub messages_of : Told → List Message

@@ -4,10 +4,7 @@ pub mod Described
 pub mod Fits
 pub mod Leading
 pub mod Lows
-pub mod Numbered
-pub mod Openings
 pub mod PacketBytes
-pub mod PacketSteps
 pub mod PlainSteps
 pub mod SettleFits
 pub mod Settles

@@ -1,6 +1,6 @@
 -- A settling leaves it that what was said of the tables fits each connection; and what it says of the tables of a datapath
 -- is nothing, or the difference.
-use Rattle.std.proofs.Common.{◌≡◌, ℕ, ◌==◌, ◌||◌, Bool, true, false, Option, Some, None, List, [], ◌∷◌, ◌++◌, length, is_some, inl, inr, refl, sym, ap, subst, ◌∙◌, eq-eqb, true≢false}
+use Rattle.std.proofs.Common.{◌≡◌, ℕ, ◌==◌, ◌||◌, Bool, true, false, Option, Some, None, List, [], ◌∷◌, ◌++◌, is_some, inl, inr, refl, sym, ap, subst, ◌∙◌, eq-eqb, true≢false}
 use Rattle.std.specs.Prelude.{◌⊎◌, IfSome}
 use Rattle.std.specs.List.{AllByRecursion}
 use Rattle.std.specs.Option.{option_map}
@@ -26,12 +26,12 @@ use Rattle.ctl_settle.proofs.Batches.{found_all}
 use Rattle.law_stories.proofs.Batching.{AreOf, batch_to}
 use Rattle.law_stories.proofs.Fits.{EndsIn, Fits, FitsEach, IsLow, IsNoting, Told}
 use Rattle.law_stories.proofs.Leading.{leads_on, low_difference}
-use Rattle.law_stories.proofs.Numbered.{is_its, of_with, one_of}
+use Rattle.ctl_core.proofs.Numbered.{is_its, of_with, one_of}
 use Rattle.law_stories.proofs.PlainSteps.{asks_stays}
 use Rattle.law_stories.proofs.Settles.{asks_alike, batch_batched, batched_running, batched_wanted, batches_batched, number_of, running_stage, settled_alike}
 use Rattle.law_stories.proofs.Setup.{AreFit}
 use Rattle.ctl_core.proofs.Ordered.{AreOrdered}
-use Rattle.ctl_core.proofs.Stands.{due_conf}
+use Rattle.ctl_core.proofs.Stands.{asks_conf}
 use Rattle.law_stories.proofs.Ways.{Holds, OnConn, Way}
 
 has_none : (o : Option ℕ) → is_some o ≡ false → o ≡ None
@@ -80,9 +80,6 @@ module _ (cold_order : (conf : Configuration) (state : State) (d : Dp) → IsInK
   settled_fit w ordered low fit =
       let v : World = ask_all w in
       batches_fit (in_order (running v)) v (asks_alike w ordered).ordered (λ dp. low v dp (asks_conf w)) (λ dp is. sym (same_ids (running v) dp) ∙ is) (asks_stays FitsEach past w fit)
-    where
-      asks_conf : (w : World) → (ask_all w).conf ≡ w.conf
-      asks_conf w = due_conf (length w.neighbours.neighbours) w
 
   -- ---- what is said of the tables of one datapath
 

@@ -25,8 +25,8 @@ use Rattle.ctl_core.specs.Story.{behind}
 use Rattle.ctl_core.specs.Turns.{open_conn}
 use Rattle.law_stories.specs.Sayable.{CountUp, IdsCount, ids_more, ids_said, is_answer}
 use Rattle.law_stories.specs.Settlings.{said_in}
-use Rattle.law_stories.proofs.Numbered.{apart, changed_other, changed_own, put_other, unlike, without_other, without_own}
-use Rattle.law_stories.proofs.Openings.{fresh, fresh_is, opens_by}
+use Rattle.ctl_core.proofs.Numbered.{apart, changed_other, changed_own, put_other, unlike, without_other, without_own}
+use Rattle.ctl_core.proofs.Openings.{fresh, fresh_is, opens_by}
 use Rattle.law_stories.proofs.Singly.{IsCounting, IsOwn, IsStill, Steps, feed_stays, heard_stays, pass_stays, read_stays, reload_stays, settle_stays}
 use Rattle.law_stories.proofs.StoryTold.{Any}
 use Rattle.law_stories.proofs.StoryWalks.{Walks, any_pieces, story_kept}

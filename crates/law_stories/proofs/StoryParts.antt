@@ -26,7 +26,7 @@ use Rattle.ctl_core.specs.Story.{behind}
 use Rattle.law_stories.specs.Right.{HasColdTables, HasOneBatch, HoldsColdStart, IsNoted, LeadsTo, NothingWaits, SaysTheLeast}
 use Rattle.law_stories.specs.Settlings.{said_in, settlings}
 use Rattle.law_stories.proofs.Fits.{EndsIn, Fits, FitsEach, IsNoting, Told}
-use Rattle.law_stories.proofs.Numbered.{of_with}
+use Rattle.ctl_core.proofs.Numbered.{of_with}
 use Rattle.law_stories.proofs.Settles.{running_stage, settled_alike}
 use Rattle.law_stories.proofs.SettleFits.{seen_of}
 use Rattle.law_stories.proofs.Setup.{AreFit}

@@ -13,7 +13,7 @@ use Rattle.ctl_world.specs.Saying.{say_by}
 use Rattle.ctl_world.specs.World.{World}
 use Rattle.ctl_core.specs.Hearing.{unread}
 use Rattle.ctl_core.specs.Turns.{open_conn}
-use Rattle.law_stories.proofs.Numbered.{put_other, put_own, shut_none, without_other, without_own}
+use Rattle.ctl_core.proofs.Numbered.{put_other, put_own, shut_none, without_other, without_own}
 
 pub open_is : (conns : List Conn) (n : ℕ) → is_open conns n ≡ is_some (conn_with conns n)
 open_is [] n = refl
