@@ -7,7 +7,7 @@ use Rattle.ctl_world.specs.Connections.{is_open}
 use Rattle.ctl_world.specs.Ends.{close, ended}
 use Rattle.ctl_world.specs.World.{World}
 use Rattle.ctl_settle.specs.Rest.{AreInOrder}
-use Rattle.ctl_core.specs.Hearing.{heard_in, read}
+use Rattle.ctl_core.specs.Hearing.{hear_frame, read}
 use Rattle.ctl_core.specs.Reloading.{accepted, reload}
 use Rattle.ctl_core.specs.Turns.{feed, open_conn, pass}
 use Rattle.ctl_core.proofs.Stands.{Stands, close_stands, ended_stands, feed_stands, heard_stands, open_stands, pass_stands, read_stands, reload_stands}
@@ -30,8 +30,8 @@ fed_in_order number piece w order = order_of (feed number piece w) (feed_stands 
 pub read_in_order : (number : ℕ) (w : World) → AreInOrder w → AreInOrder (read number w)
 read_in_order number w order = order_of (read number w) (read_stands Any number w (standing w order))
 
-pub heard_in_order : (said : Option (Message × ℕ)) (number : ℕ) (w : World) → AreInOrder w → AreInOrder (heard_in said number w)
-heard_in_order said number w order = order_of (heard_in said number w) (heard_stands Any said number w (standing w order))
+pub heard_in_order : (said : Option (Message × ℕ)) (number : ℕ) (w : World) → AreInOrder w → AreInOrder (hear_frame said number w)
+heard_in_order said number w order = order_of (hear_frame said number w) (heard_stands Any said number w (standing w order))
 
 pub closed_in_order : (cause : Closing) (number : ℕ) (w : World) → AreInOrder w → AreInOrder (close cause number w)
 closed_in_order cause number w order = order_of (close cause number w) (close_stands Any cause number w (standing w order))

@@ -14,7 +14,7 @@ use Rattle.ctl_world.specs.World.{IsSound, World}
 use Rattle.ctl_world.proofs.SoundChanges.{added_sound, change_sound}
 use Rattle.ctl_world.proofs.SoundEnds.{forget_sound}
 use Rattle.ctl_packets.proofs.Sound.{packet_sound}
-use Rattle.ctl_core.specs.Hearing.{heard_in, packet, read}
+use Rattle.ctl_core.specs.Hearing.{hear_frame, packet, read}
 use Rattle.ctl_core.proofs.PacketSteps.{packet_kept}
 use Rattle.ctl_core.proofs.SoundSteps.{Holds, ask_holds, close_holds, say_holds, say_valid}
 use Rattle.ctl_core.proofs.SoundTurns.{sound_steps}
@@ -39,7 +39,7 @@ packet_holds : (m : Message) (number : ℕ) (dp : Option DpId) (w : World) → H
 packet_holds m number dp w holds =
     (packet_kept (λ conf conns said. IsValid conf) (λ n out v valid. say_valid n (packet_out out) v valid) m number dp w holds.0, is_sound m number dp w holds)
 
-pub heard_sound : (said : Option (Message × ℕ)) (number : ℕ) (w : World) → IsValid w.conf → IsSound w → IsSound (heard_in said number w)
+pub heard_sound : (said : Option (Message × ℕ)) (number : ℕ) (w : World) → IsValid w.conf → IsSound w → IsSound (hear_frame said number w)
 heard_sound said number w valid sound =
     let holds : Holds w = (valid, sound) in
     (heard_kept Holds sound_steps setup said (λ s is. packet_holds s.0) number w (close_holds BadFrame number w holds) holds).1

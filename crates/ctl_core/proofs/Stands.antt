@@ -17,7 +17,7 @@ use Rattle.ctl_world.specs.Frames.{with_read}
 use Rattle.ctl_world.specs.Saying.{ask, packet_out, say, say_by}
 use Rattle.ctl_world.specs.World.{World}
 use Rattle.ctl_settle.specs.Settling.{ask_all, settle}
-use Rattle.ctl_core.specs.Hearing.{heard_in, packet, read}
+use Rattle.ctl_core.specs.Hearing.{hear_frame, packet, read}
 use Rattle.ctl_core.specs.Reloading.{reload}
 use Rattle.ctl_core.specs.Turns.{feed, open_conn, pass}
 use Rattle.ctl_core.proofs.Ordered.{AreOrdered, change_ordered, put_ordered, without_ordered}
@@ -109,7 +109,7 @@ module _ (P : Configuration → Type 0) where
   packet_stands : (m : Message) (number : ℕ) (dp : Option DpId) (w : World) → Stands P w → Stands P (packet m number dp w)
   packet_stands m number dp w stands = packet_kept (λ conf conns said. P conf × AreOrdered conns) (λ n out v kept. said_stands n (packet_out out) v kept) m number dp w stands
 
-  pub heard_stands : (said : Option (Message × ℕ)) (number : ℕ) (w : World) → Stands P w → Stands P (heard_in said number w)
+  pub heard_stands : (said : Option (Message × ℕ)) (number : ℕ) (w : World) → Stands P w → Stands P (hear_frame said number w)
   heard_stands said number w stands = heard_kept (Stands P) single setup said (λ s is. packet_stands s.0) number w (close_stands BadFrame number w stands) stands
 
   pub read_stands : (number : ℕ) (w : World) → Stands P w → Stands P (read number w)

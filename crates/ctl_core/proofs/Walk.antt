@@ -31,7 +31,7 @@ use Rattle.ctl_world.specs.Ends.{close, forget_lost}
 use Rattle.ctl_world.specs.Saying.{add_said, ask, packet_out, repeat, say}
 use Rattle.ctl_world.specs.World.{World, running}
 use Rattle.ctl_settle.specs.Settling.{ask_all, ask_due, ask_each, ask_on, batch, batch_on, batches, note_sent, say_batch, say_due, say_each, settle, take_due, wanted}
-use Rattle.ctl_core.specs.Hearing.{begin, echo, follow, hear_message, hear_on, heard_in, introduce, packet, replace, take_dp, turn_away, unfit, want_gateways, want_in, wipe}
+use Rattle.ctl_core.specs.Hearing.{begin, echo, follow, hear_frame, hear_message, hear_on, introduce, packet, replace, take_dp, turn_away, unfit, want_gateways, want_in, wipe}
 use Rattle.ctl_core.specs.Reloading.{close_each, close_stray, reload, renew, strays, want_all, want_each}
 use Rattle.ctl_core.specs.Turns.{age, look, look_each, look_on, pass, show, stir}
 use Rattle.ctl_core.proofs.Openings.{change_open, found_open, open_is}
@@ -237,6 +237,6 @@ module _ (K : World → Type 0) (single : Steps K) (setup : Setup K) where
 
   -- what spells no message closes the connection
   pub heard_kept : (heard : Option (Message × ℕ)) → ((s : Message × ℕ) → heard ≡ Some s → (number : ℕ) (dp : Option DpId) (w : World) → K w → K (packet s.0 number dp w))
-      → (number : ℕ) (w : World) → K (close BadFrame number w) → K w → K (heard_in heard number w)
+      → (number : ℕ) (w : World) → K (close BadFrame number w) → K w → K (hear_frame heard number w)
   heard_kept (Some s) packets number w closed kept = message_kept s.0 (packets s refl) s.1 number w kept
   heard_kept None packets number w closed kept = closed

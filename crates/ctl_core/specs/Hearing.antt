@@ -129,9 +129,9 @@ abbrev pub says : (frame : List ℕ) → Option (Message × ℕ)
 says frame = says_by (decoded frame)
 
 -- a frame that spells no message closes its connection
-abbrev pub heard_in : Option (Message × ℕ) → (number : ℕ) → World → World
-heard_in (Some said) number w = hear_message said.0 said.1 number w
-heard_in None number w = close BadFrame number w
+abbrev pub hear_frame : Option (Message × ℕ) → (number : ℕ) → World → World
+hear_frame (Some said) number w = hear_message said.0 said.1 number w
+hear_frame None number w = close BadFrame number w
 
 -- ---- frames in the bytes that came (OpenFlow 1.3, 7.1)
 
@@ -145,7 +145,7 @@ read number w = record w { conns = change number with_read w.conns }
 -- a header that tells less than its own length closes the connection; a frame and a closing settle
 abbrev pub hear_front : Front → (number : ℕ) → World → World
 hear_front Part number w = w
-hear_front (Frame frame) number w = settle (heard_in (says frame) number w)
+hear_front (Frame frame) number w = settle (hear_frame (says frame) number w)
 hear_front Bad number w = settle (close BadFrame number w)
 
 abbrev pub has_frame : (number : ℕ) → World → Bool

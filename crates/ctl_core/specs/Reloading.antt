@@ -1,5 +1,5 @@
 -- What a new configuration does.
-use Rattle.std.specs.Prelude.{◌≡◌, ℕ, Bool, false, not, is_some, if◌then◌else◌, List, [], ◌∷◌, ◌++◌, codes, filter, map, Option, Some, None, Result, Ok, Err}
+use Rattle.std.specs.Prelude.{◌≡◌, ℕ, Bool, false, not, is_some, if◌then◌else◌, List, [], ◌∷◌, ◌++◌, codes, filter, map, Result, Ok, Err}
 use Rattle.std.specs.Fmt.{decimal}
 use Rattle.std.specs.Option.{option_map_or}
 use Rattle.net_base.specs.declared.numbers.DpId.{DpId}

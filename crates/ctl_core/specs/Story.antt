@@ -20,9 +20,9 @@ behind w [] = w
 behind w (h ∷ hs) = behind (turn h w) hs
 
 -- what is said of it, turn by turn
-abbrev pub said_of : World → List Happening → List (List Said)
-said_of w [] = []
-said_of w (h ∷ hs) = (turn h w).said ∷ said_of (turn h w) hs
+abbrev pub said_by_turn : World → List Happening → List (List Said)
+said_by_turn w [] = []
+said_by_turn w (h ∷ hs) = (turn h w).said ∷ said_by_turn (turn h w) hs
 
 -- ---- what a controller is seen as
 

@@ -10,7 +10,7 @@ ghost use Rattle.ctl_world.specs.Frames.{front};
 ghost use Rattle.ctl_world.specs.World.{IsSound};
 ghost use Rattle.ctl_settle.specs.Settling.{settle};
 ghost use Rattle.ctl_core.specs.Changes.{any_changes, frame_changes, heard_packet_changes, message_changes, next_changes, step_changes};
-ghost use Rattle.ctl_core.specs.Hearing.{echo, follow, has_frame, hear_frames, hear_message, hear_next, heard_in, packet, read, says, tell_version, turn_away, unread};
+ghost use Rattle.ctl_core.specs.Hearing.{echo, follow, has_frame, hear_frame, hear_frames, hear_message, hear_next, packet, read, says, tell_version, turn_away, unread};
 ghost use Rattle.ctl_core.specs.Known.{HasSettled, IsEarly};
 
 use crate::gateways::begin;
@@ -201,7 +201,7 @@ fn read_message(alloc: Global, frame: &[u8]) -> Result<Option<(Message, u32)>, N
 /// a settling looks at.
 fn hear_frame(alloc: Global, world: &mut World, frame: &[u8], conn: u32) -> Result<bool, NoMemory>
     requires { IsSound world.old }
-    ensures heard { OnOk result (world.new ≡ heard_in (says frame.now) conn world.old) }
+    ensures heard { OnOk result (world.new ≡ hear_frame (says frame.now) conn world.old) }
     ensures alike { IfOk result (λ changed. changed ≡ false → IsAlike world.new world.old) }
     ensures told { IfOk result (λ changed. changed ≡ frame_changes (says frame.now) conn world.old) }
 {
@@ -238,7 +238,7 @@ fn hear_one<T: Tally>(
     units: &mut T,
 ) -> Result<(), NoMemory>
     requires { HasSettled known.old }
-    ensures heard { OnOk result (known.new.world ≡ settle (heard_in (says frame.now) conn known.old.world)) }
+    ensures heard { OnOk result (known.new.world ≡ settle (hear_frame (says frame.now) conn known.old.world)) }
     ensures settled { OnOk result (HasSettled known.new) }
     ensures left_out { frame_changes (says frame.now) conn known.old.world ≡ false → IsEarly known.old → T.count units.new ≡ T.count units.old }
     ensures early { frame_changes (says frame.now) conn known.old.world ≡ false → IsEarly known.old → OnOk result (IsEarly known.new) }

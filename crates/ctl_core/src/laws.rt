@@ -12,7 +12,7 @@ ghost use Rattle.ctl_world.specs.Ends.{close, ended};
 ghost use Rattle.ctl_world.specs.World.{IsSound, World};
 ghost use Rattle.ctl_settle.specs.Rest.{AreInOrder, IsAtRest};
 ghost use Rattle.ctl_settle.specs.Settling.{settle};
-ghost use Rattle.ctl_core.specs.Hearing.{heard_in, read};
+ghost use Rattle.ctl_core.specs.Hearing.{hear_frame, read};
 ghost use Rattle.ctl_core.specs.Reloading.{accepted, reload};
 ghost use Rattle.ctl_core.specs.Turns.{feed, open_conn, pass, turn};
 
@@ -23,7 +23,7 @@ use ctl_settle::laws::{
 
 /// Whatever a frame says, what was learned stays valid.
 pub fn a_frame_leaves_it_sound()
-    ensures heard { (said : Option (Message × ℕ)) (number : ℕ) (w : World) → IsValid w.conf → IsSound w → IsSound (heard_in said number w) }
+    ensures heard { (said : Option (Message × ℕ)) (number : ℕ) (w : World) → IsValid w.conf → IsSound w → IsSound (hear_frame said number w) }
     ensures read { (number : ℕ) (w : World) → IsSound w → IsSound (read number w) }
 {}
 
@@ -51,7 +51,7 @@ pub fn what_happens_keeps_connections_in_order()
     ensures opened { (number : ℕ) (w : World) → is_open w.conns number ≡ false → AreInOrder w → AreInOrder (open_conn number w) }
     ensures fed { (number : ℕ) (piece : List ℕ) (w : World) → AreInOrder w → AreInOrder (feed number piece w) }
     ensures read { (number : ℕ) (w : World) → AreInOrder w → AreInOrder (read number w) }
-    ensures heard { (said : Option (Message × ℕ)) (number : ℕ) (w : World) → AreInOrder w → AreInOrder (heard_in said number w) }
+    ensures heard { (said : Option (Message × ℕ)) (number : ℕ) (w : World) → AreInOrder w → AreInOrder (hear_frame said number w) }
     ensures closed { (cause : Closing) (number : ℕ) (w : World) → AreInOrder w → AreInOrder (close cause number w) }
     ensures ended { (cause : Closing) (number : ℕ) (w : World) → AreInOrder w → AreInOrder (ended cause number w) }
     ensures passed { (moment : ℕ) (w : World) → AreInOrder w → AreInOrder (pass moment w) }

@@ -79,11 +79,11 @@ table_changes table dp port vid frame w =
     else table == gateways && hears_neighbour dp vid frame w
 
 -- its one tag is of a VLAN that the port is an edge member of
-abbrev pub frame_changes : PacketIn → DpId → World → (port : ℕ) → FrameParts → Bool
-frame_changes m dp w port frame = option_map_or (λ vid. table_changes m.table dp port vid frame w) (counted_vid w.conf dp port frame) false
+abbrev pub vlan_changes : PacketIn → DpId → World → (port : ℕ) → FrameParts → Bool
+vlan_changes m dp w port frame = option_map_or (λ vid. table_changes m.table dp port vid frame w) (counted_vid w.conf dp port frame) false
 
 abbrev pub port_changes : PacketIn → DpId → World → (port : ℕ) → Bool
-port_changes m dp w port = option_map_or (frame_changes m dp w port) (parts m.payload) false
+port_changes m dp w port = option_map_or (vlan_changes m dp w port) (parts m.payload) false
 
 -- of a datapath that runs, with the cookie of this controller, and the port that it came in by
 abbrev pub packet_changes : PacketIn → DpId → World → Bool

@@ -20,7 +20,7 @@ use Rattle.ctl_world.specs.Ends.{close, forget_lost}
 use Rattle.ctl_world.specs.Saying.{ask, repeat, say}
 use Rattle.ctl_world.specs.World.{World, running}
 use Rattle.ctl_settle.specs.Settling.{settle}
-use Rattle.ctl_core.specs.Hearing.{begin, echo, follow, hear_front, hear_message, hear_on, heard_in, introduce, packet, replace, says, take_dp, turn_away, unfit, want_gateways, want_in, wipe}
+use Rattle.ctl_core.specs.Hearing.{begin, echo, follow, hear_frame, hear_front, hear_message, hear_on, introduce, packet, replace, says, take_dp, turn_away, unfit, want_gateways, want_in, wipe}
 use Rattle.law_recordings.proofs.Touches.{Keeps, Touch, any, ask_keeps, both, changed, close_keeps, either, forget_keeps, found_of, found_with, itself, over, repeat_keeps, running_kept, say_keeps, touched}
 use Rattle.law_recordings.proofs.Settles.{settle_keeps}
 use Rattle.law_recordings.proofs.Packets.{packet_in_keeps}
@@ -102,11 +102,11 @@ module _ (t : Touch) where
       (found_with t (hear_on m xid number (touched t w)) (λ c. refl) number w (touched t w))
       (any t w (conn_with w.conns number) (hear_on m xid number (touched t w)) (hear_on m xid number w) (λ c. hear_on_keeps m xid number c w))
 
-  heard_keeps : (said : Option (Message × ℕ)) (number : ℕ) → Keeps t (heard_in said number)
+  heard_keeps : (said : Option (Message × ℕ)) (number : ℕ) → Keeps t (hear_frame said number)
   heard_keeps (Some said) number w = hear_message_keeps said.0 said.1 number w
   heard_keeps None number w = close_keeps t BadFrame number w
 
   pub front_keeps : (f : Front) (number : ℕ) → Keeps t (hear_front f number)
   front_keeps Part number w = itself t w
-  front_keeps (Frame frame) number w = both t (heard_in (says frame) number) settle (heard_keeps (says frame) number) (settle_keeps t) w
+  front_keeps (Frame frame) number w = both t (hear_frame (says frame) number) settle (heard_keeps (says frame) number) (settle_keeps t) w
   front_keeps Bad number w = both t (close BadFrame number) settle (close_keeps t BadFrame number) (settle_keeps t) w

@@ -14,7 +14,7 @@ use Rattle.ctl_world.specs.Frames.{front}
 use Rattle.ctl_world.specs.World.{World}
 use Rattle.ctl_world.proofs.Places.{unchanged}
 use Rattle.ctl_core.specs.Hearing.{has_frame, hear_frames, hear_front, hear_next, read, unread}
-use Rattle.ctl_core.specs.Story.{behind, said_of}
+use Rattle.ctl_core.specs.Story.{behind, said_by_turn}
 use Rattle.ctl_core.specs.Turns.{feed, hear, hear_all, turn, work}
 use Rattle.law_recordings.specs.Pieces.{in_a_row, known_only}
 use Rattle.law_recordings.proofs.Changes.{change_id, change_same, change_twice, shut_none}
@@ -125,9 +125,9 @@ behind_known : (v w : World) → known_only v ≡ known_only w → (more : List 
 behind_known v w same [] = same
 behind_known v w same (h ∷ hs) = ap (λ (x : World). known_only (behind (work h x) hs)) same
 
-said_known : (v w : World) → known_only v ≡ known_only w → (more : List Happening) → said_of v more ≡ said_of w more
+said_known : (v w : World) → known_only v ≡ known_only w → (more : List Happening) → said_by_turn v more ≡ said_by_turn w more
 said_known v w same [] = refl
-said_known v w same (h ∷ hs) = ap (λ (x : World). (work h x).said ∷ said_of (work h x) hs) same
+said_known v w same (h ∷ hs) = ap (λ (x : World). (work h x).said ∷ said_by_turn (work h x) hs) same
 
 module _ (number : ℕ) (first second : List ℕ) (w : World) (more : List Happening) where
   abbrev begun : World
@@ -145,8 +145,8 @@ module _ (number : ℕ) (first second : List ℕ) (w : World) (more : List Happe
   pub known_so : known_only (behind w (Heard number first ∷ Heard number second ∷ more)) ≡ known_only (behind w (Heard number (first ++ second) ∷ more))
   known_so = behind_known done at_once same_known more
 
-  pub said_so : in_a_row (said_of w (Heard number first ∷ Heard number second ∷ more)) ≡ in_a_row (said_of w (Heard number (first ++ second) ∷ more))
+  pub said_so : in_a_row (said_by_turn w (Heard number first ∷ Heard number second ∷ more)) ≡ in_a_row (said_by_turn w (Heard number (first ++ second) ∷ more))
   said_so =
       ap (λ (turns : List (List Said)). begun.said ++ (done.said ++ in_a_row turns)) (said_known done at_once same_known more)
-      ∙ sym (append_assoc begun.said done.said (in_a_row (said_of at_once more)))
-      ∙ ap (λ (s : List Said). s ++ in_a_row (said_of at_once more)) (ap (λ (x : World). x.said) (sym (one_turn number first second w)))
+      ∙ sym (append_assoc begun.said done.said (in_a_row (said_by_turn at_once more)))
+      ∙ ap (λ (s : List Said). s ++ in_a_row (said_by_turn at_once more)) (ap (λ (x : World). x.said) (sym (one_turn number first second w)))

@@ -13,7 +13,7 @@ use Rattle.ctl_world.specs.Ends.{end_line}
 use Rattle.ctl_world.specs.Frames.{front}
 use Rattle.ctl_world.specs.World.{World}
 use Rattle.switch_session.specs.Connections.{next_id}
-use Rattle.ctl_core.specs.Hearing.{has_frame, hear_frames, hear_front, hear_next, heard_in, read, says, unread}
+use Rattle.ctl_core.specs.Hearing.{has_frame, hear_frame, hear_frames, hear_front, hear_next, read, says, unread}
 use Rattle.ctl_core.specs.Turns.{feed, hear, turn}
 use Rattle.ctl_core.proofs.Numbered.{unlike}
 use Rattle.ctl_core.proofs.Openings.{change_open, without_open, without_shut}
@@ -95,9 +95,9 @@ Shut w = AreShut w.conns w.said
 front_shut : (number : ℕ) (w : World) → Shut w → (f : Front) → front (unread number w) ≡ f → Shut (hear_front f number (read number w))
 front_shut number w shut Part is = read_stays AreShut single number w shut
 front_shut number w shut (Frame frame) is =
-    settle_stays AreShut single (heard_in (says frame) number (read number w)) (heard_stays AreShut single (says frame) number w (λ part. absurd (cc)) shut)
+    settle_stays AreShut single (hear_frame (says frame) number (read number w)) (heard_stays AreShut single (says frame) number w (λ part. absurd (cc)) shut)
 front_shut number w shut Bad is =
-    settle_stays AreShut single (heard_in None number (read number w)) (heard_stays AreShut single None number w (λ part. absurd (cc)) shut)
+    settle_stays AreShut single (hear_frame None number (read number w)) (heard_stays AreShut single None number w (λ part. absurd (cc)) shut)
 
 pub closed_isnt_open : (number : ℕ) (piece : List ℕ) (w : World) (n : ℕ) → closes_by (turn (Heard number piece) w) n ≡ true → is_open (turn (Heard number piece) w).conns n ≡ false
 closed_isnt_open number piece w =

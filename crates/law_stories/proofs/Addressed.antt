@@ -32,7 +32,7 @@ use Rattle.ctl_world.specs.Frames.{with_read}
 use Rattle.ctl_world.specs.Saying.{ask, packet_out, say, say_by}
 use Rattle.ctl_world.specs.World.{World, running, ups}
 use Rattle.ctl_packets.specs.Packets.{destination, gateways, glean, glean_at, glean_in, glean_to, hear_neighbour, hear_sender, is_for_gateway, is_resolved, learn, network_vlan, outgoing, packet_at, packet_by, packet_in, packet_of_table, reply, routes, sources, want}
-use Rattle.ctl_core.specs.Hearing.{heard_in, packet, read, take_dp, want_gateways}
+use Rattle.ctl_core.specs.Hearing.{hear_frame, packet, read, take_dp, want_gateways}
 use Rattle.ctl_core.specs.Reloading.{reload, renew}
 use Rattle.ctl_core.specs.Turns.{feed, open_conn, pass}
 use Rattle.std.specs.Prelude.{IfSome}
@@ -255,7 +255,7 @@ setup = record {
   refuses = λ number xid w at known. known;
 }
 
-pub heard_addressed : (heard : Option (Message × ℕ)) → IfSome heard (λ s. HasBytes s.0) → (number : ℕ) (w : World) → IsAddressed w → IsAddressed (heard_in heard number w)
+pub heard_addressed : (heard : Option (Message × ℕ)) → IfSome heard (λ s. HasBytes s.0) → (number : ℕ) (w : World) → IsAddressed w → IsAddressed (hear_frame heard number w)
 heard_addressed heard bytes number w known =
     heard_kept IsAddressed single setup heard (λ s is. packet_addressed s.0 (subst (λ (o : Option (Message × ℕ)). IfSome o (λ x. HasBytes x.0)) is bytes)) number w
     (close_addressed BadFrame number w known) known

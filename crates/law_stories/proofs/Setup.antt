@@ -24,7 +24,7 @@ use Rattle.ctl_world.specs.Ends.{close, forget_lost}
 use Rattle.ctl_world.specs.Saying.{say}
 use Rattle.ctl_world.specs.TablesSaid.{said_more, tables_said}
 use Rattle.ctl_world.specs.World.{World}
-use Rattle.ctl_core.specs.Hearing.{follow, hear_on, heard_in, introduce, replace, take_dp, tell_version, turn_away, unfit, wipe}
+use Rattle.ctl_core.specs.Hearing.{follow, hear_frame, hear_on, introduce, replace, take_dp, tell_version, turn_away, unfit, wipe}
 use Rattle.ctl_core.specs.Turns.{open_conn}
 use Rattle.law_stories.proofs.Fits.{After, Fits, FitsEach, IsAt, IsBare, IsWiping, Told, heard_fits}
 use Rattle.ctl_core.proofs.Numbered.{shut_none, unlike}
@@ -143,7 +143,7 @@ module _ (past : List Said) where
       (λ n d differs h. (λ own. absurd (differs own), λ off. h))
       fit)
 
-  pub heard_fit : (said : Option (Message × ℕ)) (number : ℕ) (w : World) → AreFit w → AreFit (heard_in said number w)
+  pub heard_fit : (said : Option (Message × ℕ)) (number : ℕ) (w : World) → AreFit w → AreFit (hear_frame said number w)
   heard_fit None number w fit = close_stays FitsEach past BadFrame number w fit
   heard_fit (Some said) number w fit = by (conn_with w.conns number) refl
     where

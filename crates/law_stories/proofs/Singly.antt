@@ -22,7 +22,7 @@ use Rattle.ctl_world.specs.Saying.{ask, packet_out, say, say_by}
 use Rattle.ctl_world.specs.TablesSaid.{is_hello}
 use Rattle.ctl_world.specs.World.{World}
 use Rattle.ctl_settle.specs.Settling.{settle}
-use Rattle.ctl_core.specs.Hearing.{heard_in, packet, read, unread}
+use Rattle.ctl_core.specs.Hearing.{hear_frame, packet, read, unread}
 use Rattle.ctl_core.specs.Reloading.{reload}
 use Rattle.ctl_core.specs.Turns.{feed, pass}
 use Rattle.ctl_core.proofs.Numbered.{has_it}
@@ -128,7 +128,7 @@ module _ (J : List Conn → List Said → Type 0) (single : Steps J) where
   read_stays number w stays = changed with_read (λ c. refl) (λ c. refl) number w stays
 
   -- where anything but a part was at the front, the connection is open
-  pub heard_stays : (heard : Option (Message × ℕ)) (number : ℕ) (w : World) → (front (unread number w) ≡ Part → ⊥) → Stays w → Stays (heard_in heard number (read number w))
+  pub heard_stays : (heard : Option (Message × ℕ)) (number : ℕ) (w : World) → (front (unread number w) ≡ Part → ⊥) → Stays w → Stays (hear_frame heard number (read number w))
   heard_stays heard number w some stays =
       let v : World = read number w in
       let kept : Stays v = read_stays number w stays in

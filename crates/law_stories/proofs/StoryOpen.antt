@@ -19,7 +19,7 @@ use Rattle.ctl_world.specs.Ends.{closing_text, end_line, ended}
 use Rattle.ctl_world.specs.Frames.{front}
 use Rattle.ctl_world.specs.World.{World}
 use Rattle.ctl_settle.specs.Settling.{settle}
-use Rattle.ctl_core.specs.Hearing.{has_frame, hear_frames, hear_front, hear_next, heard_in, read, says, unread}
+use Rattle.ctl_core.specs.Hearing.{has_frame, hear_frame, hear_frames, hear_front, hear_next, read, says, unread}
 use Rattle.ctl_core.specs.Reloading.{accepted, reload}
 use Rattle.ctl_core.specs.Turns.{closing_for, feed, hear, open_conn, pass, turn, work}
 use Rattle.law_stories.specs.Sayable.{IsOnOpen, SaysOnOpen, opens_in}
@@ -115,8 +115,8 @@ module _ (opened : ℕ → Bool) where
   front_on : (number : ℕ) (w : World) → On w → (f : Front) → front (unread number w) ≡ f → On (hear_front f number (read number w))
   front_on number w on Part is = read_stays AreOnOpen single number w on
   front_on number w on (Frame frame) is =
-      settled (heard_in (says frame) number (read number w)) (heard_stays AreOnOpen single (says frame) number w (λ part. absurd (cc)) on)
-  front_on number w on Bad is = settled (heard_in None number (read number w)) (heard_stays AreOnOpen single None number w (λ part. absurd (cc)) on)
+      settled (hear_frame (says frame) number (read number w)) (heard_stays AreOnOpen single (says frame) number w (λ part. absurd (cc)) on)
+  front_on number w on Bad is = settled (hear_frame None number (read number w)) (heard_stays AreOnOpen single None number w (λ part. absurd (cc)) on)
 
   frames_on : (most number : ℕ) (w : World) → On w → On (hear_frames most number w)
   frames_on zero number w on = on

@@ -5,7 +5,7 @@ use Rattle.ctl_world.specs.Ends.{ended}
 use Rattle.ctl_world.specs.World.{World}
 use Rattle.ctl_settle.specs.Settling.{settle}
 use Rattle.ctl_settle.proofs.Batches.{AreByNumber, AreInKeyOrder}
-use Rattle.ctl_core.specs.Hearing.{heard_in}
+use Rattle.ctl_core.specs.Hearing.{hear_frame}
 use Rattle.ctl_core.specs.Reloading.{accepted, reload}
 use Rattle.ctl_core.specs.Turns.{open_conn, pass}
 use Rattle.ctl_core.proofs.Stands.{Stands, ended_stands, feed_stands, heard_stands, open_stands, pass_stands, read_stands, reload_stands, settle_stands}
@@ -22,7 +22,7 @@ module _ (numbers : (w : World) → AreByNumber w.conns → AreInKeyOrder w.conn
     opens = λ number w shut stands. settled P (open_conn number w) (open_stands P number w shut stands);
     feeds = λ number piece w stands. feed_stands P number piece w stands;
     reads = λ number w stands. read_stands P number w stands;
-    hears = λ said number w stands. settled P (heard_in said number w) (heard_stands P said number w stands);
+    hears = λ said number w stands. settled P (hear_frame said number w) (heard_stands P said number w stands);
     ends = λ cause number w stands. settled P (ended cause number w) (ended_stands P cause number w stands);
     passes = λ moment w stands. settled P (pass moment w) (pass_stands P moment w stands);
     reloads = λ text w stands. settled P (reload (accepted text) w) (reload_stands P (accepted text) (valid text) w stands);

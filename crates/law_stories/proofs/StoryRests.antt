@@ -11,7 +11,7 @@ use Rattle.ctl_world.specs.Frames.{with_read}
 use Rattle.ctl_world.specs.World.{World, first}
 use Rattle.ctl_settle.specs.Rest.{AreInOrder, IsAtRest}
 use Rattle.ctl_settle.specs.Settling.{settle}
-use Rattle.ctl_core.specs.Hearing.{heard_in, read}
+use Rattle.ctl_core.specs.Hearing.{hear_frame, read}
 use Rattle.ctl_core.specs.Reloading.{accepted, reload}
 use Rattle.ctl_core.specs.Story.{behind}
 use Rattle.ctl_core.specs.Turns.{feed, open_conn, pass}
@@ -34,7 +34,7 @@ module _ (rests : (w : World) → AreInOrder w → IsAtRest (settle w)) (in_orde
     opens = λ number w shut holds. settled (open_conn number w) (opened_in_order number w shut holds.0);
     feeds = λ number piece w holds. (fed_in_order number piece w holds.0, alike (feed number piece w) w (changed number w (with_fed piece w.moment) (fed_face piece w.moment)) holds.1);
     reads = λ number w holds. (read_in_order number w holds.0, alike (read number w) w (changed number w with_read (λ c. refl)) holds.1);
-    hears = λ said number w holds. settled (heard_in said number w) (heard_in_order said number w holds.0);
+    hears = λ said number w holds. settled (hear_frame said number w) (heard_in_order said number w holds.0);
     ends = λ cause number w holds. settled (ended cause number w) (ended_in_order cause number w holds.0);
     passes = λ moment w holds. settled (pass moment w) (passed_in_order moment w holds.0);
     reloads = λ text w holds. settled (reload (accepted text) w) (reloaded_in_order text w holds.0);

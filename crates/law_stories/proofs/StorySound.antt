@@ -15,7 +15,7 @@ use Rattle.ctl_world.specs.World.{IsSound, World, first, running}
 use Rattle.ctl_world.proofs.SoundEnds.{ended_sound}
 use Rattle.ctl_settle.specs.Settling.{ask_all, batch, batches, settle}
 use Rattle.ctl_settle.proofs.Batches.{AreByNumber, AreInKeyOrder}
-use Rattle.ctl_core.specs.Hearing.{heard_in}
+use Rattle.ctl_core.specs.Hearing.{hear_frame}
 use Rattle.ctl_core.specs.Reloading.{accepted, of_text, of_tree, reload}
 use Rattle.ctl_core.specs.Story.{behind}
 use Rattle.ctl_core.specs.Turns.{open_conn, pass}
@@ -59,7 +59,7 @@ module _ (numbers : (w : World) → AreByNumber w.conns → AreInKeyOrder w.conn
     opens = λ number w shut holds. (order.opens number w shut holds.0, settle_sound (open_conn number w) (open_sound number w holds.1));
     feeds = λ number piece w holds. (order.feeds number piece w holds.0, feed_sound number piece w holds.1);
     reads = λ number w holds. (order.reads number w holds.0, read_sound number w holds.1);
-    hears = λ said number w holds. (order.hears said number w holds.0, settle_sound (heard_in said number w) (heard_sound said number w holds.0.0 holds.1));
+    hears = λ said number w holds. (order.hears said number w holds.0, settle_sound (hear_frame said number w) (heard_sound said number w holds.0.0 holds.1));
     ends = λ cause number w holds. (order.ends cause number w holds.0, settle_sound (ended cause number w) (ended_sound cause number w holds.0.0 holds.1));
     passes = λ moment w holds. (order.passes moment w holds.0, settle_sound (pass moment w) (pass_sound moment w holds.0.0 holds.1));
     reloads = λ text w holds. (order.reloads text w holds.0, settle_sound (reload (accepted text) w) (reload_sound of_document text w holds.0.0 holds.1));

@@ -25,7 +25,7 @@ use Rattle.ctl_world.specs.World.{IsSound, World, first}
 use Rattle.ctl_world.proofs.SoundEnds.{ended_sound}
 use Rattle.ctl_settle.specs.Settling.{ask_all, batch, settle, wanted}
 use Rattle.ctl_settle.proofs.Batches.{AreByNumber, AreInKeyOrder}
-use Rattle.ctl_core.specs.Hearing.{heard_in, read, says}
+use Rattle.ctl_core.specs.Hearing.{hear_frame, read, says}
 use Rattle.ctl_core.specs.Reloading.{accepted}
 use Rattle.ctl_core.proofs.SoundFrames.{heard_sound, read_sound}
 use Rattle.ctl_core.proofs.SoundReloads.{reload_sound}
@@ -66,7 +66,7 @@ turned past w fit n =
 read_told : (past : List Said) (number : ℕ) (w : World) → IsTold past w → IsTold past (read number w)
 read_told past number w (stands, fit) = ((read_stands IsValid number w stands.0, read_sound number w stands.1), read_stays FitsEach past number w fit)
 
-heard_told : (past : List Said) (heard : Option (Message × ℕ)) (number : ℕ) (w : World) → IsTold past w → IsTold past (heard_in heard number w)
+heard_told : (past : List Said) (heard : Option (Message × ℕ)) (number : ℕ) (w : World) → IsTold past w → IsTold past (hear_frame heard number w)
 heard_told past heard number w (stands, fit) = ((heard_stands IsValid heard number w stands.0, heard_sound heard number w stands.0.0 stands.1), heard_fit past heard number w fit)
 
 module _ (laws : Laws) where

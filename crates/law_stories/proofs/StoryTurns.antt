@@ -11,7 +11,7 @@ use Rattle.ctl_world.specs.Ends.{ended}
 use Rattle.ctl_world.specs.Frames.{front}
 use Rattle.ctl_world.specs.World.{World}
 use Rattle.ctl_settle.specs.Settling.{settle}
-use Rattle.ctl_core.specs.Hearing.{has_frame, hear_frames, hear_front, hear_next, heard_in, read, says, unread}
+use Rattle.ctl_core.specs.Hearing.{has_frame, hear_frame, hear_frames, hear_front, hear_next, read, says, unread}
 use Rattle.ctl_core.specs.Reloading.{accepted, reload}
 use Rattle.ctl_core.specs.Story.{behind}
 use Rattle.ctl_core.specs.Turns.{closing_for, feed, hear, open_conn, pass, turn, work}
@@ -22,7 +22,7 @@ pub record Keeps (J : World → Type 0) : Type 0 where
   pub opens : (number : ℕ) (w : World) → is_open w.conns number ≡ false → J w → J (settle (open_conn number w))
   pub feeds : (number : ℕ) (piece : List ℕ) (w : World) → J w → J (feed number piece w)
   pub reads : (number : ℕ) (w : World) → J w → J (read number w)
-  pub hears : (said : Option (Message × ℕ)) (number : ℕ) (w : World) → J w → J (settle (heard_in said number w))
+  pub hears : (said : Option (Message × ℕ)) (number : ℕ) (w : World) → J w → J (settle (hear_frame said number w))
   pub ends : (cause : Closing) (number : ℕ) (w : World) → J w → J (settle (ended cause number w))
   pub passes : (moment : ℕ) (w : World) → J w → J (settle (pass moment w))
   pub reloads : (text : List ℕ) (w : World) → J w → J (settle (reload (accepted text) w))

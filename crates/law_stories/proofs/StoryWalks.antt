@@ -15,7 +15,7 @@ use Rattle.ctl_world.specs.Ends.{ended}
 use Rattle.ctl_world.specs.Frames.{front}
 use Rattle.ctl_world.specs.World.{World}
 use Rattle.ctl_settle.specs.Settling.{settle}
-use Rattle.ctl_core.specs.Hearing.{has_frame, hear_frames, hear_front, hear_next, heard_in, read, says, unread}
+use Rattle.ctl_core.specs.Hearing.{has_frame, hear_frame, hear_frames, hear_front, hear_next, read, says, unread}
 use Rattle.ctl_core.specs.Reloading.{accepted, reload}
 use Rattle.ctl_core.specs.Story.{behind}
 use Rattle.ctl_core.specs.Turns.{closing_for, feed, hear, open_conn, pass, turn, work}
@@ -46,8 +46,8 @@ pub record Walks (B : List ℕ → Type 0) (J : List Said → World → Type 0) 
   pub opens : (past : List Said) (number : ℕ) (w : World) → is_open w.conns number ≡ false → J past w → J past (open_conn number w)
   pub feeds : (past : List Said) (number : ℕ) (piece : List ℕ) (w : World) → B piece → J past w → J past (feed number piece w)
   pub reads : (past : List Said) (number : ℕ) (w : World) → J past w → J past (read number w)
-  pub hears : (past : List Said) (frame : List ℕ) (number : ℕ) (w : World) → front (unread number w) ≡ Frame frame → J past w → J past (heard_in (says frame) number (read number w))
-  pub fails : (past : List Said) (number : ℕ) (w : World) → front (unread number w) ≡ Bad → J past w → J past (heard_in None number (read number w))
+  pub hears : (past : List Said) (frame : List ℕ) (number : ℕ) (w : World) → front (unread number w) ≡ Frame frame → J past w → J past (hear_frame (says frame) number (read number w))
+  pub fails : (past : List Said) (number : ℕ) (w : World) → front (unread number w) ≡ Bad → J past w → J past (hear_frame None number (read number w))
   pub ends : (past : List Said) (cause : Closing) (number : ℕ) (w : World) → J past w → J past (ended cause number w)
   pub passes : (past : List Said) (moment : ℕ) (w : World) → J past w → J past (pass moment w)
   pub reloads : (past : List Said) (text : List ℕ) (w : World) → J past w → J past (reload (accepted text) w)
@@ -56,8 +56,8 @@ pub record Walks (B : List ℕ → Type 0) (J : List Said → World → Type 0) 
 module _ (B : List ℕ → Type 0) (J : List Said → World → Type 0) (walks : Walks B J) (past : List Said) where
   front_kept : (number : ℕ) (w : World) → J past w → (f : Front) → front (unread number w) ≡ f → J past (hear_front f number (read number w))
   front_kept number w holds Part is = walks.reads past number w holds
-  front_kept number w holds (Frame frame) is = walks.settles past (heard_in (says frame) number (read number w)) (walks.hears past frame number w is holds)
-  front_kept number w holds Bad is = walks.settles past (heard_in None number (read number w)) (walks.fails past number w is holds)
+  front_kept number w holds (Frame frame) is = walks.settles past (hear_frame (says frame) number (read number w)) (walks.hears past frame number w is holds)
+  front_kept number w holds Bad is = walks.settles past (hear_frame None number (read number w)) (walks.fails past number w is holds)
 
   next_kept : (number : ℕ) (w : World) → J past w → J past (hear_next number w)
   next_kept number w holds = front_kept number w holds (front (unread number w)) refl
@@ -96,8 +96,8 @@ module _ (B : List ℕ → Type 0) (J : List Said → World → Type 0) (walks :
   module _ (G : Settling → Type 0) (sees : (past : List Said) (w : World) → J past w → G (record { past = past; before = w })) where
     front_seen : (number : ℕ) (w : World) → J past w → (f : Front) → front (unread number w) ≡ f → AllByRecursion G (at_front past f number (read number w))
     front_seen number w holds Part is = tt
-    front_seen number w holds (Frame frame) is = (sees past (heard_in (says frame) number (read number w)) (walks.hears past frame number w is holds), tt)
-    front_seen number w holds Bad is = (sees past (heard_in None number (read number w)) (walks.fails past number w is holds), tt)
+    front_seen number w holds (Frame frame) is = (sees past (hear_frame (says frame) number (read number w)) (walks.hears past frame number w is holds), tt)
+    front_seen number w holds Bad is = (sees past (hear_frame None number (read number w)) (walks.fails past number w is holds), tt)
 
     next_seen : (number : ℕ) (w : World) → J past w → AllByRecursion G (at_next past number w)
     next_seen number w holds = front_seen number w holds (front (unread number w)) refl

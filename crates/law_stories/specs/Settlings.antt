@@ -13,14 +13,14 @@ use Rattle.ctl_world.specs.Ends.{close, ended}
 use Rattle.ctl_world.specs.Frames.{front}
 use Rattle.ctl_world.specs.World.{World}
 use Rattle.ctl_settle.specs.Settling.{settle}
-use Rattle.ctl_core.specs.Hearing.{has_frame, hear_next, heard_in, read, says, unread}
+use Rattle.ctl_core.specs.Hearing.{has_frame, hear_frame, hear_next, read, says, unread}
 use Rattle.ctl_core.specs.Reloading.{accepted, reload}
-use Rattle.ctl_core.specs.Story.{said_of}
+use Rattle.ctl_core.specs.Story.{said_by_turn}
 use Rattle.ctl_core.specs.Turns.{closing_for, feed, open_conn, pass, turn}
 
 -- all that is said in a story, in order
 abbrev pub said_in : World → List Happening → List Said
-said_in w hs = flat_map (λ (told : List Said). told) (said_of w hs)
+said_in w hs = flat_map (λ (told : List Said). told) (said_by_turn w hs)
 
 -- one of them: what was said in the turns before, and what is known just before it
 pub record Settling : Type 0 where
@@ -41,7 +41,7 @@ said_behind s = s.past ++ (settle s.before).said
 
 abbrev pub at_front : (past : List Said) → Front → (number : ℕ) → World → List Settling
 at_front past Part number w = []
-at_front past (Frame frame) number w = record { past = past; before = heard_in (says frame) number w } ∷ []
+at_front past (Frame frame) number w = record { past = past; before = hear_frame (says frame) number w } ∷ []
 at_front past Bad number w = record { past = past; before = close BadFrame number w } ∷ []
 
 abbrev pub at_next : (past : List Said) → (number : ℕ) → World → List Settling

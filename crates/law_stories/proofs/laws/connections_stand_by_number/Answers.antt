@@ -4,7 +4,7 @@ use Rattle.conf_types.specs.Configuration.{Configuration}
 use Rattle.ctl_world.specs.Ends.{ended}
 use Rattle.ctl_world.specs.World.{first}
 use Rattle.ctl_settle.specs.Rest.{AreInOrder}
-use Rattle.ctl_core.specs.Hearing.{heard_in}
+use Rattle.ctl_core.specs.Hearing.{hear_frame}
 use Rattle.ctl_core.specs.Reloading.{accepted, reload}
 use Rattle.ctl_core.specs.Story.{behind}
 use Rattle.ctl_core.specs.Turns.{open_conn, pass}
@@ -19,7 +19,7 @@ returns c =
       opens = λ number w shut order. law.settled (open_conn number w) (law.opened number w shut order);
       feeds = law.fed;
       reads = law.read;
-      hears = λ said number w order. law.settled (heard_in said number w) (law.heard said number w order);
+      hears = λ said number w order. law.settled (hear_frame said number w) (law.heard said number w order);
       ends = λ cause number w order. law.settled (ended cause number w) (law.ended cause number w order);
       passes = λ moment w order. law.settled (pass moment w) (law.passed moment w order);
       reloads = λ text w order. law.settled (reload (accepted text) w) (law.reloaded text w order);
