@@ -24,18 +24,47 @@ has_it number (x ∷ xs) c is =
 
 -- ---- one is changed
 
+pub change_same : (f g : Conn → Conn) (number : ℕ) (conns : List Conn) → ((c : Conn) → conn_with conns number ≡ Some c → f c ≡ g c) → change number f conns ≡ change number g conns
+change_same f g number [] same = refl
+change_same f g number (x ∷ xs) same =
+    elim (cases_Bool (has_number number x)) [
+      | inl here ↦ let it : conn_with (x ∷ xs) number ≡ Some x = rw here refl in rw here (ap (λ c. c ∷ xs) (same x it))
+      | inr other ↦
+          let rest : (c : Conn) → conn_with xs number ≡ Some c → f c ≡ g c = λ c some. same c (rw other some) in
+          rw other (ap (λ cs. x ∷ cs) (change_same f g number xs rest))
+    ]
+
+pub change_id : (number : ℕ) (conns : List Conn) → change number (λ c. c) conns ≡ conns
+change_id number [] = refl
+change_id number (x ∷ xs) =
+    elim (has_number number x) as (λ b. (if b then x ∷ xs else x ∷ change number (λ c. c) xs) ≡ x ∷ xs) [
+      | true ↦ refl
+      | false ↦ ap (λ cs. x ∷ cs) (change_id number xs)
+    ]
+
+pub change_kept : (f : Conn → Conn) (number : ℕ) (conns : List Conn) → ((c : Conn) → conn_with conns number ≡ Some c → f c ≡ c) → change number f conns ≡ conns
+change_kept f number conns kept = change_same f (λ c. c) number conns kept ∙ change_id number conns
+
 module _ (f : Conn → Conn) (same : (c : Conn) → (f c).number ≡ c.number) (number : ℕ) where
   pub changed_own : (conns : List Conn) → conn_with (change number f conns) number ≡ option_map f (conn_with conns number)
   changed_own [] = refl
   changed_own (x ∷ xs) =
       elim (cases_Bool (has_number number x)) [
-        | inl here ↦
-            let it : has_number number (f x) ≡ true = ap (λ (n : ℕ). n == number) (same x) ∙ here in
-            ap (λ b. conn_with (if b then f x ∷ xs else x ∷ change number f xs) number) here ∙ ap (λ b. cond b (Some (f x)) (conn_with xs number)) it
-            ∙ ap (λ b. option_map f (cond b (Some x) (conn_with xs number))) (sym here)
-        | inr other ↦
-            ap (λ b. conn_with (if b then f x ∷ xs else x ∷ change number f xs) number) other ∙ ap (λ b. cond b (Some x) (conn_with (change number f xs) number)) other
-            ∙ changed_own xs ∙ ap (λ b. option_map f (cond b (Some x) (conn_with xs number))) (sym other)
+        | inl here ↦ let there : has_number number (f x) ≡ true = ap (λ n. n == number) (same x) ∙ here in rw (here, there) refl
+        | inr other ↦ rw (other, other) (changed_own xs)
+      ]
+
+  pub with_seen : {A : Type 0} (g : Conn → A) → ((c : Conn) → g (f c) ≡ g c) → (n : ℕ) (conns : List Conn) (none : A)
+      → option_map_or g (conn_with (change number f conns) n) none ≡ option_map_or g (conn_with conns n) none
+  with_seen g sees n [] none = refl
+  with_seen g sees n (c ∷ cs) none =
+      elim (has_number number c) as (λ b. option_map_or g (conn_with (if b then f c ∷ cs else c ∷ change number f cs) n) none ≡ option_map_or g (conn_with (c ∷ cs) n) none) [
+        | true ↦ ap (λ k. option_map_or g (cond (k == n) (Some (f c)) (conn_with cs n)) none) (same c)
+            ∙ elim (has_number n c) as (λ b. option_map_or g (cond b (Some (f c)) (conn_with cs n)) none ≡ option_map_or g (cond b (Some c) (conn_with cs n)) none) [ true ↦ sees c | false ↦ refl ]
+        | false ↦ elim (has_number n c) as (λ b. option_map_or g (cond b (Some c) (conn_with (change number f cs) n)) none ≡ option_map_or g (cond b (Some c) (conn_with cs n)) none) [
+          | true ↦ refl
+          | false ↦ with_seen g sees n cs none
+        ]
       ]
 
   pub changed_other : (n : ℕ) → (n ≡ number → ⊥) → (conns : List Conn) → conn_with (change number f conns) n ≡ conn_with conns n
@@ -58,10 +87,8 @@ pub without_own : (number : ℕ) (conns : List Conn) → conn_with (without numb
 without_own number [] = refl
 without_own number (x ∷ xs) =
     elim (cases_Bool (has_number number x)) [
-      | inl here ↦ ap (λ b. conn_with (cond (not b) (x ∷ without number xs) (without number xs)) number) here ∙ without_own number xs
-      | inr other ↦
-          ap (λ b. conn_with (cond (not b) (x ∷ without number xs) (without number xs)) number) other
-          ∙ ap (λ b. cond b (Some x) (conn_with (without number xs) number)) other ∙ without_own number xs
+      | inl here ↦ rw here (without_own number xs)
+      | inr other ↦ rw (other, other) (without_own number xs)
     ]
 
 pub without_other : (number n : ℕ) → (n ≡ number → ⊥) → (conns : List Conn) → conn_with (without number conns) n ≡ conn_with conns n

@@ -1,8 +1,7 @@
 -- A connection that is looked at and stays open leaves which connections fall silent.
-use Rattle.std.proofs.Common.{◌≡◌, ℕ, ◌-◌, ◌≤◌, ◌||◌, Bool, true, false, nat_le, Option, Some, None, List, [], ◌∷◌, length, get_or, take, drop, take_all, inl, inr, refl, sym, ap, ◌∙◌, arith, if◌then◌else◌}
+use Rattle.std.proofs.Common.{◌≡◌, ℕ, ◌-◌, ◌≤◌, ◌||◌, Bool, true, false, nat_le, Option, Some, None, List, [], ◌∷◌, length, get_or, take, drop, take_all, refl, sym, ap, ◌∙◌, arith, if◌then◌else◌}
 use Rattle.std.specs.List.{list_any}
 use Rattle.std.specs.Option.{option_map_or}
-use Rattle.std.proofs.lemmas.Bool.{cases_Bool}
 use Rattle.net_base.specs.declared.numbers.Moment.{Moment}
 use Rattle.of13_codec.specs.declared.message.Message.{Message}
 use Rattle.of13_codec.specs.declared.message.Message.TheVariants.{EchoRequest}
@@ -10,12 +9,12 @@ use Rattle.switch_session.specs.declared.quiet.Quiet.{Quiet}
 use Rattle.switch_session.specs.declared.quiet.Quiet.TheVariants.{Well, Echo, Silent}
 use Rattle.switch_session.specs.Connections.{due, due_at}
 use Rattle.ctl_world.specs.declared.conns.Conn.{Conn}
-use Rattle.ctl_world.specs.Connections.{change, conn_with, has_number, is_open, with_looked, with_said}
+use Rattle.ctl_world.specs.Connections.{change, conn_with, is_open, with_looked, with_said}
 use Rattle.ctl_world.specs.Saying.{say, say_by}
 use Rattle.ctl_world.specs.World.{World}
 use Rattle.ctl_core.specs.Changes.{closes, falls_silent, is_silent}
 use Rattle.ctl_core.specs.Turns.{look, look_on, stir}
-use Rattle.ctl_core.proofs.TurnLooks.{not_found}
+use Rattle.ctl_core.proofs.Numbered.{shut_none, with_seen}
 
 -- ---- a connection is closed after 60 seconds, whether an echo was asked for or not
 
@@ -35,30 +34,15 @@ closes_silent now (Some c) = closes_at now c
 closes_silent now None = refl
 
 pub shut_not_silent : (number : ℕ) (w : World) → is_open w.conns number ≡ false → falls_silent w number ≡ false
-shut_not_silent number w shut = ap (λ (o : Option Conn). option_map_or (is_silent w.moment) o false) (not_found number w.conns shut)
+shut_not_silent number w shut = ap (λ (o : Option Conn). option_map_or (is_silent w.moment) o false) (shut_none number w.conns shut)
 
 -- ---- one that is changed, but not as to when it was heard
-
-module _ (now : Moment) (f : Conn → Conn) (same : (c : Conn) → (f c).number ≡ c.number) (heard : (c : Conn) → is_silent now (f c) ≡ is_silent now c) (number : ℕ) where
-  change_silent : (n : ℕ) (cs : List Conn) → option_map_or (is_silent now) (conn_with (change n f cs) number) false ≡ option_map_or (is_silent now) (conn_with cs number) false
-  change_silent n [] = refl
-  change_silent n (d ∷ ds) =
-      elim (cases_Bool (has_number n d)) [
-        | inl here ↦ elim (cases_Bool (has_number number d)) [
-          | inl it ↦ rw here (rw (same d) (rw it (heard d)))
-          | inr apart ↦ rw here (rw (same d) (rw apart refl))
-        ]
-        | inr other ↦ elim (cases_Bool (has_number number d)) [
-          | inl it ↦ rw other (rw it refl)
-          | inr apart ↦ rw other (rw apart (change_silent n ds))
-        ]
-      ]
 
 say_silent : (n : ℕ) (m : Message) (number : ℕ) (w : World) → falls_silent (say n m w) number ≡ falls_silent w number
 say_silent n m number w = by (conn_with w.conns n)
   where
     by : (o : Option Conn) → falls_silent (option_map_or (say_by with_said m w) o w) number ≡ falls_silent w number
-    by (Some c) = change_silent w.moment with_said (λ k. refl) (λ k. refl) number c.number w.conns
+    by (Some c) = with_seen with_said (λ k. refl) c.number (is_silent w.moment) (λ k. refl) number w.conns false
     by None = refl
 
 -- ---- one that is looked at
@@ -75,7 +59,7 @@ module _ (w : World) (number : ℕ) where
       by : (o : Option Conn) → conn_with w.conns n ≡ o → falls_silent (option_map_or (look_on w) o w) number ≡ falls_silent w number
       by (Some c) is =
           stir_silent (due_at c.session w.moment) (closes_at w.moment c ∙ (rw is at kept)) c.number (record w { conns = change c.number (with_looked w.moment) w.conns })
-          (change_silent w.moment (with_looked w.moment) (λ k. refl) (λ k. refl) number c.number w.conns)
+          (with_seen (with_looked w.moment) (λ k. refl) c.number (is_silent w.moment) (λ k. refl) number w.conns false)
       by None is = refl
 
 any_same : (f g : ℕ → Bool) → ((n : ℕ) → f n ≡ g n) → (numbers : List ℕ) → list_any f numbers ≡ list_any g numbers

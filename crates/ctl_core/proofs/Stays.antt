@@ -1,27 +1,21 @@
 -- A message that leaves the state of its connection as it is.
-use Rattle.std.proofs.Common.{◌≡◌, ℕ, Some, List, [], ◌∷◌, inl, inr, refl, sym, ap, ◌∙◌}
-use Rattle.std.proofs.lemmas.Bool.{cases_Bool}
+use Rattle.std.proofs.Common.{◌≡◌, ℕ, Some, List, sym, ap, subst, ◌∙◌}
 use Rattle.of13_codec.specs.declared.message.Message.{Message}
 use Rattle.switch_session.specs.Stages.{leads}
 use Rattle.ctl_world.specs.declared.conns.Conn.{Conn}
-use Rattle.ctl_world.specs.Connections.{change, conn_with, has_number, with_heard}
+use Rattle.ctl_world.specs.Connections.{change, conn_with, with_heard}
 use Rattle.ctl_world.specs.Ends.{forget_lost}
 use Rattle.ctl_world.specs.World.{World}
+use Rattle.ctl_core.proofs.Numbered.{change_kept}
 
 heard_same : (m : Message) (xid : ℕ) (c : Conn) → (leads c.session.state m xid).0 ≡ c.session.state → with_heard m xid c ≡ c
 heard_same m xid c same = λ i. record c { session = record c.session { state = same i } }
 
 conns_stay : (m : Message) (xid number : ℕ) (conns : List Conn) (c : Conn) → conn_with conns number ≡ Some c → (leads c.session.state m xid).0 ≡ c.session.state
     → change number (with_heard m xid) conns ≡ conns
-conns_stay m xid number [] c at same = refl
-conns_stay m xid number (d ∷ ds) c at same =
-    elim (cases_Bool (has_number number d)) [
-      | inl here ↦
-          let e : Some d ≡ Some c = rw here at at in
-          let it : d ≡ c = cc in
-          rw here (ap (λ x. x ∷ ds) (heard_same m xid d (rw (sym it) at same)))
-      | inr other ↦ rw other (ap (λ xs. d ∷ xs) (conns_stay m xid number ds c (rw other at at) same))
-    ]
+conns_stay m xid number conns c at same =
+    change_kept (with_heard m xid) number conns
+    (λ d is. let it : Some c ≡ Some d = sym at ∙ is in let e : c ≡ d = cc in subst (λ (k : Conn). with_heard m xid k ≡ k) e (heard_same m xid c same))
 
 module _ (m : Message) (xid number : ℕ) (w : World) (c : Conn) (at : conn_with w.conns number ≡ Some c) (same : (leads c.session.state m xid).0 ≡ c.session.state) where
   pub world_stays : record w { conns = change number (with_heard m xid) w.conns } ≡ w

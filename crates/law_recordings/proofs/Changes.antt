@@ -1,35 +1,13 @@
 -- Changes of one connection among all.
-use Rattle.std.proofs.Common.{◌≡◌, ℕ, ◌==◌, true, false, cond, Some, None, List, [], ◌∷◌, inl, inr, refl, sym, ap, ◌∙◌, arith, if◌then◌else◌}
-use Rattle.std.specs.Option.{option_map, option_map_or}
+use Rattle.std.proofs.Common.{◌≡◌, ℕ, ◌==◌, true, false, cond, Some, List, [], ◌∷◌, inl, inr, refl, sym, ap, ◌∙◌, arith, if◌then◌else◌}
+use Rattle.std.specs.Option.{option_map_or}
 use Rattle.std.proofs.lemmas.Bool.{cases_Bool, eqb-true}
 use Rattle.std.proofs.lemmas.Bool.Decides.{nat_tests}
 use Rattle.net_base.specs.declared.numbers.DpId.{DpId}
 use Rattle.ctl_world.specs.declared.conns.Conn.{Conn}
-use Rattle.ctl_world.specs.Connections.{change, conn_of, conn_with, has_number, is_of, is_open, without}
+use Rattle.ctl_world.specs.Connections.{change, conn_of, has_number, is_of, without}
 use Rattle.ctl_world.proofs.Places.{unchanged}
-
--- ---- one change
-
-pub change_same : (f g : Conn → Conn) (number : ℕ) (conns : List Conn) → ((c : Conn) → conn_with conns number ≡ Some c → f c ≡ g c) → change number f conns ≡ change number g conns
-change_same f g number [] same = refl
-change_same f g number (x ∷ xs) same =
-    elim (cases_Bool (has_number number x)) [
-      | inl here ↦ let it : conn_with (x ∷ xs) number ≡ Some x = rw here refl in rw here (ap (λ c. c ∷ xs) (same x it))
-      | inr other ↦
-          let rest : (c : Conn) → conn_with xs number ≡ Some c → f c ≡ g c = λ c some. same c (rw other some) in
-          rw other (ap (λ cs. x ∷ cs) (change_same f g number xs rest))
-    ]
-
-pub change_id : (number : ℕ) (conns : List Conn) → change number (λ c. c) conns ≡ conns
-change_id number [] = refl
-change_id number (x ∷ xs) =
-    elim (has_number number x) as (λ b. (if b then x ∷ xs else x ∷ change number (λ c. c) xs) ≡ x ∷ xs) [
-      | true ↦ refl
-      | false ↦ ap (λ cs. x ∷ cs) (change_id number xs)
-    ]
-
-pub change_kept : (f : Conn → Conn) (number : ℕ) (conns : List Conn) → ((c : Conn) → conn_with conns number ≡ Some c → f c ≡ c) → change number f conns ≡ conns
-change_kept f number conns kept = change_same f (λ c. c) number conns kept ∙ change_id number conns
+use Rattle.ctl_core.proofs.Numbered.{without_own}
 
 -- ---- two changes
 
@@ -61,27 +39,6 @@ module _ (f g : Conn → Conn) (f_same : (c : Conn) → (f c).number ≡ c.numbe
 -- ---- what is found behind a change
 
 module _ (f : Conn → Conn) (same : (c : Conn) → (f c).number ≡ c.number) (number : ℕ) where
-  pub found_changed : (conns : List Conn) → conn_with (change number f conns) number ≡ option_map f (conn_with conns number)
-  found_changed [] = refl
-  found_changed (x ∷ xs) =
-      elim (cases_Bool (has_number number x)) [
-        | inl here ↦ let there : has_number number (f x) ≡ true = ap (λ n. n == number) (same x) ∙ here in rw (here, there) refl
-        | inr other ↦ rw (other, other) (found_changed xs)
-      ]
-
-  pub with_seen : {A : Type 0} (g : Conn → A) → ((c : Conn) → g (f c) ≡ g c) → (n : ℕ) (conns : List Conn) (none : A)
-      → option_map_or g (conn_with (change number f conns) n) none ≡ option_map_or g (conn_with conns n) none
-  with_seen g sees n [] none = refl
-  with_seen g sees n (c ∷ cs) none =
-      elim (has_number number c) as (λ b. option_map_or g (conn_with (if b then f c ∷ cs else c ∷ change number f cs) n) none ≡ option_map_or g (conn_with (c ∷ cs) n) none) [
-        | true ↦ ap (λ k. option_map_or g (cond (k == n) (Some (f c)) (conn_with cs n)) none) (same c)
-            ∙ elim (has_number n c) as (λ b. option_map_or g (cond b (Some (f c)) (conn_with cs n)) none ≡ option_map_or g (cond b (Some c) (conn_with cs n)) none) [ true ↦ sees c | false ↦ refl ]
-        | false ↦ elim (has_number n c) as (λ b. option_map_or g (cond b (Some c) (conn_with (change number f cs) n)) none ≡ option_map_or g (cond b (Some c) (conn_with cs n)) none) [
-          | true ↦ refl
-          | false ↦ with_seen g sees n cs none
-        ]
-      ]
-
   pub of_seen : ((c : Conn) → (f c).dp ≡ c.dp) → {A : Type 0} (g : Conn → A) → ((c : Conn) → g (f c) ≡ g c) → (id : DpId) (conns : List Conn) (none : A)
       → option_map_or g (conn_of (change number f conns) id) none ≡ option_map_or g (conn_of conns id) none
   of_seen dps g sees id [] none = refl
@@ -105,14 +62,6 @@ module _ (f : Conn → Conn) (same : (c : Conn) → (f c).number ≡ c.number) (
         | inr other ↦ rw (other, other) (ap (λ cs. x ∷ cs) (without_changed xs))
       ]
 
-  none_left : (conns : List Conn) → conn_with (without number conns) number ≡ None
-  none_left [] = refl
-  none_left (x ∷ xs) =
-      elim (cases_Bool (has_number number x)) [
-        | inl here ↦ rw here (none_left xs)
-        | inr other ↦ rw (other, other) (none_left xs)
-      ]
-
   without_apart : (n : ℕ) (conns : List Conn) → (n == number) ≡ false → without n (change number f conns) ≡ change number f (without n conns)
   without_apart n [] apart = refl
   without_apart n (x ∷ xs) apart =
@@ -132,17 +81,7 @@ module _ (f : Conn → Conn) (same : (c : Conn) → (f c).number ≡ c.number) (
       elim (cases_Bool (n == number)) [
         | inl it ↦
             let e : n ≡ number = eqb-true n number it in
-            ap (λ k. without k (change number f conns)) e ∙ without_changed conns ∙ sym (unchanged number f (without number conns) (none_left conns))
+            ap (λ k. without k (change number f conns)) e ∙ without_changed conns ∙ sym (unchanged number f (without number conns) (without_own number conns))
             ∙ ap (λ k. change number f (without k conns)) (sym e)
         | inr apart ↦ without_apart n conns apart
       ]
-
--- ---- where it isn't open
-
-pub shut_none : (number : ℕ) (conns : List Conn) → is_open conns number ≡ false → conn_with conns number ≡ None
-shut_none number [] shut = refl
-shut_none number (x ∷ xs) shut =
-    elim (cases_Bool (has_number number x)) [
-      | inl here ↦ let e = rw here at shut in absurd (cc)
-      | inr other ↦ rw other (shut_none number xs (rw other at shut))
-    ]

@@ -8,7 +8,7 @@ use Rattle.ctl_world.specs.Connections.{conn_with}
 use Rattle.ctl_world.specs.Frames.{behind, front, is_frame, with_read}
 use Rattle.ctl_world.specs.World.{World}
 use Rattle.ctl_core.specs.Hearing.{has_frame, hear_frames, hear_front, hear_next, read, unread}
-use Rattle.law_recordings.proofs.Changes.{change_kept, found_changed}
+use Rattle.ctl_core.proofs.Numbered.{change_kept, changed_own}
 use Rattle.law_recordings.proofs.Touches.{Touch, touch, touched}
 use Rattle.law_recordings.proofs.Hears.{front_keeps}
 use Rattle.law_recordings.proofs.Fronts.{IsBad, IsWhole, bad, bad_front, fronts, part, whole, whole_front, whole_shorter}
@@ -20,7 +20,7 @@ bytes_of c = c.session.unread
 
 pub unread_touched : (t : Touch) (w : World) → unread t.number (touched t w) ≡ option_map_or (λ c. t.unread (bytes_of c)) (conn_with w.conns t.number) []
 unread_touched t w =
-    ap (λ (o : Option Conn). option_map_or bytes_of o []) (found_changed (touch t) (λ c. refl) t.number w.conns)
+    ap (λ (o : Option Conn). option_map_or bytes_of o []) (changed_own (touch t) (λ c. refl) t.number w.conns)
     ∙ elim (conn_with w.conns t.number) as (λ o. option_map_or bytes_of (option_map (touch t) o) [] ≡ option_map_or (λ c. t.unread (bytes_of c)) o []) [ Some c ↦ refl | None ↦ refl ]
 
 -- nothing but the unread bytes is changed: they are these
@@ -49,7 +49,7 @@ front_unread f number w =
 
 read_unread : (number : ℕ) (w : World) → unread number (read number w) ≡ behind (unread number w)
 read_unread number w =
-    ap (λ (o : Option Conn). option_map_or bytes_of o []) (found_changed with_read (λ c. refl) number w.conns)
+    ap (λ (o : Option Conn). option_map_or bytes_of o []) (changed_own with_read (λ c. refl) number w.conns)
     ∙ elim (conn_with w.conns number) as (λ o. option_map_or bytes_of (option_map with_read o) [] ≡ behind (option_map_or bytes_of o [])) [ Some c ↦ refl | None ↦ refl ]
 
 -- ---- enough frames

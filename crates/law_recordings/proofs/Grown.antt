@@ -14,7 +14,8 @@ use Rattle.ctl_world.specs.World.{World}
 use Rattle.ctl_settle.specs.Settling.{settle}
 use Rattle.ctl_core.specs.Hearing.{hear_frames, hear_front, hear_next, read, unread}
 use Rattle.ctl_core.specs.Turns.{hear_all}
-use Rattle.law_recordings.proofs.Changes.{change_same, change_twice, without_changed}
+use Rattle.ctl_core.proofs.Numbered.{change_same}
+use Rattle.law_recordings.proofs.Changes.{change_twice, without_changed}
 use Rattle.law_recordings.proofs.Touches.{Touch, touch, touched}
 use Rattle.law_recordings.proofs.Hears.{front_keeps}
 use Rattle.law_recordings.proofs.Fronts.{IsBad, IsWhole, bad, bad_front, bad_more, behind_more, front_more, fronts, part, whole, whole_more}

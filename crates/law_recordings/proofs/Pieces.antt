@@ -16,8 +16,9 @@ use Rattle.ctl_world.proofs.Places.{unchanged}
 use Rattle.ctl_core.specs.Hearing.{has_frame, hear_frames, hear_front, hear_next, read, unread}
 use Rattle.ctl_core.specs.Story.{behind, said_by_turn}
 use Rattle.ctl_core.specs.Turns.{feed, hear, hear_all, turn, work}
+use Rattle.ctl_core.proofs.Numbered.{change_id, change_same, shut_none}
 use Rattle.law_recordings.specs.Pieces.{in_a_row, known_only}
-use Rattle.law_recordings.proofs.Changes.{change_id, change_same, change_twice, shut_none}
+use Rattle.law_recordings.proofs.Changes.{change_twice}
 use Rattle.law_recordings.proofs.Touches.{Touch, touched}
 use Rattle.law_recordings.proofs.Hears.{front_keeps}
 use Rattle.law_recordings.proofs.Frames.{bytes_of, holding, none_heard}
