@@ -1,4 +1,5 @@
 pub mod Parts
 pub mod Parting
 pub mod Written
+pub mod Values
 pub mod Meaning

@@ -1,5 +1,5 @@
 -- What the words of a command line ask for.
-use Rattle.std.specs.Prelude.{ℕ, Bool, if◌then◌else◌, List, [], ◌∷◌, Option, Some, None, codes}
+use Rattle.std.specs.Prelude.{ℕ, Bool, if◌then◌else◌, List, [], ◌∷◌, Option, Some, None, unwrap_or, codes}
 use Rattle.std.specs.List.{list_any, list_all}
 use Rattle.std.specs.Option.{option_map}
 use Rattle.std.specs.Str.{bytes_eq}
@@ -8,9 +8,11 @@ use Rattle.command_line.specs.declared.meaning.Command.{Command}
 use Rattle.command_line.specs.declared.meaning.Command.TheVariants as commands
 use Rattle.command_line.specs.declared.meaning.Job.{Job}
 use Rattle.command_line.specs.declared.meaning.Job.TheVariants as jobs
+use Rattle.command_line.specs.declared.meaning.ServeOptions.{ServeOptions}
 use Rattle.command_line.specs.declared.parts.CommandOption.{CommandOption}
 use Rattle.command_line.specs.declared.parts.Parts.{Parts}
 use Rattle.command_line.specs.Parts.{parts_of}
+use Rattle.command_line.specs.Values.{number_in, listen_of, value_of}
 
 -- the command that a word names
 abbrev pub command_of : List ℕ → Option Command
@@ -18,6 +20,7 @@ command_of word =
     if bytes_eq word (codes "check") then Some commands.Check
     else if bytes_eq word (codes "plan") then Some commands.Plan
     else if bytes_eq word (codes "replay") then Some commands.Replay
+    else if bytes_eq word (codes "serve") then Some commands.Serve
     else None
 
 -- the options that a command takes
@@ -25,6 +28,7 @@ abbrev pub options_of : Command → List (List ℕ)
 options_of commands.Check = []
 options_of commands.Plan = []
 options_of commands.Replay = []
+options_of commands.Serve = codes "events" ∷ codes "reload-ms" ∷ codes "listen" ∷ []
 
 -- each of these options is one that the command takes
 abbrev pub are_taken : Command → List CommandOption → Bool
@@ -34,11 +38,29 @@ are_taken command options = list_all (λ o. list_any (λ name. bytes_eq name o.n
 abbrev pub two_of : List (List ℕ) → Option (List ℕ × List ℕ)
 two_of words = elim words [ first ∷ second ∷ [] ↦ Some (first, second) | _ ↦ None ]
 
--- what a command asks for: `check FILE..`, one file or more; `plan CONFIG DP`; `replay CONFIG RECORDING`
+-- one word, where there is just one
+abbrev pub one_of : List (List ℕ) → Option (List ℕ)
+one_of words = elim words [ only ∷ [] ↦ Some only | _ ↦ None ]
+
+-- the options of `serve`: how many events are taken at most; how long after a look at the file the next one is due, in
+-- milliseconds; where connections are listened for. Without the latter two it is every second, and port 6653 of this host alone.
+abbrev pub serve_options : List CommandOption → Option ServeOptions
+serve_options options = do
+  events ← value_of (codes "events") options >>= number_in 1 1000000000
+  reload_ms ← number_in 100 3600000 (unwrap_or (value_of (codes "reload-ms") options) (codes "1000"))
+  listen ← listen_of (unwrap_or (value_of (codes "listen") options) (codes "127.0.0.1:6653"))
+  Some (record { events = events; reload_ms = reload_ms; listen = listen })
+
+-- what a command asks for: `check FILE..`, one file or more; `plan CONFIG DP`; `replay CONFIG RECORDING`;
+-- `serve CONFIG --events N`, with what options it has beside
 abbrev pub job_of : Command → Parts → Option Job
 job_of commands.Check parts = elim parts.plain [ [] ↦ None | file ∷ files ↦ Some (jobs.Check (file ∷ files)) ]
 job_of commands.Plan parts = option_map (λ two. jobs.Plan two.0 two.1) (two_of parts.plain)
 job_of commands.Replay parts = option_map (λ two. jobs.Replay two.0 two.1) (two_of parts.plain)
+job_of commands.Serve parts = do
+  config ← one_of parts.plain
+  options ← serve_options parts.options
+  Some (jobs.Serve config options.events options.reload_ms options.listen)
 
 -- the first word is the command
 unfoldable pub meaning : List (List ℕ) → Option Job

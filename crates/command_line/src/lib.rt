@@ -5,7 +5,9 @@
 pub mod laws;
 mod meaning;
 mod parts;
+mod values;
 pub mod worked;
 
 pub use meaning::{Job, read_words};
 pub use parts::{CommandOption, CommandOptions, Parts, part_words};
+pub use values::Listen;

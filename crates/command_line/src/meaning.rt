@@ -1,9 +1,10 @@
 ghost use Rattle.std.specs.Prelude.{◌≡◌, List, ℕ, map, IfOk};
 ghost use Rattle.std.specs.List.{list_any};
 ghost use Rattle.std.specs.Str.{bytes_eq};
-ghost use Rattle.command_line.specs.Meaning.{command_of, options_of, are_taken, two_of, job_of, meaning};
+ghost use Rattle.command_line.specs.Meaning.{command_of, options_of, are_taken, one_of, two_of, serve_options, job_of, meaning};
 
 use crate::parts::{CommandOption, Parts, part_words};
+use crate::values::{Listen, listen_of, number_in, value_of, value_or};
 use net_base::{Names, NoMemory, Text, TryCopy};
 use std::alloc::Global;
 
@@ -12,6 +13,7 @@ enum Command {
     Check,
     Plan,
     Replay,
+    Serve,
 }
 
 /// What the program is asked to do.
@@ -20,9 +22,31 @@ pub enum Job {
     /// To check these configuration files, in order.
     Check(Names),
     /// To write the opening batch of a datapath, by a configuration file.
-    Plan { config: Text, dp: Text },
+    Plan {
+        config: Text,
+        dp: Text,
+    },
     /// To run the controller of a configuration file on a recording.
-    Replay { config: Text, recording: Text },
+    Replay {
+        config: Text,
+        recording: Text,
+    },
+    /// To run the controller of a configuration file on the switches that connect, for at most so many
+    /// events, and to look at the file every so many milliseconds.
+    Serve {
+        config: Text,
+        events: u64,
+        reload_ms: u64,
+        listen: Listen,
+    },
+}
+
+/// The options of `serve`.
+#[derive(Clone, Copy, Debug)]
+struct ServeOptions {
+    events: u64,
+    reload_ms: u64,
+    listen: Listen,
 }
 
 fn command_of(word: &str) -> Option<Command>
@@ -34,6 +58,8 @@ fn command_of(word: &str) -> Option<Command>
         Some(Command::Plan)
     } else if word == "replay" {
         Some(Command::Replay)
+    } else if word == "serve" {
+        Some(Command::Serve)
     } else {
         None
     }
@@ -45,6 +71,7 @@ fn options_of(command: Command) -> &'static [&'static str]
 {
     match command {
         Command::Check | Command::Plan | Command::Replay => &[],
+        Command::Serve => &["events", "reload-ms", "listen"],
     }
 }
 
@@ -68,6 +95,16 @@ fn are_taken(command: Command, options: &[CommandOption]) -> bool
         .all(|option| is_listed(option.name.as_str(), names))
 }
 
+/// One plain word; `None` where there are none or more.
+fn one_word(alloc: Global, plain: &[Text]) -> Result<Option<Text>, NoMemory>
+    ensures { IfOk result (λ one. one ≡ one_of plain.now) }
+{
+    match plain {
+        [only] => Ok(Some(only.copy(alloc)?)),
+        _ => Ok(None),
+    }
+}
+
 /// Two plain words; `None` where there are fewer or more.
 fn two_words(alloc: Global, plain: &[Text]) -> Result<Option<(Text, Text)>, NoMemory>
     ensures { IfOk result (λ two. two ≡ two_of plain.now) }
@@ -76,6 +113,39 @@ fn two_words(alloc: Global, plain: &[Text]) -> Result<Option<(Text, Text)>, NoMe
         [first, second] => Ok(Some((first.copy(alloc)?, second.copy(alloc)?))),
         _ => Ok(None),
     }
+}
+
+/// What the options of `serve` say, or their defaults; `None` where one has no value in its range, or there is
+/// no number of events.
+fn serve_options(options: &[CommandOption]) -> Option<ServeOptions>
+    ensures { result ≡ serve_options options.now }
+{
+    let events = number_in(value_of(options, "events")?, 1, 1_000_000_000)?;
+    let reload_ms = number_in(value_or(options, "reload-ms", "1000"), 100, 3_600_000)?;
+    let listen = listen_of(value_or(options, "listen", "127.0.0.1:6653"))?;
+    Some(ServeOptions {
+        events,
+        reload_ms,
+        listen,
+    })
+}
+
+/// What `serve` asks for.
+fn serve_job(alloc: Global, parts: &Parts) -> Result<Option<Job>, NoMemory>
+    ensures { IfOk result (λ job. job ≡ job_of Command.Serve parts.now) }
+{
+    let Some(config) = one_word(alloc, parts.plain.as_slice())? else {
+        return Ok(None);
+    };
+    let Some(options) = serve_options(parts.options.as_slice()) else {
+        return Ok(None);
+    };
+    Ok(Some(Job::Serve {
+        config,
+        events: options.events,
+        reload_ms: options.reload_ms,
+        listen: options.listen,
+    }))
 }
 
 fn job_of(alloc: Global, command: Command, parts: Parts) -> Result<Option<Job>, NoMemory>
@@ -96,12 +166,13 @@ fn job_of(alloc: Global, command: Command, parts: Parts) -> Result<Option<Job>, 
             };
             Ok(Some(Job::Replay { config, recording }))
         }
+        Command::Serve => serve_job(alloc, &parts),
     }
 }
 
 /// Reads the words of a command line. `None` exactly where they have no meaning: there is no word, or the
-/// first is no command; the words behind it have no parts; an option is none that the command takes; or
-/// its plain words are too few or too many.
+/// first is no command; the words behind it have no parts; an option is none that the command takes, lacks
+/// though the command needs it, or has a value out of its range; or the plain words are too few or too many.
 #[tactic(auto, unfolding(crate::specs::Meaning::meaning))]
 pub fn read_words(alloc: Global, words: &Names) -> Result<Option<Job>, NoMemory>
     ensures { IfOk result (λ job. job ≡ meaning words.now) }

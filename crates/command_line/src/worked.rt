@@ -10,7 +10,7 @@ ghost use Rattle.command_line.specs.Meaning.{meaning};
 #[tactic(auto, unfolding(crate::specs::Meaning::meaning))]
 pub fn words_that_name_no_command()
     ensures no_word { meaning [] ≡ None }
-    ensures unknown { meaning (codes "serve" ∷ codes "a" ∷ []) ≡ None }
+    ensures unknown { meaning (codes "run" ∷ codes "a" ∷ []) ≡ None }
     ensures option_first { meaning (codes "--x=1" ∷ codes "check" ∷ codes "a" ∷ []) ≡ None }
 {}
 
@@ -42,6 +42,36 @@ pub fn words_behind_replay()
     ensures missing { meaning (codes "replay" ∷ codes "a" ∷ []) ≡ None }
     ensures further { meaning (codes "replay" ∷ codes "a" ∷ codes "b" ∷ codes "c" ∷ []) ≡ None }
     ensures option { meaning (codes "replay" ∷ codes "--x=1" ∷ codes "a" ∷ codes "b" ∷ []) ≡ None }
+{}
+
+/// `serve CONFIG --events N`, with `--reload-ms M` and `--listen A:P` where these aren't the defaults.
+#[tactic(auto, unfolding(crate::specs::Meaning::meaning, crate::specs::Parts::parts_of, crate::specs::Parts::parted, net_base::specs::AddressReading::ip4_of, net_base::specs::AddressReading::number_up_to, net_base::specs::AddressReading::number_of))]
+pub fn words_behind_serve()
+    ensures defaults { meaning (codes "serve" ∷ codes "a" ∷ codes "--events" ∷ codes "3" ∷ [])
+        ≡ Some (jobs.Serve (codes "a") 3 1000 (record { ip = record { 0 = 2130706433 }; port = 6653 })) }
+    ensures all { meaning (codes "serve" ∷ codes "--listen" ∷ codes "10.1.2.3:1" ∷ codes "--reload-ms=100" ∷ codes "a" ∷ codes "--events=1000000000" ∷ [])
+        ≡ Some (jobs.Serve (codes "a") 1000000000 100 (record { ip = record { 0 = 167838211 }; port = 1 })) }
+    ensures greatest { meaning (codes "serve" ∷ codes "--reload-ms" ∷ codes "3600000" ∷ codes "--events" ∷ codes "1" ∷ codes "--listen=255.255.255.255:65535" ∷ codes "a" ∷ [])
+        ≡ Some (jobs.Serve (codes "a") 1 3600000 (record { ip = record { 0 = 4294967295 }; port = 65535 })) }
+    ensures no_events { meaning (codes "serve" ∷ codes "a" ∷ []) ≡ None }
+    ensures no_value { meaning (codes "serve" ∷ codes "a" ∷ codes "--events" ∷ []) ≡ None }
+    ensures no_event { meaning (codes "serve" ∷ codes "a" ∷ codes "--events=0" ∷ []) ≡ None }
+    ensures too_many_events { meaning (codes "serve" ∷ codes "a" ∷ codes "--events=1000000001" ∷ []) ≡ None }
+    ensures zero_in_front { meaning (codes "serve" ∷ codes "a" ∷ codes "--events=03" ∷ []) ≡ None }
+    ensures sign { meaning (codes "serve" ∷ codes "a" ∷ codes "--events=+3" ∷ []) ≡ None }
+    ensures events_twice { meaning (codes "serve" ∷ codes "a" ∷ codes "--events=3" ∷ codes "--events" ∷ codes "3" ∷ []) ≡ None }
+    ensures two_dashes { meaning (codes "serve" ∷ codes "a" ∷ codes "--events=3" ∷ codes "--" ∷ []) ≡ None }
+    ensures too_often { meaning (codes "serve" ∷ codes "a" ∷ codes "--events=3" ∷ codes "--reload-ms=99" ∷ []) ≡ None }
+    ensures too_seldom { meaning (codes "serve" ∷ codes "a" ∷ codes "--events=3" ∷ codes "--reload-ms=3600001" ∷ []) ≡ None }
+    ensures no_port { meaning (codes "serve" ∷ codes "a" ∷ codes "--events=3" ∷ codes "--listen=127.0.0.1" ∷ []) ≡ None }
+    ensures port_0 { meaning (codes "serve" ∷ codes "a" ∷ codes "--events=3" ∷ codes "--listen=127.0.0.1:0" ∷ []) ≡ None }
+    ensures great_port { meaning (codes "serve" ∷ codes "a" ∷ codes "--events=3" ∷ codes "--listen=127.0.0.1:65536" ∷ []) ≡ None }
+    ensures zero_in_port { meaning (codes "serve" ∷ codes "a" ∷ codes "--events=3" ∷ codes "--listen=127.0.0.1:06653" ∷ []) ≡ None }
+    ensures two_ports { meaning (codes "serve" ∷ codes "a" ∷ codes "--events=3" ∷ codes "--listen=127.0.0.1:1:2" ∷ []) ≡ None }
+    ensures no_address { meaning (codes "serve" ∷ codes "a" ∷ codes "--events=3" ∷ codes "--listen=:6653" ∷ []) ≡ None }
+    ensures other_option { meaning (codes "serve" ∷ codes "a" ∷ codes "--events=3" ∷ codes "--dp=1" ∷ []) ≡ None }
+    ensures no_file { meaning (codes "serve" ∷ codes "--events=3" ∷ []) ≡ None }
+    ensures two_files { meaning (codes "serve" ∷ codes "a" ∷ codes "b" ∷ codes "--events=3" ∷ []) ≡ None }
 {}
 
 /// Options stand anywhere, in either spelling.

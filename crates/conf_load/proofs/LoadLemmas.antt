@@ -15,19 +15,20 @@ use Rattle.conf_load.specs.Loaded.{unless_fault, checked, loaded}
 abbrev Loads : Type 0
 Loads = Result Configuration LoadRefused
 
--- where gathering is refused, so is loading
-pub refused_first : (e : LoadRefused) (given : Result Tree LoadRefused) → Fails e given → Fails e (given >>= checked)
-refused_first (Read name) given fails = tt
-refused_first (Yaml name fault) given fails = ap (λ r. r >>= checked) fails
-refused_first (Conf fault) given fails = ap (λ r. r >>= checked) fails
-refused_first (IncludeTwice name) given fails = ap (λ r. r >>= checked) fails
-refused_first (IncludeDepth name) given fails = ap (λ r. r >>= checked) fails
-refused_first (Absent name) given fails = ap (λ r. r >>= checked) fails
-refused_first Memory given fails = tt
+-- where the first of two steps is refused, so are both
+module _ {A B : Type 0} (f : A → Result B LoadRefused) where
+  pub refused_first : (e : LoadRefused) (given : Result A LoadRefused) → Fails e given → Fails e (given >>= f)
+  refused_first (Read name) given fails = tt
+  refused_first (Yaml name fault) given fails = ap (λ r. r >>= f) fails
+  refused_first (Conf fault) given fails = ap (λ r. r >>= f) fails
+  refused_first (IncludeTwice name) given fails = ap (λ r. r >>= f) fails
+  refused_first (IncludeDepth name) given fails = ap (λ r. r >>= f) fails
+  refused_first (Absent name) given fails = ap (λ r. r >>= f) fails
+  refused_first Memory given fails = tt
 
--- a gathered tree is checked
-pub gathered_first : (made : Loads) (t : Tree) (given : Result Tree LoadRefused) → given ≡ Ok t → Gives made (checked t) → Gives made (given >>= checked)
-gathered_first made t given is gives = subst (λ (r : Result Tree LoadRefused). Gives made (r >>= checked)) (sym is) gives
+  -- behind a first step that is done comes the second
+  pub gathered_first : (made : Result B LoadRefused) (x : A) (given : Result A LoadRefused) → given ≡ Ok x → Gives made (f x) → Gives made (given >>= f)
+  gathered_first made x given is gives = subst (λ (r : Result A LoadRefused). Gives made (r >>= f)) (sym is) gives
 
 -- a tree that is checked is refused for no read
 pub never_unread : (made : Loads) (file : List ℕ) → IfErr made IsWithin → IsErrOf made (Read file) → ⊥

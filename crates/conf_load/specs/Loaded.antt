@@ -1,6 +1,7 @@
 -- The configuration of a file with all that it includes.
 use Rattle.std.specs.Prelude.{ℕ, List, Result, Ok, Err}
 use Rattle.yaml_tree.specs.declared.tree.Tree.{Tree}
+use Rattle.yaml_subset.specs.Printed.{printed}
 use Rattle.conf_types.specs.Configuration.{Configuration}
 use Rattle.conf_shape.specs.declared.refused.ConfFault.{ConfFault}
 use Rattle.conf_check.specs.Accepted.{conf_of}
@@ -24,3 +25,14 @@ loaded_by finds name = gathered_by finds name >>= checked
 -- the same, where these files are held
 abbrev pub loaded : Held → (name : List ℕ) → Result Configuration LoadRefused
 loaded held name = loaded_by (held_by held) name
+
+-- ---- with the document's text
+
+-- the configuration of a gathered document, and its canonical text
+abbrev pub checked_with_text : Tree → Result (Configuration × List ℕ) LoadRefused
+checked_with_text t = checked t >>= λ conf. Ok (conf, printed t)
+
+-- the configuration of the file of this name with the canonical text of the document that is gathered, or why there is none, where
+-- these files are held
+abbrev pub loaded_with_text : Held → (name : List ℕ) → Result (Configuration × List ℕ) LoadRefused
+loaded_with_text held name = gathered_by (held_by held) name >>= checked_with_text

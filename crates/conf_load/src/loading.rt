@@ -5,14 +5,16 @@ ghost use Rattle.yaml_tree.specs.declared.tree.Tree.{Tree};
 ghost use Rattle.conf_check.specs.Accepted.{IsRefused};
 ghost use Rattle.conf_gather.specs.Gives.{Fails, Gives, IsWithin};
 ghost use Rattle.conf_gather.specs.Gathered.{NamesUnread};
-ghost use Rattle.conf_load.specs.Loaded.{checked, loaded, loaded_by};
+ghost use Rattle.conf_load.specs.Loaded.{checked, loaded, loaded_by, loaded_with_text};
 
 use conf_check::conf_of_tree;
 use conf_gather::{LoadRefused, gather};
 use conf_shape::ConfRefused;
 use conf_types::Conf;
 use fg_outside::Files;
+use net_base::Bytes;
 use std::alloc::Global;
+use yaml_subset::print_yaml;
 use yaml_tree::Tree;
 
 fn refusal(refused: ConfRefused) -> LoadRefused
@@ -56,4 +58,29 @@ pub fn load<F: Files>(alloc: Global, files: &mut F, name: &str) -> Result<Conf, 
 {
     let tree = gather(alloc, files, name)?;
     check_tree(alloc, &tree)
+}
+
+/// The same (`load`), with the canonical text of the document that was gathered.
+pub fn load_with_text<F: Files>(
+    alloc: Global,
+    files: &mut F,
+    name: &str,
+) -> Result<(Conf, Bytes), LoadRefused>
+    ensures told { (held : Contents) → F.contents files.old ≡ Some held → Gives result (loaded_with_text (held 0) name.now) }
+    ensures read { (file : List ℕ) → IsErrOf result (LoadRefused.Read file)
+        → Rose (F.faults files.old) (F.faults files.new) }
+    ensures no_fault { ((file : List ℕ) → IsErrOf result (LoadRefused.Read file) → ⊥)
+        → F.faults files.new ≡ F.faults files.old }
+    ensures absent { (file : List ℕ) → IsErrOf result (LoadRefused.Absent file)
+        → Rose (F.absences files.old) (F.absences files.new) }
+    ensures unread_file { (file : List ℕ) → IsErrOf result (LoadRefused.Read file) → F.refused files.new ≡ file }
+    ensures absent_file { (file : List ℕ) → IsErrOf result (LoadRefused.Absent file) → F.refused files.new ≡ file }
+    ensures absences { F.absences files.old ≤ F.absences files.new }
+    ensures counted_faults { F.faults files.old ≤ F.faults files.new }
+    ensures contents { F.contents files.new ≡ F.contents files.old }
+{
+    let tree = gather(alloc, files, name)?;
+    let conf = check_tree(alloc, &tree)?;
+    let text = print_yaml(alloc, &tree)?;
+    Ok((conf, text))
 }

@@ -27,6 +27,10 @@ module _ {H : Type 0} (may : H → HubStep → H → Type 0) (outlet : Outlet) (
     same_deeds : flat_map (deeds_by outlet) sayings ≡ flat_map (deeds_by outlet) (sayings_of h w)
     same_deeds = ap (λ (l : List Saying). flat_map (deeds_by outlet) l) is
 
+    -- the hub was told all
+    pub whole_told : Tells may old (flat_map (deeds_by outlet) sayings) new → Tells may old (flat_map (deeds_by outlet) (sayings_of h w)) new
+    whole_told told = Tells-same may old new (flat_map (deeds_by outlet) sayings) (flat_map (deeds_by outlet) (sayings_of h w)) same_deeds told
+
     -- the hub was told a part
     pub part_told : (out err : Option (List ℕ)) → TellsPart may old (flat_map (deeds_by outlet) sayings) new → AnswersPart may outlet h w old new out out err err
     part_told out err told = record {
@@ -43,7 +47,7 @@ module _ {H : Type 0} (may : H → HubStep → H → Type 0) (outlet : Outlet) (
       same_lines = lined ∙ ap (λ (l : List Saying). flat_map line_by l) is
 
       all_told : Tells may old (flat_map (deeds_by outlet) (sayings_of h w)) new
-      all_told = Tells-same may old new (flat_map (deeds_by outlet) sayings) (flat_map (deeds_by outlet) (sayings_of h w)) same_deeds told
+      all_told = whole_told told
 
       -- it was told all, and a part of the records was written
       pub part_written : (out_old out_new err : Option (List ℕ)) → AppendsFront out_old out_new records → AnswersPart may outlet h w old new out_old out_new err err

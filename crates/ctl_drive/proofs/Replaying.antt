@@ -27,7 +27,7 @@ use Rattle.ctl_drive.specs.Driving.{Deed, IsFront, deeds, deeds_of}
 use Rattle.ctl_drive.specs.Driven.{Drives}
 use Rattle.ctl_drive.specs.Replay.{IsStoryOf, Replays, RunsSource, TellsSoFar, closed_in, replayed_by}
 use Rattle.ctl_drive.proofs.Deeds.{front_closed, whole_closed, whole_happened}
-use Rattle.ctl_drive.proofs.Stories.{none_begun}
+use Rattle.ctl_drive.proofs.Stories.{none_begun, way_of}
 use Rattle.ctl_drive.proofs.Telling.{IsFront-same}
 
 -- ---- nothing was read
@@ -155,7 +155,7 @@ module _ {F : Type 0} (held : F → Option Contents) (faults absences : F → �
       whole_so_far hs all.told.steps after all.told.leads all.told.deeds,
       most,
     )
-    replays absence fault core after out_old out_new err_old err_new refused is drove.WriteFault (hs, few, front) why = (
+    replays absence fault core after out_old out_new err_old err_new refused is drove.WriteFault (hs, few, front, all_told) why = (
       hs,
       record { out = front.out; err = front.err; but_last = front.but_last },
       so_far hs front.told.steps after front.told.leads front.told.front front.happened,
@@ -166,18 +166,10 @@ module _ {F : Type 0} (held : F → Option Contents) (faults absences : F → �
       so_far hs front.told.steps after front.told.leads front.told.front front.happened,
     )
 
-  -- the way that the hub went
-  way_of : (most : ℕ) (w : World) (core : Option World) (old new : ScriptHub (FileSource F)) (out_old out_new err_old err_new : Option (List ℕ)) (how : Drove) → Drives MayRead Records most w core old new out_old out_new err_old err_new how → (steps : List HubStep) × Leads MayRead old steps new
-  way_of most w core old new out_old out_new err_old err_new drove.Done (hs, mid, few, all, done) = (all.told.steps ++ turned is_done ∷ [], next all.told.steps mid (turned is_done) new all.told.leads done)
-  way_of most w core old new out_old out_new err_old err_new drove.HubFault (hs, mid, few, all, failed) = (all.told.steps ++ turned has_failed ∷ [], next all.told.steps mid (turned has_failed) new all.told.leads failed)
-  way_of most w core old new out_old out_new err_old err_new drove.Spent (hs, is, all) = (all.told.steps, all.told.leads)
-  way_of most w core old new out_old out_new err_old err_new drove.WriteFault (hs, few, front) = (front.told.steps, front.told.leads)
-  way_of most w core old new out_old out_new err_old err_new drove.Memory (hs, few, front) = (front.told.steps, front.told.leads)
-
   -- along which its files are kept
   pub files_kept : (most : ℕ) (w : World) (core : Option World) (old new : ScriptHub (FileSource F)) (out_old out_new err_old err_new : Option (List ℕ)) (how : Drove) → Drives MayRead Records most w core old new out_old out_new err_old err_new how → KeepsFiles held faults absences (source_in old) (source_in new)
   files_kept most w core old new out_old out_new err_old err_new how drives =
-      let way = way_of most w core old new out_old out_new err_old err_new how drives in
+      let way = way_of MayRead Records most w core old new out_old out_new err_old err_new how drives in
       Went-all (KeepsFiles held faults absences) (KeepsFiles held faults absences) (KeepsFiles-same held faults absences) (KeepsFiles-then held faults absences) (λ (a b : FileSource F) keeps. keeps) (source_in old) (source_in new)
       (source_goes (left_in held) (KeepsFiles held faults absences) old new way.0 way.1)
 

@@ -4,8 +4,8 @@ use Rattle.std.proofs.lemmas.List.{append-nil}
 use Rattle.std.proofs.lemmas.List.Concat.{flat_map-append}
 use Rattle.std.specs.List.{flat_map}
 use Rattle.fg_outside.specs.declared.hub.Happening.{Happening}
-use Rattle.fg_outside.specs.declared.hub.Turn.TheVariants.{Happened, Failed, Memory}
-use Rattle.fg_outside.specs.HubStep.{HubStep, start, story, turned}
+use Rattle.fg_outside.specs.declared.hub.Turn.TheVariants.{Happened, Done, Failed, Memory}
+use Rattle.fg_outside.specs.HubStep.{HubStep, Leads, next, story, turned}
 use Rattle.fg_outside.specs.Wrote.{appended, AppendsFront}
 use Rattle.fg_outside.proofs.SinkLemmas.{appended-append, appended-nil, AppendsFront-none, AppendsFront-whole, AppendsFront-second}
 use Rattle.recording.specs.Written.{WrittenRecord, written, written_records}
@@ -16,12 +16,14 @@ use Rattle.ctl_core.specs.Turns.{turn}
 use Rattle.ctl_drive.specs.declared.sayings.Outlet.{Outlet}
 use Rattle.ctl_drive.specs.declared.sayings.Outlet.TheVariants.{Records, Hub}
 use Rattle.ctl_drive.specs.Driving.{Deed, gave, deeds, deeds_by, deeds_of, lines_of, out_of, record_by, records_of, sayings_of, turn_deeds, turn_lines, turn_records, written_by, written_on}
+use Rattle.ctl_drive.specs.declared.drive.Drove.{Drove}
+use Rattle.ctl_drive.specs.declared.drive.Drove.TheVariants as drove
 use Rattle.ctl_drive.specs.declared.turn.Stopped.{Stopped}
 use Rattle.ctl_drive.specs.declared.turn.Stopped.TheVariants as stopped
-use Rattle.ctl_drive.specs.Driven.{Answers, AnswersPart, AnswersAll, AnswersFront, Drives, WholeButLast, drove_by}
+use Rattle.ctl_drive.specs.Driven.{Answers, AnswersPart, AnswersAll, AnswersFront, Drives, Tells, WholeButLast, drove_by}
 use Rattle.ctl_drive.proofs.Deeds.{happened_in, happened-append, happened-deeds, happenings_are, none_happened_before, whole_happened}
 use Rattle.ctl_drive.proofs.Pieces.{flat_map-flat_map}
-use Rattle.ctl_drive.proofs.Telling.{Tells-one, Tells-same, Tells-then, TellsPart-same, TellsPart-second, TellsPart-whole, deeds-story}
+use Rattle.ctl_drive.proofs.Telling.{Tells-none, Tells-one, Tells-same, Tells-then, TellsPart-same, TellsPart-second, deeds-story}
 
 pub behind-push : (w : World) (hs : List Happening) (h : Happening) → behind w (hs ++ h ∷ []) ≡ turn h (behind w hs)
 behind-push w [] h = refl
@@ -137,22 +139,27 @@ module _ {H : Type 0} (may : H → HubStep → H → Type 0) (outlet : Outlet) w
   pub AnswersAll-none : (w : World) (core : Option World) (hub : H) (out err : Option (List ℕ)) → core ≡ Some w → AnswersAll may outlet w [] core hub hub out out err err
   AnswersAll-none w core hub out err is = record {
     known = is;
-    told = record { steps = []; leads = start; deeds = refl };
+    told = Tells-none may hub;
     out = sym (appended-same out (out_of outlet w []) [] (out-none outlet w) ∙ appended-nil out);
     err = sym (appended-nil err);
   }
+
+  -- the hub was told of one turn more
+  pub told-push : (w : World) (hs : List Happening) (h : Happening) (one two three four : H) → Tells may one (deeds_of outlet w hs) two → may two (turned (Happened h)) three → Tells may three (flat_map (deeds_by outlet) (sayings_of h (behind w hs))) four → Tells may one (deeds_of outlet w (hs ++ h ∷ [])) four
+  told-push w hs h one two three four before gives told =
+      let v : World = behind w hs in
+      let said : List Deed = flat_map (deeds_by outlet) (sayings_of h v) in
+      Tells-same may one four (deeds_of outlet w hs ++ turn_deeds outlet h v) (deeds_of outlet w (hs ++ h ∷ [])) (sym (deeds-push outlet w hs h))
+      (Tells-then may one two four (deeds_of outlet w hs) (turn_deeds outlet h v) before
+      (Tells-then may two three four (gave h ∷ []) said (Tells-one may two (turned (Happened h)) three gives refl) told))
 
   -- one turn more
   pub AnswersAll-push : (w : World) (hs : List Happening) (h : Happening) (core later : Option World) (one two three four : H) (out_one out_two out_three err_one err_two err_three : Option (List ℕ)) → AnswersAll may outlet w hs core one two out_one out_two err_one err_two → may two (turned (Happened h)) three → Answers may outlet h (behind w hs) later three four out_two out_three err_two err_three → AnswersAll may outlet w (hs ++ h ∷ []) later one four out_one out_three err_one err_three
   AnswersAll-push w hs h core later one two three four out_one out_two out_three err_one err_two err_three all gives answers =
       let v : World = behind w hs in
-      let said : List Deed = flat_map (deeds_by outlet) (sayings_of h v) in
-      let given = Tells-one may two (turned (Happened h)) three gives in
       record {
         known = answers.known ∙ ap (λ (x : World). Some x) (sym (behind-push w hs h));
-        told =
-            Tells-same may one four (deeds_of outlet w hs ++ turn_deeds outlet h v) (deeds_of outlet w (hs ++ h ∷ [])) (sym (deeds-push outlet w hs h))
-            (Tells-then may one two four (deeds_of outlet w hs) (turn_deeds outlet h v) all.told (Tells-then may two three four (gave h ∷ []) said given answers.told));
+        told = told-push w hs h one two three four all.told gives answers.told;
         out =
             answers.out
             ∙ ap (λ (o : Option (List ℕ)). appended o (turn_out outlet h v)) all.out
@@ -171,7 +178,7 @@ module _ {H : Type 0} (may : H → HubStep → H → Type 0) (outlet : Outlet) w
       let v : World = behind w hs in
       let said : List Deed = flat_map (deeds_by outlet) (sayings_of h v) in
       let before : List Deed = deeds_of outlet w hs in
-      let given = Tells-one may two (turned (Happened h)) three gives in
+      let given = Tells-one may two (turned (Happened h)) three gives refl in
       let begun = Tells-then may one two three before (gave h ∷ []) all.told given in
       let whole : (before ++ gave h ∷ []) ++ said ≡ deeds_of outlet w (hs ++ h ∷ []) = append_assoc before (gave h ∷ []) said ∙ sym (deeds-push outlet w hs h) in
       let part_steps : List HubStep = part.told.steps in
@@ -200,22 +207,33 @@ module _ {H : Type 0} (may : H → HubStep → H → Type 0) (outlet : Outlet) w
   -- all, and a turn that gave nothing
   pub AnswersFront-stopped : (w : World) (hs : List Happening) (core : Option World) (one two three : H) (out_one out_two err_one err_two : Option (List ℕ)) → AnswersAll may outlet w hs core one two out_one out_two err_one err_two → may two (turned Memory) three → AnswersFront may outlet w hs one three out_one out_two err_one err_two
   AnswersFront-stopped w hs core one two three out_one out_two err_one err_two all gives =
-      let whole =
-      Tells-same may one three (deeds_of outlet w hs ++ []) (deeds_of outlet w hs) (append-nil (deeds_of outlet w hs))
-      (Tells-then may one two three (deeds_of outlet w hs) [] all.told (Tells-one may two (turned Memory) three gives))
-      in
+      let steps : List HubStep = all.told.steps ++ turned Memory ∷ [] in
+      let whole : deeds (story steps) ≡ deeds_of outlet w hs = deeds-story all.told.steps (turned Memory ∷ []) ∙ append-nil (deeds (story all.told.steps)) ∙ all.told.deeds in
       record {
-        told = TellsPart-whole may one three (deeds_of outlet w hs) whole;
-        happened = whole_happened outlet w hs (story whole.steps) whole.deeds;
+        told = record {
+          steps = steps;
+          leads = next all.told.steps two (turned Memory) three all.told.leads gives;
+          front = record { rest = []; parts = sym (append-nil (deeds (story steps)) ∙ whole) };
+        };
+        happened = whole_happened outlet w hs (story steps) whole;
         out = front-whole out_one out_two (out_of outlet w hs) all.out;
         err = front-whole err_one err_two (lines_of w hs) all.err;
         but_last = none_begun outlet w hs out_one out_two err_one err_two all.out all.err;
       }
 
   -- driving that stopped inside a turn
-  pub stopped_drives : (most : ℕ) (w : World) (core : Option World) (old new : H) (out_old out_new err_old err_new : Option (List ℕ)) (why : Stopped) (hs : List Happening) → length hs ≤ most → AnswersFront may outlet w hs old new out_old out_new err_old err_new → Drives may outlet most w core old new out_old out_new err_old err_new (drove_by why)
-  stopped_drives most w core old new out_old out_new err_old err_new stopped.WriteFault hs few front = (hs, few, front)
-  stopped_drives most w core old new out_old out_new err_old err_new stopped.Memory hs few front = (hs, few, front)
+  pub stopped_drives : (most : ℕ) (w : World) (core : Option World) (old new : H) (out_old out_new err_old err_new : Option (List ℕ)) (why : Stopped) (hs : List Happening) → length hs ≤ most → AnswersFront may outlet w hs old new out_old out_new err_old err_new
+      → (why ≡ stopped.WriteFault → Tells may old (deeds_of outlet w hs) new) → Drives may outlet most w core old new out_old out_new err_old err_new (drove_by why)
+  stopped_drives most w core old new out_old out_new err_old err_new stopped.WriteFault hs few front told = (hs, few, front, told refl)
+  stopped_drives most w core old new out_old out_new err_old err_new stopped.Memory hs few front told = (hs, few, front)
+
+  -- the way that the hub went
+  pub way_of : (most : ℕ) (w : World) (core : Option World) (old new : H) (out_old out_new err_old err_new : Option (List ℕ)) (how : Drove) → Drives may outlet most w core old new out_old out_new err_old err_new how → (steps : List HubStep) × Leads may old steps new
+  way_of most w core old new out_old out_new err_old err_new drove.Done (hs, mid, few, all, done) = (all.told.steps ++ turned Done ∷ [], next all.told.steps mid (turned Done) new all.told.leads done)
+  way_of most w core old new out_old out_new err_old err_new drove.HubFault (hs, mid, few, all, failed) = (all.told.steps ++ turned Failed ∷ [], next all.told.steps mid (turned Failed) new all.told.leads failed)
+  way_of most w core old new out_old out_new err_old err_new drove.Spent (hs, is, all) = (all.told.steps, all.told.leads)
+  way_of most w core old new out_old out_new err_old err_new drove.WriteFault (hs, few, front, told) = (told.steps, told.leads)
+  way_of most w core old new out_old out_new err_old err_new drove.Memory (hs, few, front) = (front.told.steps, front.told.leads)
 
 pub happened_is_no_fault : (h : Happening) → Happened h ≡ Failed → ⊥
 happened_is_no_fault h is = cc

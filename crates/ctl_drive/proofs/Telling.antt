@@ -1,14 +1,20 @@
 -- What a hub gave and was told over many calls, and over a front of them.
-use Rattle.std.proofs.Common.{◌≡◌, List, [], ◌∷◌, ◌++◌, refl, sym, ap, ◌∙◌, append_assoc}
+use Rattle.std.proofs.Common.{◌≡◌, true, List, [], ◌∷◌, ◌++◌, refl, sym, ap, ◌∙◌, append_assoc}
+use Rattle.std.specs.List.{AllByRecursion}
 use Rattle.std.proofs.lemmas.List.{append-nil}
 use Rattle.fg_outside.specs.HubStep.{HubStep, Event, start, next, story, told_by}
 use Rattle.fg_outside.proofs.StoryLemmas.{Leads-append, story-append}
 use Rattle.ctl_drive.specs.Driving.{Deed, IsFront, deeds}
-use Rattle.ctl_drive.specs.Driven.{Tells, TellsPart}
+use Rattle.ctl_drive.specs.Driven.{Tells, TellsPart, goes_on}
 use Rattle.ctl_drive.proofs.Deeds.{deeds-append}
 
 pub deeds-story : (xs ys : List HubStep) → deeds (story (xs ++ ys)) ≡ deeds (story xs) ++ deeds (story ys)
 deeds-story xs ys = ap (λ (l : List Event). deeds l) (story-append xs ys) ∙ deeds-append (story xs) (story ys)
+
+-- what holds of all of two lists holds of all of both
+pub all_of_both : {X : Type 0} (P : X → Type 0) (xs ys : List X) → AllByRecursion P xs → AllByRecursion P ys → AllByRecursion P (xs ++ ys)
+all_of_both P [] ys first second = second
+all_of_both P (x ∷ xs) ys first second = (first.0, all_of_both P xs ys first.1 second)
 
 module _ {X : Type 0} where
   pub IsFront-whole : (front more : List X) → IsFront front (front ++ more)
@@ -31,18 +37,19 @@ module _ {X : Type 0} where
 
 module _ {H : Type 0} (may : H → HubStep → H → Type 0) where
   abbrev pub Tells-none : (hub : H) → Tells may hub [] hub
-  Tells-none hub = record { steps = []; leads = start; deeds = refl }
+  Tells-none hub = record { steps = []; leads = start; deeds = refl; went_on = tt }
 
   -- one call
-  abbrev pub Tells-one : (old : H) (step : HubStep) (new : H) → may old step new → Tells may old (deeds (told_by step)) new
-  Tells-one old step new step_may = record {
+  abbrev pub Tells-one : (old : H) (step : HubStep) (new : H) → may old step new → goes_on step ≡ true → Tells may old (deeds (told_by step)) new
+  Tells-one old step new step_may goes = record {
     steps = step ∷ [];
     leads = next [] old step new start step_may;
     deeds = ap (λ (l : List Event). deeds l) (append-nil (told_by step));
+    went_on = (goes, tt);
   }
 
   abbrev pub Tells-same : (old new : H) (xs ys : List Deed) → xs ≡ ys → Tells may old xs new → Tells may old ys new
-  Tells-same old new xs ys same tells = record { steps = tells.steps; leads = tells.leads; deeds = tells.deeds ∙ same }
+  Tells-same old new xs ys same tells = record { steps = tells.steps; leads = tells.leads; deeds = tells.deeds ∙ same; went_on = tells.went_on }
 
   abbrev pub Tells-then : (old mid new : H) (xs ys : List Deed) → Tells may old xs mid → Tells may mid ys new → Tells may old (xs ++ ys) new
   Tells-then old mid new xs ys first second = record {
@@ -52,9 +59,21 @@ module _ {H : Type 0} (may : H → HubStep → H → Type 0) where
         deeds-story first.steps second.steps
         ∙ ap (λ (l : List Deed). l ++ deeds (story second.steps)) first.deeds
         ∙ ap (λ (l : List Deed). xs ++ l) second.deeds;
+    went_on = all_of_both (λ step. goes_on step ≡ true) first.steps second.steps first.went_on second.went_on;
   }
 
   -- ---- fronts
+
+  -- one call, whatever it was answered
+  abbrev pub TellsPart-one : (old : H) (step : HubStep) (new : H) → may old step new → TellsPart may old (deeds (told_by step)) new
+  TellsPart-one old step new step_may = record {
+    steps = step ∷ [];
+    leads = next [] old step new start step_may;
+    front = record {
+      rest = [];
+      parts = sym (append-nil (deeds (told_by step ++ [])) ∙ ap (λ (l : List Event). deeds l) (append-nil (told_by step)));
+    };
+  }
 
   abbrev pub TellsPart-none : (hub : H) (whole : List Deed) → TellsPart may hub whole hub
   TellsPart-none hub whole = record { steps = []; leads = start; front = record { rest = whole; parts = refl } }

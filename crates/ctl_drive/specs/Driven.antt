@@ -1,9 +1,9 @@
 -- What a call that drives a controller has done.
-use Rattle.std.specs.Prelude.{◌≡◌, ℕ, ◌<◌, ◌≤◌, List, ◌++◌, length, Option, Some}
+use Rattle.std.specs.Prelude.{◌≡◌, ℕ, ◌<◌, ◌≤◌, Bool, true, false, List, ◌++◌, length, Option, Some}
 use Rattle.fg_outside.specs.declared.hub.Happening.{Happening}
-use Rattle.fg_outside.specs.declared.hub.Turn.TheVariants.{Done as is_done, Failed as has_failed}
+use Rattle.fg_outside.specs.declared.hub.Turn.TheVariants as turns
 use Rattle.fg_outside.specs.declared.hub.Said.TheVariants as answers
-use Rattle.fg_outside.specs.HubStep.{HubStep, Leads, happenings, said, story, turned}
+use Rattle.fg_outside.specs.HubStep.{HubStep, Leads, closed, happenings, said, story, turned}
 use Rattle.fg_outside.specs.Wrote.{appended, AppendsFront}
 use Rattle.ctl_world.specs.World.{World}
 use Rattle.ctl_core.specs.Story.{behind}
@@ -14,19 +14,32 @@ use Rattle.ctl_drive.specs.declared.drive.Drove.TheVariants.{Done, HubFault, Spe
 use Rattle.ctl_drive.specs.declared.turn.Stopped.{Stopped}
 use Rattle.ctl_drive.specs.declared.turn.Stopped.TheVariants as stopped
 use Rattle.ctl_drive.specs.Driving.{Deed, IsFront, deeds, deeds_by, deeds_of, lines_of, out_of, sayings_of, turn_lines, written_on}
-use Rattle.std.specs.List.{flat_map}
+use Rattle.std.specs.List.{AllByRecursion, flat_map}
 
 abbrev pub drove_by : Stopped → Drove
 drove_by stopped.WriteFault = WriteFault
 drove_by stopped.Memory = Memory
 
--- a hub gave and was told this, and came from one state to another
+-- a call that a run goes on behind: a turn gave a happening, a piece was taken or its connection is gone, a connection was closed
+abbrev pub goes_on : HubStep → Bool
+goes_on (turned (turns.Happened it)) = true
+goes_on (turned turns.Done) = false
+goes_on (turned turns.Failed) = false
+goes_on (turned turns.Memory) = false
+goes_on (said conn piece answers.Taken) = true
+goes_on (said conn piece answers.Gone) = true
+goes_on (said conn piece answers.Memory) = false
+goes_on (closed conn) = true
+
+-- a hub gave and was told this, and came from one state to another: each turn gave a happening, and no call was answered want of
+-- memory
 pub record Tells {H : Type 0} (may : H → HubStep → H → Type 0) (old : H) (told : List Deed) (new : H) : Type 0 where
   pub steps : List HubStep
   pub leads : Leads may old steps new
   pub deeds : deeds (story steps) ≡ told
+  pub went_on : AllByRecursion (λ step. goes_on step ≡ true) steps
 
--- the same of a front of this
+-- a hub gave and was told a front of this
 pub record TellsPart {H : Type 0} (may : H → HubStep → H → Type 0) (old : H) (told : List Deed) (new : H) : Type 0 where
   pub steps : List HubStep
   pub leads : Leads may old steps new
@@ -70,7 +83,7 @@ pub record WholeButLast (outlet : Outlet) (w : World) (hs : List Happening) (out
   pub out : AppendsFront (appended out_old (out_of outlet w before)) out_new (out_of outlet (behind w before) last)
   pub err : AppendsFront (appended err_old (lines_of w before)) err_new (lines_of (behind w before) last)
 
--- of the answer to all that happened a front is given, which ends in the last turn
+-- of the answer to all that happened a front is given, which ends in the last turn; where a write failed, the hub was told all
 pub record AnswersFront {H : Type 0} (may : H → HubStep → H → Type 0) (outlet : Outlet) (w : World) (hs : List Happening)
     (hub_old hub_new : H) (out_old out_new err_old err_new : Option (List ℕ)) : Type 0 where
   pub told : TellsPart may hub_old (deeds_of outlet w hs) hub_new
@@ -83,13 +96,14 @@ pub record AnswersFront {H : Type 0} (may : H → HubStep → H → Type 0) (out
 abbrev pub Drives : {H : Type 0} → (H → HubStep → H → Type 0) → Outlet → (most : ℕ) → World → (core : Option World) → (hub_old hub_new : H) → (out_old out_new err_old err_new : Option (List ℕ)) → Drove → Type 0
 Drives {H = H} may outlet most w core hub_old hub_new out_old out_new err_old err_new Done =
     (hs : List Happening) × (mid : H) × (length hs < most)
-    × AnswersAll may outlet w hs core hub_old mid out_old out_new err_old err_new × may mid (turned is_done) hub_new
+    × AnswersAll may outlet w hs core hub_old mid out_old out_new err_old err_new × may mid (turned turns.Done) hub_new
 Drives {H = H} may outlet most w core hub_old hub_new out_old out_new err_old err_new HubFault =
     (hs : List Happening) × (mid : H) × (length hs < most)
-    × AnswersAll may outlet w hs core hub_old mid out_old out_new err_old err_new × may mid (turned has_failed) hub_new
+    × AnswersAll may outlet w hs core hub_old mid out_old out_new err_old err_new × may mid (turned turns.Failed) hub_new
 Drives may outlet most w core hub_old hub_new out_old out_new err_old err_new Spent =
     (hs : List Happening) × (length hs ≡ most) × AnswersAll may outlet w hs core hub_old hub_new out_old out_new err_old err_new
 Drives may outlet most w core hub_old hub_new out_old out_new err_old err_new WriteFault =
     (hs : List Happening) × (length hs ≤ most) × AnswersFront may outlet w hs hub_old hub_new out_old out_new err_old err_new
+    × Tells may hub_old (deeds_of outlet w hs) hub_new
 Drives may outlet most w core hub_old hub_new out_old out_new err_old err_new Memory =
     (hs : List Happening) × (length hs ≤ most) × AnswersFront may outlet w hs hub_old hub_new out_old out_new err_old err_new

@@ -4,7 +4,7 @@ ghost use Rattle.ctl_world.specs.World.{World};
 ghost use Rattle.ctl_drive.specs.Driven.{Drives, drove_by};
 
 use crate::sayings::Outlet;
-use crate::turn::{Stopped, answer};
+use crate::turn::{Stopped, take_turn};
 use conf_types::Tally;
 use ctl_core::Controller;
 use fg_outside::{Hub, Sink, Turn};
@@ -64,7 +64,7 @@ pub fn drive<H: Hub, O: Sink, E: Sink, T: Tally>(
     for _ in 0..most {
         match hub.turn() {
             Turn::Happened(what) => {
-                if let Err(stopped) = answer(alloc, core, &what, outlet, hub, out, err, units) {
+                if let Err(stopped) = take_turn(alloc, core, &what, outlet, hub, out, err, units) {
                     return stopped.drove();
                 }
             }

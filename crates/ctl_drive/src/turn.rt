@@ -2,7 +2,7 @@ ghost use Rattle.std.specs.Prelude.{◌≡◌, ◌≤◌, ◌⊎◌, Some, OnOk,
 ghost use Rattle.std.specs.List.{flat_map};
 ghost use Rattle.fg_outside.specs.Counts.{Rose};
 ghost use Rattle.ctl_world.specs.World.{World};
-ghost use Rattle.ctl_drive.specs.Driving.{deeds_by};
+ghost use Rattle.ctl_drive.specs.Driving.{deeds_by, sayings_of};
 ghost use Rattle.ctl_drive.specs.Driven.{Tells, TellsPart, HasNoRoom, Answers, AnswersPart};
 
 use crate::sayings::{Outlet, make_lines, make_records};
@@ -53,7 +53,8 @@ fn say_on<H: Hub>(hub: &mut H, outlet: Outlet, conn: u32, message: &[u8]) -> Res
         return Ok(());
     }
     match hub.say(conn, message) {
-        Said::Taken | Said::Gone => Ok(()),
+        Said::Taken => Ok(()),
+        Said::Gone => Ok(()),
         Said::Memory => Err(AllocError),
     }
 }
@@ -88,7 +89,7 @@ fn tell_hub<H: Hub>(hub: &mut H, outlet: Outlet, sayings: &[Saying]) -> Result<(
 
 /// Lets a controller take in what happened, and does what it says: the hub is told, records and lines are
 /// written.
-pub fn answer<H: Hub, O: Sink, E: Sink, T: Tally>(
+pub fn take_turn<H: Hub, O: Sink, E: Sink, T: Tally>(
     alloc: Global,
     core: &mut Controller,
     what: &Happening,
@@ -102,6 +103,8 @@ pub fn answer<H: Hub, O: Sink, E: Sink, T: Tally>(
         (O.wrote out.old) (O.wrote out.new) (E.wrote err.old) (E.wrote err.new)) }
     ensures part { (w : World) → core.old ≡ Some w → OnErr result (AnswersPart H.may outlet what.now w hub.old hub.new
         (O.wrote out.old) (O.wrote out.new) (E.wrote err.old) (E.wrote err.new)) }
+    ensures told { (w : World) → core.old ≡ Some w → IsErrOf result Stopped.WriteFault
+        → Tells H.may hub.old (flat_map (deeds_by outlet) (sayings_of what.now w)) hub.new }
 
     ensures write_fault { IsErrOf result Stopped.WriteFault → Rose (O.faults out.old) (O.faults out.new) ⊎ Rose (E.faults err.old) (E.faults err.new) }
     ensures no_write_fault { (IsErrOf result Stopped.WriteFault → ⊥) → (O.faults out.new ≡ O.faults out.old) × (E.faults err.new ≡ E.faults err.old) }

@@ -16,14 +16,15 @@ refusal_not n two three eight config (IncludeTwice file) s = two (sym s)
 refusal_not n two three eight config (IncludeDepth file) s = two (sym s)
 refusal_not n two three eight config Memory s = eight (sym s)
 
--- neither that of words without a meaning nor that of a failed write
+-- neither that of words without a meaning, nor that of a failed write, nor that of a hub that failed
 abbrev pub IsInner : ℕ → Type 0
-IsInner n = (n ≡ 1 → ⊥) × (n ≡ 4 → ⊥)
+IsInner n = (n ≡ 1 → ⊥) × (n ≡ 4 → ⊥) × (n ≡ 6 → ⊥)
 
 pub refusal_inner : (config : List ℕ) (why : LoadRefused) → IsInner (refusal config why).status
 refusal_inner config why = (
   refusal_not 1 (λ e. omega arith) (λ e. omega arith) (λ e. omega arith) config why,
   refusal_not 4 (λ e. omega arith) (λ e. omega arith) (λ e. omega arith) config why,
+  refusal_not 6 (λ e. omega arith) (λ e. omega arith) (λ e. omega arith) config why,
 )
 
 pub refusal_undone : (config : List ℕ) (why : LoadRefused) → (refusal config why).status ≡ 0 → ⊥

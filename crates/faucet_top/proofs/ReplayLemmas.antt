@@ -31,12 +31,12 @@ ends_differ x y other is = other (ap number_after is)
 -- ---- its status
 
 end_inner : (end : Replayed) → end ≢ replayed.WriteFault → IsInner (number_after end)
-end_inner (replayed.Read None) other = (λ e. omega arith, λ e. omega arith)
-end_inner (replayed.Read (Some refused)) other = (λ e. omega arith, λ e. omega arith)
-end_inner replayed.Unread other = (λ e. omega arith, λ e. omega arith)
-end_inner replayed.Spent other = (λ e. omega arith, λ e. omega arith)
+end_inner (replayed.Read None) other = (λ e. omega arith, λ e. omega arith, λ e. omega arith)
+end_inner (replayed.Read (Some refused)) other = (λ e. omega arith, λ e. omega arith, λ e. omega arith)
+end_inner replayed.Unread other = (λ e. omega arith, λ e. omega arith, λ e. omega arith)
+end_inner replayed.Spent other = (λ e. omega arith, λ e. omega arith, λ e. omega arith)
 end_inner replayed.WriteFault other = absurd (other refl)
-end_inner replayed.Memory other = (λ e. omega arith, λ e. omega arith)
+end_inner replayed.Memory other = (λ e. omega arith, λ e. omega arith, λ e. omega arith)
 
 module _ (contents : Option Contents) (absence fault : Type 0) where
   pub replay_inner : (config recording : List ℕ) (made : Load) (a : Answer) → RepliesReplay contents absence fault config recording made a → IsInner a.status
@@ -85,27 +85,27 @@ module _ (held : Contents) (absence fault : Type 0) (refused : List ℕ) where
   end_told name conf out lines end unfailed replays by_file None is = end_where_none name conf end by_file is
   end_told name conf out lines end unfailed replays by_file (Some bytes) is = end_where_some name conf out lines bytes end unfailed replays by_file is
 
-  same_refusal : (config : List ℕ) (why : LoadRefused) (file : Option (List ℕ)) → loaded (held 0) config ≡ Err why
-      → IsLoadedStatus config (loaded (held 0) config) file (refusal config why).status
-  same_refusal config why file is = subst (λ (l : Load). IsLoadedStatus config l file (refusal config why).status) (sym is) refl
+  same_refusal : (config : List ℕ) (why : LoadRefused) (IsRun : Configuration → ℕ → Type 0) → loaded (held 0) config ≡ Err why
+      → IsLoadedStatus config (loaded (held 0) config) IsRun (refusal config why).status
+  same_refusal config why IsRun is = subst (λ (l : Load). IsLoadedStatus config l IsRun (refusal config why).status) (sym is) refl
 
   -- the refusal that the files give is told; the others end the run
-  refusal_told : (config : List ℕ) (why : LoadRefused) (file : Option (List ℕ)) → Loads (Some held) absence fault refused config (Err why)
-      → StatusFor (refusal config why).status (IsLoadedStatus config (loaded (held 0) config) file) fault
-  refusal_told config (Read name) file loads = inr (inr (inr (refl, loads.unread name refl)))
-  refusal_told config Memory file loads = inr (inr (inl refl))
-  refusal_told config (Yaml name at) file loads = inl (same_refusal config (Yaml name at) file (loads.told held refl))
-  refusal_told config (Conf at) file loads = inl (same_refusal config (Conf at) file (loads.told held refl))
-  refusal_told config (IncludeTwice name) file loads = inl (same_refusal config (IncludeTwice name) file (loads.told held refl))
-  refusal_told config (IncludeDepth name) file loads = inl (same_refusal config (IncludeDepth name) file (loads.told held refl))
-  refusal_told config (Absent name) file loads = inl (same_refusal config (Absent name) file (loads.told held refl))
+  pub refusal_told : (config : List ℕ) (why : LoadRefused) (IsRun : Configuration → ℕ → Type 0) → Loads (Some held) absence fault refused config (Err why)
+      → StatusFor (refusal config why).status (IsLoadedStatus config (loaded (held 0) config) IsRun) fault
+  refusal_told config (Read name) IsRun loads = inr (inr (inr (refl, loads.unread name refl)))
+  refusal_told config Memory IsRun loads = inr (inr (inl refl))
+  refusal_told config (Yaml name at) IsRun loads = inl (same_refusal config (Yaml name at) IsRun (loads.told held refl))
+  refusal_told config (Conf at) IsRun loads = inl (same_refusal config (Conf at) IsRun (loads.told held refl))
+  refusal_told config (IncludeTwice name) IsRun loads = inl (same_refusal config (IncludeTwice name) IsRun (loads.told held refl))
+  refusal_told config (IncludeDepth name) IsRun loads = inl (same_refusal config (IncludeDepth name) IsRun (loads.told held refl))
+  refusal_told config (Absent name) IsRun loads = inl (same_refusal config (Absent name) IsRun (loads.told held refl))
 
   pub replay_told : (config recording : List ℕ) (made : Load) (a : Answer) → Loads (Some held) absence fault refused config made → RepliesReplay (Some held) absence fault config recording made a
-      → StatusFor a.status (IsLoadedStatus config (loaded (held 0) config) (held 0 recording)) fault
+      → StatusFor a.status (IsLoadedStatus config (loaded (held 0) config) (λ conf. IsReplayStatus conf (held 0 recording))) fault
   replay_told config recording (Err why) a loads is =
-      subst (λ (b : Answer). StatusFor b.status (IsLoadedStatus config (loaded (held 0) config) (held 0 recording)) fault) (sym is) (refusal_told config why (held 0 recording) loads)
+      subst (λ (b : Answer). StatusFor b.status (IsLoadedStatus config (loaded (held 0) config) (λ conf. IsReplayStatus conf (held 0 recording))) fault) (sym is) (refusal_told config why (λ conf. IsReplayStatus conf (held 0 recording)) loads)
   replay_told config recording (Ok conf) a loads (end, out, lines, unfailed, replays, by_file, is) =
-      subst (λ (l : Load). StatusFor a.status (IsLoadedStatus config l (held 0 recording)) fault) (sym (loads.told held refl))
+      subst (λ (l : Load). StatusFor a.status (IsLoadedStatus config l (λ c. IsReplayStatus c (held 0 recording))) fault) (sym (loads.told held refl))
       (subst (λ (b : Answer). StatusFor b.status (IsReplayStatus conf (held 0 recording)) fault) (sym is)
       (end_told recording conf out lines end unfailed replays by_file (held 0 recording) refl))
 

@@ -1,7 +1,6 @@
 -- From what a replay wrote to the reply that was given.
 use Rattle.std.proofs.Common.{◌≡◌, ◌≢◌, ℕ, ◌≤◌, ◌⊎◌, inl, inr, List, [], ◌++◌, take, Option, Some, None, Ok, Err, refl, sym, ap, subst, ◌∙◌, arith}
 use Rattle.std.proofs.lemmas.List.{append-nil}
-use Rattle.std.proofs.Math.Seq.{take-nil}
 use Rattle.fg_outside.specs.Contents.{Contents}
 use Rattle.fg_outside.specs.Counts.{Rose}
 use Rattle.fg_outside.specs.Wrote.{appended, AppendsFront}
@@ -20,11 +19,12 @@ use Rattle.ctl_drive.specs.declared.sayings.Outlet.TheVariants as outlets
 use Rattle.ctl_drive.specs.Driven.{WholeButLast}
 use Rattle.ctl_drive.specs.Replay.{Replays, WritesFront}
 use Rattle.ctl_drive.proofs.Stories.{fronts_but_last, none_begun}
+use Rattle.ctl_serve.proofs.Serving.{front_of_nothing}
 use Rattle.faucet_top.specs.declared.deliver.Status.{Status}
 use Rattle.faucet_top.specs.declared.deliver.Status.TheVariants as statuses
 use Rattle.faucet_top.specs.Answer.{out_of_memory, refusal, last_line}
 use Rattle.faucet_top.specs.Ends.{Ends, status_after}
-use Rattle.faucet_top.specs.Given.{Loads, GoesByFile, Delivers, Gives}
+use Rattle.faucet_top.specs.Given.{Loads, GoesByFile, BreaksOff, Delivers, Gives}
 use Rattle.faucet_top.specs.Status.{number_of_status}
 use Rattle.faucet_top.proofs.CheckLemmas.{accepted_later}
 use Rattle.faucet_top.proofs.ReplayLemmas.{number_after, ends_differ}
@@ -33,10 +33,6 @@ use Rattle.faucet_top.proofs.ReplayLemmas.{number_after, ends_differ}
 
 AppendsFront-all : (old : Option (List ℕ)) (piece : List ℕ) → AppendsFront old (appended old piece) piece
 AppendsFront-all old piece = subst (λ (l : List ℕ). AppendsFront old (appended old piece) l) (append-nil piece) (AppendsFront-whole old piece [])
-
--- of nothing, nothing is written
-front_of_nothing : (old new : Option (List ℕ)) → AppendsFront old new [] → new ≡ old
-front_of_nothing old new front = front.front ∙ ap (λ (l : List ℕ). appended old l) (take-nil front.count) ∙ appended-nil old
 
 module _ (contents : Option Contents) (name : List ℕ) (absence fault : Type 0) (conf : Configuration) (o0 o1 e0 e1 : Option (List ℕ)) where
   -- a replay that ends so writes this on empty streams
@@ -97,7 +93,7 @@ module _ (contents : Option Contents) (name : List ℕ) (absence fault : Type 0)
 -- ---- with the line behind
 
 module _ (o0 o1 e0 e1 e2 : Option (List ℕ)) (m0 m1 n0 n1 n2 : ℕ) (out lines : List ℕ) where
-  line_behind : (last : List ℕ) (status ended : Status) → o1 ≡ appended o0 out → e1 ≡ appended e0 lines → m1 ≡ m0 → n1 ≡ n0 → Ends status last e1 e2 n1 n2 ended
+  pub line_behind : (last : List ℕ) (status ended : Status) → o1 ≡ appended o0 out → e1 ≡ appended e0 lines → m1 ≡ m0 → n1 ≡ n0 → Ends status last e1 e2 n1 n2 ended
       → Delivers (record { out = out; err = lines ++ last; status = number_of_status status }) (number_of_status ended) o0 o1 e0 e2 m0 m1 n0 n2
   line_behind last status ended wrote said outs errs (inl whole) =
       inl (ap number_of_status whole.0, wrote, whole.1 ∙ ap (λ e. appended e last) said ∙ appended-append e0 lines last, outs, whole.2 ∙ errs)
@@ -108,12 +104,11 @@ module _ (o0 o1 e0 e1 e2 : Option (List ℕ)) (m0 m1 n0 n1 n2 : ℕ) (out lines 
     inr (rw errs at front.2),
   )
 
-  nothing_behind : (more : List ℕ) (status : ℕ) (ended : Status) → AppendsFront o0 o1 out → AppendsFront e0 e1 lines → Rose m0 m1 ⊎ Rose n0 n1 → n1 ≤ n2
-      → Ends statuses.WriteFault [] e1 e2 n1 n2 ended → Delivers (record { out = out; err = lines ++ more; status = status }) (number_of_status ended) o0 o1 e0 e2 m0 m1 n0 n2
+  pub nothing_behind : (more : List ℕ) (status : ℕ) (ended : Status) → AppendsFront o0 o1 out → AppendsFront e0 e1 lines → Rose m0 m1 ⊎ Rose n0 n1 → n1 ≤ n2
+      → Ends statuses.WriteFault [] e1 e2 n1 n2 ended → BreaksOff (record { out = out; err = lines ++ more; status = status }) (number_of_status ended) o0 o1 e0 e2 m0 m1 n0 n2
   nothing_behind more status ended front line_front rose le ends =
       let four : ended ≡ statuses.WriteFault = elim ends [ inl whole ↦ whole.0 | inr cut ↦ cut.0 ] in
-      let same : e2 ≡ e1 = elim ends [ inl whole ↦ whole.1 ∙ appended-nil e1 | inr cut ↦ front_of_nothing e1 e2 cut.1 ] in
-      inr (
+      let same : e2 ≡ e1 = elim ends [ inl whole ↦ whole.1 ∙ appended-nil e1 | inr cut ↦ front_of_nothing e1 e2 cut.1 ] in (
         ap number_of_status four,
         front,
         subst (λ (e : Option (List ℕ)). AppendsFront e0 e (lines ++ more)) (sym same) (AppendsFront-first e0 e1 lines more line_front),
@@ -183,8 +178,8 @@ module _ (contents : Option Contents) (a0 a1 a2 f0 f1 f2 : ℕ) (o0 o1 e0 e1 e2 
         refl,
       ),
     ),
-    nothing_behind o0 o1 e0 e1 e2 m0 m1 n0 n1 n2 out lines out_of_memory.err 8 ended front line_front rose le_n
-        (subst (λ (r : Replayed). Ends (status_after r) (last_line recording r) e1 e2 n1 n2 ended) is ends),
+    inr (nothing_behind o0 o1 e0 e1 e2 m0 m1 n0 n1 n2 out lines out_of_memory.err 8 ended front line_front rose le_n
+        (subst (λ (r : Replayed). Ends (status_after r) (last_line recording r) e1 e2 n1 n2 ended) is ends)),
   )
 
   pub replay_given : Replays contents recording (Rose a1 a2) (Rose f1 f2) conf o0 o1 e0 e1 end → (end ≡ replayed.WriteFault → Rose m0 m1 ⊎ Rose n0 n1)

@@ -14,7 +14,7 @@ use Rattle.conf_gather.specs.declared.refused.LoadRefused.TheVariants.{Read, Yam
 use Rattle.conf_gather.specs.Gathered.{Held}
 use Rattle.conf_load.specs.Loaded.{loaded}
 use Rattle.command_line.specs.declared.meaning.Job.{Job}
-use Rattle.command_line.specs.declared.meaning.Job.TheVariants.{Check, Plan, Replay}
+use Rattle.command_line.specs.declared.meaning.Job.TheVariants.{Check, Plan, Replay, Serve}
 use Rattle.opening_batch.specs.Opened.{Opens}
 use Rattle.opening_batch.specs.Opening.{opening_of}
 use Rattle.law_stories.specs.Right.{IsRight}
@@ -33,13 +33,13 @@ File = List ℕ × Load
 -- ---- the statuses of the answers
 
 check_inner : (files : List File) → IsInner (check_answer files).status
-check_inner [] = (λ e. omega arith, λ e. omega arith)
+check_inner [] = (λ e. omega arith, λ e. omega arith, λ e. omega arith)
 check_inner ((name, Ok conf) ∷ files) = check_inner files
 check_inner ((name, Err why) ∷ files) = refusal_inner name why
 
 plan_inner : (config dp : List ℕ) (made : Result (Option (List ℕ)) LoadRefused) → IsInner (plan_answer config dp made).status
-plan_inner config dp (Ok (Some batch)) = (λ e. omega arith, λ e. omega arith)
-plan_inner config dp (Ok None) = (λ e. omega arith, λ e. omega arith)
+plan_inner config dp (Ok (Some batch)) = (λ e. omega arith, λ e. omega arith, λ e. omega arith)
+plan_inner config dp (Ok None) = (λ e. omega arith, λ e. omega arith, λ e. omega arith)
 plan_inner config dp (Err why) = refusal_inner config why
 
 module _ (contents : Option Contents) (absence fault : Type 0) (refused : List ℕ) where
@@ -59,24 +59,28 @@ module _ (contents : Option Contents) (absence fault : Type 0) (refused : List �
       found (Some batch) s = omega (arith, s)
       found None s = omega (arith, s)
 
-  job_inner : (job : Option Job) (a : Answer) → RepliesJob job contents absence fault refused a → ((a.status ≡ 1) → job ≡ None) × (a.status ≡ 4 → ⊥)
-  job_inner None a is = (λ s. refl, λ s. let at = ap (λ (b : Answer). b.status) is in omega (arith, at, s))
+  job_inner : (job : Option Job) (a : Answer) → RepliesJob job contents absence fault refused a → ((a.status ≡ 1) → job ≡ None) × (a.status ≡ 4 → ⊥) × (a.status ≡ 6 → ⊥)
+  job_inner None a is =
+      let at = ap (λ (b : Answer). b.status) is in
+      (λ s. refl, λ s. omega (arith, at, s), λ s. omega (arith, at, s))
   job_inner (Some (Check names)) a reply =
       let at = ap (λ (b : Answer). b.status) reply.2 in
-      (λ s. absurd ((check_inner reply.0).0 (sym at ∙ s)), λ s. (check_inner reply.0).1 (sym at ∙ s))
+      (λ s. absurd ((check_inner reply.0).0 (sym at ∙ s)), λ s. (check_inner reply.0).1 (sym at ∙ s), λ s. (check_inner reply.0).2 (sym at ∙ s))
   job_inner (Some (Plan config dp)) a reply =
       let at = ap (λ (b : Answer). b.status) reply.2 in
       let inner = plan_inner config dp (planned dp reply.0) in
-      (λ s. absurd (inner.0 (sym at ∙ s)), λ s. inner.1 (sym at ∙ s))
+      (λ s. absurd (inner.0 (sym at ∙ s)), λ s. inner.1 (sym at ∙ s), λ s. inner.2 (sym at ∙ s))
   job_inner (Some (Replay config recording)) a reply =
       let inner = replay_inner contents absence fault config recording reply.0 a reply.2 in
-      (λ s. absurd (inner.0 s), inner.1)
+      (λ s. absurd (inner.0 s), inner.1, inner.2)
+  job_inner (Some (Serve config events reload_ms listen)) a reply = absurd reply
 
   job_unread : (job : Option Job) (a : Answer) → RepliesJob job contents absence fault refused a → a.status ≡ 3 → absence ⊎ fault
   job_unread None a is s = let at = ap (λ (b : Answer). b.status) is in absurd (omega (arith, at, s))
   job_unread (Some (Check names)) a reply s = check_unread reply.0 (reply.1).1 (sym (ap (λ (b : Answer). b.status) reply.2) ∙ s)
   job_unread (Some (Plan config dp)) a reply s = plan_unread config dp reply.0 reply.1 (sym (ap (λ (b : Answer). b.status) reply.2) ∙ s)
   job_unread (Some (Replay config recording)) a reply s = replay_unread contents absence fault refused config recording reply.0 a reply.1 reply.2 s
+  job_unread (Some (Serve config events reload_ms listen)) a reply s = absurd reply
 
 -- ---- what is replied, where the files are told
 
@@ -140,6 +144,7 @@ module _ (held : Contents) (absence fault : Type 0) (refused : List ℕ) where
   job_told (Some (Check names)) a whole is reply = is_whole a (check_answer (map (λ name. (name, given name)) names)) whole is (check_reply_told names a reply)
   job_told (Some (Plan config dp)) a whole is reply = is_whole a (plan_answer config dp (planned dp (given config))) whole is (plan_reply_told config dp a reply)
   job_told (Some (Replay config recording)) a whole is reply = absurd cc
+  job_told (Some (Serve config events reload_ms listen)) a whole is reply = absurd reply
 
   pub told_replied : (job : Option Job) (a whole : Answer) → job_answer job given ≡ Some whole → Replies job (Some held) absence fault refused a → AnswersSoFar a whole fault
   told_replied job a whole is (inl reply) = job_told job a whole is reply
@@ -155,6 +160,7 @@ module _ (held : Contents) (absence fault : Type 0) (refused : List ℕ) where
   job_status (Some (Check names)) a reply = status_told a (check_answer (map (λ name. (name, given name)) names)) (check_reply_told names a reply)
   job_status (Some (Plan config dp)) a reply = status_told a (plan_answer config dp (planned dp (given config))) (plan_reply_told config dp a reply)
   job_status (Some (Replay config recording)) a reply = replay_told held absence fault refused config recording reply.0 a reply.1 reply.2
+  job_status (Some (Serve config events reload_ms listen)) a reply = absurd reply
 
   reply_status : (job : Option Job) (a : Answer) → Replies job (Some held) absence fault refused a → StatusFor a.status (IsStatusOf job (held 0)) fault
   reply_status job a (inl reply) = job_status job a reply
@@ -226,6 +232,14 @@ module _ (job : Option Job) (contents : Option Contents) (absence fault : Type 0
           | inl reply ↦ absurd ((job_inner contents absence fault refused job gives.0 reply).1 (sym whole.0 ∙ s))
           | inr out ↦ let eight = memory_status out in absurd (omega (arith, eight, whole.0, s))
         ]
+      ]
+
+  pub no_hub : status ≡ 6 → ⊥
+  no_hub s =
+      let six = (at 6 s (λ e. omega (arith, e))).0 in
+      elim gives.1 [
+        | inl reply ↦ (job_inner contents absence fault refused job gives.0 reply).2 six
+        | inr out ↦ let eight = memory_status out in omega (arith, eight, six)
       ]
 
   pub usage_only : status ≡ 1 → job ≡ None

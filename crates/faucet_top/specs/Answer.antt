@@ -8,9 +8,11 @@ use Rattle.conf_gather.specs.declared.refused.LoadRefused.{LoadRefused}
 use Rattle.conf_gather.specs.declared.refused.LoadRefused.TheVariants.{Read, Yaml, Conf, IncludeTwice, IncludeDepth, Absent, Memory}
 use Rattle.conf_json.specs.Text.{json_text}
 use Rattle.command_line.specs.declared.meaning.Job.{Job}
-use Rattle.command_line.specs.declared.meaning.Job.TheVariants.{Check, Plan, Replay}
+use Rattle.command_line.specs.declared.meaning.Job.TheVariants.{Check, Plan, Replay, Serve}
 use Rattle.opening_batch.specs.Opening.{opening_of}
 use Rattle.recording.specs.Kinds.{cause_name}
+use Rattle.ctl_drive.specs.declared.drive.Drove.{Drove}
+use Rattle.ctl_drive.specs.declared.drive.Drove.TheVariants as drove
 use Rattle.ctl_drive.specs.declared.replay.Replayed.{Replayed}
 use Rattle.ctl_drive.specs.declared.replay.Replayed.TheVariants as replayed
 use Rattle.conf_causes.specs.Causes.{conf_cause_text}
@@ -99,11 +101,22 @@ last_line recording replayed.Spent = line (codes "events spent" ∷ [])
 last_line recording replayed.WriteFault = []
 last_line recording replayed.Memory = out_of_memory.err
 
+-- ---- `serve`
+
+-- the line behind those that the controller wrote, by how serving ended
+abbrev pub served_line : Drove → List ℕ
+served_line drove.Done = []
+served_line drove.HubFault = line (codes "hub fault" ∷ [])
+served_line drove.Spent = line (codes "events spent" ∷ [])
+served_line drove.WriteFault = []
+served_line drove.Memory = out_of_memory.err
+
 -- ---- the words
 
--- the answer to a job, where files give these configurations; that to `replay` is said by a relation (Given)
+-- the answer to a job, where files give these configurations; those to `replay` and `serve` are said by relations (Given, Serving)
 abbrev pub job_answer : Option Job → (List ℕ → Load) → Option Answer
 job_answer None load = Some usage
 job_answer (Some (Check files)) load = Some (check_answer (map (λ file. (file, load file)) files))
 job_answer (Some (Plan config dp)) load = Some (plan_answer config dp (planned dp (load config)))
 job_answer (Some (Replay config recording)) load = None
+job_answer (Some (Serve config events reload_ms listen)) load = None

@@ -4,6 +4,8 @@ use Rattle.fg_outside.specs.Counts.{Rose}
 use Rattle.fg_outside.specs.Wrote.{appended, AppendsFront}
 use Rattle.conf_gather.specs.declared.refused.LoadRefused.{LoadRefused}
 use Rattle.conf_gather.specs.declared.refused.LoadRefused.TheVariants.{Read, Yaml, Conf, IncludeTwice, IncludeDepth, Absent, Memory}
+use Rattle.ctl_drive.specs.declared.drive.Drove.{Drove}
+use Rattle.ctl_drive.specs.declared.drive.Drove.TheVariants as drove
 use Rattle.ctl_drive.specs.declared.replay.Replayed.{Replayed}
 use Rattle.ctl_drive.specs.declared.replay.Replayed.TheVariants as replayed
 use Rattle.faucet_top.specs.declared.deliver.Status.{Status}
@@ -33,3 +35,11 @@ status_after replayed.Unread = statuses.Unread
 status_after replayed.Spent = statuses.Spent
 status_after replayed.WriteFault = statuses.WriteFault
 status_after replayed.Memory = statuses.Memory
+
+-- the status by how serving ended
+abbrev pub status_served : Drove → Status
+status_served drove.Done = statuses.Done
+status_served drove.HubFault = statuses.HubFault
+status_served drove.Spent = statuses.Spent
+status_served drove.WriteFault = statuses.WriteFault
+status_served drove.Memory = statuses.Memory

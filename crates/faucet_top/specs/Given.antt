@@ -11,7 +11,7 @@ use Rattle.conf_gather.specs.Gathered.{Held}
 use Rattle.conf_gather.specs.Gives as load
 use Rattle.conf_load.specs.Loaded.{loaded}
 use Rattle.command_line.specs.declared.meaning.Job.{Job}
-use Rattle.command_line.specs.declared.meaning.Job.TheVariants.{Check, Plan, Replay}
+use Rattle.command_line.specs.declared.meaning.Job.TheVariants.{Check, Plan, Replay, Serve}
 use Rattle.opening_batch.specs.Opened.{Opens}
 use Rattle.recording.specs.declared.record.Record.{Record}
 use Rattle.recording.specs.declared.refused.RecordRefused.{RecordRefused}
@@ -60,12 +60,13 @@ RepliesReplay contents absence fault config recording (Ok conf) a =
     × GoesByFile contents recording fault end
     × (a ≡ record { out = out; err = lines ++ last_line recording end; status = number_of_status (status_after end) })
 
--- the reply to a job, whatever fails: the answer for what the files gave
+-- the reply to a job that needs no hub, whatever fails: the answer for what the files gave
 abbrev pub RepliesJob : Option Job → Option Contents → (absence fault : Type 0) → (refused : List ℕ) → Answer → Type 0
 RepliesJob None contents absence fault refused a = a ≡ usage
 RepliesJob (Some (Check names)) contents absence fault refused a = (files : List (List ℕ × Load)) × EachLoads contents absence fault refused names files × (a ≡ check_answer files)
 RepliesJob (Some (Plan config dp)) contents absence fault refused a = (made : Load) × Loads contents absence fault refused config made × (a ≡ plan_answer config dp (planned dp made))
 RepliesJob (Some (Replay config recording)) contents absence fault refused a = (made : Load) × Loads contents absence fault refused config made × RepliesReplay contents absence fault config recording made a
+RepliesJob (Some (Serve config events reload_ms listen)) contents absence fault refused a = ⊥
 
 -- the same, or that memory ran out before the job was known or begun
 abbrev pub Replies : Option Job → Option Contents → (absence fault : Type 0) → (refused : List ℕ) → Answer → Type 0
@@ -77,14 +78,18 @@ AnswersSoFar a whole fault = (a ≡ whole) ⊎ ((more : List ℕ) × (whole.out 
 
 -- ---- how much of it
 
--- The reply was written whole, with its status, and no write failed; or a write failed, the status says so,
--- and a front of the reply was written.
+-- a write failed, the status says so, and a front of the reply was written
+abbrev pub BreaksOff : Answer → (status : ℕ) → (out_old out_new err_old err_new : Option (List ℕ)) → (out_faults_old out_faults_new err_faults_old err_faults_new : ℕ) → Type 0
+BreaksOff a status out_old out_new err_old err_new out_faults_old out_faults_new err_faults_old err_faults_new =
+    (status ≡ 4) × AppendsFront out_old out_new a.out × AppendsFront err_old err_new a.err
+    × (Rose out_faults_old out_faults_new ⊎ Rose err_faults_old err_faults_new)
+
+-- the reply was written whole, with its status, and no write failed; or a write failed
 abbrev pub Delivers : Answer → (status : ℕ) → (out_old out_new err_old err_new : Option (List ℕ)) → (out_faults_old out_faults_new err_faults_old err_faults_new : ℕ) → Type 0
 Delivers a status out_old out_new err_old err_new out_faults_old out_faults_new err_faults_old err_faults_new =
     ((status ≡ a.status) × (out_new ≡ appended out_old a.out) × (err_new ≡ appended err_old a.err)
     × (out_faults_new ≡ out_faults_old) × (err_faults_new ≡ err_faults_old))
-    ⊎ ((status ≡ 4) × AppendsFront out_old out_new a.out × AppendsFront err_old err_new a.err
-    × (Rose out_faults_old out_faults_new ⊎ Rose err_faults_old err_faults_new))
+    ⊎ BreaksOff a status out_old out_new err_old err_new out_faults_old out_faults_new err_faults_old err_faults_new
 
 -- one reply was delivered
 abbrev pub Gives : Option Job → Option Contents → (absence fault : Type 0) → (refused : List ℕ) → (status : ℕ) → (out_old out_new err_old err_new : Option (List ℕ)) → (out_faults_old out_faults_new err_faults_old err_faults_new : ℕ) → Type 0
@@ -117,16 +122,22 @@ IsReplayStatus conf (Some bytes) n =
     ⊎ ((story : List Happening) × (closes : List Closing) × IsFront closes (closed_in conf story) × IsStorySoFar bytes story closes
     × (length story ≡ 2 ^ 64 - 1) × (n ≡ 7))
 
-abbrev pub IsLoadedStatus : (config : List ℕ) → Load → (file : Option (List ℕ)) → ℕ → Type 0
-IsLoadedStatus config (Err why) file n = n ≡ (refusal config why).status
-IsLoadedStatus config (Ok conf) file n = IsReplayStatus conf file n
+-- that of `serve`: it goes by the hub and by how many turns there may be
+abbrev pub IsServeStatus : ℕ → Type 0
+IsServeStatus n = (n ≡ 0) ⊎ ((n ≡ 6) ⊎ (n ≡ 7))
+
+-- that of the refusal, or else one that goes by the configuration
+abbrev pub IsLoadedStatus : (config : List ℕ) → Load → (IsRun : Configuration → ℕ → Type 0) → ℕ → Type 0
+IsLoadedStatus config (Err why) IsRun n = n ≡ (refusal config why).status
+IsLoadedStatus config (Ok conf) IsRun n = IsRun conf n
 
 -- the status of the answer to a job, where these files are held
 abbrev pub IsStatusOf : Option Job → Held → ℕ → Type 0
 IsStatusOf None held n = n ≡ 1
 IsStatusOf (Some (Check files)) held n = n ≡ (check_answer (map (λ file. (file, loaded held file)) files)).status
 IsStatusOf (Some (Plan config dp)) held n = n ≡ (plan_answer config dp (planned dp (loaded held config))).status
-IsStatusOf (Some (Replay config recording)) held n = IsLoadedStatus config (loaded held config) (held recording) n
+IsStatusOf (Some (Replay config recording)) held n = IsLoadedStatus config (loaded held config) (λ conf. IsReplayStatus conf (held recording)) n
+IsStatusOf (Some (Serve config events reload_ms listen)) held n = IsLoadedStatus config (loaded held config) (λ conf. IsServeStatus) n
 
 -- a status is that of the answer; or a write failed, memory ran out, or a read failed
 abbrev pub StatusFor : (status : ℕ) → (IsAnswered : ℕ → Type 0) → (fault : Type 0) → Type 0

@@ -1,4 +1,5 @@
 pub mod Answer
 pub mod Ends
 pub mod Given
+pub mod Serving
 pub mod Status

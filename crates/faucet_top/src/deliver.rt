@@ -3,15 +3,15 @@ ghost use Rattle.std.specs.Fmt.{decimal};
 ghost use Rattle.fg_outside.specs.Wrote.{line_of};
 ghost use Rattle.conf_gather.specs.declared.refused.LoadRefused.TheVariants.{Yaml, Conf};
 ghost use Rattle.ctl_drive.specs.declared.replay.Replayed.TheVariants.{Read};
-ghost use Rattle.faucet_top.specs.Answer.{last_line, refusal, usage, out_of_memory, line, plan_answer};
+ghost use Rattle.faucet_top.specs.Answer.{last_line, refusal, usage, out_of_memory, line, plan_answer, served_line};
 ghost use Rattle.faucet_top.specs.Given.{Delivers};
 ghost use Rattle.faucet_top.specs.Status.{number_of_status};
-ghost use Rattle.faucet_top.specs.Ends.{Ends, refused_status, status_after};
+ghost use Rattle.faucet_top.specs.Ends.{Ends, refused_status, status_after, status_served};
 
 use conf_causes::limit_name;
 use conf_gather::LoadRefused;
 use conf_shape::{ConfCause, ConfFault};
-use ctl_drive::Replayed;
+use ctl_drive::{Drove, Replayed};
 use fg_outside::{Sink, write_all, write_line};
 use itoa::Buffer;
 use net_base::Bytes;
@@ -35,6 +35,8 @@ pub enum Status {
     WriteFault = 4,
     /// A record of a recording is refused.
     RecordRefused = 5,
+    /// The hub failed.
+    HubFault = 6,
     /// As many turns were taken as there may be.
     Spent = 7,
     /// Memory ran out.
@@ -203,6 +205,20 @@ pub fn deliver_replayed<E: Sink>(err: &mut E, recording: &str, replayed: Replaye
         Replayed::Spent => end_with_line(err, &["events spent"], Status::Spent),
         Replayed::WriteFault => Status::WriteFault,
         Replayed::Memory => deliver_out_of_memory(err),
+    }
+}
+
+/// Says how serving ended, where there is something to say.
+pub fn deliver_served<E: Sink>(err: &mut E, drove: Drove) -> Status
+    ensures ends { Ends (status_served drove) (served_line drove) (E.wrote err.old) (E.wrote err.new) (E.faults err.old) (E.faults err.new) result }
+    ensures faults { E.faults err.old ≤ E.faults err.new }
+{
+    match drove {
+        Drove::Done => Status::Done,
+        Drove::HubFault => end_with_line(err, &["hub fault"], Status::HubFault),
+        Drove::Spent => end_with_line(err, &["events spent"], Status::Spent),
+        Drove::WriteFault => Status::WriteFault,
+        Drove::Memory => deliver_out_of_memory(err),
     }
 }
 

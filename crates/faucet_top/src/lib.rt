@@ -6,6 +6,7 @@ mod deliver;
 pub mod laws;
 mod plan;
 mod replay;
+mod serve;
 mod top;
 mod units;
 

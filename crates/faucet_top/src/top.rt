@@ -1,17 +1,24 @@
-ghost use Rattle.std.specs.Prelude.{◌≡◌, ◌≢◌, ◌-◌, ◌^◌, ◌<◌, ◌≤◌, ◌⊎◌, ℕ, List, Some, None};
+ghost use Rattle.std.specs.Prelude.{◌≡◌, ◌≢◌, ◌-◌, ◌^◌, ◌<◌, ◌≤◌, ◌⊎◌, ℕ, List, Some, None, Ok};
 ghost use Rattle.fg_outside.specs.Counts.{Rose};
 ghost use Rattle.fg_outside.specs.Contents.{Contents};
 ghost use Rattle.fg_outside.specs.Wrote.{appended, AppendsFront};
-ghost use Rattle.command_line.specs.declared.meaning.Job.TheVariants.{Check, Plan, Replay};
+ghost use Rattle.conf_types.specs.Configuration.{Configuration};
+ghost use Rattle.conf_load.specs.Loaded.{loaded};
+ghost use Rattle.command_line.specs.declared.meaning.Job.TheVariants.{Check, Plan, Replay, Serve};
+ghost use Rattle.command_line.specs.declared.values.Listen.{Listen};
 ghost use Rattle.command_line.specs.Meaning.{meaning};
 ghost use Rattle.faucet_top.specs.Answer.{out_of_memory};
 ghost use Rattle.faucet_top.specs.Given.{AreAccepted, Gives, IsOpened, IsReplayed, IsReplayedTo, IsStatus, IsStatusOf, StatusFor};
+ghost use Rattle.ctl_drive.specs.declared.drive.Drove.{Drove};
+ghost use Rattle.faucet_top.specs.Ends.{status_served};
+ghost use Rattle.faucet_top.specs.Serving.{GivesAny, IsItsEnd, IsLocal, IsServed};
 ghost use Rattle.faucet_top.specs.Status.{number_of_status};
 
 use crate::check::check_files;
 use crate::deliver::{Status, deliver_out_of_memory, deliver_plan, deliver_usage};
 use crate::plan::make_plan;
 use crate::replay::replay_recording;
+use crate::serve::{Pace, serve_switches};
 use command_line::{Job, read_words};
 use conf_load::laws::a_loaded_configuration_is_valid;
 use fg_outside::{Files, Hub, Sink};
@@ -20,7 +27,7 @@ use net_base::Names;
 use opening_batch::laws::an_opening_batch_opens_the_datapath;
 use std::alloc::Global;
 
-/// Does a job.
+/// Does a job that needs no hub.
 fn do_job<F: Files, O: Sink, E: Sink>(
     alloc: Global,
     job: &Job,
@@ -28,6 +35,7 @@ fn do_job<F: Files, O: Sink, E: Sink>(
     out: &mut O,
     err: &mut E,
 ) -> (Status, F)
+    requires { IsLocal (Some job.now) }
     ensures gives { Gives (Some job.now) (F.contents files) (Rose (F.absences files) (F.absences result.1)) (Rose (F.faults files) (F.faults result.1)) (F.refused result.1)
         (number_of_status result.0) (O.wrote out.old) (O.wrote out.new) (E.wrote err.old) (E.wrote err.new)
         (O.faults out.old) (O.faults out.new) (E.faults err.old) (E.faults err.new) }
@@ -53,6 +61,7 @@ fn do_job<F: Files, O: Sink, E: Sink>(
         Job::Replay { config, recording } => {
             replay_recording(alloc, files, config.as_str(), recording, out, err)
         }
+        Job::Serve { .. } => unreachable!(),
     }
 }
 
@@ -64,12 +73,15 @@ pub fn local<F: Files, O: Sink, E: Sink>(
     out: &mut O,
     err: &mut E,
 ) -> (u8, F)
+    requires { IsLocal (Some job.now) }
+
     // One reply was given, as `faucet` gives it.
     ensures gives { Gives (Some job.now) (F.contents files) (Rose (F.absences files) (F.absences result.1)) (Rose (F.faults files) (F.faults result.1)) (F.refused result.1)
         result.0 (O.wrote out.old) (O.wrote out.new) (E.wrote err.old) (E.wrote err.new)
         (O.faults out.old) (O.faults out.new) (E.faults err.old) (E.faults err.new) }
 
     // The status is that of the answer, where the files are told, but for what fails on the way.
+    ensures no_hub { result.0 ≢ 6 }
     ensures told { (held : Contents) → F.contents files ≡ Some held
         → StatusFor result.0 (IsStatusOf (Some job.now) (held 0)) (Rose (F.faults files) (F.faults result.1)) }
     ensures unread { result.0 ≡ 3 → Rose (F.absences files) (F.absences result.1) ⊎ Rose (F.faults files) (F.faults result.1) }
@@ -89,30 +101,81 @@ pub fn local<F: Files, O: Sink, E: Sink>(
     (status.number(), files)
 }
 
-/// Does what the words ask for.
-fn answer_words<F: Files, O: Sink, E: Sink>(
+/// Does a job, on the hub where it needs one.
+fn do_any<F: Files, H: Hub, O: Sink, E: Sink>(
     alloc: Global,
-    words: &Names,
+    job: &Job,
     files: F,
+    hub: H,
     out: &mut O,
     err: &mut E,
-) -> (u8, F)
-    ensures gives { Gives (meaning words.now) (F.contents files) (Rose (F.absences files) (F.absences result.1)) (Rose (F.faults files) (F.faults result.1)) (F.refused result.1)
-        result.0 (O.wrote out.old) (O.wrote out.new) (E.wrote err.old) (E.wrote err.new)
+) -> (u8, F, H)
+    ensures gives { GivesAny H.may F.contents F.faults (Rose (F.absences files) (F.absences result.1)) (Rose (F.faults files) (F.faults result.1)) (F.refused result.1) (Some job.now)
+        hub result.2 files result.1 result.0 (O.wrote out.old) (O.wrote out.new) (E.wrote err.old) (E.wrote err.new)
         (O.faults out.old) (O.faults out.new) (E.faults err.old) (E.faults err.new) }
 
     ensures statuses { IsStatus result.0 }
-    ensures no_read_fault { result.0 ≢ 3 → result.0 ≢ 4 → F.faults files < 2 ^ 64 - 1 → F.faults result.1 ≡ F.faults files }
-    ensures contents { F.contents result.1 ≡ F.contents files }
+    ensures no_read_fault { IsLocal (Some job.now) → result.0 ≢ 3 → result.0 ≢ 4 → F.faults files < 2 ^ 64 - 1 → F.faults result.1 ≡ F.faults files }
+    ensures hub_fault { result.0 ≡ 6 → Rose (H.faults hub) (H.faults result.2) }
+    ensures no_hub_fault { result.0 ≢ 6 → result.0 ≢ 4 → H.faults result.2 ≡ H.faults hub }
+    ensures hub { IsLocal (Some job.now) → result.2 ≡ hub }
+    ensures contents { IsLocal (Some job.now) → F.contents result.1 ≡ F.contents files }
+    ensures hub_faults { H.faults hub ≤ H.faults result.2 }
+    ensures faults { F.faults files ≤ F.faults result.1 }
+    ensures absences { F.absences files ≤ F.absences result.1 }
+    ensures out_faults { O.faults out.old ≤ O.faults out.new }
+    ensures err_faults { E.faults err.old ≤ E.faults err.new }
+{
+    match job {
+        Job::Serve {
+            config,
+            events,
+            reload_ms,
+            ..
+        } => {
+            let pace = Pace {
+                events: *events,
+                reload_ms: *reload_ms,
+            };
+            let (status, files, hub) = serve_switches(alloc, config, pace, files, hub, out, err);
+            (status.number(), files, hub)
+        }
+        _ => {
+            let (status, files) = local(alloc, job, files, out, err);
+            (status, files, hub)
+        }
+    }
+}
+
+/// Does what the words ask for.
+fn answer_words<F: Files, H: Hub, O: Sink, E: Sink>(
+    alloc: Global,
+    words: &Names,
+    files: F,
+    hub: H,
+    out: &mut O,
+    err: &mut E,
+) -> (u8, F, H)
+    ensures gives { GivesAny H.may F.contents F.faults (Rose (F.absences files) (F.absences result.1)) (Rose (F.faults files) (F.faults result.1)) (F.refused result.1) (meaning words.now)
+        hub result.2 files result.1 result.0 (O.wrote out.old) (O.wrote out.new) (E.wrote err.old) (E.wrote err.new)
+        (O.faults out.old) (O.faults out.new) (E.faults err.old) (E.faults err.new) }
+
+    ensures statuses { IsStatus result.0 }
+    ensures no_read_fault { IsLocal (meaning words.now) → result.0 ≢ 3 → result.0 ≢ 4 → F.faults files < 2 ^ 64 - 1 → F.faults result.1 ≡ F.faults files }
+    ensures hub_fault { result.0 ≡ 6 → Rose (H.faults hub) (H.faults result.2) }
+    ensures no_hub_fault { result.0 ≢ 6 → result.0 ≢ 4 → H.faults result.2 ≡ H.faults hub }
+    ensures hub { IsLocal (meaning words.now) → result.2 ≡ hub }
+    ensures contents { IsLocal (meaning words.now) → F.contents result.1 ≡ F.contents files }
+    ensures hub_faults { H.faults hub ≤ H.faults result.2 }
     ensures faults { F.faults files ≤ F.faults result.1 }
     ensures absences { F.absences files ≤ F.absences result.1 }
     ensures out_faults { O.faults out.old ≤ O.faults out.new }
     ensures err_faults { E.faults err.old ≤ E.faults err.new }
 {
     match read_words(alloc, words) {
-        Ok(Some(job)) => local(alloc, &job, files, out, err),
-        Ok(None) => (deliver_usage(err).number(), files),
-        Err(_) => (deliver_out_of_memory(err).number(), files),
+        Ok(Some(job)) => do_any(alloc, &job, files, hub, out, err),
+        Ok(None) => (deliver_usage(err).number(), files, hub),
+        Err(_) => (deliver_out_of_memory(err).number(), files, hub),
     }
 }
 
@@ -122,10 +185,13 @@ fn answer_words<F: Files, O: Sink, E: Sink>(
 /// that gives no configuration ends the run. `plan CONFIG DP` writes on `out` the batch that opens the
 /// datapath DP of the configuration file CONFIG: OpenFlow 1.3 messages, big-endian. `replay CONFIG RECORDING`
 /// runs the controller of CONFIG on what the recording tells, writes on `out` a record for each message that
-/// it says and each connection that it closes, and on `err` its lines. Any other words have no meaning. A
-/// refusal is one line on `err`. Statuses: 0 done; 1 the words have no meaning; 2 a configuration was read and
-/// is refused, or DP isn't one of its datapaths; 3 a file isn't there, or a read failed; 4 a write failed; 5 a
-/// record of the recording is refused; 7 2^64 - 1 turns were taken; 8 out of memory.
+/// it says and each connection that it closes, and on `err` its lines. `serve CONFIG --events N --reload-ms M
+/// --listen A:P` runs the controller of CONFIG on the hub, for at most N happenings, looks every M milliseconds at
+/// CONFIG and what it includes, and writes the controller's lines on `err`. Any other words have no meaning. A
+/// refusal is one line on `err`. Statuses: 0 done, so of `serve` where the hub said so; 1 the words have no
+/// meaning; 2 a configuration was read and is refused, or DP isn't one of its datapaths; 3 a file isn't there, or a
+/// read failed, of `serve` before the hub was asked; 4 a write failed; 5 a record of the recording is refused; 6 the
+/// hub failed; 7 N turns were taken, for `replay` 2^64 - 1; 8 out of memory.
 pub fn faucet<F: Files, H: Hub, O: Sink, E: Sink>(
     alloc: Global,
     words: &Names,
@@ -136,13 +202,14 @@ pub fn faucet<F: Files, H: Hub, O: Sink, E: Sink>(
 ) -> (u8, F, H)
     // One reply was given: the answer to the words, for what the files gave, of which it says where they tell it,
     // where a read failed, and where memory ran out. A failed write leaves a front of it, and nothing else is written.
-    ensures gives { Gives (meaning words.now) (F.contents files) (Rose (F.absences files) (F.absences result.1)) (Rose (F.faults files) (F.faults result.1)) (F.refused result.1)
-        result.0 (O.wrote out.old) (O.wrote out.new) (E.wrote err.old) (E.wrote err.new)
+    // Of `serve` it says what happened at the hub, what that was told, and which texts the looks at the file had.
+    ensures gives { GivesAny H.may F.contents F.faults (Rose (F.absences files) (F.absences result.1)) (Rose (F.faults files) (F.faults result.1)) (F.refused result.1) (meaning words.now)
+        hub result.2 files result.1 result.0 (O.wrote out.old) (O.wrote out.new) (E.wrote err.old) (E.wrote err.new)
         (O.faults out.old) (O.faults out.new) (E.faults err.old) (E.faults err.new) }
 
     // Where the files are told, the status is that of the answer, so 2 where a configuration was read and refused,
     // or hasn't the datapath, 5 where a record is refused, 7 only where 2^64 - 1 turns were taken; but for a failed
-    // write, want of memory and a failed read.
+    // write, want of memory and a failed read. That of `serve` is then 0, 6 or 7.
     ensures told { (held : Contents) → F.contents files ≡ Some held
         → StatusFor result.0 (IsStatusOf (meaning words.now) (held 0)) (Rose (F.faults files) (F.faults result.1)) }
 
@@ -150,15 +217,21 @@ pub fn faucet<F: Files, H: Hub, O: Sink, E: Sink>(
     ensures usage { result.0 ≡ 1 → meaning words.now ≡ None }
     ensures no_meaning { meaning words.now ≡ None → (result.0 ≡ 1) ⊎ ((result.0 ≡ 4) ⊎ (result.0 ≡ 8)) }
 
-    // Status 3 only where a file isn't there, or a read failed. No read that failed is passed over: it ends the run
-    // with this status, or with 4 where the line that says so couldn't be written.
+    // Status 3 only where a file isn't there, or a read failed. The hub wasn't asked for a turn then, nor at 2. But for a look
+    // of `serve` no read that failed is passed over: it ends the run with this status, or with 4 where the line that says so
+    // couldn't be written.
     ensures unread { result.0 ≡ 3 → Rose (F.absences files) (F.absences result.1) ⊎ Rose (F.faults files) (F.faults result.1) }
-    ensures no_read_fault { result.0 ≢ 3 → result.0 ≢ 4 → F.faults files < 2 ^ 64 - 1 → F.faults result.1 ≡ F.faults files }
+    ensures unasked { (result.0 ≡ 2) ⊎ (result.0 ≡ 3) → result.2 ≡ hub }
+    ensures no_read_fault { IsLocal (meaning words.now) → result.0 ≢ 3 → result.0 ≢ 4 → F.faults files < 2 ^ 64 - 1 → F.faults result.1 ≡ F.faults files }
 
     // Status 4 only where a write failed, and no other where one did.
     ensures write_fault { result.0 ≡ 4 → Rose (O.faults out.old) (O.faults out.new) ⊎ Rose (E.faults err.old) (E.faults err.new) }
     ensures no_write_fault { result.0 ≢ 4 → (O.faults out.new ≡ O.faults out.old) × (E.faults err.new ≡ E.faults err.old) }
     ensures statuses { IsStatus result.0 }
+
+    // Status 6 only where the hub failed, and no other where it did, but for 4.
+    ensures hub_fault { result.0 ≡ 6 → Rose (H.faults hub) (H.faults result.2) }
+    ensures no_hub_fault { result.0 ≢ 6 → result.0 ≢ 4 → H.faults result.2 ≡ H.faults hub }
 
     // `check`: at status 0 each file is accepted, and their lines stand on `out` in order.
     ensures checked { (names : List (List ℕ)) (held : Contents) → meaning words.now ≡ Some (Check names) → F.contents files ≡ Some held
@@ -178,19 +251,34 @@ pub fn faucet<F: Files, H: Hub, O: Sink, E: Sink>(
     ensures refused_record { (config recording : List ℕ) (held : Contents) → meaning words.now ≡ Some (Replay config recording) → F.contents files ≡ Some held
         → result.0 ≡ 5 → IsReplayedTo config recording (held 0) (O.wrote out.old) (O.wrote out.new) (E.wrote err.old) (E.wrote err.new) }
 
-    // Files and hub are handed back, and nothing was said to the hub.
-    ensures contents { F.contents result.1 ≡ F.contents files }
+    // `serve`, the headline: where the hub said that it is done (0), where it failed (6) and where N turns were taken, each
+    // of which gave a happening (7), between the first N happenings of the hub's story with the reloads of the looks, where it
+    // tells it, and what the hub was told, all is right.
+    ensures served { (config : List ℕ) (events reload_ms : ℕ) (listen : Listen) (held : Contents) (end : Drove) → meaning words.now ≡ Some (Serve config events reload_ms listen)
+        → F.contents files ≡ Some held → IsItsEnd end → result.0 ≡ number_of_status (status_served end)
+        → IsServed H.may F.contents F.faults config (held 0) reload_ms events end hub result.2 files result.1 (O.wrote out.old) (O.wrote out.new) (E.wrote err.old) (E.wrote err.new) }
+
+    // It comes to such an end, but for want of memory: where the configuration is accepted and no count of faults rose, the status
+    // is 0, so that the hub said that it is done within N turns, else 7, or 8.
+    ensures completes { (config : List ℕ) (events reload_ms : ℕ) (listen : Listen) (held : Contents) (conf : Configuration) → meaning words.now ≡ Some (Serve config events reload_ms listen)
+        → F.contents files ≡ Some held → loaded (held 0) config ≡ Ok conf
+        → (Rose (F.faults files) (F.faults result.1) → ⊥) → (Rose (H.faults hub) (H.faults result.2) → ⊥)
+        → (Rose (O.faults out.old) (O.faults out.new) → ⊥) → (Rose (E.faults err.old) (E.faults err.new) → ⊥)
+        → (result.0 ≡ 0) ⊎ ((result.0 ≡ 7) ⊎ (result.0 ≡ 8)) }
+
+    // Files and hub are handed back; but for `serve`, the files hold what they held, and nothing was said to the hub.
+    ensures contents { IsLocal (meaning words.now) → F.contents result.1 ≡ F.contents files }
     ensures faults { F.faults files ≤ F.faults result.1 }
     ensures absences { F.absences files ≤ F.absences result.1 }
-    ensures hub { result.2 ≡ hub }
+    ensures hub { IsLocal (meaning words.now) → result.2 ≡ hub }
+    ensures hub_faults { H.faults hub ≤ H.faults result.2 }
     ensures out_faults { O.faults out.old ≤ O.faults out.new }
     ensures err_faults { E.faults err.old ≤ E.faults err.new }
 {
     a_loaded_configuration_is_valid();
     an_opening_batch_opens_the_datapath();
     whatever_happens_is_right();
-    let (status, files) = answer_words(alloc, words, files, out, err);
-    (status, files, hub)
+    answer_words(alloc, words, files, hub, out, err)
 }
 
 /// Says on `err` that memory ran out, where that came before the words could be read, and gives the exit

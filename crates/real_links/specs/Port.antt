@@ -1,5 +1,5 @@
 -- What happens at a port.
-use Rattle.std.specs.Prelude.{◌≡◌, ◌≢◌, ℕ, Bool, Option, IsSome}
+use Rattle.std.specs.Prelude.{◌≡◌, ℕ, Bool, Option, IsSome}
 use Rattle.fg_links.specs.declared.next.Next.{Next}
 use Rattle.fg_links.specs.declared.next.Next.TheVariants.{New, Ready, Moment, Stop, Failed}
 use Rattle.real_links.specs.declared.mio_link.MioLink.{MioLink}

@@ -5,6 +5,7 @@ ghost use Rattle.fg_links.specs.declared.next.MemNext.{MemNext};
 ghost use Rattle.fg_links.specs.declared.told.Told.{Told};
 ghost use Rattle.fg_links.specs.Nexts.{next_of, links_of};
 ghost use Rattle.fg_links.specs.Calls.{Appends};
+ghost use Rattle.real_links.specs.Port.{link_at};
 ghost use Rattle.real_links.specs.Ticks.{last_of};
 ghost use Rattle.real_links.specs.Poller.{ahead_of, told_to, last_moment, is_ready, Follows};
 
@@ -58,6 +59,7 @@ impl Listening {
     fn next<R: Clock>(&mut self, rt: &R, number: Option<u32>) -> Next<MioLink>
         ensures follows { Follows (last_of self.old.ticks) result (last_of self.new.ticks) }
         ensures new { (link : _) → result ≡ Next.New link → IsSome number }
+        ensures ready { (link : _) → result ≡ Next.Ready link → link_at self.new.port link ≡ Some true }
     {
         let next = self.port.next(rt, &self.ticks, number);
         if let Ok(Next::Moment(moment)) = next {
@@ -111,6 +113,7 @@ impl<R: Net + Clock + AllocGlobal> Poller for MioPoller<'_, R> {
         ensures faults { self.old.faults ≤ self.new.faults }
 
         ensures follows { Follows (last_moment self.old) result (last_moment self.new) }
+        ensures ready { (link : _) → result ≡ Next.Ready link → is_ready self.new link ≡ Some true }
     {
         let number = self.given.checked_add(1);
         let next = match &mut self.listening {

@@ -1,4 +1,4 @@
-ghost use Rattle.std.specs.Prelude.{◌≡◌, ◌≢◌, true, None, Some, IfOk, IsSome};
+ghost use Rattle.std.specs.Prelude.{◌≡◌, ◌≢◌, true, None, Some, Ok, IfOk, IsSome};
 ghost use Rattle.real_links.specs.Ticks.{last_of};
 ghost use Rattle.real_links.specs.Port.{link_at, Comes};
 
@@ -88,12 +88,15 @@ impl Port {
         }
     }
 
-    // Waits until the system tells of something, so many milliseconds at most; where something is ready
-    // already, it only asks.
+    // Waits until the system tells of something or a signal comes, so many milliseconds at most; where
+    // something is ready already, it only asks.
     fn wait(&mut self, most: u64) -> io::Result<()> {
         let most = if self.sources.is_any_ready() { 0 } else { most };
         let timeout = Duration::from_millis(most);
-        self.poll.poll(&mut self.events, Some(timeout))?;
+        match self.poll.poll(&mut self.events, Some(timeout)) {
+            Err(e) if e.kind() == ErrorKind::Interrupted => return Ok(()),
+            told => told?,
+        }
         for event in &self.events {
             if let Ok(number) = u32::try_from(event.token().0) {
                 self.sources.set(number, true);
@@ -110,7 +113,8 @@ impl Port {
         ticks: &Ticks,
         number: Option<u32>,
     ) -> io::Result<Next<MioLink>>
-        ensures { IfOk result (Comes (last_of ticks.now) number) }
+        ensures comes { IfOk result (Comes (last_of ticks.now) number) }
+        ensures ready { (link : _) → result ≡ Ok (Next.Ready link) → link_at self.new link ≡ Some true }
     {
         for _ in 0..u64::MAX {
             let now = ticks.now(rt)?;

@@ -2,7 +2,7 @@ ghost use Rattle.std.specs.Prelude.{◌≡◌, ◌+◌, ◌≤◌, true, None, S
 ghost use Rattle.std.specs.Ordering.{nat_cmp};
 ghost use Rattle.std.specs.BTreeMap.{values, Updates, IsUnchanged};
 ghost use Rattle.std.specs.List.{list_any};
-ghost use Rattle.real_links.specs.Sources.{ready_in, ready_at, from_of};
+ghost use Rattle.real_links.specs.Sources.{ready_in, ready_at, from_of, first_ready};
 
 use net_base::NoMemory;
 use std::alloc::{AllocError, Global};
@@ -68,19 +68,28 @@ impl Sources {
         self.ready.values().any(|ready| *ready)
     }
 
+    // The first that is ready of those with this number or a greater one.
+    fn first_from(&self, from: u64) -> Option<u32>
+        ensures first { result ≡ first_ready from (ready_in self.now) }
+        ensures ready { IfSome result (λ number. ready_at self.now number ≡ Some true) }
+    {
+        let (number, _) = self
+            .ready
+            .iter()
+            .find(|(number, ready)| **ready && from <= u64::from(**number))?;
+        Some(*number)
+    }
+
     /// The number of the ready one whose turn is next; `None` where all that are ready had their turn,
     /// and then it is the first one's again.
     pub(crate) fn next(&mut self) -> Option<u32>
+        ensures first { result ≡ first_ready (from_of self.old) (ready_in self.old) }
+        ensures ready { IfSome result (λ number. ready_at self.new number ≡ Some true) }
         ensures some { IfSome result (λ number. from_of self.new ≡ number + 1) }
         ensures none { IfNone result (from_of self.new ≡ 0) }
-        ensures ready { ready_in self.new ≡ ready_in self.old }
+        ensures same { ready_in self.new ≡ ready_in self.old }
     {
-        let from = self.from;
-        let next = self
-            .ready
-            .iter()
-            .find(|(number, ready)| **ready && from <= u64::from(**number))
-            .map(|(number, _)| *number);
+        let next = self.first_from(self.from);
         self.from = match next {
             Some(number) => u64::from(number) + 1,
             None => 0,

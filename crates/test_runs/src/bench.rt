@@ -1,6 +1,7 @@
 //! The files that the runs see, and what fails in them.
 
-use crate::runs::{refuse, run};
+use crate::around::{Around, run_around};
+use crate::runs::refuse;
 use fg_outside::{CallNos, Folder, Folders, HeldFile, HeldFiles, MemFiles};
 use net_base::{NoMemory, Text, TryCopy};
 use std::alloc::Global;
@@ -27,7 +28,10 @@ const SURE: Outside = Outside {
 #[derive(Drop)]
 pub struct Bench {
     held: HeldFiles,
+    // Files that are there from the first refresh on, in place of those of their names.
+    later: HeldFiles,
     outside: Outside,
+    around: Around,
 }
 
 /// A file of a line with its name, a space and its text.
@@ -56,7 +60,9 @@ impl Bench {
     pub fn new(alloc: Global) -> Bench {
         Bench {
             held: HeldFiles::new(alloc),
+            later: HeldFiles::new(alloc),
             outside: SURE,
+            around: Around::Nothing,
         }
     }
 
@@ -65,6 +71,11 @@ impl Bench {
         folders.push(Folder {
             held: self.held.copy(alloc)?,
         })?;
+        let mut held = self.later.copy(alloc)?;
+        for file in self.held.as_slice() {
+            held.push(file.copy(alloc)?)?;
+        }
+        folders.push(Folder { held })?;
         Ok(MemFiles::new(folders, CallNos::from_slice(alloc, &[self.outside.read])?))
     }
 
@@ -78,6 +89,11 @@ impl Bench {
             "err" => self.outside.err = number,
             _ => self.outside.room = number as usize,
         }
+    }
+
+    /// The hub of this run, and none in the next.
+    fn take_around(&mut self) -> Around {
+        std::mem::replace(&mut self.around, Around::Nothing)
     }
 
     /// What fails in this run, and nothing in the next.
@@ -94,11 +110,19 @@ impl Answers for Bench {
         match line.split_once(' ').unwrap_or((line, "")) {
             ("file", file_line) => self.held.push(file(alloc, file_line)?)?,
             ("hex", file_line) => self.held.push(bytes_file(alloc, file_line)?)?,
-            ("no", "files") => self.held = HeldFiles::new(alloc),
+            ("later", file_line) => self.later.push(file(alloc, file_line)?)?,
+            ("no", "files") => {
+                self.held = HeldFiles::new(alloc);
+                self.later = HeldFiles::new(alloc);
+            }
+            ("hub", turns) => self.around = Around::Turns(String::from_str(alloc, turns)?),
+            ("poller", "opens") => self.around = Around::Link,
+            ("poller", "fails") => self.around = Around::Broken,
             ("fail", fault) => self.take_fault(fault),
             ("run", words) => {
                 let files = self.files(alloc)?;
-                return run(alloc, words, files, self.take_outside());
+                let outside = self.take_outside();
+                return run_around(alloc, words, files, outside, &self.take_around());
             }
             ("no", "memory") => return refuse(alloc, self.take_outside()),
             _ => {}

@@ -2,6 +2,7 @@
 //! is; behind a run stand its status and what was written.
 #![tactic(auto)]
 
+mod around;
 mod bench;
 mod runs;
 

@@ -2,7 +2,7 @@
 
 use crate::bench::Outside;
 use faucet_top::{faucet, refuse_for_memory};
-use fg_outside::{CallNos, MemFiles, MemSink, NoHub};
+use fg_outside::{CallNos, Hub, MemFiles, MemSink};
 use net_base::{Names, NoMemory, Text};
 use std::alloc::Global;
 use std::fmt::Write;
@@ -89,23 +89,29 @@ fn put_written(alloc: Global, out: &mut String, name: &str, bytes: &[u8]) -> Res
     }
 }
 
-/// Runs the program, and tells its status and what it wrote.
-pub fn run(
+/// Messages, one a line.
+pub fn put_messages(alloc: Global, out: &mut String, bytes: &[u8]) -> Result<(), NoMemory> {
+    put_each(alloc, out, Row::Messages, bytes)
+}
+
+/// Runs the program over a hub, tells its status and what it wrote, and gives the hub back.
+pub fn answer<H: Hub + Drop>(
     alloc: Global,
     line: &str,
     files: MemFiles,
+    hub: H,
     outside: Outside,
-) -> Result<String, NoMemory> {
+) -> Result<(String, H), NoMemory> {
     let words = words(alloc, line)?;
     let failing_out = CallNos::from_slice(alloc, &[outside.out])?;
     let failing_err = CallNos::from_slice(alloc, &[outside.err])?;
     let mut out = MemSink::new(alloc, outside.room, failing_out)?;
     let mut err = MemSink::new(alloc, 100_000, failing_err)?;
-    let (status, _, _) = faucet(alloc, &words, files, NoHub, &mut out, &mut err);
+    let (status, _, hub) = faucet(alloc, &words, files, hub, &mut out, &mut err);
     let mut text = format!(in alloc; " => {status}")?;
     put_written(alloc, &mut text, "out", out.as_slice())?;
     put_written(alloc, &mut text, "err", err.as_slice())?;
-    Ok(text)
+    Ok((text, hub))
 }
 
 /// What is told where memory runs out before the words can be read.

@@ -1,16 +1,20 @@
 -- Single steps of a watch.
-use Rattle.std.proofs.Common.{◌≡◌, ◌≤◌, ℕ, Bool, false, List, [], ◌∷◌, Option, refl, sym, subst, arith}
+use Rattle.std.proofs.Common.{◌≡◌, ◌≤◌, ◌||◌, ◌∙◌, ℕ, Bool, true, false, List, [], ◌∷◌, Option, refl, sym, subst, arith, true≢false}
+use Rattle.std.proofs.Math.Bool.{or-false}
 use Rattle.std.specs.Prelude.{OnSome}
 use Rattle.fg_outside.specs.declared.hub.Said.{Said}
 use Rattle.fg_outside.specs.declared.hub.Said.TheVariants.{Taken, Gone, Memory}
 use Rattle.fg_outside.specs.Contents.{Contents, refreshed}
 use Rattle.fg_outside.specs.Counts.{Rose}
-use Rattle.fg_outside.specs.HubStep.{HubStep, said, start, next}
+use Rattle.fg_outside.specs.declared.hub.Turn.{Turn}
+use Rattle.fg_outside.specs.declared.hub.Turn.TheVariants as turns
+use Rattle.fg_outside.specs.HubStep.{HubStep, said, turned, start, next}
+use Rattle.fg_links.specs.HubInMemory.{lacks_memory}
 use Rattle.watch_hub.specs.declared.file_watch.FileWatch.{FileWatch}
 use Rattle.watch_hub.specs.declared.watch.Watch.{Watch}
 use Rattle.watch_hub.specs.FileWatch.{Keeps, Looks}
 use Rattle.watch_hub.specs.Look.{Finds}
-use Rattle.watch_hub.specs.Watch.{hub_in, Calls, Does, GoesAlong}
+use Rattle.watch_hub.specs.Watch.{hub_in, is_spent, Calls, Does, GoesAlong}
 use Rattle.watch_hub.specs.Watched.{differs, last_after}
 
 module _ {F : Type 0} (faults absences : F → ℕ) where
@@ -57,3 +61,23 @@ pub does_say : {H F : Type 0} (may : H → HubStep → H → Type 0) (contents :
 does_say may contents faults absences old new conn piece Taken other calls = calls
 does_say may contents faults absences old new conn piece Gone other calls = calls
 does_say may contents faults absences old new conn piece Memory other calls = absurd (other refl)
+
+-- ---- whether memory ran out
+
+-- a spent watch stays spent, whatever is answered
+pub spent_still : (spent : Bool) (step : HubStep) → spent ≡ true → spent ≡ (spent || lacks_memory step)
+spent_still spent step is = rw is refl
+
+-- a turn that is given by a watch that stays unspent isn't want of memory
+pub spent_turn : {H F : Type 0} (may : H → HubStep → H → Type 0) (contents : F → Option Contents) (faults absences : F → ℕ) (old new : Watch H F) (turn : Turn)
+    → is_spent old ≡ false → is_spent new ≡ is_spent old → Does may contents faults absences old (turned turn) new → is_spent new ≡ (is_spent old || lacks_memory (turned turn))
+spent_turn may contents faults absences old new (turns.Happened it) running same does = same ∙ sym (or-false (is_spent old))
+spent_turn may contents faults absences old new turns.Done running same does = same ∙ sym (or-false (is_spent old))
+spent_turn may contents faults absences old new turns.Failed running same does = same ∙ sym (or-false (is_spent old))
+spent_turn may contents faults absences old new turns.Memory running same does = absurd (true≢false (sym does ∙ same ∙ running))
+
+-- nor is what is answered otherwise
+pub spent_say : (spent : Bool) (conn : ℕ) (piece : List ℕ) (answer : Said) → (answer ≡ Memory → ⊥) → spent ≡ (spent || lacks_memory (said conn piece answer))
+spent_say spent conn piece Taken other = sym (or-false spent)
+spent_say spent conn piece Gone other = sym (or-false spent)
+spent_say spent conn piece Memory other = absurd (other refl)

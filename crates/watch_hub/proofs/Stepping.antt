@@ -10,7 +10,7 @@ use Rattle.fg_outside.specs.HubStep.{HubStep, turned, said, closed, Event, happe
 use Rattle.watch_hub.specs.declared.watch.Watch.{Watch}
 use Rattle.watch_hub.specs.FileWatch.{Keeps, Looks}
 use Rattle.watch_hub.specs.Texts.{missed, refreshed_by}
-use Rattle.watch_hub.specs.Watch.{every_in, files_in, hub_in, is_spent, last_in, looked_in, name_in, waiting_in, waits_in, HubWent, TellsText, PassesOn, WatchStep}
+use Rattle.watch_hub.specs.Watch.{every_in, files_in, hub_in, is_spent, last_in, looked_in, name_in, waiting_in, waits_in, Does, HubWent, TellsText, PassesOn, WatchStep}
 use Rattle.watch_hub.specs.Watched.{is_look, last_after, last_look, last_text, looks_from, moment_of, reloads, differs, watched_from}
 use Rattle.watch_hub.specs.WatchedStory.{PutsIn, none, same, reload, WatchedStory}
 use Rattle.watch_hub.specs.Look.{Finds}
@@ -222,28 +222,28 @@ module _ {H F : Type 0} (may : H → HubStep → H → Type 0) (contents : F →
 
   -- ---- all steps
 
-  tells_step : (from mid to : Watch H F) (events : List Event) (step : HubStep) → Tells from events mid → WatchStep may contents faults absences mid step to → is_spent to ≡ false → Tells from (events ++ told_by step) to
-  tells_step from mid to events (turned (Happened it)) before steps running =
-      elim steps.does [
+  pub tells_step : (from mid to : Watch H F) (events : List Event) (step : HubStep) → Tells from events mid → Does may contents faults absences mid step to → Keeps faults absences mid.file to.file → is_spent to ≡ false → Tells from (events ++ told_by step) to
+  tells_step from mid to events (turned (Happened it)) before does keeps running =
+      elim does [
         | inl tells ↦ tells_text from mid to events it before tells
-        | inr passes ↦ tells_given from mid to events it before passes steps.along.file
+        | inr passes ↦ tells_given from mid to events it before passes keeps
       ]
-  tells_step from mid to events (turned Done) before steps running = tells_silent from mid to events (turned Done) before refl steps.does.hub steps.does.went
-  tells_step from mid to events (turned Failed) before steps running = tells_silent from mid to events (turned Failed) before refl steps.does.hub steps.does.went
-  tells_step from mid to events (turned Memory) before steps running = absurd (true≢false (sym steps.does ∙ running))
-  tells_step from mid to events (said conn piece answers.Taken) before steps running =
-      tells_silent from mid to events (said conn piece answers.Taken) before refl steps.does.hub steps.does.went
-  tells_step from mid to events (said conn piece answers.Gone) before steps running =
-      tells_silent from mid to events (said conn piece answers.Gone) before refl steps.does.hub steps.does.went
-  tells_step from mid to events (said conn piece answers.Memory) before steps running = absurd (true≢false (sym steps.does ∙ running))
-  tells_step from mid to events (closed conn) before steps running = tells_silent from mid to events (closed conn) before refl steps.does.hub steps.does.went
+  tells_step from mid to events (turned Done) before does keeps running = tells_silent from mid to events (turned Done) before refl does.hub does.went
+  tells_step from mid to events (turned Failed) before does keeps running = tells_silent from mid to events (turned Failed) before refl does.hub does.went
+  tells_step from mid to events (turned Memory) before does keeps running = absurd (true≢false (sym does ∙ running))
+  tells_step from mid to events (said conn piece answers.Taken) before does keeps running =
+      tells_silent from mid to events (said conn piece answers.Taken) before refl does.hub does.went
+  tells_step from mid to events (said conn piece answers.Gone) before does keeps running =
+      tells_silent from mid to events (said conn piece answers.Gone) before refl does.hub does.went
+  tells_step from mid to events (said conn piece answers.Memory) before does keeps running = absurd (true≢false (sym does ∙ running))
+  tells_step from mid to events (closed conn) before does keeps running = tells_silent from mid to events (closed conn) before refl does.hub does.went
 
   pub tells_way : (from : Watch H F) → waits_in from ≡ false → (steps : List HubStep) (to : Watch H F) → Leads (WatchStep may contents faults absences) from steps to → is_spent to ≡ false → Tells from (story steps) to
   tells_way from idle _ _ start running = tells_first from idle
   tells_way from idle _ _ (next steps mid step to way may_step) running =
       subst (λ (events : List Event). Tells from events to)
       (ap (λ (l : List Event). story steps ++ l) (sym (append-nil (told_by step))) ∙ sym (joins steps (step ∷ [])))
-      (tells_step from mid to (story steps) step (tells_way from idle steps mid way (may_step.running running)) may_step running)
+      (tells_step from mid to (story steps) step (tells_way from idle steps mid way (may_step.running running)) may_step.does may_step.along.file running)
 
 -- ---- the hub
 

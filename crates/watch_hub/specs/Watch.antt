@@ -1,5 +1,5 @@
 -- What callers see of a hub with a watched file, and the steps that it may take.
-use Rattle.std.specs.Prelude.{◌≡◌, ◌⊎◌, ℕ, Bool, true, false, List, Option}
+use Rattle.std.specs.Prelude.{◌≡◌, ◌⊎◌, ◌||◌, ℕ, Bool, true, false, List, Option}
 use Rattle.fg_outside.specs.declared.hub.Happening.{Happening}
 use Rattle.fg_outside.specs.declared.hub.Happening.TheVariants.{Reload}
 use Rattle.fg_outside.specs.declared.hub.Turn.{Turn}
@@ -7,6 +7,7 @@ use Rattle.fg_outside.specs.declared.hub.Turn.TheVariants.{Happened, Done, Faile
 use Rattle.fg_outside.specs.declared.hub.Said.TheVariants as answers
 use Rattle.fg_outside.specs.Contents.{Contents}
 use Rattle.fg_outside.specs.HubStep.{HubStep, turned, said, closed, Leads}
+use Rattle.fg_links.specs.HubInMemory.{lacks_memory}
 use Rattle.watch_hub.specs.declared.watch.Watch.{Watch}
 use Rattle.watch_hub.specs.FileWatch.{Keeps, Looks}
 use Rattle.watch_hub.specs.Watched.{is_look, moment_of, reloads}
@@ -103,8 +104,9 @@ pub record GoesAlong {H F : Type 0} (may : H → HubStep → H → Type 0) (faul
   pub leads : Leads may (hub_in old) way (hub_in new)
   pub file : Keeps faults absences old.file new.file
 
--- a step that a watch may take: a spent one stays so
+-- a step that a watch may take: memory ran out in it exactly where an answer says so, and a spent one stays so
 pub record WatchStep {H F : Type 0} (may : H → HubStep → H → Type 0) (contents : F → Option Contents) (faults absences : F → ℕ) (old : Watch H F) (step : HubStep) (new : Watch H F) : Type 0 where
   pub does : Does may contents faults absences old step new
   pub along : GoesAlong may faults absences old new
   pub running : is_spent new ≡ false → is_spent old ≡ false
+  pub spends : is_spent new ≡ (is_spent old || lacks_memory step)

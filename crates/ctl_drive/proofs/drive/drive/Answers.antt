@@ -1,9 +1,10 @@
-use Rattle.std.proofs.Common.{◌≤◌, [], ◌∷◌, ◌++◌, length, refl, sym, subst, ◌∙◌, arith}
+use Rattle.std.proofs.Common.{◌≤◌, [], ◌∷◌, ◌++◌, length, Err, refl, sym, ap, subst, ◌∙◌, arith}
 use Rattle.std.proofs.lemmas.List.{length_push}
 use Rattle.ctl_core.specs.Story.{behind}
 use Rattle.ctl_drive.specs.declared.drive.Drove.{Drove}
+use Rattle.ctl_drive.specs.declared.turn.Stopped.{Stopped}
 use Rattle.ctl_drive.specs.Driven.{Drives}
-use Rattle.ctl_drive.proofs.Stories.{AnswersAll-none, AnswersAll-push, AnswersFront-push, AnswersFront-stopped, happened_is_no_fault, ok_is_no_err, stopped_drives}
+use Rattle.ctl_drive.proofs.Stories.{AnswersAll-none, AnswersAll-push, AnswersFront-push, AnswersFront-stopped, happened_is_no_fault, ok_is_no_err, stopped_drives, told-push}
 use Rattle.ctl_drive.proofs.drive.drive.Goals as goal
 
 pub loop-init : goal.loop-init
@@ -22,14 +23,15 @@ returns-in-Err-clause-drove g c = λ w known.
     let hs = all.0 in
     let what = c.in-Happened.what in
     let out_old = g.O.Sink.wrote c.args.out.now in
-    let out_new = g.O.Sink.wrote c.answer.new.out in
+    let out_new = g.O.Sink.wrote c.take_turn.new.out in
     let err_old = g.E.Sink.wrote c.args.err.now in
-    let err_new = g.E.Sink.wrote c.answer.new.err in
+    let err_new = g.E.Sink.wrote c.take_turn.new.err in
     let few : length (hs ++ what ∷ []) ≤ c.args.most = omega (arith, length_push hs what, all.1, c.loop-test.true) in
-    subst (λ (d : Drove). Drives may outlet c.args.most w c.answer.new.core c.args.hub.now c.answer.new.hub out_old out_new err_old err_new d) (sym c.drove.ensures)
-    (stopped_drives may outlet c.args.most w c.answer.new.core c.args.hub.now c.answer.new.hub out_old out_new err_old err_new c.in-Err.stopped (hs ++ what ∷ []) few
-    (AnswersFront-push may outlet w hs what c.loop.core c.args.hub.now c.loop.hub c.turn.new.self c.answer.new.hub out_old (g.O.Sink.wrote c.loop.out) out_new err_old (g.E.Sink.wrote c.loop.err) err_new
-    all.2 c.in-Happened.ensures.step (c.in-Err.ensures.part (behind w hs) all.2.known)))
+    subst (λ (d : Drove). Drives may outlet c.args.most w c.take_turn.new.core c.args.hub.now c.take_turn.new.hub out_old out_new err_old err_new d) (sym c.drove.ensures)
+    (stopped_drives may outlet c.args.most w c.take_turn.new.core c.args.hub.now c.take_turn.new.hub out_old out_new err_old err_new c.in-Err.stopped (hs ++ what ∷ []) few
+    (AnswersFront-push may outlet w hs what c.loop.core c.args.hub.now c.loop.hub c.turn.new.self c.take_turn.new.hub out_old (g.O.Sink.wrote c.loop.out) out_new err_old (g.E.Sink.wrote c.loop.err) err_new
+    all.2 c.in-Happened.ensures.step (c.in-Err.ensures.part (behind w hs) all.2.known))
+    (λ failed. told-push may outlet w hs what c.args.hub.now c.loop.hub c.turn.new.self c.take_turn.new.hub (all.2).told c.in-Happened.ensures.step (c.in-Err.ensures.told (behind w hs) all.2.known (ap (λ (s : Stopped). Err s) failed))))
 
 pub returns-in-Memory-clause-drove : goal.returns-in-Memory-clause-drove
 returns-in-Memory-clause-drove g c = λ w known.
@@ -47,8 +49,8 @@ loop-preserved g c = record {
       let what = c.in-Happened.what in (
         hs ++ what ∷ [],
         omega (arith, length_push hs what, all.1),
-        AnswersAll-push g.H.Hub.may c.args.outlet w hs what c.loop.core c.answer.new.core c.args.hub.now c.loop.hub c.turn.new.self c.answer.new.hub
-            (g.O.Sink.wrote c.args.out.now) (g.O.Sink.wrote c.loop.out) (g.O.Sink.wrote c.answer.new.out) (g.E.Sink.wrote c.args.err.now) (g.E.Sink.wrote c.loop.err) (g.E.Sink.wrote c.answer.new.err)
+        AnswersAll-push g.H.Hub.may c.args.outlet w hs what c.loop.core c.take_turn.new.core c.args.hub.now c.loop.hub c.turn.new.self c.take_turn.new.hub
+            (g.O.Sink.wrote c.args.out.now) (g.O.Sink.wrote c.loop.out) (g.O.Sink.wrote c.take_turn.new.out) (g.E.Sink.wrote c.args.err.now) (g.E.Sink.wrote c.loop.err) (g.E.Sink.wrote c.take_turn.new.err)
             all.2 c.in-Happened.ensures.step (c.in_default.ensures.ok (behind w hs) all.2.known),
       );
   hub_faults = c.in_default.ensures.hub_faults ∙ c.in-Happened.ensures.no_fault (happened_is_no_fault c.in-Happened.what) ∙ c.loop.invariant.hub_faults;

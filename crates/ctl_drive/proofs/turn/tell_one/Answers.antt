@@ -1,4 +1,4 @@
-use Rattle.std.proofs.Common.{[], ◌∷◌, sym, ap, ◌∙◌}
+use Rattle.std.proofs.Common.{[], ◌∷◌, refl, sym, ap, ◌∙◌}
 use Rattle.fg_outside.specs.HubStep.{closed}
 use Rattle.ctl_core.specs.declared.controller.Saying.{Saying}
 use Rattle.ctl_drive.specs.Driving.{shut, deeds_by}
@@ -13,7 +13,7 @@ returns-in-Close-clause-ok g c =
     let conn = c.in-Close.conn in
     Tells-same may c.args.hub.now c.close.new.self (shut conn ∷ []) (deeds_by outlet c.args.saying.now)
     (shut_one outlet conn c.in-Close.cause ∙ ap (λ (s : Saying). deeds_by outlet s) (sym c.in-Close.is))
-    (Tells-one may c.args.hub.now (closed conn) c.close.new.self c.close.ensures.step)
+    (Tells-one may c.args.hub.now (closed conn) c.close.new.self c.close.ensures.step refl)
 
 pub returns-in-Line-clause-ok : goal.returns-in-Line-clause-ok
 returns-in-Line-clause-ok g c =

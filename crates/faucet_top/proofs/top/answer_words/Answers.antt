@@ -1,16 +1,20 @@
-use Rattle.std.proofs.Common.{◌≡◌, None, arith}
+use Rattle.std.proofs.Common.{◌≡◌, [], None, refl, arith}
 use Rattle.std.proofs.lemmas.Grind.{common_steps}
+use Rattle.fg_outside.specs.Counts.{Rose}
+use Rattle.conf_gather.specs.declared.refused.LoadRefused.TheVariants.{Memory}
 use Rattle.command_line.specs.Meaning.{meaning}
-use Rattle.faucet_top.proofs.TopLemmas.{usage_given, memory_given}
+use Rattle.faucet_top.proofs.CheckLemmas.{refused}
+use Rattle.faucet_top.proofs.ServedLemmas.{any_memory}
+use Rattle.faucet_top.proofs.TopLemmas.{usage_given}
 use Rattle.faucet_top.proofs.top.answer_words.Goals as goal
 
 pub returns-in-Ok-None-clause-gives : goal.returns-in-Ok-None-clause-gives
 returns-in-Ok-None-clause-gives g c =
     let none : meaning c.args.words.now ≡ None = grind (arith, common_steps) in
-    rw c.number.ensures (usage_given (g.F.Files.contents c.args.files) _ _ _ (g.O.Sink.wrote c.args.out.now) (g.O.Sink.wrote c.args.out.now) _ _ (g.O.Sink.faults c.args.out.now) (g.O.Sink.faults c.args.out.now) _ _
-    (meaning c.args.words.now) c.deliver_usage.result none c.deliver_usage.ensures.ends)
+    rw (none, c.number.ensures) (usage_given (g.F.Files.contents c.args.files) (Rose (g.F.Files.absences c.args.files) (g.F.Files.absences c.args.files)) (Rose (g.F.Files.faults c.args.files) (g.F.Files.faults c.args.files)) (g.F.Files.refused c.args.files) (g.O.Sink.wrote c.args.out.now) (g.O.Sink.wrote c.args.out.now) _ _ (g.O.Sink.faults c.args.out.now) (g.O.Sink.faults c.args.out.now) _ _
+    None c.deliver_usage.result refl c.deliver_usage.ensures.ends)
 
 pub returns-in-Err-clause-gives : goal.returns-in-Err-clause-gives
 returns-in-Err-clause-gives g c =
-    rw c.number-in-Err.ensures (memory_given (g.F.Files.contents c.args.files) _ _ _ (g.O.Sink.wrote c.args.out.now) (g.O.Sink.wrote c.args.out.now) _ _ (g.O.Sink.faults c.args.out.now) (g.O.Sink.faults c.args.out.now) _ _
-    (meaning c.args.words.now) c.deliver_out_of_memory.result c.deliver_out_of_memory.ensures.ends)
+    rw c.number-in-Err.ensures (any_memory g.H.Hub.may g.F.Files.contents g.F.Files.faults _ _ _ (meaning c.args.words.now) c.args.hub c.args.hub c.args.files c.args.files _ _ _ _ _ _ _ _ _ (meaning c.args.words.now)
+    (refused [] (g.O.Sink.wrote c.args.out.now) (g.O.Sink.wrote c.args.out.now) _ _ (g.O.Sink.faults c.args.out.now) (g.O.Sink.faults c.args.out.now) _ _ Memory c.deliver_out_of_memory.result c.deliver_out_of_memory.ensures.ends) refl refl)

@@ -1,5 +1,6 @@
-use Rattle.std.proofs.Common.{◌≡◌, arith}
+use Rattle.std.proofs.Common.{◌≡◌, Some, ap, arith}
 use Rattle.std.proofs.lemmas.Grind.{common_steps}
+use Rattle.command_line.specs.declared.meaning.Job.{Job}
 use Rattle.command_line.specs.declared.meaning.Job.TheVariants.{Check, Plan}
 use Rattle.faucet_top.specs.Status.{number_of_status}
 use Rattle.faucet_top.proofs.ReadLemmas.{no_read_planned}
@@ -20,3 +21,6 @@ returns-in-Plan-clause-gives g c =
 pub returns-in-Plan-clause-no_read_fault : goal.returns-in-Plan-clause-no_read_fault
 returns-in-Plan-clause-no_read_fault g c = λ unread written below.
     c.make_plan-made.ensures.no_read_fault (no_read_planned _ _ c.make_plan-made.result c.deliver_plan-status.result _ _ _ _ _ _ _ _ c.deliver_plan-status.ensures.answer unread written)
+
+pub unreachable-requires : goal.unreachable-requires
+unreachable-requires g c = c.requires c.in-Serve.config c.in-Serve.events c.in-Serve.reload_ms c.in-Serve.listen (ap (λ (j : Job). Some j) c.in-Serve.is)

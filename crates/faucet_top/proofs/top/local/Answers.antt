@@ -6,6 +6,9 @@ use Rattle.faucet_top.proofs.top.local.Goals as goal
 pub returns-clause-told : goal.returns-clause-told
 returns-clause-told g c = by.told (Some c.args.job.now) _ _ _ _ c.number.result _ _ _ _ _ _ _ _ (rw (← c.number.ensures) at c.do_job-status.ensures.gives)
 
+pub returns-clause-no_hub : goal.returns-clause-no_hub
+returns-clause-no_hub g c = by.no_hub (Some c.args.job.now) _ _ _ _ c.number.result _ _ _ _ _ _ _ _ (rw (← c.number.ensures) at c.do_job-status.ensures.gives)
+
 pub returns-clause-unread : goal.returns-clause-unread
 returns-clause-unread g c = by.unread_only (Some c.args.job.now) _ _ _ _ c.number.result _ _ _ _ _ _ _ _ (rw (← c.number.ensures) at c.do_job-status.ensures.gives)
 

@@ -1,6 +1,8 @@
-use Rattle.std.proofs.Common.{true, true≢false, refl}
+use Rattle.std.proofs.Common.{true, true≢false, refl, sym}
+use Rattle.std.proofs.Math.Bool.{or-true}
+use Rattle.fg_outside.specs.declared.hub.Said.TheVariants.{Memory}
 use Rattle.fg_outside.specs.HubStep.{said}
-use Rattle.watch_hub.proofs.Going.{does_say, goes_by, goes_still, keeps_same}
+use Rattle.watch_hub.proofs.Going.{does_say, goes_by, goes_still, keeps_same, spent_say, spent_still}
 use Rattle.watch_hub.proofs.watch.WatchHub.say.Goals as goal
 
 pub returns-then-self-clause-step : goal.returns-then-self-clause-step
@@ -10,6 +12,7 @@ returns-then-self-clause-step g c = record {
       goes_still g.H.Hub.may g.F.Files.faults g.F.Files.absences c.args.self.now c.args.self.now.file c.args.self.now.spent
       (keeps_same g.F.Files.faults g.F.Files.absences c.args.self.now.file);
   running = λ r. r;
+  spends = spent_still c.args.self.now.spent (said c.args.conn c.args.piece.now Memory) c.if-self.true;
 }
 
 pub returns-in-Memory-clause-step : goal.returns-in-Memory-clause-step
@@ -19,6 +22,7 @@ returns-in-Memory-clause-step g c = record {
       goes_by g.H.Hub.may g.F.Files.faults g.F.Files.absences c.args.self.now c.say.new.self c.args.self.now.file true (said c.args.conn c.args.piece.now c.say.result) c.say.ensures.step
       (keeps_same g.F.Files.faults g.F.Files.absences c.args.self.now.file);
   running = λ r. absurd (true≢false r);
+  spends = sym (or-true c.args.self.now.spent);
 }
 
 pub returns-in_default : goal.returns-in_default
@@ -29,6 +33,7 @@ returns-in_default g c = record {
         goes_by g.H.Hub.may g.F.Files.faults g.F.Files.absences c.args.self.now c.say.new.self c.args.self.now.file c.args.self.now.spent (said c.args.conn c.args.piece.now c.say.result) c.say.ensures.step
         (keeps_same g.F.Files.faults g.F.Files.absences c.args.self.now.file);
     running = λ r. r;
+    spends = spent_say c.args.self.now.spent c.args.conn c.args.piece.now c.say.result c.in_default.not-Memory;
   };
   gone = c.say.ensures.gone;
   taken = c.say.ensures.taken;

@@ -3,10 +3,10 @@ use Rattle.std.specs.List.{flat_map}
 use Rattle.ctl_core.specs.declared.controller.Saying.{Saying}
 use Rattle.ctl_core.specs.Turns.{turn}
 use Rattle.ctl_drive.specs.Driving.{deeds_by, line_by, written_on}
-use Rattle.ctl_drive.proofs.Answering.{nothing_done, part_lined, part_told, part_written}
+use Rattle.ctl_drive.proofs.Answering.{nothing_done, part_lined, part_told, part_written, whole_told}
 use Rattle.ctl_drive.proofs.Pieces.{on_err}
 use Rattle.ctl_drive.proofs.Telling.{Tells-same}
-use Rattle.ctl_drive.proofs.turn.answer.Goals as goal
+use Rattle.ctl_drive.proofs.turn.take_turn.Goals as goal
 
 pub returns-in_err-sayings-clause-part : goal.returns-in_err-sayings-clause-part
 returns-in_err-sayings-clause-part g c = λ w known.
@@ -59,3 +59,21 @@ returns-in_err-write_all-2-clause-part g c = λ w known.
     (c.as_slice-5.ensures ∙ c.in_ok-lines.ensures ∙ ap (λ (l : List Saying). flat_map line_by l) c.as_slice-2.ensures)
     (Tells-same may hub told_hub (flat_map (deeds_by outlet) c.as_slice-3.result.now) (flat_map (deeds_by outlet) sayings) (ap (λ (l : List Saying). flat_map (deeds_by outlet) l) c.as_slice-3.ensures) c.in_ok-tell_hub.ensures.ok)
     (g.O.Sink.wrote c.args.out.now) (g.O.Sink.wrote c.write_all.new.sink) (g.E.Sink.wrote c.args.err.now) (g.E.Sink.wrote c.write_all-2.new.sink) c.in_ok-write_all.ensures.ok c.in_err-write_all-2.ensures.err)
+
+pub returns-in_err-write_all-clause-told : goal.returns-in_err-write_all-clause-told
+returns-in_err-write_all-clause-told g c = λ w known failed.
+    let sayings = c.in_ok-sayings.sayings in
+    let outlet = c.args.outlet in
+    let hub = c.args.hub.now in
+    let told_hub = c.tell_hub.new.hub in
+    whole_told g.H.Hub.may outlet c.args.what.now w sayings (c.in_ok-sayings.ensures.says w known) hub told_hub
+    (Tells-same g.H.Hub.may hub told_hub (flat_map (deeds_by outlet) c.as_slice-3.result.now) (flat_map (deeds_by outlet) sayings) (ap (λ (l : List Saying). flat_map (deeds_by outlet) l) c.as_slice-3.ensures) c.in_ok-tell_hub.ensures.ok)
+
+pub returns-in_err-write_all-2-clause-told : goal.returns-in_err-write_all-2-clause-told
+returns-in_err-write_all-2-clause-told g c = λ w known failed.
+    let sayings = c.in_ok-sayings.sayings in
+    let outlet = c.args.outlet in
+    let hub = c.args.hub.now in
+    let told_hub = c.tell_hub.new.hub in
+    whole_told g.H.Hub.may outlet c.args.what.now w sayings (c.in_ok-sayings.ensures.says w known) hub told_hub
+    (Tells-same g.H.Hub.may hub told_hub (flat_map (deeds_by outlet) c.as_slice-3.result.now) (flat_map (deeds_by outlet) sayings) (ap (λ (l : List Saying). flat_map (deeds_by outlet) l) c.as_slice-3.ensures) c.in_ok-tell_hub.ensures.ok)

@@ -1,0 +1,13 @@
+-- Where connections are listened for.
+use Rattle.std.specs.Prelude.{Option, Some, None}
+use Rattle.command_line.specs.declared.meaning.Job.{Job}
+use Rattle.command_line.specs.declared.meaning.Job.TheVariants.{Check, Plan, Replay, Serve}
+use Rattle.command_line.specs.declared.values.Listen.{Listen}
+
+-- where a job asks for it, if it does
+abbrev pub listen_in : Option Job → Option Listen
+listen_in None = None
+listen_in (Some (Check names)) = None
+listen_in (Some (Plan config dp)) = None
+listen_in (Some (Replay config recording)) = None
+listen_in (Some (Serve config events reload_ms listen)) = Some listen
