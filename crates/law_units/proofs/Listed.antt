@@ -1,9 +1,10 @@
--- The units of a datapath are listed once each, and what isn't listed has no entries.
+-- The units of a datapath are listed once each, and each that has an entry is listed.
 use Rattle.std.proofs.Common.{◌≡◌, ℕ, ◌<◌, Bool, true, false, cond, ◌==◌, ◌&&◌, List, [], ◌∷◌, ◌++◌, map, filter, Option, Some, None, refl, sym, ap, ◌∙◌, subst, arith, eqb-true}
 use Rattle.std.specs.Prelude.{Contains}
 use Rattle.std.specs.List.{AllByRecursion, find}
 use Rattle.std.specs.Option.{option_map_or}
 use Rattle.std.proofs.lemmas.Bool.{and_parts}
+use Rattle.of_match.specs.declared.entry.Entry.{Entry}
 use Rattle.conf_types.specs.declared.datapath.Dp.{Dp}
 use Rattle.conf_types.specs.declared.datapath.Port.{Port}
 use Rattle.conf_types.specs.declared.state.HostRec.{HostRec}
@@ -133,43 +134,49 @@ module _ (conf : Configuration) (now : State) (d : Dp) where
       (two 1 ports (vlans ++ (hosts ++ routes)) of_ports
       (two 2 vlans (hosts ++ routes) of_vlans (two 3 hosts routes of_hosts of_routes as_hosts above_3) as_vlans above_2) as_ports above_1) (refl, tt) above_0
 
-  -- ---- what isn't listed
+  -- ---- a unit that has an entry is listed
 
-  pub absent : (u : PlanUnit) → (Contains (units_of conf now d) u → ⊥) → entries conf now d u ≡ []
+  abbrev All : List PlanUnit
+  All = unit.Dp ∷ (ports ++ (vlans ++ (hosts ++ routes)))
+
+  nothing : {u : PlanUnit} (e : Entry) → Contains [] e → Contains All u
+  nothing e (k, lt, is) = absurd (omega (arith, lt))
+
+  pub listed : (u : PlanUnit) (e : Entry) → Contains (entries conf now d u) e → Contains (units_of conf now d) u
   unfolding units_of ports vlans hosts routes
-  absent unit.Dp none = absurd (none (head_of unit.Dp (ports ++ (vlans ++ (hosts ++ routes)))))
-  absent (unit.Port n) none = by (port_with d.ports n) refl
+  listed unit.Dp e c = head_of unit.Dp (ports ++ (vlans ++ (hosts ++ routes)))
+  listed (unit.Port n) e c = by (port_with d.ports n) refl c
     where
-      by : (o : Option Port) → port_with d.ports n ≡ o → option_map_or (of_port conf now d) o [] ≡ []
-      by None is = refl
-      by (Some i) is =
+      by : (o : Option Port) → port_with d.ports n ≡ o → Contains (option_map_or (of_port conf now d) o []) e → Contains All (unit.Port n)
+      by None is none = nothing {u = unit.Port n} e none
+      by (Some i) is here =
           let f = found (λ (q : Port). q.no == n) d.ports i is in
-          let listed = in_front ports (vlans ++ (hosts ++ routes)) (unit.Port i.no) (in_mapped (λ (q : Port). unit.Port q.no) d.ports i f.within) in
-          absurd (none (subst (λ m. Contains (unit.Dp ∷ (ports ++ (vlans ++ (hosts ++ routes)))) (unit.Port m)) (eqb-true i.no n f.passes) (tail_of unit.Dp _ (unit.Port i.no) listed)))
-  absent (unit.Vlan n) none = by (vlan_with conf.vlans n) refl
+          let there = in_front ports (vlans ++ (hosts ++ routes)) (unit.Port i.no) (in_mapped (λ (q : Port). unit.Port q.no) d.ports i f.within) in
+          subst (λ m. Contains All (unit.Port m)) (eqb-true i.no n f.passes) (tail_of unit.Dp _ (unit.Port i.no) there)
+  listed (unit.Vlan n) e c = by (vlan_with conf.vlans n) refl c
     where
-      by : (o : Option Vlan) → vlan_with conf.vlans n ≡ o → option_map_or (of_vlan conf now d) o [] ≡ []
-      by None is = refl
-      by (Some v) is =
+      by : (o : Option Vlan) → vlan_with conf.vlans n ≡ o → Contains (option_map_or (of_vlan conf now d) o []) e → Contains All (unit.Vlan n)
+      by None is none = nothing {u = unit.Vlan n} e none
+      by (Some v) is here =
           let f = found (λ (w : Vlan). w.vid == n) conf.vlans v is in
-          let listed = behind ports (vlans ++ (hosts ++ routes)) (unit.Vlan v.vid) (in_front vlans (hosts ++ routes) (unit.Vlan v.vid) (in_mapped (λ (w : Vlan). unit.Vlan w.vid) conf.vlans v f.within)) in
-          absurd (none (subst (λ m. Contains (unit.Dp ∷ (ports ++ (vlans ++ (hosts ++ routes)))) (unit.Vlan m)) (eqb-true v.vid n f.passes) (tail_of unit.Dp _ (unit.Vlan v.vid) listed)))
-  absent (unit.Host n mac) none = by (find (λ h. h.vid == n && is_same h.mac.0 mac.0) (hosts_of conf now d)) refl
+          let there = behind ports (vlans ++ (hosts ++ routes)) (unit.Vlan v.vid) (in_front vlans (hosts ++ routes) (unit.Vlan v.vid) (in_mapped (λ (w : Vlan). unit.Vlan w.vid) conf.vlans v f.within)) in
+          subst (λ m. Contains All (unit.Vlan m)) (eqb-true v.vid n f.passes) (tail_of unit.Dp _ (unit.Vlan v.vid) there)
+  listed (unit.Host n mac) e c = by (find (λ h. h.vid == n && is_same h.mac.0 mac.0) (hosts_of conf now d)) refl c
     where
-      by : (o : Option HostRec) → find (λ h. h.vid == n && is_same h.mac.0 mac.0) (hosts_of conf now d) ≡ o → option_map_or (of_host conf now d) o [] ≡ []
-      by None is = refl
-      by (Some h) is =
+      by : (o : Option HostRec) → find (λ h. h.vid == n && is_same h.mac.0 mac.0) (hosts_of conf now d) ≡ o → Contains (option_map_or (of_host conf now d) o []) e → Contains All (unit.Host n mac)
+      by None is none = nothing {u = unit.Host n mac} e none
+      by (Some h) is here =
           let f = found (λ (g : HostRec). g.vid == n && is_same g.mac.0 mac.0) (hosts_of conf now d) h is in
           let p = and_parts (h.vid == n) (is_same h.mac.0 mac.0) f.passes in
           let vids : h.vid ≡ n = eqb-true h.vid n p.0 in
           let macs : h.mac.0 ≡ mac.0 = same_bytes h.mac.0 mac.0 p.1 in
-          let listed = behind ports (vlans ++ (hosts ++ routes)) (unit.Host h.vid h.mac) (behind vlans (hosts ++ routes) (unit.Host h.vid h.mac) (in_front hosts routes (unit.Host h.vid h.mac) (in_mapped (λ (g : HostRec). unit.Host g.vid g.mac) (hosts_of conf now d) h f.within))) in
-          absurd (none (subst (λ (u : PlanUnit). Contains (unit.Dp ∷ (ports ++ (vlans ++ (hosts ++ routes)))) u) (λ i. unit.Host (vids i) (record { 0 = macs i })) (tail_of unit.Dp _ (unit.Host h.vid h.mac) listed)))
-  absent (unit.Route n) none = by (vlan_with conf.vlans n) refl
+          let there = behind ports (vlans ++ (hosts ++ routes)) (unit.Host h.vid h.mac) (behind vlans (hosts ++ routes) (unit.Host h.vid h.mac) (in_front hosts routes (unit.Host h.vid h.mac) (in_mapped (λ (g : HostRec). unit.Host g.vid g.mac) (hosts_of conf now d) h f.within))) in
+          subst (λ (u : PlanUnit). Contains All u) (λ i. unit.Host (vids i) (record { 0 = macs i })) (tail_of unit.Dp _ (unit.Host h.vid h.mac) there)
+  listed (unit.Route n) e c = by (vlan_with conf.vlans n) refl c
     where
-      by : (o : Option Vlan) → vlan_with conf.vlans n ≡ o → option_map_or (of_routes conf now d) o [] ≡ []
-      by None is = refl
-      by (Some v) is =
+      by : (o : Option Vlan) → vlan_with conf.vlans n ≡ o → Contains (option_map_or (of_routes conf now d) o []) e → Contains All (unit.Route n)
+      by None is none = nothing {u = unit.Route n} e none
+      by (Some v) is here =
           let f = found (λ (w : Vlan). w.vid == n) conf.vlans v is in
-          let listed = behind ports (vlans ++ (hosts ++ routes)) (unit.Route v.vid) (behind vlans (hosts ++ routes) (unit.Route v.vid) (behind hosts routes (unit.Route v.vid) (in_mapped (λ (w : Vlan). unit.Route w.vid) conf.vlans v f.within))) in
-          absurd (none (subst (λ m. Contains (unit.Dp ∷ (ports ++ (vlans ++ (hosts ++ routes)))) (unit.Route m)) (eqb-true v.vid n f.passes) (tail_of unit.Dp _ (unit.Route v.vid) listed)))
+          let there = behind ports (vlans ++ (hosts ++ routes)) (unit.Route v.vid) (behind vlans (hosts ++ routes) (unit.Route v.vid) (behind hosts routes (unit.Route v.vid) (in_mapped (λ (w : Vlan). unit.Route w.vid) conf.vlans v f.within))) in
+          subst (λ m. Contains All (unit.Route m)) (eqb-true v.vid n f.passes) (tail_of unit.Dp _ (unit.Route v.vid) there)

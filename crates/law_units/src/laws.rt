@@ -1,6 +1,6 @@
 //! The laws. A function's contract is the law, and its body is at most a call of the laws that it rests on.
 
-ghost use Rattle.std.specs.Prelude.{◌≡◌, Some, [], Contains, IsPermutation};
+ghost use Rattle.std.specs.Prelude.{◌≡◌, Some, Contains, IsPermutation};
 ghost use Rattle.std.specs.List.{AllByRecursion, flat_map};
 ghost use Rattle.of_match.specs.declared.entry.Entry.{Entry};
 ghost use Rattle.conf_types.specs.declared.datapath.Dp.{Dp};
@@ -32,13 +32,13 @@ pub fn two_units_have_no_key_in_common()
 }
 
 /// The units of a datapath are listed once each (`once`), the entries of all of them are its cold start, up to
-/// order (`whole`), and what isn't listed has no entries (`others`).
+/// order (`whole`), and a unit that has an entry is listed (`listed`).
 pub fn the_units_of_a_datapath_make_its_cold_start()
     ensures once { (conf : Configuration) (now : State) (d : Dp) → IsSetting conf now d → AreDistinct (units_of conf now d) }
     ensures whole { (conf : Configuration) (now : State) (d : Dp) → IsSetting conf now d
         → IsPermutation (flat_map (entries conf now d) (units_of conf now d)) (cold conf now d) }
-    ensures others { (conf : Configuration) (now : State) (d : Dp) (u : Unit)
-        → (Contains (units_of conf now d) u → ⊥) → entries conf now d u ≡ [] }
+    ensures listed { (conf : Configuration) (now : State) (d : Dp) (u : Unit) (e : Entry)
+        → Contains (entries conf now d u) e → Contains (units_of conf now d) u }
 {
     cold_start::laws::a_plan_is_that_of_its_units();
     cold_start::laws::a_cold_start_is_the_plan_in_key_order();
