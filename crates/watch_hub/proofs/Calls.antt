@@ -1,5 +1,5 @@
 -- What holds of each call of a watch holds of each call of its hub.
-use Rattle.std.proofs.Common.{◌≡◌, inl, inr, ℕ, Bool, true, false, List, [], ◌∷◌, ◌++◌, Option, sym, ap, ◌∙◌, subst}
+use Rattle.std.proofs.Common.{◌≡◌, inl, inr, ℕ, Bool, true, false, List, [], ◌∷◌, ◌++◌, Option, sym, ap, ◌∙◌, subst, true≢false}
 use Rattle.std.proofs.lemmas.List.{append-nil}
 use Rattle.std.specs.List.{AllByRecursion}
 use Rattle.fg_outside.specs.declared.hub.Turn.TheVariants.{Happened, Done, Failed, Memory}
@@ -21,19 +21,19 @@ module _ {H F : Type 0} (may : H → HubStep → H → Type 0) (contents : F →
   abbrev Held : H → HubStep → H → Type 0
   Held old step new = may old step new × (holds step ≡ true)
 
-  does_held : (old : Watch H F) (step : HubStep) (new : Watch H F) → holds step ≡ true → Does may contents faults absences old step new → Does Held contents faults absences old step new
-  does_held old (turned (Happened it)) new is does =
+  does_held : (old : Watch H F) (step : HubStep) (new : Watch H F) → holds step ≡ true → is_spent new ≡ false → Does may contents faults absences old step new → Does Held contents faults absences old step new
+  does_held old (turned (Happened it)) new is running does =
       elim does [
         | inl tells ↦ inl tells
         | inr passes ↦ inr (record { none_waited = passes.none_waited; hub = (passes.hub, is); look = passes.look; no_look = passes.no_look })
       ]
-  does_held old (turned Done) new is does = record { none_waited = does.none_waited; hub = (does.hub, is); went = does.went }
-  does_held old (turned Failed) new is does = record { none_waited = does.none_waited; hub = (does.hub, is); went = does.went }
-  does_held old (turned Memory) new is does = does
-  does_held old (said conn piece answers.Taken) new is does = record { hub = (does.hub, is); went = does.went }
-  does_held old (said conn piece answers.Gone) new is does = record { hub = (does.hub, is); went = does.went }
-  does_held old (said conn piece answers.Memory) new is does = does
-  does_held old (closed conn) new is does = record { hub = (does.hub, is); went = does.went }
+  does_held old (turned Done) new is running does = record { none_waited = does.none_waited; hub = (does.hub, is); went = does.went }
+  does_held old (turned Failed) new is running does = record { none_waited = does.none_waited; hub = (does.hub, is); went = does.went }
+  does_held old (turned Memory) new is running does = absurd (true≢false (sym does.spent ∙ running))
+  does_held old (said conn piece answers.Taken) new is running does = record { hub = (does.hub, is); went = does.went }
+  does_held old (said conn piece answers.Gone) new is running does = record { hub = (does.hub, is); went = does.went }
+  does_held old (said conn piece answers.Memory) new is running does = absurd (true≢false (sym (ap (λ (w : Watch H F). is_spent w) does.went) ∙ running))
+  does_held old (closed conn) new is running does = record { hub = (does.hub, is); went = does.went }
 
   tells_held : (from : Watch H F) → waits_in from ≡ false → (steps : List HubStep) (to : Watch H F) → Leads (WatchStep may contents faults absences) from steps to → Hold steps → is_spent to ≡ false → WatchedStory Held contents faults from (story steps) to
   tells_held from idle _ _ start all running = tells_first Held contents faults absences joins from idle
@@ -42,7 +42,7 @@ module _ {H F : Type 0} (may : H → HubStep → H → Type 0) (contents : F →
       subst (λ (events : List Event). WatchedStory Held contents faults from events to)
       (ap (λ (l : List Event). story steps ++ l) (sym (append-nil (told_by step))) ∙ sym (joins steps (step ∷ [])))
       (tells_step Held contents faults absences joins from mid to (story steps) step (tells_held from idle steps mid way parts.0 (may_step.running running))
-      (does_held mid step to parts.1 may_step.does) may_step.along.file running)
+      (does_held mid step to parts.1 running may_step.does) may_step.along.file running)
 
   parted : (from : H) (steps : List HubStep) (to : H) → Leads Held from steps to → Leads may from steps to × Hold steps
   parted from _ _ start = (start, tt)

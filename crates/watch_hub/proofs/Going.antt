@@ -1,5 +1,5 @@
 -- Single steps of a watch.
-use Rattle.std.proofs.Common.{◌≡◌, ◌≤◌, ◌||◌, ◌∙◌, ℕ, Bool, true, false, List, [], ◌∷◌, Option, refl, sym, subst, arith, true≢false}
+use Rattle.std.proofs.Common.{◌≡◌, ◌≤◌, ◌||◌, ◌∙◌, ℕ, Bool, true, false, List, [], ◌∷◌, Option, refl, sym, ap, subst, arith, true≢false}
 use Rattle.std.proofs.Math.Bool.{or-false}
 use Rattle.std.specs.Prelude.{OnSome}
 use Rattle.fg_outside.specs.declared.hub.Said.{Said}
@@ -14,7 +14,7 @@ use Rattle.watch_hub.specs.declared.file_watch.FileWatch.{FileWatch}
 use Rattle.watch_hub.specs.declared.watch.Watch.{Watch}
 use Rattle.watch_hub.specs.FileWatch.{Keeps, Looks}
 use Rattle.watch_hub.specs.Look.{Finds}
-use Rattle.watch_hub.specs.Watch.{hub_in, is_spent, Calls, Does, GoesAlong}
+use Rattle.watch_hub.specs.Watch.{hub_in, is_spent, Calls, Does, GoesAlong, LosesPiece}
 use Rattle.watch_hub.specs.Watched.{differs, last_after}
 
 module _ {F : Type 0} (faults absences : F → ℕ) where
@@ -62,6 +62,14 @@ does_say may contents faults absences old new conn piece Taken other calls = cal
 does_say may contents faults absences old new conn piece Gone other calls = calls
 does_say may contents faults absences old new conn piece Memory other calls = absurd (other refl)
 
+-- a spent watch doesn't ask its hub
+pub loses_still : {H F : Type 0} (may : H → HubStep → H → Type 0) (conn : ℕ) (piece : List ℕ) (old : Watch H F) → is_spent old ≡ true → LosesPiece may conn piece old old
+loses_still may conn piece old spent = record {
+  hub = λ running. absurd (true≢false (sym spent ∙ running));
+  no_hub = λ so. refl;
+  went = ap (λ (b : Bool). record old { spent = b }) spent;
+}
+
 -- ---- whether memory ran out
 
 -- a spent watch stays spent, whatever is answered
@@ -74,7 +82,7 @@ pub spent_turn : {H F : Type 0} (may : H → HubStep → H → Type 0) (contents
 spent_turn may contents faults absences old new (turns.Happened it) running same does = same ∙ sym (or-false (is_spent old))
 spent_turn may contents faults absences old new turns.Done running same does = same ∙ sym (or-false (is_spent old))
 spent_turn may contents faults absences old new turns.Failed running same does = same ∙ sym (or-false (is_spent old))
-spent_turn may contents faults absences old new turns.Memory running same does = absurd (true≢false (sym does ∙ same ∙ running))
+spent_turn may contents faults absences old new turns.Memory running same does = absurd (true≢false (sym does.spent ∙ same ∙ running))
 
 -- nor is what is answered otherwise
 pub spent_say : (spent : Bool) (conn : ℕ) (piece : List ℕ) (answer : Said) → (answer ≡ Memory → ⊥) → spent ≡ (spent || lacks_memory (said conn piece answer))

@@ -1,5 +1,5 @@
 -- A watch's steps, one behind the other.
-use Rattle.std.proofs.Common.{◌≡◌, ◌≢◌, inl, inr, ℕ, suc, ◌+◌, ◌-◌, ◌^◌, ◌≤◌, min, Bool, true, false, List, [], ◌∷◌, ◌++◌, length, Option, Some, refl, sym, ap, ◌∙◌, subst, append_assoc, arith, true≢false}
+use Rattle.std.proofs.Common.{◌≡◌, inl, inr, ℕ, suc, ◌+◌, ◌-◌, ◌^◌, ◌≤◌, min, Bool, true, false, List, [], ◌∷◌, ◌++◌, length, Option, Some, refl, sym, ap, ◌∙◌, subst, append_assoc, arith, true≢false}
 use Rattle.std.proofs.lemmas.List.{append-nil, length-append}
 use Rattle.fg_outside.specs.declared.hub.Happening.{Happening}
 use Rattle.fg_outside.specs.declared.hub.Turn.TheVariants.{Happened, Done, Failed, Memory}
@@ -7,6 +7,7 @@ use Rattle.fg_outside.specs.declared.hub.Said.TheVariants as answers
 use Rattle.fg_outside.specs.Contents.{Contents}
 use Rattle.fg_outside.specs.Counts.{Rose}
 use Rattle.fg_outside.specs.HubStep.{HubStep, turned, said, closed, Event, happening, happenings, told_by, story, Leads, start, next, Story}
+use Rattle.watch_hub.specs.declared.file_watch.FileWatch.{FileWatch}
 use Rattle.watch_hub.specs.declared.watch.Watch.{Watch}
 use Rattle.watch_hub.specs.FileWatch.{Keeps, Looks}
 use Rattle.watch_hub.specs.Texts.{missed, refreshed_by}
@@ -57,26 +58,26 @@ module _ {H F : Type 0} (may : H → HubStep → H → Type 0) (contents : F →
     few_missed = λ held is. omega arith;
   }
 
-  -- the hub alone goes on, by a step that is no happening
-  tells_silent : (from mid to : Watch H F) (events : List Event) (step : HubStep) → Tells from events mid → happenings (told_by step) ≡ [] → may (hub_in mid) step (hub_in to) → HubWent mid to → Tells from (events ++ told_by step) to
-  tells_silent from mid to events step before silent step_may went = record {
+  -- the hub goes on by a step that is no happening, and the file stays
+  pub tells_silent : (from mid to : Watch H F) (events : List Event) (step : HubStep) → Tells from events mid → happenings (told_by step) ≡ [] → may (hub_in mid) step (hub_in to) → to.file ≡ mid.file → Tells from (events ++ told_by step) to
+  tells_silent from mid to events step before silent step_may stays = record {
     texts = before.texts;
     hub_events = before.hub_events ++ told_by step;
-    name = ap (λ (w : Watch H F). name_in w) went ∙ before.name;
-    every = ap (λ (w : Watch H F). every_in w) went ∙ before.every;
+    name = ap (λ (f : FileWatch F). f.name) stays ∙ before.name;
+    every = ap (λ (f : FileWatch F). f.every) stays ∙ before.every;
     hub = story-next (hub_in from) (hub_in mid) (hub_in to) before.hub_events step before.hub step_may;
     told =
-        ap (λ (w : Watch H F). happenings (events ++ told_by step) ++ waiting_in w) went
+        ap (λ (f : FileWatch F). happenings (events ++ told_by step) ++ reloads f.waits f.last) stays
         ∙ ap (λ (l : List Happening). l ++ waiting_in mid) (happenings-append events (told_by step) ∙ ap (λ (l : List Happening). happenings events ++ l) silent ∙ append-nil (happenings events))
         ∙ before.told
         ∙ ap (λ (l : List Happening). watched_from (every_in from) (looked_in from) (last_in from) before.texts l) (sym hub_same);
     put_in = PutsIn-append before.hub_events events before.put_in (told_by step);
     looks = before.looks ∙ ap (λ (l : List Happening). looks_from (every_in from) (looked_in from) l) (sym hub_same);
-    looked = ap (λ (w : Watch H F). looked_in w) went ∙ before.looked ∙ ap (λ (l : List Happening). last_look (every_in from) (looked_in from) l) (sym hub_same);
-    last = ap (λ (w : Watch H F). last_in w) went ∙ before.last;
-    refreshes = ap (λ (w : Watch H F). contents (files_in w)) went ∙ before.refreshes;
+    looked = ap (λ (f : FileWatch F). f.looked) stays ∙ before.looked ∙ ap (λ (l : List Happening). last_look (every_in from) (looked_in from) l) (sym hub_same);
+    last = ap (λ (f : FileWatch F). f.last) stays ∙ before.last;
+    refreshes = ap (λ (f : FileWatch F). contents f.files) stays ∙ before.refreshes;
     are_told = before.are_told;
-    few_missed = λ held is. subst (λ (w : Watch H F). min (faults (files_in from) + missed held (name_in from) 1 before.texts) (2 ^ 64 - 1) ≤ faults (files_in w)) (sym went) (before.few_missed held is);
+    few_missed = λ held is. subst (λ (f : FileWatch F). min (faults (files_in from) + missed held (name_in from) 1 before.texts) (2 ^ 64 - 1) ≤ faults f.files) (sym stays) (before.few_missed held is);
   }
     where
       hub_same : happenings (before.hub_events ++ told_by step) ≡ happenings before.hub_events
@@ -228,15 +229,15 @@ module _ {H F : Type 0} (may : H → HubStep → H → Type 0) (contents : F →
         | inl tells ↦ tells_text from mid to events it before tells
         | inr passes ↦ tells_given from mid to events it before passes keeps
       ]
-  tells_step from mid to events (turned Done) before does keeps running = tells_silent from mid to events (turned Done) before refl does.hub does.went
-  tells_step from mid to events (turned Failed) before does keeps running = tells_silent from mid to events (turned Failed) before refl does.hub does.went
-  tells_step from mid to events (turned Memory) before does keeps running = absurd (true≢false (sym does ∙ running))
+  tells_step from mid to events (turned Done) before does keeps running = tells_silent from mid to events (turned Done) before refl does.hub (ap (λ (w : Watch H F). w.file) does.went)
+  tells_step from mid to events (turned Failed) before does keeps running = tells_silent from mid to events (turned Failed) before refl does.hub (ap (λ (w : Watch H F). w.file) does.went)
+  tells_step from mid to events (turned Memory) before does keeps running = absurd (true≢false (sym does.spent ∙ running))
   tells_step from mid to events (said conn piece answers.Taken) before does keeps running =
-      tells_silent from mid to events (said conn piece answers.Taken) before refl does.hub does.went
+      tells_silent from mid to events (said conn piece answers.Taken) before refl does.hub (ap (λ (w : Watch H F). w.file) does.went)
   tells_step from mid to events (said conn piece answers.Gone) before does keeps running =
-      tells_silent from mid to events (said conn piece answers.Gone) before refl does.hub does.went
-  tells_step from mid to events (said conn piece answers.Memory) before does keeps running = absurd (true≢false (sym does ∙ running))
-  tells_step from mid to events (closed conn) before does keeps running = tells_silent from mid to events (closed conn) before refl does.hub does.went
+      tells_silent from mid to events (said conn piece answers.Gone) before refl does.hub (ap (λ (w : Watch H F). w.file) does.went)
+  tells_step from mid to events (said conn piece answers.Memory) before does keeps running = absurd (true≢false (sym (ap (λ (w : Watch H F). is_spent w) does.went) ∙ running))
+  tells_step from mid to events (closed conn) before does keeps running = tells_silent from mid to events (closed conn) before refl does.hub (ap (λ (w : Watch H F). w.file) does.went)
 
   pub tells_way : (from : Watch H F) → waits_in from ≡ false → (steps : List HubStep) (to : Watch H F) → Leads (WatchStep may contents faults absences) from steps to → is_spent to ≡ false → Tells from (story steps) to
   tells_way from idle _ _ start running = tells_first from idle

@@ -87,15 +87,34 @@ pub record Calls {H F : Type 0} (may : H → HubStep → H → Type 0) (step : H
   pub hub : may (hub_in old) step (hub_in new)
   pub went : HubWent old new
 
+-- what a hub was asked where memory ran out in a turn: nothing; or its turn was answered so; or it gave a happening, which isn't
+-- passed on
+pub data IsAsked {H : Type 0} (may : H → HubStep → H → Type 0) (old new : H) : Type 0 where
+  nothing : new ≡ old → IsAsked may old new
+  in_vain : may old (turned Memory) new → IsAsked may old new
+  lost : (it : Happening) → may old (turned (Happened it)) new → IsAsked may old new
+
+-- memory ran out in a turn
+pub record LosesTurn {H F : Type 0} (may : H → HubStep → H → Type 0) (old new : Watch H F) : Type 0 where
+  pub spent : is_spent new ≡ true
+  pub hub : IsAsked may (hub_in old) (hub_in new)
+
+-- Memory ran out for a piece: the hub, called in the same way, had none; or it ran out before, and the hub isn't called. The file
+-- stays as it is.
+pub record LosesPiece {H F : Type 0} (may : H → HubStep → H → Type 0) (conn : ℕ) (piece : List ℕ) (old new : Watch H F) : Type 0 where
+  pub hub : is_spent old ≡ false → may (hub_in old) (said conn piece answers.Memory) (hub_in new)
+  pub no_hub : is_spent old ≡ true → hub_in new ≡ hub_in old
+  pub went : new ≡ record old { hub = hub_in new; spent = true }
+
 -- what a call does, by its answer
 abbrev pub Does : {H F : Type 0} → (H → HubStep → H → Type 0) → (F → Option Contents) → (F → ℕ) → (F → ℕ) → Watch H F → HubStep → Watch H F → Type 0
 Does may contents faults absences old (turned (Happened it)) new = TellsText old it new ⊎ PassesOn may contents faults absences old it new
 Does may contents faults absences old (turned Done) new = EndsWith may Done old new
 Does may contents faults absences old (turned Failed) new = EndsWith may Failed old new
-Does may contents faults absences old (turned Memory) new = is_spent new ≡ true
+Does may contents faults absences old (turned Memory) new = LosesTurn may old new
 Does may contents faults absences old (said conn piece answers.Taken) new = Calls may (said conn piece answers.Taken) old new
 Does may contents faults absences old (said conn piece answers.Gone) new = Calls may (said conn piece answers.Gone) old new
-Does may contents faults absences old (said conn piece answers.Memory) new = is_spent new ≡ true
+Does may contents faults absences old (said conn piece answers.Memory) new = LosesPiece may conn piece old new
 Does may contents faults absences old (closed conn) new = Calls may (closed conn) old new
 
 -- whatever a call does: the hub went by steps that it may take, and the file is the same

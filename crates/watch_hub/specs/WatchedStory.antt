@@ -1,5 +1,6 @@
 -- The story of a hub with a watched file, in terms of the hub's.
-use Rattle.std.specs.Prelude.{◌≡◌, ◌≤◌, ℕ, ◌+◌, ◌-◌, ◌^◌, min, List, [], ◌∷◌, ◌++◌, length, Option, Some}
+use Rattle.std.specs.Prelude.{◌≡◌, ◌≤◌, ℕ, ◌+◌, ◌-◌, ◌^◌, min, List, [], ◌∷◌, ◌++◌, length, map, Option, Some}
+use Rattle.fg_outside.specs.declared.hub.Happening.{Happening}
 use Rattle.fg_outside.specs.declared.hub.Happening.TheVariants.{Reload}
 use Rattle.fg_outside.specs.Contents.{Contents}
 use Rattle.fg_outside.specs.HubStep.{HubStep, Event, happening, saying, closing, happenings, Story}
@@ -43,3 +44,13 @@ pub record WatchedStory {H F : Type 0} (may : H → HubStep → H → Type 0) (c
   pub are_told : (held : Contents) → contents (files_in from) ≡ Some held → AreTold held (name_in from) 1 texts
   -- those that have none although their files were there are at most as many as the count of faults rose
   pub few_missed : (held : Contents) → contents (files_in from) ≡ Some held → min (faults (files_in from) + missed held (name_in from) 1 texts) (2 ^ 64 - 1) ≤ faults (files_in to)
+
+-- The story of a watch in whose last call memory may have run out: it is such a story up to a state of the watch, behind which the
+-- hub gave at most one happening, which was lost, and said nothing else.
+pub record WatchedPart {H F : Type 0} (may : H → HubStep → H → Type 0) (contents : F → Option Contents) (faults : F → ℕ) (from : Watch H F) (events : List Event) (to : Watch H F) : Type 0 where
+  pub until : Watch H F
+  pub watched : WatchedStory may contents faults from events until
+  pub lost : List Happening
+  pub few : length lost ≤ 1
+  pub hub : Story may (hub_in until) (map (λ (it : Happening). happening it) lost) (hub_in to)
+  pub counted : faults (files_in until) ≤ faults (files_in to)

@@ -1,6 +1,6 @@
 //! What the definitions of this crate come to, in the words of files and hubs.
 
-ghost use Rattle.std.specs.Prelude.{◌≡◌, ◌≤◌, ℕ, Bool, List, true, false, None, Err};
+ghost use Rattle.std.specs.Prelude.{◌≡◌, ◌≤◌, ◌-◌, ℕ, Bool, List, length, take, true, false, None, Err};
 ghost use Rattle.std.specs.List.{AllByRecursion};
 ghost use Rattle.fg_outside.specs.HubStep.{HubStep, Event, Leads, story};
 ghost use Rattle.fg_links.specs.HubInMemory.{lacks_memory};
@@ -9,7 +9,7 @@ ghost use Rattle.conf_gather.specs.Gathered.{Held, gathered};
 ghost use Rattle.watch_hub.specs.declared.watch.Watch.{Watch};
 ghost use Rattle.watch_hub.specs.Look.{text_of};
 ghost use Rattle.watch_hub.specs.Watch.{files_in, hub_in, is_spent, waits_in};
-ghost use Rattle.watch_hub.specs.WatchedStory.{PutsIn, WatchedStory, spoken};
+ghost use Rattle.watch_hub.specs.WatchedStory.{PutsIn, WatchedPart, WatchedStory, spoken};
 
 use crate::Watch;
 use fg_outside::laws::{stories_join, ways_join};
@@ -45,6 +45,18 @@ pub fn a_watch_is_spent_only_where_it_says_so<H: Hub, F: Files>()
     ensures { (from to : Watch H F) (steps : List HubStep) → is_spent from ≡ false → AllByRecursion (λ step. lacks_memory step ≡ false) steps
         → Leads ⟦<Watch<H, F> as Hub>⟧.may from steps to → is_spent to ≡ false }
 {}
+
+/// Whichever way a watch goes that isn't spent at its start, and at whose start no text waits, where no call but the last
+/// answered want of memory: its story is that of its hub with the reloads of its looks between, but for a happening that
+/// the last turn lost.
+pub fn a_way_to_want_of_memory_tells_the_watched_story<H: Hub, F: Files>()
+    ensures { (from to : Watch H F) (steps : List HubStep) → waits_in from ≡ false → is_spent from ≡ false
+        → AllByRecursion (λ step. lacks_memory step ≡ false) (take (length steps - 1) steps)
+        → Leads ⟦<Watch<H, F> as Hub>⟧.may from steps to
+        → WatchedPart H.may F.contents F.faults from (story steps) to }
+{
+    stories_join();
+}
 
 /// Whichever way a watch goes, the counts of its files don't fall.
 pub fn the_counts_of_its_files_stand<H: Hub, F: Files>()

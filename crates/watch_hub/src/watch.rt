@@ -1,4 +1,4 @@
-ghost use Rattle.std.specs.Prelude.{◌≡◌, ◌≢◌, ◌≤◌, Ok, IfOk};
+ghost use Rattle.std.specs.Prelude.{◌≡◌, ◌≢◌, ◌≤◌, Ok, IfOk, OnErr};
 ghost use Rattle.fg_outside.specs.Counts.{Rose};
 ghost use Rattle.fg_outside.specs.HubStep.{turned};
 
@@ -20,7 +20,7 @@ pub struct Watch<H, F> {
 }
 
 impl<H: Hub, F: Files> Watch<H, F> {
-    ghost use Rattle.watch_hub.specs.Watch.{hub_in, files_in, is_spent, IsBegun, Does, GoesAlong};
+    ghost use Rattle.watch_hub.specs.Watch.{hub_in, files_in, is_spent, IsAsked, IsBegun, Does, GoesAlong};
 
     /// A hub, and the named file of these files with what it includes, whose text was `first` up to now. A look
     /// comes at a moment that is at least `every` milliseconds after the last one, the first being measured from
@@ -48,6 +48,7 @@ impl<H: Hub, F: Files> Watch<H, F> {
     // The next turn: a reload with the text that waits, or else what the hub gives, with a look where one is due.
     fn next_turn(&mut self) -> Result<Turn, NoMemory>
         ensures does { IfOk result (λ turn. Does H.may F.contents F.faults F.absences self.old (turned turn) self.new) }
+        ensures asked { OnErr result (IsAsked H.may (hub_in self.old) (hub_in self.new)) }
         ensures along { GoesAlong H.may F.faults F.absences self.old self.new }
         ensures spent { is_spent self.new ≡ is_spent self.old }
 

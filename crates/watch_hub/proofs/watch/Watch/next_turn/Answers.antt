@@ -1,4 +1,7 @@
+use Rattle.std.proofs.Common.{refl}
 use Rattle.fg_outside.specs.HubStep.{turned}
+use Rattle.fg_outside.proofs.LineLemmas.{on_err}
+use Rattle.watch_hub.specs.Watch.{nothing, in_vain, lost}
 use Rattle.watch_hub.proofs.Going.{goes_by, goes_still, keeps_as, keeps_same, keeps_told}
 use Rattle.watch_hub.proofs.watch.Watch.next_turn.Goals as goal
 
@@ -36,3 +39,14 @@ pub returns-in-Memory-clause-along : goal.returns-in-Memory-clause-along
 returns-in-Memory-clause-along g c =
     goes_by g.H.Hub.may g.F.Files.faults g.F.Files.absences c.args.self.now c.turn.new.self c.args.self.now.file c.args.self.now.spent (turned c.turn.result) c.turn.ensures.step
     (keeps_same g.F.Files.faults g.F.Files.absences c.args.self.now.file)
+
+pub returns-in_err-tell-clause-asked : goal.returns-in_err-tell-clause-asked
+returns-in_err-tell-clause-asked g c = on_err _ (nothing refl)
+
+pub returns-in_err-take_in-in-Happened-clause-asked :
+    goal.returns-in_err-take_in-in-Happened-clause-asked
+returns-in_err-take_in-in-Happened-clause-asked g c =
+    on_err _ (lost c.in-Happened.it c.in-Happened.ensures.step)
+
+pub returns-in-Memory-clause-asked : goal.returns-in-Memory-clause-asked
+returns-in-Memory-clause-asked g c = in_vain c.in-Memory.ensures.step

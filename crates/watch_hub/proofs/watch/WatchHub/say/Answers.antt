@@ -1,13 +1,13 @@
-use Rattle.std.proofs.Common.{true, true≢false, refl, sym}
+use Rattle.std.proofs.Common.{true, true≢false, refl, sym, ◌∙◌}
 use Rattle.std.proofs.Math.Bool.{or-true}
 use Rattle.fg_outside.specs.declared.hub.Said.TheVariants.{Memory}
 use Rattle.fg_outside.specs.HubStep.{said}
-use Rattle.watch_hub.proofs.Going.{does_say, goes_by, goes_still, keeps_same, spent_say, spent_still}
+use Rattle.watch_hub.proofs.Going.{does_say, goes_by, goes_still, keeps_same, loses_still, spent_say, spent_still}
 use Rattle.watch_hub.proofs.watch.WatchHub.say.Goals as goal
 
 pub returns-then-self-clause-step : goal.returns-then-self-clause-step
 returns-then-self-clause-step g c = record {
-  does = c.if-self.true;
+  does = loses_still g.H.Hub.may c.args.conn c.args.piece.now c.args.self.now c.if-self.true;
   along =
       goes_still g.H.Hub.may g.F.Files.faults g.F.Files.absences c.args.self.now c.args.self.now.file c.args.self.now.spent
       (keeps_same g.F.Files.faults g.F.Files.absences c.args.self.now.file);
@@ -17,7 +17,11 @@ returns-then-self-clause-step g c = record {
 
 pub returns-in-Memory-clause-step : goal.returns-in-Memory-clause-step
 returns-in-Memory-clause-step g c = record {
-  does = refl;
+  does = record {
+    hub = λ running. c.in-Memory.ensures.step;
+    no_hub = λ spent. absurd (true≢false (sym spent ∙ c.if-self.false));
+    went = refl;
+  };
   along =
       goes_by g.H.Hub.may g.F.Files.faults g.F.Files.absences c.args.self.now c.say.new.self c.args.self.now.file true (said c.args.conn c.args.piece.now c.say.result) c.say.ensures.step
       (keeps_same g.F.Files.faults g.F.Files.absences c.args.self.now.file);
