@@ -1,14 +1,14 @@
 -- The replay of a recording, from what the hub that reads it gave and was told.
-use Rattle.std.proofs.Common.{◌≡◌, ◌≤◌, ◌<◌, ◌⊎◌, inl, inr, ℕ, ◌+◌, ◌-◌, ◌^◌, min, arith, Bool, true, false, List, [], ◌∷◌, ◌++◌, Option, Some, None, Result, Ok, Err, IfOk, OnOk, OnErr, refl, sym, ap, subst, ◌∙◌}
+use Rattle.std.proofs.Common.{◌≡◌, ◌≤◌, ◌<◌, ◌⊎◌, inl, inr, ℕ, ◌+◌, ◌-◌, ◌^◌, min, arith, Bool, true, false, List, [], Option, Some, None, Result, Ok, Err, IfOk, OnOk, OnErr, refl, sym, ap, subst, ◌∙◌}
 use Rattle.std.specs.Result.{result_unwrap_or}
 use Rattle.fg_outside.specs.declared.file_source.FileSource.{FileSource}
 use Rattle.fg_outside.specs.declared.hub.Happening.{Happening}
-use Rattle.fg_outside.specs.declared.hub.Turn.TheVariants.{Done as is_done, Failed as has_failed}
+use Rattle.fg_outside.specs.declared.hub.Turn.TheVariants.{Done as is_done}
 use Rattle.fg_outside.specs.Contents.{Contents}
 use Rattle.fg_outside.specs.Contents.{Tells as FilesTell}
 use Rattle.fg_outside.specs.Counts.{Rose}
 use Rattle.fg_outside.specs.FileSource.{faults_of, files_of, left_in, missing_of, name_of, KeepsFiles}
-use Rattle.fg_outside.specs.HubStep.{HubStep, Leads, next, happenings, story, turned}
+use Rattle.fg_outside.specs.HubStep.{HubStep, Leads, happenings, story, turned}
 use Rattle.fg_outside.proofs.SinkLemmas.{appended-nil, AppendsFront-none}
 use Rattle.fg_outside.proofs.CountLemmas.{Rose-since}
 use Rattle.fg_outside.proofs.StepLemmas.{Went-all, KeepsFiles-fault, KeepsFiles-read, KeepsFiles-same, KeepsFiles-then}

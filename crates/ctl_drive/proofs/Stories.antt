@@ -1,5 +1,5 @@
 -- A story with one turn more.
-use Rattle.std.proofs.Common.{◌≡◌, ℕ, ◌≤◌, List, [], ◌∷◌, ◌++◌, length, Option, Some, Ok, Err, refl, sym, ap, subst, ◌∙◌, append_assoc, arith}
+use Rattle.std.proofs.Common.{◌≡◌, ℕ, ◌≤◌, true, List, [], ◌∷◌, ◌++◌, length, Option, Some, Ok, Err, refl, sym, ap, subst, ◌∙◌, append_assoc, arith}
 use Rattle.std.proofs.lemmas.List.{append-nil}
 use Rattle.std.proofs.lemmas.List.Concat.{flat_map-append}
 use Rattle.std.specs.List.{flat_map}
@@ -20,10 +20,10 @@ use Rattle.ctl_drive.specs.declared.drive.Drove.{Drove}
 use Rattle.ctl_drive.specs.declared.drive.Drove.TheVariants as drove
 use Rattle.ctl_drive.specs.declared.turn.Stopped.{Stopped}
 use Rattle.ctl_drive.specs.declared.turn.Stopped.TheVariants as stopped
-use Rattle.ctl_drive.specs.Driven.{Answers, AnswersPart, AnswersAll, AnswersFront, Drives, Tells, WholeButLast, drove_by}
+use Rattle.ctl_drive.specs.Driven.{Answers, AnswersPart, AnswersAll, AnswersFront, Drives, Tells, WholeButLast, drove_by, goes_on}
 use Rattle.ctl_drive.proofs.Deeds.{happened_in, happened-append, happened-deeds, happenings_are, none_happened_before, whole_happened}
 use Rattle.ctl_drive.proofs.Pieces.{flat_map-flat_map}
-use Rattle.ctl_drive.proofs.Telling.{Tells-none, Tells-one, Tells-same, Tells-then, TellsPart-same, TellsPart-second, deeds-story}
+use Rattle.ctl_drive.proofs.Telling.{all_but_last, Tells-none, Tells-one, Tells-same, Tells-then, TellsPart-same, TellsPart-second, deeds-story}
 
 pub behind-push : (w : World) (hs : List Happening) (h : Happening) → behind w (hs ++ h ∷ []) ≡ turn h (behind w hs)
 behind-push w [] h = refl
@@ -214,6 +214,7 @@ module _ {H : Type 0} (may : H → HubStep → H → Type 0) (outlet : Outlet) w
           steps = steps;
           leads = next all.told.steps two (turned Memory) three all.told.leads gives;
           front = record { rest = []; parts = sym (append-nil (deeds (story steps)) ∙ whole) };
+          went_on = all_but_last (λ step. goes_on step ≡ true) all.told.steps (turned Memory ∷ []) all.told.went_on tt;
         };
         happened = whole_happened outlet w hs (story steps) whole;
         out = front-whole out_one out_two (out_of outlet w hs) all.out;

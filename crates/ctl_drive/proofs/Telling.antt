@@ -1,5 +1,5 @@
 -- What a hub gave and was told over many calls, and over a front of them.
-use Rattle.std.proofs.Common.{◌≡◌, true, List, [], ◌∷◌, ◌++◌, refl, sym, ap, ◌∙◌, append_assoc}
+use Rattle.std.proofs.Common.{◌≡◌, ℕ, zero, suc, ◌-◌, true, List, [], ◌∷◌, ◌++◌, length, take, refl, sym, ap, subst, ◌∙◌, append_assoc, arith}
 use Rattle.std.specs.List.{AllByRecursion}
 use Rattle.std.proofs.lemmas.List.{append-nil}
 use Rattle.fg_outside.specs.HubStep.{HubStep, Event, start, next, story, told_by}
@@ -15,6 +15,26 @@ deeds-story xs ys = ap (λ (l : List Event). deeds l) (story-append xs ys) ∙ d
 pub all_of_both : {X : Type 0} (P : X → Type 0) (xs ys : List X) → AllByRecursion P xs → AllByRecursion P ys → AllByRecursion P (xs ++ ys)
 all_of_both P [] ys first second = second
 all_of_both P (x ∷ xs) ys first second = (first.0, all_of_both P xs ys first.1 second)
+
+-- what holds of all holds of a front
+pub all_of_front : {X : Type 0} (P : X → Type 0) (n : ℕ) (xs : List X) → AllByRecursion P xs → AllByRecursion P (take n xs)
+all_of_front P zero [] all = tt
+all_of_front P zero (x ∷ xs) all = tt
+all_of_front P (suc n) [] all = tt
+all_of_front P (suc n) (x ∷ xs) all = (all.0, all_of_front P n xs all.1)
+
+-- of all but the last of a list: with one more before
+one_before : {X : Type 0} (P : X → Type 0) (x : X) (xs : List X) → P x → AllByRecursion P (take (length xs - 1) xs) → AllByRecursion P (take (length (x ∷ xs) - 1) (x ∷ xs))
+one_before P x [] first all = tt
+one_before P x (y ∷ ys) first all =
+    let long : length (x ∷ (y ∷ ys)) - 1 ≡ suc (length ys) = omega arith in
+    let short : length (y ∷ ys) - 1 ≡ length ys = omega arith in
+    subst (λ n. AllByRecursion P (take n (x ∷ (y ∷ ys)))) (sym long) (first, subst (λ n. AllByRecursion P (take n (y ∷ ys))) short all)
+
+-- and with a list before
+pub all_but_last : {X : Type 0} (P : X → Type 0) (xs ys : List X) → AllByRecursion P xs → AllByRecursion P (take (length ys - 1) ys) → AllByRecursion P (take (length (xs ++ ys) - 1) (xs ++ ys))
+all_but_last P [] ys first second = second
+all_but_last P (x ∷ xs) ys first second = one_before P x (xs ++ ys) first.0 (all_but_last P xs ys first.1 second)
 
 module _ {X : Type 0} where
   pub IsFront-whole : (front more : List X) → IsFront front (front ++ more)
@@ -73,16 +93,18 @@ module _ {H : Type 0} (may : H → HubStep → H → Type 0) where
       rest = [];
       parts = sym (append-nil (deeds (told_by step ++ [])) ∙ ap (λ (l : List Event). deeds l) (append-nil (told_by step)));
     };
+    went_on = tt;
   }
 
   abbrev pub TellsPart-none : (hub : H) (whole : List Deed) → TellsPart may hub whole hub
-  TellsPart-none hub whole = record { steps = []; leads = start; front = record { rest = whole; parts = refl } }
+  TellsPart-none hub whole = record { steps = []; leads = start; front = record { rest = whole; parts = refl }; went_on = tt }
 
   abbrev pub TellsPart-same : (old new : H) (xs ys : List Deed) → xs ≡ ys → TellsPart may old xs new → TellsPart may old ys new
   TellsPart-same old new xs ys same part = record {
     steps = part.steps;
     leads = part.leads;
     front = record { rest = part.front.rest; parts = sym same ∙ part.front.parts };
+    went_on = part.went_on;
   }
 
   -- the whole is a front
@@ -91,6 +113,7 @@ module _ {H : Type 0} (may : H → HubStep → H → Type 0) where
     steps = tells.steps;
     leads = tells.leads;
     front = record { rest = []; parts = sym (append-nil (deeds (story tells.steps)) ∙ tells.deeds) };
+    went_on = all_of_front (λ step. goes_on step ≡ true) (length tells.steps - 1) tells.steps tells.went_on;
   }
 
   -- a front of the first of two is a front of both
@@ -99,6 +122,7 @@ module _ {H : Type 0} (may : H → HubStep → H → Type 0) where
     steps = part.steps;
     leads = part.leads;
     front = IsFront-first (deeds (story part.steps)) xs ys part.front;
+    went_on = part.went_on;
   }
 
   -- the first and a front of the second are a front of both
@@ -115,4 +139,5 @@ module _ {H : Type 0} (may : H → HubStep → H → Type 0) where
               ∙ ap (λ (l : List Deed). l ++ both.rest)
               (sym (deeds-story first.steps second.steps ∙ ap (λ (l : List Deed). l ++ deeds (story second.steps)) first.deeds));
         };
+        went_on = all_but_last (λ step. goes_on step ≡ true) first.steps second.steps first.went_on second.went_on;
       }

@@ -1,5 +1,5 @@
 -- What a call that drives a controller has done.
-use Rattle.std.specs.Prelude.{◌≡◌, ℕ, ◌<◌, ◌≤◌, Bool, true, false, List, ◌++◌, length, Option, Some}
+use Rattle.std.specs.Prelude.{◌≡◌, ℕ, ◌-◌, ◌<◌, ◌≤◌, Bool, true, false, List, ◌++◌, length, take, Option, Some}
 use Rattle.fg_outside.specs.declared.hub.Happening.{Happening}
 use Rattle.fg_outside.specs.declared.hub.Turn.TheVariants as turns
 use Rattle.fg_outside.specs.declared.hub.Said.TheVariants as answers
@@ -39,11 +39,12 @@ pub record Tells {H : Type 0} (may : H → HubStep → H → Type 0) (old : H) (
   pub deeds : deeds (story steps) ≡ told
   pub went_on : AllByRecursion (λ step. goes_on step ≡ true) steps
 
--- a hub gave and was told a front of this
+-- a hub gave and was told a front of this: each turn gave a happening, and no call was answered want of memory, but for the last call
 pub record TellsPart {H : Type 0} (may : H → HubStep → H → Type 0) (old : H) (told : List Deed) (new : H) : Type 0 where
   pub steps : List HubStep
   pub leads : Leads may old steps new
   pub front : IsFront (deeds (story steps)) told
+  pub went_on : AllByRecursion (λ step. goes_on step ≡ true) (take (length steps - 1) steps)
 
 -- a message was said on a connection of the hub, for which it had no memory
 abbrev pub HasNoRoom : {H : Type 0} → (H → HubStep → H → Type 0) → (old new : H) → Type 0
