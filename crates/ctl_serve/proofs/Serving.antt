@@ -10,22 +10,22 @@ use Rattle.fg_outside.specs.Contents.{Contents}
 use Rattle.fg_outside.specs.HubStep.{HubStep, Event, Leads, closed, happenings, next, said, start, story, turned}
 use Rattle.fg_outside.specs.Wrote.{appended, AppendsFront}
 use Rattle.fg_outside.proofs.SinkLemmas.{appended-nil, AppendsFront-none}
-use Rattle.fg_outside.proofs.StoryLemmas.{Leads-append}
+use Rattle.fg_outside.proofs.StoryLemmas.{Leads-append, story-append}
 use Rattle.fg_links.specs.HubInMemory.{lacks_memory}
 use Rattle.conf_types.specs.Configuration.{Configuration}
 use Rattle.watch_hub.specs.declared.watch.Watch.{Watch}
 use Rattle.watch_hub.specs.Texts.{AreTold, missed}
 use Rattle.watch_hub.specs.Watch.{IsBegun, WatchStep, files_in, hub_in, is_spent, last_in, looked_in, waiting_in, waits_in}
 use Rattle.watch_hub.specs.Watched.{looks_from, reloads, watched, watched_from}
-use Rattle.watch_hub.specs.WatchedStory.{PutsIn, WatchedStory}
+use Rattle.watch_hub.specs.WatchedStory.{PutsIn, WatchedPart, WatchedStory, none}
 use Rattle.ctl_world.specs.World.{World, first}
 use Rattle.ctl_drive.specs.declared.drive.Drove.{Drove}
 use Rattle.ctl_drive.specs.declared.drive.Drove.TheVariants as drove
 use Rattle.ctl_drive.specs.declared.sayings.Outlet.TheVariants.{Hub}
 use Rattle.ctl_drive.specs.Driving.{deeds_of}
-use Rattle.ctl_drive.specs.Driven.{Drives, Tells, goes_on}
+use Rattle.ctl_drive.specs.Driven.{AnswersFront, Drives, Tells, goes_on}
 use Rattle.ctl_drive.proofs.Deeds.{whole_happened}
-use Rattle.ctl_serve.specs.Served.{Served, ServesTo, last_call}
+use Rattle.ctl_serve.specs.Served.{Served, ServedPart, ServesTo, last_call}
 
 -- ---- fronts of lists
 
@@ -33,7 +33,10 @@ front_then : {X : Type 0} (n : ℕ) (xs more : List X) → length xs ≡ n → t
 front_then n xs more is = take-append-le n xs more (omega (arith, is)) ∙ take_all n xs (omega (arith, is))
 
 front_whole : {X : Type 0} (n : ℕ) (xs more : List X) → more ≡ [] → length xs ≤ n → take n (xs ++ more) ≡ xs
-front_whole {X = X} n xs more none le = ap (λ (l : List X). take n (xs ++ l)) none ∙ ap (λ (l : List X). take n l) (append-nil xs) ∙ take_all n xs le
+front_whole {X = X} n xs more empty le = ap (λ (l : List X). take n (xs ++ l)) empty ∙ ap (λ (l : List X). take n l) (append-nil xs) ∙ take_all n xs le
+
+at_most : (a b c : ℕ) → a ≤ b → b ≤ c → a ≤ c
+at_most a b c low high = omega (arith, low, high)
 
 -- of nothing, nothing is written
 pub front_of_nothing : (old new : Option (List ℕ)) → AppendsFront old new [] → new ≡ old
@@ -70,8 +73,10 @@ module _ {H F : Type 0} (may : H → HubStep → H → Type 0) (contents : F →
       (holds : HubStep → Bool) (from to : Watch H F) (steps : List HubStep) → waits_in from ≡ false → is_spent to ≡ false → AllByRecursion (λ step. holds step ≡ true) steps → Leads Step from steps to
       → (told : WatchedStory may contents faults from (story steps) to) × AllByRecursion (λ step. holds step ≡ true) told.hub.steps
 
-  abbrev pub GoAlong : Type 0
-  GoAlong = (from to : Watch H F) (steps : List HubStep) → Leads Step from steps to → (way : List HubStep) × Leads may (hub_in from) way (hub_in to)
+  abbrev pub TellsWatchedPart : Type 0
+  TellsWatchedPart =
+      (from to : Watch H F) (steps : List HubStep) → waits_in from ≡ false → is_spent from ≡ false → AllByRecursion (λ step. lacks_memory step ≡ false) (take (length steps - 1) steps) → Leads Step from steps to
+      → WatchedPart may contents faults from (story steps) to
 
   module _ (running : IsRunning) (watched_story : TellsWatched) (from : Watch H F) (name text : List ℕ) (every : ℕ) (begun : IsBegun from name text every) (w : World) where
     -- what all that happened came to, and then a last call of the hub that leaves the files
@@ -113,6 +118,49 @@ module _ {H F : Type 0} (may : H → HubStep → H → Type 0) (contents : F →
               (subst (λ (l : List ℕ). min (faults (files_in from) + missed held l 1 told.texts) (2 ^ 64 - 1) ≤ faults (files_in mid)) begun.name (told.few_missed held is));
         }
 
+  -- what all that happened came to up to want of memory
+  module _ (watched_part : TellsWatchedPart) (from : Watch H F) (name text : List ℕ) (every : ℕ) (begun : IsBegun from name text every) (w : World) where
+    served_part : (hs : List Happening) (to : Watch H F) (out_old out_new err_old err_new : Option (List ℕ)) → AnswersFront Step Hub w hs from to out_old out_new err_old err_new
+        → ServedPart may contents faults name text every w hs (hub_in from) (hub_in to) (files_in from) (files_in to)
+    served_part hs to out_old out_new err_old err_new front =
+        let calls : List HubStep = front.told.steps in
+        let part : WatchedPart may contents faults from (story calls) to = watched_part from to calls begun.waits begun.running (all_answered (take (length calls - 1) calls) front.told.went_on) front.told.leads in
+        let until : Watch H F = part.until in
+        let told : WatchedStory may contents faults from (story calls) until = part.watched in
+        let hub_happened : List Happening = happenings told.hub_events in
+        let all : hs ++ waiting_in until ≡ watched hub_happened told.texts text every =
+        ap (λ (l : List Happening). l ++ waiting_in until) (sym front.happened)
+        ∙ told.told
+        ∙ ap (λ n. watched_from n (looked_in from) (last_in from) told.texts hub_happened) begun.every
+        ∙ ap (λ n. watched_from every n (last_in from) told.texts hub_happened) begun.looked
+        ∙ ap (λ (l : List ℕ). watched_from every 0 l told.texts hub_happened) begun.last in
+        record {
+          steps = told.hub.steps ++ part.hub.steps;
+          leads = Leads-append may (hub_in from) (hub_in until) told.hub.steps told.hub.leads part.hub.steps (hub_in to) part.hub.leads;
+          taken_in = told.hub_events;
+          lost = part.lost;
+          few = part.few;
+          gave =
+              story-append told.hub.steps part.hub.steps
+              ∙ ap (λ (l : List Event). l ++ story part.hub.steps) told.hub.is
+              ∙ ap (λ (l : List Event). told.hub_events ++ l) part.hub.is;
+          texts = told.texts;
+          watches = sym (front_then (length hs) hs (waiting_in until) refl) ∙ ap (λ (l : List Happening). take (length hs) l) all;
+          events = story calls;
+          put_in = told.put_in;
+          all = front.happened;
+          told = front.told.front;
+          looks =
+              told.looks
+              ∙ ap (λ n. looks_from n (looked_in from) hub_happened) begun.every
+              ∙ ap (λ n. looks_from every n hub_happened) begun.looked;
+          are_told = λ held is. subst (λ (l : List ℕ). AreTold held l 1 told.texts) begun.name (told.are_told held is);
+          few_missed = λ held is.
+              let below : min (faults (files_in from) + missed held name 1 told.texts) (2 ^ 64 - 1) ≤ faults (files_in until) =
+              subst (λ (l : List ℕ). min (faults (files_in from) + missed held l 1 told.texts) (2 ^ 64 - 1) ≤ faults (files_in until)) begun.name (told.few_missed held is) in
+              at_most _ (faults (files_in until)) (faults (files_in to)) below part.counted;
+        }
+
   -- nothing goes to standard output
   module _ (from to : Watch H F) (most : ℕ) (w : World) (core : Option World) (out_old out_new err_old err_new : Option (List ℕ)) where
     pub nothing_out : (how : Drove) → Drives Step Hub most w core from to out_old out_new err_old err_new how → out_new ≡ out_old
@@ -123,13 +171,13 @@ module _ {H F : Type 0} (may : H → HubStep → H → Type 0) (contents : F →
     nothing_out drove.Memory (hs, few, front) = front_of_nothing out_old out_new front.out
 
   -- what serving came to, by how it ended
-  module _ (running : IsRunning) (watched_story : TellsWatched) (along : GoAlong) (from to : Watch H F) (name text : List ℕ) (every most : ℕ) (begun : IsBegun from name text every) (conf : Configuration) (core : Option World) (out_old out_new err_old err_new : Option (List ℕ)) where
+  module _ (running : IsRunning) (watched_story : TellsWatched) (watched_part : TellsWatchedPart) (from to : Watch H F) (name text : List ℕ) (every most : ℕ) (begun : IsBegun from name text every) (conf : Configuration) (core : Option World) (out_old out_new err_old err_new : Option (List ℕ)) where
     abbrev Serves : Drove → Type 0
     Serves how = ServesTo may contents faults name text every most conf (hub_in from) (hub_in to) (files_in from) (files_in to) err_old err_new how
 
     -- nothing waits where the hub's answer was the last
     idle : (hs : List Happening) (watch : Watch H F) → waits_in watch ≡ false → length hs ≤ most → take most (hs ++ waiting_in watch) ≡ hs
-    idle hs watch none few = front_whole most hs (waiting_in watch) (ap (λ (b : Bool). reloads b (last_in watch)) none) few
+    idle hs watch quiet few = front_whole most hs (waiting_in watch) (ap (λ (b : Bool). reloads b (last_in watch)) quiet) few
 
     pub serves : (how : Drove) → Drives Step Hub most (first conf) core from to out_old out_new err_old err_new how → Serves how
     serves drove.Done (hs, mid, few, all, last) = (
@@ -158,8 +206,29 @@ module _ {H F : Type 0} (may : H → HubStep → H → Type 0) (contents : F →
       served running watched_story from name text every begun (first conf) hs to told (length hs) (front_then (length hs) hs (waiting_in to) refl) drove.WriteFault to start refl,
       front.err,
     )
-    serves drove.Memory (hs, few, front) = (hs, few, along from to front.told.steps front.told.leads, front.err)
+    serves drove.Memory (hs, few, front) = (hs, few, served_part watched_part from name text every begun (first conf) hs to out_old out_new err_old err_new front, front.err)
 
   -- the controller wasn't made
   pub serves_none : (watch : Watch H F) (name text : List ℕ) (every most : ℕ) (conf : Configuration) (err : Option (List ℕ)) → ServesTo may contents faults name text every most conf (hub_in watch) (hub_in watch) (files_in watch) (files_in watch) err err drove.Memory
-  serves_none watch name text every most conf err = ([], omega arith, ([], start), AppendsFront-none err [])
+  serves_none watch name text every most conf err = (
+    [],
+    omega arith,
+    record {
+      steps = [];
+      leads = start;
+      taken_in = [];
+      lost = [];
+      few = omega arith;
+      gave = refl;
+      texts = [];
+      watches = refl;
+      events = [];
+      put_in = none;
+      all = refl;
+      told = record { rest = []; parts = refl };
+      looks = refl;
+      are_told = λ held is. tt;
+      few_missed = λ held is. omega arith;
+    },
+    AppendsFront-none err [],
+  )

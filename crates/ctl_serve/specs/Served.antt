@@ -1,10 +1,10 @@
 -- What becomes of a hub on whose turns a controller is run beside a watched file.
-use Rattle.std.specs.Prelude.{◌≡◌, ℕ, ◌+◌, ◌-◌, ◌^◌, ◌<◌, ◌≤◌, min, true, List, [], ◌∷◌, ◌++◌, length, take, Option, Some}
+use Rattle.std.specs.Prelude.{◌≡◌, ℕ, ◌+◌, ◌-◌, ◌^◌, ◌<◌, ◌≤◌, min, true, List, [], ◌∷◌, ◌++◌, length, map, take, Option, Some}
 use Rattle.std.specs.List.{AllByRecursion}
 use Rattle.fg_outside.specs.declared.hub.Happening.{Happening}
 use Rattle.fg_outside.specs.declared.hub.Turn.TheVariants as turns
 use Rattle.fg_outside.specs.Contents.{Contents}
-use Rattle.fg_outside.specs.HubStep.{HubStep, Event, Leads, happenings, story, turned}
+use Rattle.fg_outside.specs.HubStep.{HubStep, Event, Leads, happening, happenings, story, turned}
 use Rattle.fg_outside.specs.Wrote.{appended, AppendsFront}
 use Rattle.conf_types.specs.Configuration.{Configuration}
 use Rattle.watch_hub.specs.Texts.{AreTold, missed, refreshed_by}
@@ -14,7 +14,7 @@ use Rattle.ctl_world.specs.World.{World, first}
 use Rattle.ctl_drive.specs.declared.drive.Drove.{Drove}
 use Rattle.ctl_drive.specs.declared.drive.Drove.TheVariants.{Done, HubFault, Spent, WriteFault, Memory}
 use Rattle.ctl_drive.specs.declared.sayings.Outlet.TheVariants.{Hub}
-use Rattle.ctl_drive.specs.Driving.{deeds, deeds_of, lines_of}
+use Rattle.ctl_drive.specs.Driving.{IsFront, deeds, deeds_of, lines_of}
 use Rattle.ctl_drive.specs.Driven.{goes_on}
 
 -- the last call of a hub that ends so: a turn in which it says that it is done, or fails; else none
@@ -48,6 +48,32 @@ pub record Served {H F : Type 0} (may : H → HubStep → H → Type 0) (content
   pub are_told : (held : Contents) → contents files_old ≡ Some held → AreTold held name 1 texts
   pub few_missed : (held : Contents) → contents files_old ≡ Some held → min (faults files_old + missed held name 1 texts) (2 ^ 64 - 1) ≤ faults files_new
 
+-- A hub came from one state to another while this happened to a controller that knew this first, until memory ran out, and was told a
+-- front of what the controller says of it. Files were looked at meanwhile, where the file of this name had this text at the start.
+pub record ServedPart {H F : Type 0} (may : H → HubStep → H → Type 0) (contents : F → Option Contents) (faults : F → ℕ) (name text : List ℕ) (every : ℕ) (w : World) (happened : List Happening)
+    (hub_old hub_new : H) (files_old files_new : F) : Type 0 where
+  -- the hub's calls; all of their story was taken in, but for at most one happening that it gave last
+  pub steps : List HubStep
+  pub leads : Leads may hub_old steps hub_new
+  pub taken_in : List Event
+  pub lost : List Happening
+  pub few : length lost ≤ 1
+  pub gave : story steps ≡ taken_in ++ map (λ (it : Happening). happening it) lost
+  -- what happened is the front, of so many happenings, of what was taken in with a reload behind each moment of a look whose text
+  -- differs from the last; the looks found these texts
+  pub texts : List (Option (List ℕ))
+  pub watches : happened ≡ take (length happened) (watched (happenings taken_in) texts text every)
+  -- with such reloads put in between, this is all that happened, and a front of it with all that is said of it, in this order
+  pub events : List Event
+  pub put_in : PutsIn taken_in events
+  pub all : happenings events ≡ happened
+  pub told : IsFront (deeds events) (deeds_of Hub w happened)
+  -- each of these looks has the text of what the files held then, or none; those that have none although their files were there
+  -- are at most as many as the count of faults rose
+  pub looks : length texts ≡ looks_from every 0 (happenings taken_in)
+  pub are_told : (held : Contents) → contents files_old ≡ Some held → AreTold held name 1 texts
+  pub few_missed : (held : Contents) → contents files_old ≡ Some held → min (faults files_old + missed held name 1 texts) (2 ^ 64 - 1) ≤ faults files_new
+
 -- how often something happened: less often than it may, and then the hub said that it is done, or failed; or just as often
 abbrev pub Ended : (most : ℕ) → List Happening → Drove → Type 0
 Ended most happened Done = length happened < most
@@ -57,7 +83,7 @@ Ended most happened WriteFault = length happened ≤ most
 Ended most happened Memory = length happened ≤ most
 
 -- Where nothing failed on this side, all that happened is answered whole, to the hub and on standard error. Where a write failed,
--- the hub was told all, and a front of the lines stands. Where memory ran out, a front of the lines stands, and the hub went some way.
+-- the hub was told all, and a front of the lines stands. Where memory ran out, the hub was told a front, and a front of the lines stands.
 abbrev pub ServesTo : {H F : Type 0} → (H → HubStep → H → Type 0) → (F → Option Contents) → (F → ℕ) → (name text : List ℕ) → (every most : ℕ) → Configuration
     → (hub_old hub_new : H) → (files_old files_new : F) → (err_old err_new : Option (List ℕ)) → Drove → Type 0
 ServesTo may contents faults name text every most conf hub_old hub_new files_old files_new err_old err_new Done =
@@ -74,4 +100,4 @@ ServesTo may contents faults name text every most conf hub_old hub_new files_old
     × Served may contents faults name text every (length happened) (first conf) happened WriteFault hub_old hub_new files_old files_new × AppendsFront err_old err_new (lines_of (first conf) happened)
 ServesTo may contents faults name text every most conf hub_old hub_new files_old files_new err_old err_new Memory =
     (happened : List Happening) × Ended most happened Memory
-    × ((way : List HubStep) × Leads may hub_old way hub_new) × AppendsFront err_old err_new (lines_of (first conf) happened)
+    × ServedPart may contents faults name text every (first conf) happened hub_old hub_new files_old files_new × AppendsFront err_old err_new (lines_of (first conf) happened)

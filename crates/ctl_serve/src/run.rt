@@ -11,8 +11,8 @@ use fg_outside::{Files, Hub, Sink};
 use std::alloc::Global;
 use watch_hub::Watch;
 use watch_hub::laws::{
-    a_watch_is_spent_only_where_it_says_so, the_counts_of_its_files_stand, the_hub_goes_along,
-    what_holds_of_its_calls_holds_of_its_hubs,
+    a_watch_is_spent_only_where_it_says_so, a_way_to_want_of_memory_tells_the_watched_story,
+    the_counts_of_its_files_stand, what_holds_of_its_calls_holds_of_its_hubs,
 };
 
 /// Runs the controller of a configuration on the turns of a hub beside which its file is watched, `most` of them
@@ -28,7 +28,8 @@ pub fn serve<H: Hub, F: Files, O: Sink, E: Sink, T: Tally>(
     err: &mut E,
     units: &mut T,
 ) -> (Drove, H, F)
-    // The story is that of the hub with the reloads of the looks between, and the hub is told what the controller says of it.
+    // The story is that of the hub with the reloads of the looks between, and the hub is told what the controller says of it;
+    // where memory ran out, a front of that.
     ensures serves { (name text : List ℕ) (every : ℕ) → IsBegun watch name text every
         → ServesTo H.may F.contents F.faults name text every most conf (hub_in watch) result.1 (files_in watch) result.2 (E.wrote err.old) (E.wrote err.new) result.0 }
     ensures out { O.wrote out.new ≡ O.wrote out.old }
@@ -46,8 +47,8 @@ pub fn serve<H: Hub, F: Files, O: Sink, E: Sink, T: Tally>(
     ensures err_faults { E.faults err.old ≤ E.faults err.new }
 {
     a_watch_is_spent_only_where_it_says_so::<H, F>();
+    a_way_to_want_of_memory_tells_the_watched_story::<H, F>();
     the_counts_of_its_files_stand::<H, F>();
-    the_hub_goes_along::<H, F>();
     what_holds_of_its_calls_holds_of_its_hubs::<H, F>();
     let mut watch = watch;
     let Ok(mut core) = Controller::new(alloc, conf) else {

@@ -6,13 +6,13 @@ use Rattle.ctl_serve.proofs.run.serve.Goals as goal
 
 pub returns-in_default-clause-serves : goal.returns-in_default-clause-serves
 returns-in_default-clause-serves g c = λ name text every begun.
-    rw c.into_parts-hub.ensures.hub
+    rw (c.into_parts-hub.ensures.hub, c.into_parts-hub.ensures.files)
     (serves_none g.H.Hub.may g.F.Files.contents g.F.Files.faults g.F.Files.absences c.args.watch name text every c.args.most c.args.conf (g.E.Sink.wrote c.args.err.now))
 
 pub returns-clause-serves : goal.returns-clause-serves
 returns-clause-serves g c = λ name text every begun.
     rw (c.into_parts-hub_after.ensures.hub, c.into_parts-hub_after.ensures.files)
-    (serves g.H.Hub.may g.F.Files.contents g.F.Files.faults g.F.Files.absences c.a_watch_is_spent_only_where_it_says_so.ensures c.what_holds_of_its_calls_holds_of_its_hubs.ensures c.the_hub_goes_along.ensures
+    (serves g.H.Hub.may g.F.Files.contents g.F.Files.faults g.F.Files.absences c.a_watch_is_spent_only_where_it_says_so.ensures c.what_holds_of_its_calls_holds_of_its_hubs.ensures c.a_way_to_want_of_memory_tells_the_watched_story.ensures
     c.args.watch c.drive-drove.new.hub name text every c.args.most begun c.args.conf c.drive-drove.new.core (g.O.Sink.wrote c.args.out.now) (g.O.Sink.wrote c.drive-drove.new.out) (g.E.Sink.wrote c.args.err.now) (g.E.Sink.wrote c.drive-drove.new.err)
     c.drive-drove.result (c.drive-drove.ensures.drove (first c.args.conf) c.in-Ok.ensures))
 
