@@ -22,7 +22,7 @@ use Rattle.ctl_world.specs.World.{World, first}
 use Rattle.ctl_drive.specs.declared.drive.Drove.{Drove}
 use Rattle.ctl_drive.specs.declared.drive.Drove.TheVariants as drove
 use Rattle.ctl_drive.specs.Driving.{lines_of}
-use Rattle.ctl_serve.specs.Served.{Served, ServesTo}
+use Rattle.ctl_serve.specs.Served.{Served, ServedPart, ServesTo}
 use Rattle.faucet_top.specs.declared.deliver.Status.{Status}
 use Rattle.faucet_top.specs.declared.deliver.Status.TheVariants as statuses
 use Rattle.faucet_top.specs.Answer.{Answer, Load, served_line}
@@ -127,13 +127,32 @@ module _ {H F : Type 0} (may : H → HubStep → H → Type 0) (contents : F →
     few_missed = λ held is. subst (λ n. min (n + missed held config 1 s.texts) (2 ^ 64 - 1) ≤ faults files1) as_often (s.few_missed held (same ∙ is));
   }
 
+  part_since : (w : World) (happened : List Happening) → ServedPart may contents faults config text reload_ms w happened hub0 hub1 loaded_from files1 → ServedPart may contents faults config text reload_ms w happened hub0 hub1 files0 files1
+  part_since w happened s = record {
+    steps = s.steps;
+    leads = s.leads;
+    taken_in = s.taken_in;
+    lost = s.lost;
+    few = s.few;
+    gave = s.gave;
+    texts = s.texts;
+    watches = s.watches;
+    events = s.events;
+    put_in = s.put_in;
+    all = s.all;
+    told = s.told;
+    looks = s.looks;
+    are_told = λ held is. s.are_told held (same ∙ is);
+    few_missed = λ held is. subst (λ n. min (n + missed held config 1 s.texts) (2 ^ 64 - 1) ≤ faults files1) as_often (s.few_missed held (same ∙ is));
+  }
+
   pub serves_since : (most : ℕ) (conf : Configuration) (e0 e1 : Option (List ℕ)) (end : Drove) → ServesTo may contents faults config text reload_ms most conf hub0 hub1 loaded_from files1 e0 e1 end
       → ServesTo may contents faults config text reload_ms most conf hub0 hub1 files0 files1 e0 e1 end
   serves_since most conf e0 e1 drove.Done (happened, few, served, said) = (happened, few, served_since most (first conf) happened drove.Done served, said)
   serves_since most conf e0 e1 drove.HubFault (happened, few, served, said) = (happened, few, served_since most (first conf) happened drove.HubFault served, said)
   serves_since most conf e0 e1 drove.Spent (happened, all, served, said) = (happened, all, served_since most (first conf) happened drove.Spent served, said)
   serves_since most conf e0 e1 drove.WriteFault (happened, few, served, front) = (happened, few, served_since (length happened) (first conf) happened drove.WriteFault served, front)
-  serves_since most conf e0 e1 drove.Memory serves = serves
+  serves_since most conf e0 e1 drove.Memory (happened, few, part, front) = (happened, few, part_since (first conf) happened part, front)
 
 -- ---- until it ended
 
@@ -165,11 +184,11 @@ module _ {H F : Type 0} (may : H → HubStep → H → Type 0) (contents : F →
     nothing_behind o0 o1 e0 e1 e2 m0 m1 n0 n1 n2 [] (lines_of (first conf) happened) [] 4 ended
         (subst (λ (o : Option (List ℕ)). AppendsFront o0 o []) (sym quiet) (AppendsFront-none o0 [])) front (failed refl) le ends,
   )
-  serves_until drove.Memory (happened, few, way, front) quiet ends failed kept le =
+  serves_until drove.Memory (happened, few, part, front) quiet ends failed kept le =
       let lines = lines_of (first conf) happened in (
         happened,
         few,
-        way,
+        part,
         (
           take front.count lines,
           record { rest = drop front.count lines; parts = sym (take-append-drop front.count lines) },

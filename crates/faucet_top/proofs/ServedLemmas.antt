@@ -112,7 +112,7 @@ module _ (status : ℕ) (o0 o1 e0 e1 : Option (List ℕ)) (m0 m1 n0 n1 : ℕ) wh
     came text conf drove.HubFault (happened, few, served, whole) = inl (λ is. cc, (lines_of (first conf) happened, whole))
     came text conf drove.Spent (happened, all, served, whole) = inl (λ is. cc, (lines_of (first conf) happened, whole))
     came text conf drove.WriteFault (happened, few, served, broke) = inr (served_answer (lines_of (first conf) happened) drove.WriteFault, broke)
-    came text conf drove.Memory (happened, few, way, some) = inl (λ is. cc, (some.0, some.2))
+    came text conf drove.Memory (happened, few, part, some) = inl (λ is. cc, (some.0, some.2))
 
     unserved_status : (a : Answer) → UnservedAnswer (contents files0) absence fault refused config a → (n : ℕ) → (n ≡ 2 → ⊥) → (n ≡ 3 → ⊥) → (n ≡ 8 → ⊥) → a.status ≡ n → ⊥
     unserved_status a (inl memory) n two three eight s = eight (sym s ∙ ap (λ (b : Answer). b.status) memory)

@@ -2,7 +2,7 @@
 use Rattle.std.specs.Prelude.{◌≡◌, ◌⊎◌, ℕ, List, [], ◌++◌, Option, Some, None, Result, Ok, Err, length}
 use Rattle.fg_outside.specs.Contents.{Contents}
 use Rattle.fg_outside.specs.declared.hub.Happening.{Happening}
-use Rattle.fg_outside.specs.HubStep.{HubStep, Leads}
+use Rattle.fg_outside.specs.HubStep.{HubStep}
 use Rattle.fg_outside.specs.Wrote.{appended}
 use Rattle.conf_types.specs.Configuration.{Configuration}
 use Rattle.conf_gather.specs.declared.refused.LoadRefused.{LoadRefused}
@@ -17,7 +17,7 @@ use Rattle.law_stories.specs.Right.{IsRight}
 use Rattle.ctl_drive.specs.declared.drive.Drove.{Drove}
 use Rattle.ctl_drive.specs.declared.drive.Drove.TheVariants as drove
 use Rattle.ctl_drive.specs.Driving.{IsFront, lines_of}
-use Rattle.ctl_serve.specs.Served.{Ended, Served}
+use Rattle.ctl_serve.specs.Served.{Ended, Served, ServedPart}
 use Rattle.faucet_top.specs.Answer.{Answer, out_of_memory, refusal, served_line}
 use Rattle.faucet_top.specs.Ends.{status_served}
 use Rattle.faucet_top.specs.Given.{BreaksOff, Delivers, Gives, Loads}
@@ -60,7 +60,7 @@ ServesUntil may contents faults config text reload_ms events conf hub_old hub_ne
     × broke_off (served_answer (lines_of (first conf) happened) drove.WriteFault)
 ServesUntil may contents faults config text reload_ms events conf hub_old hub_new files_old files_new delivered broke_off drove.Memory =
     (happened : List Happening) × Ended events happened drove.Memory
-    × ((way : List HubStep) × Leads may hub_old way hub_new)
+    × ServedPart may contents faults config text reload_ms (first conf) happened hub_old hub_new files_old files_new
     × ((lines : List ℕ) × IsFront lines (lines_of (first conf) happened) × delivered (served_answer lines drove.Memory))
 
 -- The hub wasn't asked; or the file gave this configuration, of a document with this text, and its controller was run on the hub
