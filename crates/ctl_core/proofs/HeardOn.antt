@@ -3,7 +3,8 @@ use Rattle.std.proofs.Common.{◌≡◌, ℕ, suc, ◌+◌, ◌-◌, ◌<◌, �
 use Rattle.std.proofs.lemmas.Bool.{or_parts}
 use Rattle.ctl_world.specs.World.{World}
 use Rattle.ctl_core.specs.Changes.{any_changes, next_changes}
-use Rattle.ctl_core.specs.Hearing.{has_frame, hear_frames, hear_next}
+use Rattle.ctl_life.specs.Life.{has_frame}
+use Rattle.ctl_core.specs.Hearing.{hear_frames, hear_next}
 
 module _ (most i number : ℕ) (w : World) where
   pub all_none : any_changes most number w ≡ false → any_changes (most - 0) number w ≡ false

@@ -7,9 +7,10 @@ use Rattle.ctl_world.specs.Connections.{is_open}
 use Rattle.ctl_world.specs.Ends.{close, ended}
 use Rattle.ctl_world.specs.World.{World}
 use Rattle.ctl_settle.specs.Rest.{AreInOrder}
-use Rattle.ctl_core.specs.Hearing.{hear_frame, read}
+use Rattle.ctl_life.specs.Life.{read, feed, open_conn}
+use Rattle.ctl_core.specs.Hearing.{hear_frame}
 use Rattle.ctl_core.specs.Reloading.{accepted, reload}
-use Rattle.ctl_core.specs.Turns.{feed, open_conn, pass}
+use Rattle.ctl_core.specs.Turns.{pass}
 use Rattle.ctl_core.proofs.Stands.{Stands, close_stands, ended_stands, feed_stands, heard_stands, open_stands, pass_stands, read_stands, reload_stands}
 
 abbrev Any : Configuration → Type 0

@@ -1,14 +1,11 @@
-pub mod Heard
 pub mod HeardOn
 pub mod InOrder
 pub mod Numbered
-pub mod Openings
 pub mod Ordered
 pub mod PacketSteps
 pub mod ReloadSteps
 pub mod Rests
 pub mod SaidTables
-pub mod Silence
 pub mod SoundFrames
 pub mod SoundGateways
 pub mod SoundReloads
@@ -16,5 +13,4 @@ pub mod SoundSteps
 pub mod SoundTurns
 pub mod Stands
 pub mod Stays
-pub mod TurnLooks
 pub mod Walk

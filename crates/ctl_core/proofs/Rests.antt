@@ -11,7 +11,8 @@ use Rattle.ctl_settle.specs.Settling.{settle}
 use Rattle.ctl_settle.proofs.Until.{end_alike, until_stays}
 use Rattle.ctl_core.specs.declared.known.Known.{Known}
 use Rattle.ctl_core.specs.Known.{HasSettled}
-use Rattle.ctl_core.specs.Turns.{age, show}
+use Rattle.ctl_life.specs.Silence.{show}
+use Rattle.ctl_core.specs.Turns.{age}
 
 -- bytes that come are nothing that a settling looks at
 pub fed_face : (piece : List ℕ) (moment : Moment) (c : Conn) → face (with_fed piece moment c) ≡ face c

@@ -14,7 +14,8 @@ use Rattle.ctl_world.specs.World.{IsSound, World}
 use Rattle.ctl_world.proofs.SoundChanges.{added_sound, change_sound}
 use Rattle.ctl_world.proofs.SoundEnds.{forget_sound}
 use Rattle.ctl_packets.proofs.Sound.{packet_sound}
-use Rattle.ctl_core.specs.Hearing.{hear_frame, packet, read}
+use Rattle.ctl_life.specs.Life.{read}
+use Rattle.ctl_core.specs.Hearing.{hear_frame, packet}
 use Rattle.ctl_core.proofs.PacketSteps.{packet_kept}
 use Rattle.ctl_core.proofs.SoundSteps.{Holds, ask_holds, close_holds, say_holds, say_valid}
 use Rattle.ctl_core.proofs.SoundTurns.{sound_steps}

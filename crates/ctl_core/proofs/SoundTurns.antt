@@ -11,7 +11,8 @@ use Rattle.ctl_world.specs.Saying.{packet_out}
 use Rattle.ctl_world.specs.World.{IsSound, World}
 use Rattle.ctl_world.proofs.SoundChanges.{added_sound, change_sound, moment_sound, put_sound, say_sound}
 use Rattle.ctl_world.proofs.SoundEnds.{part_sound}
-use Rattle.ctl_core.specs.Turns.{feed, open_conn, pass}
+use Rattle.ctl_life.specs.Life.{feed, open_conn}
+use Rattle.ctl_core.specs.Turns.{pass}
 use Rattle.ctl_core.proofs.SoundGateways.{want_holds}
 use Rattle.ctl_core.proofs.SoundSteps.{Holds, close_holds, say_holds}
 use Rattle.ctl_core.proofs.Walk.{Steps, pass_kept}

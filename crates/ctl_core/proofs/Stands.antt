@@ -17,9 +17,10 @@ use Rattle.ctl_world.specs.Frames.{with_read}
 use Rattle.ctl_world.specs.Saying.{ask, packet_out, say, say_by}
 use Rattle.ctl_world.specs.World.{World}
 use Rattle.ctl_settle.specs.Settling.{ask_all, settle}
-use Rattle.ctl_core.specs.Hearing.{hear_frame, packet, read}
+use Rattle.ctl_life.specs.Life.{read, feed, open_conn}
+use Rattle.ctl_core.specs.Hearing.{hear_frame, packet}
 use Rattle.ctl_core.specs.Reloading.{reload}
-use Rattle.ctl_core.specs.Turns.{feed, open_conn, pass}
+use Rattle.ctl_core.specs.Turns.{pass}
 use Rattle.ctl_core.proofs.Ordered.{AreOrdered, change_ordered, put_ordered, without_ordered}
 use Rattle.ctl_core.proofs.PacketSteps.{packet_kept}
 use Rattle.ctl_core.proofs.Walk.{Batches, Setup, Steps, asks_kept, heard_kept, pass_kept, reload_kept, settle_kept, wants_by, with_any}

@@ -31,10 +31,12 @@ use Rattle.ctl_world.specs.Ends.{close, forget_lost}
 use Rattle.ctl_world.specs.Saying.{add_said, ask, packet_out, repeat, say}
 use Rattle.ctl_world.specs.World.{World, running}
 use Rattle.ctl_settle.specs.Settling.{ask_all, ask_due, ask_each, ask_on, batch, batch_on, batches, note_sent, say_batch, say_due, say_each, settle, take_due, wanted}
-use Rattle.ctl_core.specs.Hearing.{begin, echo, follow, hear_frame, hear_message, hear_on, introduce, packet, replace, take_dp, turn_away, unfit, want_gateways, want_in, wipe}
+use Rattle.ctl_life.specs.Life.{echo, replace, take_dp, turn_away}
+use Rattle.ctl_core.specs.Hearing.{begin, follow, hear_frame, hear_message, hear_on, introduce, packet, unfit, want_gateways, want_in, wipe}
 use Rattle.ctl_core.specs.Reloading.{close_each, close_stray, reload, renew, strays, want_all, want_each}
-use Rattle.ctl_core.specs.Turns.{age, look, look_each, look_on, pass, show, stir}
-use Rattle.ctl_core.proofs.Openings.{change_open, found_open, open_is}
+use Rattle.ctl_life.specs.Silence.{look, look_each, look_on, show, stir}
+use Rattle.ctl_core.specs.Turns.{age, pass}
+use Rattle.ctl_life.proofs.Openings.{change_open, found_open, open_is}
 
 -- ---- a choice
 

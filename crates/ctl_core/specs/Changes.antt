@@ -1,5 +1,5 @@
 -- When what happens changes something that a settling looks at.
-use Rattle.std.specs.Prelude.{ℕ, zero, suc, ◌-◌, ◌&&◌, ◌||◌, not, nat_le, max, Bool, true, false, is_ok, [], length, map, Option, Some, None}
+use Rattle.std.specs.Prelude.{ℕ, zero, suc, ◌-◌, ◌&&◌, ◌||◌, not, max, Bool, true, false, is_ok, [], length, map, Option, Some, None}
 use Rattle.std.specs.List.{list_any}
 use Rattle.std.specs.Option.{option_map_or}
 use Rattle.net_base.specs.declared.numbers.DpId.{DpId}
@@ -8,8 +8,6 @@ use Rattle.fg_outside.specs.declared.hub.Happening.{Happening}
 use Rattle.fg_outside.specs.declared.hub.Happening.TheVariants as happenings
 use Rattle.of13_codec.specs.declared.message.Message.{Message}
 use Rattle.of13_codec.specs.declared.message.Message.TheVariants as messages
-use Rattle.switch_session.specs.declared.quiet.Quiet.{Quiet}
-use Rattle.switch_session.specs.declared.quiet.Quiet.TheVariants.{Well, Echo, Silent}
 use Rattle.switch_session.specs.declared.state.Step.{Step}
 use Rattle.switch_session.specs.declared.state.Step.TheVariants as steps
 use Rattle.switch_session.specs.Stages.{leads}
@@ -21,9 +19,10 @@ use Rattle.ctl_world.specs.Frames.{front}
 use Rattle.switch_session.specs.Staying.{leaves}
 use Rattle.ctl_world.specs.World.{World}
 use Rattle.ctl_packets.specs.Changes.{packet_changes}
-use Rattle.ctl_core.specs.Hearing.{has_frame, hear_next, read, says, unread}
+use Rattle.ctl_life.specs.Life.{has_frame, read, says, unread, feed}
+use Rattle.ctl_core.specs.Hearing.{hear_next}
 use Rattle.ctl_core.specs.Reloading.{accepted}
-use Rattle.ctl_core.specs.Turns.{feed, show}
+use Rattle.ctl_life.specs.Silence.{falls_silent, show}
 
 -- ---- one message
 
@@ -75,18 +74,6 @@ abbrev pub unread_changes : (number : ℕ) → World → Bool
 unread_changes number w = any_changes (length (unread number w)) number w
 
 -- ---- the clock
-
-abbrev pub closes : Quiet → Bool
-closes Well = false
-closes Echo = false
-closes Silent = true
-
--- no byte came for 60 seconds
-abbrev pub is_silent : Moment → Conn → Bool
-is_silent now c = nat_le 60000 (now.0 - c.session.heard.0)
-
-abbrev pub falls_silent : World → (number : ℕ) → Bool
-falls_silent w number = option_map_or (is_silent w.moment) (conn_with w.conns number) false
 
 -- ---- one turn
 

@@ -1,5 +1,5 @@
 -- What a frame does that a switch sent.
-use Rattle.std.specs.Prelude.{true, ℕ, zero, suc, ◌==◌, is_some, nat_lt, not, Bool, if◌then◌else◌, List, [], ◌∷◌, Option, Some, None, Result, Ok, Err}
+use Rattle.std.specs.Prelude.{true, ℕ, zero, suc, ◌==◌, is_some, nat_lt, not, if◌then◌else◌, List, [], ◌∷◌, Option, Some, None}
 use Rattle.std.specs.List.{list_any}
 use Rattle.std.specs.Option.{option_map_or}
 use Rattle.net_base.specs.declared.numbers.DpId.{DpId}
@@ -11,23 +11,22 @@ use Rattle.conf_types.specs.Groups.{group_of}
 use Rattle.of13_codec.specs.declared.message.Message.{Message}
 use Rattle.of13_codec.specs.declared.message.Message.TheVariants as messages
 use Rattle.of13_codec.specs.declared.packet_in.PacketIn.{PacketIn}
-use Rattle.of13_codec.specs.declared.refused.WireRefused.{WireRefused}
-use Rattle.of13_codec.specs.Decoding.{decoded}
 use Rattle.neighbour_resolve.specs.Table.{Table as Neighbours, after_told, stays, unresolved}
 use Rattle.flow_messages.specs.Messages.{delete_all}
 use Rattle.switch_session.specs.declared.closing.Closing.{Closing}
-use Rattle.switch_session.specs.declared.closing.Closing.TheVariants.{WrongVersion, BadFrame, UnknownDp, TooFewTables, Auxiliary, Replaced}
+use Rattle.switch_session.specs.declared.closing.Closing.TheVariants.{BadFrame, UnknownDp, TooFewTables, Auxiliary}
 use Rattle.switch_session.specs.declared.state.Step.{Step}
 use Rattle.switch_session.specs.declared.state.Step.TheVariants as steps
 use Rattle.switch_session.specs.Stages.{leads}
 use Rattle.ctl_world.specs.declared.conns.Conn.{Conn}
 use Rattle.ctl_world.specs.declared.frames.Front.{Front}
 use Rattle.ctl_world.specs.declared.frames.Front.TheVariants.{Part, Frame, Bad}
-use Rattle.ctl_world.specs.Connections.{change, conn_of, conn_with, with_dp, with_heard}
-use Rattle.ctl_world.specs.Frames.{front, is_frame, with_read}
+use Rattle.ctl_world.specs.Connections.{change, conn_with, with_heard}
+use Rattle.ctl_world.specs.Frames.{front}
 use Rattle.ctl_world.specs.Ends.{close, forget_lost}
-use Rattle.ctl_world.specs.Saying.{ask, repeat, say}
+use Rattle.ctl_world.specs.Saying.{ask, say}
 use Rattle.ctl_world.specs.World.{World, running}
+use Rattle.ctl_life.specs.Life.{echo, has_frame, read, replace, says, take_dp, turn_away, unread}
 use Rattle.ctl_packets.specs.Packets.{packet_in}
 use Rattle.ctl_settle.specs.Settling.{settle}
 
@@ -40,13 +39,6 @@ unfit conf dp n_tables auxiliary =
     else if nat_lt n_tables 9 then Some TooFewTables
     else if not (auxiliary == 0) then Some Auxiliary
     else None
-
--- another connection of the datapath gives way
-abbrev pub replace : DpId → World → World
-replace dp w = option_map_or (λ c. close Replaced c.number w) (conn_of w.conns dp) w
-
-abbrev pub take_dp : (number : ℕ) → DpId → World → World
-take_dp number dp w = forget_lost (record w { conns = change number (with_dp dp) w.conns })
 
 abbrev pub introduce : (number : ℕ) → DpId → Option Closing → World → World
 introduce number dp (Some cause) w = close cause number w
@@ -86,19 +78,6 @@ abbrev pub packet : Message → (number : ℕ) → Option DpId → World → Wor
 packet (messages.PacketIn m) number (Some dp) w = packet_in m number dp w
 packet m number dp w = w
 
--- an ECHO_REQUEST is answered with its data and its transaction id (7.5.3)
-abbrev pub echo : Message → (number : ℕ) → (xid : ℕ) → World → World
-echo (messages.EchoRequest payload) number xid w = repeat number (messages.EchoReply payload) xid w
-echo m number xid w = w
-
--- before a closing for the version goes an ERROR of type 0 and code 0 (OFPET_HELLO_FAILED, OFPHFC_INCOMPATIBLE; 7.4.4)
-abbrev pub tell_version : Closing → (number : ℕ) → (xid : ℕ) → World → World
-tell_version WrongVersion number xid w = repeat number (messages.Error 0 0 []) xid w
-tell_version cause number xid w = w
-
-abbrev pub turn_away : Closing → (number : ℕ) → (xid : ℕ) → World → World
-turn_away cause number xid w = close cause number (tell_version cause number xid w)
-
 -- what follows from the step that a connection took
 abbrev pub follow : Step → Message → (xid : ℕ) → (number : ℕ) → Option DpId → World → World
 follow steps.Nothing m xid number dp w = w
@@ -120,14 +99,6 @@ hear_on m xid number w c =
 abbrev pub hear_message : Message → (xid : ℕ) → (number : ℕ) → World → World
 hear_message m xid number w = option_map_or (hear_on m xid number w) (conn_with w.conns number) w
 
--- the message that a frame spells, with its transaction id
-abbrev pub says_by : Result (Message × ℕ) WireRefused → Option (Message × ℕ)
-says_by (Ok said) = Some said
-says_by (Err refused) = None
-
-abbrev pub says : (frame : List ℕ) → Option (Message × ℕ)
-says frame = says_by (decoded frame)
-
 -- a frame that spells no message closes its connection
 abbrev pub hear_frame : Option (Message × ℕ) → (number : ℕ) → World → World
 hear_frame (Some said) number w = hear_message said.0 said.1 number w
@@ -135,21 +106,11 @@ hear_frame None number w = close BadFrame number w
 
 -- ---- frames in the bytes that came (OpenFlow 1.3, 7.1)
 
-abbrev pub unread : (number : ℕ) → World → List ℕ
-unread number w = option_map_or (λ c. c.session.unread) (conn_with w.conns number) []
-
--- what stands at the front is taken
-abbrev pub read : (number : ℕ) → World → World
-read number w = record w { conns = change number with_read w.conns }
-
 -- a header that tells less than its own length closes the connection; a frame and a closing settle
 abbrev pub hear_front : Front → (number : ℕ) → World → World
 hear_front Part number w = w
 hear_front (Frame frame) number w = settle (hear_frame (says frame) number w)
 hear_front Bad number w = settle (close BadFrame number w)
-
-abbrev pub has_frame : (number : ℕ) → World → Bool
-has_frame number w = is_frame (front (unread number w))
 
 abbrev pub hear_next : (number : ℕ) → World → World
 hear_next number w = hear_front (front (unread number w)) number (read number w)

@@ -1,17 +1,13 @@
 -- What a controller says of all that happens.
-use Rattle.std.specs.Prelude.{ℕ, Bool, true, false, if◌then◌else◌, List, [], ◌∷◌, Option, Some, None}
+use Rattle.std.specs.Prelude.{Bool, true, false, if◌then◌else◌, List, [], ◌∷◌, Option, Some, None}
 use Rattle.std.specs.Option.{option_map}
 use Rattle.net_base.specs.declared.numbers.DpId.{DpId}
 use Rattle.fg_outside.specs.declared.hub.Happening.{Happening}
-use Rattle.of13_codec.specs.Messages.{written}
 use Rattle.conf_types.specs.State.{is_running}
 use Rattle.of_match.specs.declared.entry.Entry.{Entry}
 use Rattle.ctl_world.specs.declared.said.Said.{Said}
-use Rattle.ctl_world.specs.declared.said.Said.TheVariants as said
 use Rattle.ctl_world.specs.Connections.{conn_of}
 use Rattle.ctl_world.specs.World.{World, running}
-use Rattle.ctl_core.specs.declared.controller.Saying.{Saying}
-use Rattle.ctl_core.specs.declared.controller.Saying.TheVariants as sayings
 use Rattle.ctl_core.specs.Turns.{turn}
 
 -- a story: all that happens, in order. What is known behind it
@@ -33,9 +29,3 @@ unless_spent false w = Some w
 -- the entries that a datapath's switch holds once it has done all that was said, where the datapath runs
 abbrev pub tables_of : World → DpId → Option (List Entry)
 tables_of w dp = if is_running (running w) dp then option_map (λ c. c.sent) (conn_of w.conns dp) else None
-
--- what is said, as it goes out: messages as they are spelled
-abbrev pub saying_of : Said → Saying
-saying_of (said.Message conn m xid) = sayings.Send conn (written m xid)
-saying_of (said.Closing conn cause) = sayings.Close conn cause
-saying_of (said.Line text) = sayings.Line text

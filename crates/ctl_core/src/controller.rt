@@ -6,36 +6,23 @@ ghost use Rattle.ctl_world.specs.World.{first, is_at_work, now, World as Seen};
 ghost use Rattle.ctl_settle.specs.Rest.{rests_until};
 ghost use Rattle.ctl_core.specs.Changes.{latest, turn_changes};
 ghost use Rattle.ctl_core.specs.Turns.{turn};
-ghost use Rattle.ctl_core.specs.Story.{saying_of, tables_of};
+ghost use Rattle.ctl_life.specs.Sayings.{saying_of};
+ghost use Rattle.ctl_core.specs.Story.{tables_of};
 
 use crate::hearing::a_configuration_is_valid;
 use crate::known::Known;
 use crate::turns::work;
 use conf_types::{Conf, Dp, Tally};
+use ctl_life::{Sayings, make_sayings};
 use ctl_world::laws::what_is_known_first_is_sound;
-use ctl_world::{Conns, Said, Saids, World};
+use ctl_world::{Conns, Saids, World};
 use fg_outside::Happening;
-use net_base::{Bytes, DpId, Items, NoMemory, Text, TryCopy};
+use net_base::{DpId, NoMemory};
 use of_match::Tables;
-use of13_codec::encode;
 use packet_way::Now;
 use std::alloc::{AllocError, Global};
 use std::marker::Model;
-use switch_session::{Closing, Stage};
-
-/// What a controller says in a turn.
-#[derive(Debug, Drop)]
-pub enum Saying {
-    /// One message on a connection, as OpenFlow 1.3 spells it.
-    Send { conn: u32, bytes: Bytes },
-    /// It closes a connection.
-    Close { conn: u32, cause: Closing },
-    /// A line on standard error, without its end.
-    Line(Text),
-}
-
-/// What a controller says in a turn, in order.
-pub type Sayings = Items<Saying>;
+use switch_session::Stage;
 
 /// A controller of switches. Contracts see what it knows, or nothing once it is spent.
 #[derive(Drop)]
@@ -56,33 +43,6 @@ impl Model for Controller {
     ghost view = { λ c. unless_spent c.is_spent c.known.world };
 
     ghost invariant = { λ c. c.is_spent ≡ false → HasSettled c.known };
-}
-
-fn make_saying(alloc: Global, said: &Said) -> Result<Saying, NoMemory>
-    ensures { IfOk result (λ made. made ≡ saying_of said.now) }
-{
-    match said {
-        Said::Message { conn, message, xid } => {
-            let mut bytes = Bytes::new(alloc);
-            encode(alloc, message, *xid, &mut bytes)?;
-            Ok(Saying::Send { conn: *conn, bytes })
-        }
-        Said::Closing { conn, cause } => Ok(Saying::Close {
-            conn: *conn,
-            cause: *cause,
-        }),
-        Said::Line(text) => Ok(Saying::Line(text.copy(alloc)?)),
-    }
-}
-
-fn make_sayings(alloc: Global, said: &[Said]) -> Result<Sayings, NoMemory>
-    ensures { IfOk result (λ made. made ≡ map saying_of said.now) }
-{
-    let mut made = Sayings::new(alloc);
-    for one in said {
-        made.push(make_saying(alloc, one)?)?;
-    }
-    Ok(made)
 }
 
 fn is_at_work(conns: &Conns, dp: &Dp) -> bool

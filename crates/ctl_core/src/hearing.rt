@@ -10,7 +10,8 @@ ghost use Rattle.ctl_world.specs.Frames.{front};
 ghost use Rattle.ctl_world.specs.World.{IsSound};
 ghost use Rattle.ctl_settle.specs.Settling.{settle};
 ghost use Rattle.ctl_core.specs.Changes.{any_changes, frame_changes, heard_packet_changes, message_changes, next_changes, step_changes};
-ghost use Rattle.ctl_core.specs.Hearing.{echo, follow, has_frame, hear_frame, hear_frames, hear_message, hear_next, packet, read, says, tell_version, turn_away, unread};
+ghost use Rattle.ctl_life.specs.Life.{echo, has_frame, read, says, tell_version, turn_away, unread};
+ghost use Rattle.ctl_core.specs.Hearing.{follow, hear_frame, hear_frames, hear_message, hear_next, packet};
 ghost use Rattle.ctl_core.specs.Known.{HasSettled, IsEarly};
 
 use crate::gateways::begin;
@@ -18,6 +19,7 @@ use crate::known::{Known, settle_anew, settle_where_due};
 use crate::laws::{a_frame_leaves_it_sound, what_happens_keeps_connections_in_order};
 use crate::setup::{introduce, unfit, wipe};
 use conf_types::{Conf, Tally};
+use ctl_life::{answer_echo, read_message, turn_away};
 use ctl_packets::packet_in;
 use ctl_settle::laws::alike_worlds_rest_alike;
 use ctl_world::laws::{
@@ -25,9 +27,9 @@ use ctl_world::laws::{
     what_is_said_is_alike,
 };
 use ctl_world::{Front, World};
-use net_base::{Bytes, DpId, NoMemory, TryCopy};
-use of13_codec::{Message, WireRefused, decode};
-use std::alloc::{AllocError, Global};
+use net_base::{DpId, NoMemory};
+use of13_codec::Message;
+use std::alloc::Global;
 use switch_session::{Closing, Step};
 
 /// An accepted configuration is valid, which its type keeps.
@@ -54,65 +56,6 @@ fn hear_packet(
         (Message::PacketIn(packet), Some(dp)) => packet_in(alloc, world, packet, conn, dp),
         _ => Ok(false),
     }
-}
-
-/// Answers an ECHO_REQUEST with its data and its transaction id (OpenFlow 1.3, 7.5.3).
-fn answer_echo(
-    alloc: Global,
-    world: &mut World,
-    message: &Message,
-    conn: u32,
-    xid: u32,
-) -> Result<(), NoMemory>
-    ensures done { OnOk result (world.new ≡ echo message.now conn xid world.old) }
-    ensures alike { OnOk result (IsAlike world.new world.old) }
-{
-    alike_worlds_run_alike();
-    what_is_said_is_alike();
-    match message {
-        Message::EchoRequest(data) => {
-            let data = data.copy(alloc)?;
-            world.repeat(conn, Message::EchoReply(data), xid)
-        }
-        _ => Ok(()),
-    }
-}
-
-/// Before a closing for the version goes an ERROR of type 0 and code 0 (OFPET_HELLO_FAILED,
-/// OFPHFC_INCOMPATIBLE; OpenFlow 1.3, 7.4.4).
-fn tell_version(
-    alloc: Global,
-    world: &mut World,
-    cause: Closing,
-    conn: u32,
-    xid: u32,
-) -> Result<(), NoMemory>
-    ensures { OnOk result (world.new ≡ tell_version cause conn xid world.old) }
-{
-    match cause {
-        Closing::WrongVersion => {
-            let error = Message::Error {
-                kind: 0,
-                code: 0,
-                payload: Bytes::new(alloc),
-            };
-            world.repeat(conn, error, xid)
-        }
-        _ => Ok(()),
-    }
-}
-
-fn turn_away(
-    alloc: Global,
-    world: &mut World,
-    cause: Closing,
-    conn: u32,
-    xid: u32,
-) -> Result<(), NoMemory>
-    ensures { OnOk result (world.new ≡ turn_away cause conn xid world.old) }
-{
-    tell_version(alloc, world, cause, conn, xid)?;
-    world.close(alloc, cause, conn)
 }
 
 /// Does what follows from the step that a connection took, and tells whether something changed that a
@@ -182,19 +125,6 @@ fn hear_message(
     world.forget_lost(alloc)?;
     follow(alloc, world, step, message, xid, conn, dp)?;
     Ok(true)
-}
-
-/// The message of a frame; `None` where it spells none.
-fn read_message(alloc: Global, frame: &[u8]) -> Result<Option<(Message, u32)>, NoMemory>
-    ensures { IfOk result (λ said. said ≡ says frame.now) }
-{
-    match decode(alloc, frame) {
-        Ok(said) => Ok(Some(said)),
-        Err(WireRefused::Memory) => Err(AllocError),
-        Err(WireRefused::Version) => Ok(None),
-        Err(WireRefused::Length) => Ok(None),
-        Err(WireRefused::Body(_)) => Ok(None),
-    }
 }
 
 /// A connection hears a frame; one that spells no message closes it. Tells whether something changed that

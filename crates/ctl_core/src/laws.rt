@@ -12,9 +12,10 @@ ghost use Rattle.ctl_world.specs.Ends.{close, ended};
 ghost use Rattle.ctl_world.specs.World.{IsSound, World};
 ghost use Rattle.ctl_settle.specs.Rest.{AreInOrder, IsAtRest};
 ghost use Rattle.ctl_settle.specs.Settling.{settle};
-ghost use Rattle.ctl_core.specs.Hearing.{hear_frame, read};
+ghost use Rattle.ctl_life.specs.Life.{read, feed, open_conn};
+ghost use Rattle.ctl_core.specs.Hearing.{hear_frame};
 ghost use Rattle.ctl_core.specs.Reloading.{accepted, reload};
-ghost use Rattle.ctl_core.specs.Turns.{feed, open_conn, pass, turn};
+ghost use Rattle.ctl_core.specs.Turns.{pass, turn};
 
 use conf_check::laws::an_accepted_configuration_is_valid;
 use ctl_settle::laws::{

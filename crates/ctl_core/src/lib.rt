@@ -10,4 +10,4 @@ mod reloading;
 mod setup;
 mod turns;
 
-pub use controller::{Controller, Saying, Sayings};
+pub use controller::Controller;

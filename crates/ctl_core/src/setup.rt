@@ -1,9 +1,11 @@
 //! The setup of a connection (OpenFlow 1.3, 6.3).
 
 ghost use Rattle.std.specs.Prelude.{◌≡◌, OnOk};
-ghost use Rattle.ctl_core.specs.Hearing.{take_dp, introduce, replace, unfit, wipe};
+ghost use Rattle.ctl_life.specs.Life.{take_dp, replace};
+ghost use Rattle.ctl_core.specs.Hearing.{introduce, unfit, wipe};
 
 use conf_types::Conf;
+use ctl_life::{replace, take_dp};
 use ctl_world::World;
 use flow_messages::make_delete_all;
 use net_base::{DpId, NoMemory};
@@ -27,26 +29,6 @@ pub(crate) fn unfit(conf: &Conf, dp: DpId, n_tables: u8, auxiliary: u8) -> Optio
     } else {
         None
     }
-}
-
-/// Another connection of the datapath gives way.
-fn replace(alloc: Global, world: &mut World, dp: DpId) -> Result<(), NoMemory>
-    ensures { OnOk result (world.new ≡ replace dp world.old) }
-{
-    match world.conns.of(dp) {
-        Some(conn) => {
-            let number = conn.number;
-            world.close(alloc, Closing::Replaced, number)
-        }
-        None => Ok(()),
-    }
-}
-
-fn take_dp(alloc: Global, world: &mut World, conn: u32, dp: DpId) -> Result<(), NoMemory>
-    ensures { OnOk result (world.new ≡ take_dp conn dp world.old) }
-{
-    world.conns.set_dp(conn, dp);
-    world.forget_lost(alloc)
 }
 
 /// A switch said what it is: it is turned away, or asked for its ports.

@@ -6,7 +6,7 @@ use Rattle.fg_outside.specs.HubStep.{HubStep}
 use Rattle.fg_outside.specs.Wrote.{appended, AppendsFront}
 use Rattle.fg_outside.proofs.SinkLemmas.{AppendsFront-none}
 use Rattle.ctl_world.specs.World.{World}
-use Rattle.ctl_core.specs.declared.controller.Saying.{Saying}
+use Rattle.ctl_life.specs.declared.saying.Saying.{Saying}
 use Rattle.ctl_core.specs.Turns.{turn}
 use Rattle.ctl_drive.specs.declared.sayings.Outlet.{Outlet}
 use Rattle.ctl_drive.specs.Driving.{deeds_by, line_by, sayings_of, turn_lines, written_on}

@@ -10,7 +10,7 @@ use Rattle.fg_outside.specs.Wrote.{appended, AppendsFront}
 use Rattle.fg_outside.proofs.SinkLemmas.{appended-append, appended-nil, AppendsFront-none, AppendsFront-whole, AppendsFront-second}
 use Rattle.recording.specs.Written.{WrittenRecord, written, written_records}
 use Rattle.ctl_world.specs.World.{World}
-use Rattle.ctl_core.specs.declared.controller.Saying.{Saying}
+use Rattle.ctl_life.specs.declared.saying.Saying.{Saying}
 use Rattle.ctl_core.specs.Story.{behind}
 use Rattle.ctl_core.specs.Turns.{turn}
 use Rattle.ctl_drive.specs.declared.sayings.Outlet.{Outlet}

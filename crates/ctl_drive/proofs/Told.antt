@@ -1,7 +1,7 @@
 -- What one saying has for the hub.
 use Rattle.std.proofs.Common.{◌≡◌, ℕ, Bool, true, false, List, [], ◌∷◌, refl}
 use Rattle.switch_session.specs.declared.closing.Closing.{Closing}
-use Rattle.ctl_core.specs.declared.controller.Saying.TheVariants.{Send, Close, Line}
+use Rattle.ctl_life.specs.declared.saying.Saying.TheVariants.{Send, Close, Line}
 use Rattle.ctl_drive.specs.declared.sayings.Outlet.{Outlet}
 use Rattle.ctl_drive.specs.declared.sayings.Outlet.TheVariants.{Records, Hub}
 use Rattle.ctl_drive.specs.Driving.{said, shut, deeds_by}

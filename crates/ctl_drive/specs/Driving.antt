@@ -10,9 +10,9 @@ use Rattle.switch_session.specs.declared.closing.Closing.{Closing}
 use Rattle.switch_session.specs.declared.closing.Closing.TheVariants.{WrongVersion, BadFrame, UnknownDp, TooFewTables, Auxiliary, Replaced, SwitchError, Silent, Overfull, LinkFault, End}
 use Rattle.switch_session.specs.Closings.{number_of}
 use Rattle.ctl_world.specs.World.{World}
-use Rattle.ctl_core.specs.declared.controller.Saying.{Saying}
-use Rattle.ctl_core.specs.declared.controller.Saying.TheVariants.{Send, Close, Line}
-use Rattle.ctl_core.specs.Story.{saying_of}
+use Rattle.ctl_life.specs.declared.saying.Saying.{Saying}
+use Rattle.ctl_life.specs.declared.saying.Saying.TheVariants.{Send, Close, Line}
+use Rattle.ctl_life.specs.Sayings.{saying_of}
 use Rattle.ctl_core.specs.Turns.{turn}
 use Rattle.ctl_drive.specs.declared.sayings.Outlet.{Outlet}
 use Rattle.ctl_drive.specs.declared.sayings.Outlet.TheVariants.{Records, Hub}

@@ -2,7 +2,7 @@ ghost use Rattle.std.specs.Prelude.{◌≡◌, ◌++◌, IfOk, OnOk};
 ghost use Rattle.std.specs.List.{flat_map};
 ghost use Rattle.ctl_drive.specs.Driving.{error_of, line_by, written_by, written_on};
 
-use ctl_core::Saying;
+use ctl_life::Saying;
 use net_base::{Bytes, NoMemory};
 use recording::{SwitchError, put_closed, put_sent};
 use std::alloc::Global;

@@ -7,7 +7,8 @@ ghost use Rattle.ctl_drive.specs.Driven.{Tells, TellsPart, HasNoRoom, Answers, A
 
 use crate::sayings::{Outlet, make_lines, make_records};
 use conf_types::Tally;
-use ctl_core::{Controller, Saying};
+use ctl_core::Controller;
+use ctl_life::Saying;
 use fg_outside::{Failed, Happening, Hub, Said, Sink, write_all};
 use net_base::NoMemory;
 use std::alloc::{AllocError, Global};

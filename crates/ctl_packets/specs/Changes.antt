@@ -36,7 +36,7 @@ is_change NotLearnable = false
 
 abbrev pub learns : DpId → (port vid : ℕ) → Mac → World → Bool
 learns dp port vid mac w =
-    is_up (ups w) dp port && is_change (hosts.answer w.conf w.hosts (record { dp = dp; port = port; vid = vid; mac = mac; learned = w.moment }))
+    is_up (ups w) dp port && is_change (hosts.outcome w.conf w.hosts (record { dp = dp; port = port; vid = vid; mac = mac; learned = w.moment }))
 
 -- ---- neighbours
 

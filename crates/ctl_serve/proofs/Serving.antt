@@ -29,10 +29,10 @@ use Rattle.ctl_serve.specs.Served.{Served, ServedPart, ServesTo, last_call}
 
 -- ---- fronts of lists
 
-front_then : {X : Type 0} (n : ℕ) (xs more : List X) → length xs ≡ n → take n (xs ++ more) ≡ xs
+pub front_then : {X : Type 0} (n : ℕ) (xs more : List X) → length xs ≡ n → take n (xs ++ more) ≡ xs
 front_then n xs more is = take-append-le n xs more (omega (arith, is)) ∙ take_all n xs (omega (arith, is))
 
-front_whole : {X : Type 0} (n : ℕ) (xs more : List X) → more ≡ [] → length xs ≤ n → take n (xs ++ more) ≡ xs
+pub front_whole : {X : Type 0} (n : ℕ) (xs more : List X) → more ≡ [] → length xs ≤ n → take n (xs ++ more) ≡ xs
 front_whole {X = X} n xs more empty le = ap (λ (l : List X). take n (xs ++ l)) empty ∙ ap (λ (l : List X). take n l) (append-nil xs) ∙ take_all n xs le
 
 at_most : (a b c : ℕ) → a ≤ b → b ≤ c → a ≤ c
@@ -54,7 +54,7 @@ answered (said conn piece answers.Gone) goes = refl
 answered (said conn piece answers.Memory) goes = cc
 answered (closed conn) goes = refl
 
-all_answered : (steps : List HubStep) → AllByRecursion (λ step. goes_on step ≡ true) steps → AllByRecursion (λ step. lacks_memory step ≡ false) steps
+pub all_answered : (steps : List HubStep) → AllByRecursion (λ step. goes_on step ≡ true) steps → AllByRecursion (λ step. lacks_memory step ≡ false) steps
 all_answered [] went_on = tt
 all_answered (step ∷ steps) went_on = (answered step went_on.0, all_answered steps went_on.1)
 
@@ -80,7 +80,7 @@ module _ {H F : Type 0} (may : H → HubStep → H → Type 0) (contents : F →
 
   module _ (running : IsRunning) (watched_story : TellsWatched) (from : Watch H F) (name text : List ℕ) (every : ℕ) (begun : IsBegun from name text every) (w : World) where
     -- what all that happened came to, and then a last call of the hub that leaves the files
-    served : (hs : List Happening) (mid : Watch H F) → Tells Step from (deeds_of Hub w hs) mid → (n : ℕ) → take n (hs ++ waiting_in mid) ≡ hs
+    pub served : (hs : List Happening) (mid : Watch H F) → Tells Step from (deeds_of Hub w hs) mid → (n : ℕ) → take n (hs ++ waiting_in mid) ≡ hs
         → (end : Drove) (to : Watch H F) → Leads may (hub_in mid) (last_call end) (hub_in to) → files_in to ≡ files_in mid
         → Served may contents faults name text every n w hs end (hub_in from) (hub_in to) (files_in from) (files_in to)
     served hs mid tells n front end to ends same =
@@ -120,7 +120,7 @@ module _ {H F : Type 0} (may : H → HubStep → H → Type 0) (contents : F →
 
   -- what all that happened came to up to want of memory
   module _ (watched_part : TellsWatchedPart) (from : Watch H F) (name text : List ℕ) (every : ℕ) (begun : IsBegun from name text every) (w : World) where
-    served_part : (hs : List Happening) (to : Watch H F) (out_old out_new err_old err_new : Option (List ℕ)) → AnswersFront Step Hub w hs from to out_old out_new err_old err_new
+    pub served_part : (hs : List Happening) (to : Watch H F) (out_old out_new err_old err_new : Option (List ℕ)) → AnswersFront Step Hub w hs from to out_old out_new err_old err_new
         → ServedPart may contents faults name text every w hs (hub_in from) (hub_in to) (files_in from) (files_in to)
     served_part hs to out_old out_new err_old err_new front =
         let calls : List HubStep = front.told.steps in
@@ -176,7 +176,7 @@ module _ {H F : Type 0} (may : H → HubStep → H → Type 0) (contents : F →
     Serves how = ServesTo may contents faults name text every most conf (hub_in from) (hub_in to) (files_in from) (files_in to) err_old err_new how
 
     -- nothing waits where the hub's answer was the last
-    idle : (hs : List Happening) (watch : Watch H F) → waits_in watch ≡ false → length hs ≤ most → take most (hs ++ waiting_in watch) ≡ hs
+    pub idle : (hs : List Happening) (watch : Watch H F) → waits_in watch ≡ false → length hs ≤ most → take most (hs ++ waiting_in watch) ≡ hs
     idle hs watch quiet few = front_whole most hs (waiting_in watch) (ap (λ (b : Bool). reloads b (last_in watch)) quiet) few
 
     pub serves : (how : Drove) → Drives Step Hub most (first conf) core from to out_old out_new err_old err_new how → Serves how

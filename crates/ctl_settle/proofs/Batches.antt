@@ -23,6 +23,7 @@ use Rattle.ctl_world.specs.Connections.{change, conn_of, conn_with, has_number, 
 use Rattle.ctl_world.specs.Saying.{ask, say, say_by}
 use Rattle.ctl_world.specs.World.{World, has_ports, is_at_work, is_up_by, now, runs, ups_by, ups_on}
 use Rattle.ctl_world.proofs.Places.{unchanged}
+use Rattle.ctl_world.proofs.SoundChanges.{now_with_conns}
 use Rattle.ctl_settle.specs.Settling.{note_sent, say_batch, say_each, wanted}
 
 -- ---- a change that keeps what a connection is and how far it is
@@ -54,13 +55,7 @@ module _ (f : Conn → Conn) (quiet : IsQuiet f) where
       let by : (d : Dp) (c : Conn) → ups_by d (f c) ≡ ups_by d c =
       λ d c i. if has_ports (quiet.stage c i) then map (λ p. record { dp = d.id; port = p.no }) (filter (is_up_by (quiet.ports c i)) d.ports) else [] in
       let up : (d : Dp) → ups_on (change number f w.conns) d ≡ ups_on w.conns d = λ d. seen (ups_by d) (by d) number w.conns d.id [] in
-      λ i. record {
-        moment = w.moment.0;
-        running = map (λ d. d.id) (filter (λ d. work d i) w.conf.dps);
-        ups = flat_map (λ d. up d i) w.conf.dps;
-        hosts = w.hosts.hosts;
-        neighbours = w.neighbours.neighbours;
-      }
+      now_with_conns (change number f w.conns) w work up
 
   -- ---- what is found behind it
 

@@ -100,6 +100,6 @@ settle w = settle_batches (ask_all w)
 -- ---- the code's way to put identifiers in order
 
 -- the place of the first identifier that isn't less
-abbrev pub gap : DpId → List DpId → ℕ
-gap id [] = 0
-gap id (first ∷ more) = if nat_le id.0 first.0 then 0 else suc (gap id more)
+abbrev pub lower_bound : DpId → List DpId → ℕ
+lower_bound id [] = 0
+lower_bound id (first ∷ more) = if nat_le id.0 first.0 then 0 else suc (lower_bound id more)

@@ -3,7 +3,7 @@ use Rattle.std.proofs.Common.{◌≡◌, ℕ, suc, ◌<◌, ◌≤◌, Some, Non
 use Rattle.std.specs.List.{insert, position, position_or_len}
 use Rattle.std.proofs.lemmas.Bool.{cases_Bool, ltb-false}
 use Rattle.ctl_world.specs.declared.conns.Conn.{Conn}
-use Rattle.ctl_world.specs.Connections.{change, conn_with, gap, has_number, put}
+use Rattle.ctl_world.specs.Connections.{change, conn_with, has_number, put, upper_bound}
 
 module _ (number : ℕ) where
   -- what is found, and what is changed, where the place is the first with the number
@@ -77,10 +77,10 @@ module _ (number : ℕ) where
 
 -- ---- where a connection goes
 
-pub put_at_gap : (c : Conn) (conns : List Conn) → insert conns (gap c.number conns) c ≡ put c conns
-put_at_gap c [] = refl
-put_at_gap c (d ∷ ds) =
+pub put_at_bound : (c : Conn) (conns : List Conn) → insert conns (upper_bound c.number conns) c ≡ put c conns
+put_at_bound c [] = refl
+put_at_bound c (d ∷ ds) =
     elim (cases_Bool (nat_lt c.number d.number)) [
       | inl here ↦ rw here refl
-      | inr other ↦ rw other (ap (λ cs. d ∷ cs) (put_at_gap c ds))
+      | inr other ↦ rw other (ap (λ cs. d ∷ cs) (put_at_bound c ds))
     ]

@@ -16,17 +16,18 @@ use Rattle.ctl_world.specs.World.{IsSound, World, has_ports, is_at_work, is_up_b
 
 -- ---- with other connections the same datapaths run and the same interfaces are up
 
+pub now_with_conns : (next : List Conn) (w : World) → ((d : Dp) → is_at_work next d ≡ is_at_work w.conns d) → ((d : Dp) → ups_on next d ≡ ups_on w.conns d) → now (record w { conns = next }) ≡ now w
+now_with_conns next w work up = λ i. record {
+  moment = w.moment.0;
+  running = map (λ d. d.id) (filter (λ d. work d i) w.conf.dps);
+  ups = flat_map (λ d. up d i) w.conf.dps;
+  hosts = w.hosts.hosts;
+  neighbours = w.neighbours.neighbours;
+}
+
 with_conns : (next : List Conn) (w : World) → ((d : Dp) → is_at_work next d ≡ is_at_work w.conns d) → ((d : Dp) → ups_on next d ≡ ups_on w.conns d) → IsSound w → IsSound (record w { conns = next })
 with_conns next w work up sound =
-    let same : now (record w { conns = next }) ≡ now w =
-    λ i. record {
-      moment = w.moment.0;
-      running = map (λ d. d.id) (filter (λ d. work d i) w.conf.dps);
-      ups = flat_map (λ d. up d i) w.conf.dps;
-      hosts = w.hosts.hosts;
-      neighbours = w.neighbours.neighbours;
-    } in
-    record { valid = subst (IsValidState w.conf) (sym same) sound.valid; hosts = sound.hosts; neighbours = sound.neighbours }
+    record { valid = subst (IsValidState w.conf) (sym (now_with_conns next w work up)) sound.valid; hosts = sound.hosts; neighbours = sound.neighbours }
 
 -- ---- a connection is changed
 

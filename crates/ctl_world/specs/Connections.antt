@@ -36,9 +36,9 @@ put c [] = c ∷ []
 put c (d ∷ ds) = if nat_lt c.number d.number then c ∷ d ∷ ds else d ∷ put c ds
 
 -- the place before the first one with a greater number
-abbrev pub gap : ℕ → List Conn → ℕ
-gap number [] = 0
-gap number (d ∷ ds) = if nat_lt number d.number then 0 else suc (gap number ds)
+abbrev pub upper_bound : ℕ → List Conn → ℕ
+upper_bound number [] = 0
+upper_bound number (d ∷ ds) = if nat_lt number d.number then 0 else suc (upper_bound number ds)
 
 abbrev pub without : ℕ → List Conn → List Conn
 without number conns = filter (λ c. not (has_number number c)) conns

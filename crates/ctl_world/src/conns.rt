@@ -5,7 +5,7 @@ ghost use Rattle.switch_session.specs.declared.state.Step.TheVariants.{Nothing};
 ghost use Rattle.switch_session.specs.Connections.{due_at, next_id};
 ghost use Rattle.switch_session.specs.Stages.{leads};
 ghost use Rattle.switch_session.specs.Staying.{leaves};
-ghost use Rattle.ctl_world.specs.Connections.{change, conn_of, conn_with, gap, has_number, is_of, is_open, put, with_asked, with_dp, with_fed, with_heard, with_looked, with_said, with_sent, without};
+ghost use Rattle.ctl_world.specs.Connections.{change, conn_of, conn_with, has_number, is_of, is_open, put, upper_bound, with_asked, with_dp, with_fed, with_heard, with_looked, with_said, with_sent, without};
 
 use net_base::{DpId, Moment, NoMemory};
 use of_match::Tables;
@@ -101,10 +101,10 @@ impl Conns {
     }
 }
 
-/// Where a connection goes by its number.
-fn gap(conns: &[Conn], number: u32) -> usize
+/// Where a connection goes by its number: the place of the first that has a greater one, and of none the end.
+fn upper_bound(conns: &[Conn], number: u32) -> usize
     ensures within { result ≤ length conns.now }
-    ensures gap { result ≡ gap number conns.now }
+    ensures bound { result ≡ upper_bound number conns.now }
 {
     for (at, conn) in conns.iter().enumerate() {
         if number < conn.number {
@@ -127,7 +127,7 @@ impl Conns {
         ensures ok { OnOk result (self.new ≡ put conn self.old) }
         ensures err { OnErr result (self.new ≡ self.old) }
     {
-        let at = gap(self.conns.as_slice(), conn.number);
+        let at = upper_bound(self.conns.as_slice(), conn.number);
         self.conns.insert(at, conn)?;
         Ok(())
     }

@@ -44,14 +44,7 @@ impl HubInMemory<FailListed> {
         ensures plan { plan_of result ≡ fresh fail }
         ensures faults { ⟦<MemHub as Hub>⟧.faults result ≡ 0 }
     {
-        HubInMemory {
-            alloc,
-            turns: turns.into_vec().into_iter(),
-            conns: BTreeSet::new(alloc),
-            story: Vec::new(alloc),
-            spent: false,
-            plan: FailListed::new(fail),
-        }
+        HubInMemory::with_plan(alloc, turns, FailListed::new(fail))
     }
 }
 
@@ -65,20 +58,30 @@ impl HubInMemory<FailNever> {
         ensures spent { is_spent result ≡ false }
         ensures faults { ⟦<SureHub as Hub>⟧.faults result ≡ 0 }
     {
-        HubInMemory {
-            alloc,
-            turns: turns.into_vec().into_iter(),
-            conns: BTreeSet::new(alloc),
-            story: Vec::new(alloc),
-            spent: false,
-            plan: FailNever,
-        }
+        HubInMemory::with_plan(alloc, turns, FailNever)
     }
 }
 
 impl<P> HubInMemory<P> {
     ghost use Rattle.fg_links.specs.declared.story.StoryStep.TheVariants as step;
     ghost use Rattle.fg_links.specs.HubInMemory.{turns_of, story_of, is_spent, plan_of};
+
+    // A hub that gives these turns, and has given none of them.
+    fn with_plan(alloc: Global, turns: Happenings, plan: P) -> HubInMemory<P>
+        ensures turns { turns_of result ≡ turns }
+        ensures story { story_of result ≡ [] }
+        ensures spent { is_spent result ≡ false }
+        ensures plan { plan_of result ≡ plan }
+    {
+        HubInMemory {
+            alloc,
+            turns: turns.into_vec().into_iter(),
+            conns: BTreeSet::new(alloc),
+            story: Vec::new(alloc),
+            spent: false,
+            plan,
+        }
+    }
 
     /// Its story so far.
     pub fn story(&self) -> &[StoryStep]

@@ -55,14 +55,7 @@ impl<L: Link + Drop> PollerInMemory<L, FailListed> {
         ensures plan { IfOk result (λ poller. plan_of poller ≡ fresh fail) }
         ensures faults { IfOk result (λ poller. ⟦<MemPoller<L> as Poller>⟧.faults poller ≡ 0) }
     {
-        Ok(PollerInMemory {
-            nexts: nexts.into_vec().into_iter(),
-            given: 0,
-            told: Vec::with_capacity(alloc, room)?,
-            room,
-            overfull: false,
-            plan: FailListed::new(fail),
-        })
+        PollerInMemory::with_plan(alloc, nexts, room, FailListed::new(fail))
     }
 }
 
@@ -78,13 +71,34 @@ impl<L: Link + Drop> PollerInMemory<L, FailNever> {
         ensures room { IfOk result (λ poller. room_of poller ≡ room) }
         ensures faults { IfOk result (λ poller. ⟦<SurePoller<L> as Poller>⟧.faults poller ≡ 0) }
     {
+        PollerInMemory::with_plan(alloc, nexts, room, FailNever)
+    }
+}
+
+impl<L: Link + Drop, P: Drop> PollerInMemory<L, P> {
+    ghost use Rattle.fg_links.specs.PollerInMemory.{ahead_in, given_by, told_by, room_of, plan_of};
+
+    // A poller that gives this list, and has given none of it.
+    fn with_plan(
+        alloc: Global,
+        nexts: MemNexts<L>,
+        room: usize,
+        plan: P,
+    ) -> Result<PollerInMemory<L, P>, NoMemory>
+        requires { links_in nexts ≤ 2 ^ 32 - 1 }
+        ensures ahead { IfOk result (λ poller. ahead_in poller ≡ nexts) }
+        ensures given { IfOk result (λ poller. given_by poller ≡ 0) }
+        ensures told { IfOk result (λ poller. told_by poller ≡ Some []) }
+        ensures room { IfOk result (λ poller. room_of poller ≡ room) }
+        ensures plan { IfOk result (λ poller. plan_of poller ≡ plan) }
+    {
         Ok(PollerInMemory {
             nexts: nexts.into_vec().into_iter(),
             given: 0,
             told: Vec::with_capacity(alloc, room)?,
             room,
             overfull: false,
-            plan: FailNever,
+            plan,
         })
     }
 }

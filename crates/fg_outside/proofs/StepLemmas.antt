@@ -1,5 +1,5 @@
 -- What calls in turn make of a source.
-use Rattle.std.proofs.Common.{◌≡◌, ◌≢◌, ◌⊎◌, ◌==◌, ℕ, zero, suc, ◌+◌, ◌-◌, ◌^◌, ◌≤◌, Bool, true, false, List, Option, Some, refl, sym, ap, ◌∙◌, subst, inl, inr, arith, min, eqb-true, eq-eqb, true≢false}
+use Rattle.std.proofs.Common.{◌≡◌, ◌≢◌, ◌⊎◌, ◌==◌, ℕ, zero, suc, ◌+◌, ◌-◌, ◌^◌, ◌≤◌, Bool, true, false, List, Option, Some, refl, sym, ◌∙◌, subst, inl, inr, arith, min, eqb-true, eq-eqb, true≢false}
 use Rattle.fg_outside.specs.declared.file_source.FileSource.{FileSource}
 use Rattle.fg_outside.specs.Contents.{Contents, Tells, told}
 use Rattle.fg_outside.specs.Counts.{Rose}

@@ -29,7 +29,7 @@ pub struct FileSource<F> {
 }
 
 impl<F: Files> FileSource<F> {
-    ghost use Rattle.fg_outside.specs.FileSource.{files_of, name_of, missing_of, left_in, faults_of};
+    ghost use Rattle.fg_outside.specs.FileSource.{files_of, name_of, missing_of, left_in, faults_of, KeepsFiles};
 
     /// The named file of these files, from its start.
     pub fn new(files: F, name: Text) -> FileSource<F>
@@ -73,14 +73,7 @@ impl<F: Files> FileSource<F> {
             ⊎ Rose (F.absences (files_of self.old)) (F.absences (files_of self.new))) }
         ensures present { (file : List ℕ) → Tells (F.contents (files_of self.old)) (name_of self.old) (Some file)
             → OnErr result (Rose (F.faults (files_of self.old)) (F.faults (files_of self.new))) }
-        ensures files_faults { F.faults (files_of self.old) ≤ F.faults (files_of self.new) }
-        ensures files_absences { F.absences (files_of self.old) ≤ F.absences (files_of self.new) }
-        ensures contents { F.contents (files_of self.new) ≡ F.contents (files_of self.old) }
-        ensures name { name_of self.new ≡ name_of self.old }
-        ensures missing { missing_of self.new ≢ missing_of self.old
-            → Rose (F.absences (files_of self.old)) (F.absences (files_of self.new)) }
-        ensures here { (file : List ℕ) → Tells (F.contents (files_of self.old)) (name_of self.old) (Some file)
-            → missing_of self.new ≡ missing_of self.old }
+        ensures step { KeepsFiles F.contents F.faults F.absences self.old self.new }
     {
         let name = self.name.as_str();
         match self.files.read_at(name, self.place, &mut self.ahead)? {

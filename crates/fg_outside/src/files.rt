@@ -114,57 +114,19 @@ pub fn read_whole<F: Files>(
 {
     let mut bytes = Bytes::new(alloc);
     loop {
-        if read_piece(files, name, most, &mut bytes)? {
-            return Ok(bytes);
-        }
-    }
-}
-
-// Reads one piece more, and says whether that was the last.
-fn read_piece<F: Files>(
-    files: &mut F,
-    name: &str,
-    most: usize,
-    bytes: &mut Bytes,
-) -> Result<bool, ReadRefused>
-    requires { length bytes.old ≤ most }
-
-    ensures front { (file : List ℕ) → Tells (F.contents files.old) name.now (Some file)
-        → bytes.old ≡ take (length bytes.old) file
-        → OnOk result (bytes.new ≡ take (length bytes.new) file) }
-    ensures last { (file : List ℕ) → Tells (F.contents files.old) name.now (Some file)
-        → bytes.old ≡ take (length bytes.old) file
-        → IfOk result (λ whole. whole ≡ true → bytes.new ≡ take most file) }
-    ensures most { OnOk result (length bytes.new ≤ most) }
-    ensures more { IfOk result (λ whole. whole ≡ false → length bytes.old < length bytes.new) }
-
-    ensures missing { Tells (F.contents files.old) name.now None
-        → IsErrOf result ReadRefused.Absent ⊎ IsErrOf result ReadRefused.Failed }
-    ensures absent_only { (told : Option (List ℕ)) → Tells (F.contents files.old) name.now told
-        → IsErrOf result ReadRefused.Absent → told ≡ None }
-    ensures absent { IsErrOf result ReadRefused.Absent → Rose (F.absences files.old) (F.absences files.new) }
-    ensures failed { IsErrOf result ReadRefused.Failed → Rose (F.faults files.old) (F.faults files.new) }
-    ensures no_absence { (IsErrOf result ReadRefused.Absent → ⊥) → F.absences files.new ≡ F.absences files.old }
-    ensures no_fault { (IsErrOf result ReadRefused.Failed → ⊥) → F.faults files.new ≡ F.faults files.old }
-    ensures named { IsErrOf result ReadRefused.Failed → F.refused files.new ≡ name.now }
-    ensures not_there { IsErrOf result ReadRefused.Absent → F.refused files.new ≡ name.now }
-    ensures not_refused { (IsErrOf result ReadRefused.Failed → ⊥) → (IsErrOf result ReadRefused.Absent → ⊥)
-        → F.refused files.new ≡ F.refused files.old }
-
-    ensures contents { F.contents files.new ≡ F.contents files.old }
-    ensures faults { F.faults files.old ≤ F.faults files.new }
-    ensures absences { F.absences files.old ≤ F.absences files.new }
-{
-    let from = bytes.len();
-    let room = PIECE_LEN.min(most - from);
-    let mut buf = [0; PIECE_LEN];
-    let piece = &mut buf[..room];
-    match files.read_at(name, from as u64, piece)? {
-        None => Err(ReadRefused::Absent),
-        Some(0) => Ok(true),
-        Some(n) => {
-            bytes.append(&piece[..n])?;
-            Ok(bytes.len() == most)
+        let from = bytes.len();
+        let room = PIECE_LEN.min(most - from);
+        let mut buf = [0; PIECE_LEN];
+        let piece = &mut buf[..room];
+        match files.read_at(name, from as u64, piece)? {
+            None => return Err(ReadRefused::Absent),
+            Some(0) => return Ok(bytes),
+            Some(n) => {
+                bytes.append(&piece[..n])?;
+                if bytes.len() == most {
+                    return Ok(bytes);
+                }
+            }
         }
     }
 }

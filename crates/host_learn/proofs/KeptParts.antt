@@ -10,7 +10,7 @@ use Rattle.conf_types.specs.Configuration.{Configuration}
 use Rattle.conf_types.specs.Groups.{group_of}
 use Rattle.conf_types.specs.Lists.{EachBefore, is_same}
 use Rattle.conf_types.specs.State.{IsSameHost}
-use Rattle.host_learn.specs.Kept.{has_room, kept_hosts, last_of_each, may_stay, with_room}
+use Rattle.host_learn.specs.Kept.{finds_room, kept_hosts, last_of_each, may_stay, with_room}
 use Rattle.host_learn.specs.Learning.{is_heard}
 use Rattle.host_learn.specs.Parts.{IsPartOf}
 use Rattle.host_learn.specs.Table.{Table}
@@ -36,8 +36,8 @@ adds : (conf : Configuration) (limit : ℕ) (kept hosts : List HostRec) → Adds
 adds conf limit kept [] = record { more = []; is = sym (append-nil kept); part = tt }
 adds conf limit kept (host ∷ hosts) =
     let P : Bool → Type 0 = λ b. (more : List HostRec) × (with_room conf limit (if b then kept ++ host ∷ [] else kept) hosts ≡ kept ++ more) × IsPartOf more (host ∷ hosts) in
-    let found : P (has_room conf limit kept host) =
-    elim (has_room conf limit kept host) as P [
+    let found : P (finds_room conf limit kept host) =
+    elim (finds_room conf limit kept host) as P [
       | true ↦ let rest = adds conf limit (kept ++ host ∷ []) hosts in (host ∷ rest.more, rest.is ∙ append_assoc kept (host ∷ []) rest.more, inl (refl, rest.part))
       | false ↦ let rest = adds conf limit kept hosts in (rest.more, rest.is, part_skip rest.more host hosts rest.part)
     ] in

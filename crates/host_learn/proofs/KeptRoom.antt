@@ -13,7 +13,7 @@ use Rattle.conf_types.specs.Groups.{group_of}
 use Rattle.conf_types.specs.Lists.{EachBefore}
 use Rattle.conf_types.specs.State.{is_host_at, is_host_in, is_permanent, is_port_full, is_vlan_full}
 use Rattle.conf_types.proofs.Reached.{same_id}
-use Rattle.host_learn.specs.Kept.{has_room, with_room}
+use Rattle.host_learn.specs.Kept.{finds_room, with_room}
 use Rattle.host_learn.specs.Learning.{is_full_at, is_full_in, is_occupied}
 use Rattle.host_learn.proofs.Lists.{all_map, before_push, count_push, none_passes}
 use Rattle.host_learn.proofs.Sizes.{less}
@@ -27,11 +27,11 @@ never P [] = tt
 never P (host ∷ hosts) = (λ e. absurd (false≢true e), never P hosts)
 
 -- what holds of no hosts, and of one more that finds room, holds of all that find room
-pub room_keeps : (conf : Configuration) (limit : ℕ) (P : List HostRec → Type 0) → ((kept : List HostRec) (host : HostRec) → P kept → has_room conf limit kept host ≡ true → P (kept ++ host ∷ []))
+pub room_keeps : (conf : Configuration) (limit : ℕ) (P : List HostRec → Type 0) → ((kept : List HostRec) (host : HostRec) → P kept → finds_room conf limit kept host ≡ true → P (kept ++ host ∷ []))
     → (kept hosts : List HostRec) → P kept → P (with_room conf limit kept hosts)
 room_keeps conf limit P step kept [] here = here
 room_keeps conf limit P step kept (host ∷ hosts) here =
-    elim (cases_Bool (has_room conf limit kept host)) [
+    elim (cases_Bool (finds_room conf limit kept host)) [
       | inl room ↦ subst (λ b. P (with_room conf limit (if b then kept ++ host ∷ [] else kept) hosts)) (sym room) (room_keeps conf limit P step (kept ++ host ∷ []) hosts (step kept host here room))
       | inr none ↦ subst (λ b. P (with_room conf limit (if b then kept ++ host ∷ [] else kept) hosts)) (sym none) (room_keeps conf limit P step kept hosts here)
     ]
@@ -42,7 +42,7 @@ record Room (conf : Configuration) (kept : List HostRec) (host : HostRec) : Type
   vlan : not (is_full_in conf kept host) ≡ true
   free : not (is_permanent conf host && is_occupied kept host) ≡ true
 
-room_of : (conf : Configuration) (limit : ℕ) (kept : List HostRec) (host : HostRec) → has_room conf limit kept host ≡ true → Room conf kept host
+room_of : (conf : Configuration) (limit : ℕ) (kept : List HostRec) (host : HostRec) → finds_room conf limit kept host ≡ true → Room conf kept host
 room_of conf limit kept host room =
     let a : Bool = not (is_full_at conf kept host) in
     let b : Bool = not (is_full_in conf kept host) in

@@ -9,8 +9,8 @@ use Rattle.conf_types.specs.Configuration.{Configuration}
 use Rattle.conf_types.specs.State.{is_permanent}
 use Rattle.host_learn.specs.declared.learn.Learn.{Learn}
 use Rattle.host_learn.specs.declared.learn.Learn.TheVariants.{Learned, Moved, Refreshed, Full, NotLearnable}
-use Rattle.host_learn.specs.Kept.{has_room, with_room}
-use Rattle.host_learn.specs.Learning.{is_heard, is_known, is_full, is_full_at, is_full_in, is_learnable, is_occupied, stands_there, answer, hosts_after}
+use Rattle.host_learn.specs.Kept.{finds_room, with_room}
+use Rattle.host_learn.specs.Learning.{is_heard, is_known, is_full, is_full_at, is_full_in, is_learnable, is_occupied, stands_there, outcome, hosts_after}
 use Rattle.host_learn.specs.Table.{Table, without_first}
 
 pub less : (a b : ℕ) → not (nat_le a b) ≡ true → b < a
@@ -39,7 +39,7 @@ module _ (conf : Configuration) (limit : ℕ) where
   -- ---- what is kept
 
   -- one finds room only below the limit
-  below : (kept : List HostRec) (host : HostRec) → has_room conf limit kept host ≡ true → length kept < limit
+  below : (kept : List HostRec) (host : HostRec) → finds_room conf limit kept host ≡ true → length kept < limit
   below kept host room =
       let a : Bool = not (is_full_at conf kept host) && not (is_full_in conf kept host) in
       let d : Bool = not (is_permanent conf host && is_occupied kept host) in
@@ -47,14 +47,14 @@ module _ (conf : Configuration) (limit : ℕ) where
       let free = and_parts a (not (nat_le limit (length kept))) parts.0 in
       less limit (length kept) free.1
 
-  one_more : (b : Bool) (kept : List HostRec) (host : HostRec) → has_room conf limit kept host ≡ b → length kept ≤ limit → length (if b then kept ++ host ∷ [] else kept) ≤ limit
+  one_more : (b : Bool) (kept : List HostRec) (host : HostRec) → finds_room conf limit kept host ≡ b → length kept ≤ limit → length (if b then kept ++ host ∷ [] else kept) ≤ limit
   one_more true kept host room within = omega (arith, below kept host room, length-append kept (host ∷ []))
   one_more false kept host room within = within
 
   pub room_within : (kept hosts : List HostRec) → length kept ≤ limit → length (with_room conf limit kept hosts) ≤ limit
   room_within kept [] within = within
   room_within kept (host ∷ more) within =
-      room_within (if has_room conf limit kept host then kept ++ host ∷ [] else kept) more (one_more (has_room conf limit kept host) kept host refl within)
+      room_within (if finds_room conf limit kept host then kept ++ host ∷ [] else kept) more (one_more (finds_room conf limit kept host) kept host refl within)
 
   -- ---- what is learned
 
@@ -90,7 +90,7 @@ module _ (conf : Configuration) (limit : ℕ) where
         let parts = neither (not (stands_there hosts heard) && is_full_at conf hosts heard) (not (is_known conf hosts heard) && full_table) full in
         less limit (length hosts) (ap not (neither (is_full_in conf hosts heard) (nat_le limit (length hosts)) (second (is_known conf hosts heard) full_table parts.1 known)).1)
 
-    pub learned_within : (hosts : List HostRec) → length hosts ≤ limit → length (hosts_after conf heard hosts (answer conf (record { limit = limit; hosts = hosts }) heard)) ≤ limit
+    pub learned_within : (hosts : List HostRec) → length hosts ≤ limit → length (hosts_after conf heard hosts (outcome conf (record { limit = limit; hosts = hosts }) heard)) ≤ limit
     unfolding chosen
     learned_within hosts within =
         let table : Table = record { limit = limit; hosts = hosts } in

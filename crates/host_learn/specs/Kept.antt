@@ -21,8 +21,8 @@ last_of_each conf (host ∷ more) =
 
 -- the port, the VLAN in the group and the table have fewer hosts than they may, and a port that keeps its
 -- first host for good has none in the VLAN
-abbrev pub has_room : Configuration → ℕ → List HostRec → HostRec → Bool
-has_room conf limit kept host =
+abbrev pub finds_room : Configuration → ℕ → List HostRec → HostRec → Bool
+finds_room conf limit kept host =
     not (is_full_at conf kept host) && not (is_full_in conf kept host) && not (nat_le limit (length kept))
     && not (is_permanent conf host && is_occupied kept host)
 
@@ -30,7 +30,7 @@ has_room conf limit kept host =
 abbrev pub with_room : Configuration → ℕ → (kept hosts : List HostRec) → List HostRec
 with_room conf limit kept [] = kept
 with_room conf limit kept (host ∷ more) =
-    with_room conf limit (if has_room conf limit kept host then kept ++ host ∷ [] else kept) more
+    with_room conf limit (if finds_room conf limit kept host then kept ++ host ∷ [] else kept) more
 
 abbrev pub kept_hosts : Configuration → List UpRec → ℕ → Table → List HostRec
 kept_hosts conf ups moment table =

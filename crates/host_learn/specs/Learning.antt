@@ -64,10 +64,10 @@ is_full conf table heard =
     not (stands_there table.hosts heard) && is_full_at conf table.hosts heard
     || not (is_known conf table.hosts heard) && (is_full_in conf table.hosts heard || nat_le table.limit (length table.hosts))
 
--- ---- the answer, and the table behind it
+-- ---- the outcome, and the table behind it
 
-abbrev pub answer : Configuration → Table → HostRec → Learn
-answer conf table heard =
+abbrev pub outcome : Configuration → Table → HostRec → Learn
+outcome conf table heard =
     if not (is_learnable conf table.hosts heard) then NotLearnable
     else if is_full conf table heard then Full
     else if stands_there table.hosts heard then Refreshed
@@ -90,4 +90,4 @@ hosts_after conf heard hosts Full = hosts
 hosts_after conf heard hosts NotLearnable = hosts
 
 abbrev pub learned : Configuration → Table → HostRec → Table
-learned conf table heard = record table { hosts = hosts_after conf heard table.hosts (answer conf table heard) }
+learned conf table heard = record table { hosts = hosts_after conf heard table.hosts (outcome conf table heard) }

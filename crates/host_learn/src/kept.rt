@@ -2,7 +2,7 @@
 
 ghost use Rattle.std.specs.Prelude.{◌≡◌, [], filter, IfOk};
 ghost use Rattle.host_learn.specs.Learning.{is_full_at, is_full_in, is_known, is_occupied};
-ghost use Rattle.host_learn.specs.Kept.{has_room, kept_hosts, last_of_each, may_stay, with_room};
+ghost use Rattle.host_learn.specs.Kept.{finds_room, kept_hosts, last_of_each, may_stay, with_room};
 
 use crate::host::{has_key, is_host};
 use conf_types::{Conf, HostRec, UpRec, is_up};
@@ -82,8 +82,8 @@ fn last_of_each(alloc: Global, conf: &Conf, hosts: &[HostRec]) -> Result<Vec<Hos
 }
 
 /// Whether a host finds room beside those that are kept.
-fn has_room(conf: &Conf, limit: u32, kept: &[HostRec], host: &HostRec) -> bool
-    ensures { result ≡ has_room conf.now limit kept.now host.now }
+fn finds_room(conf: &Conf, limit: u32, kept: &[HostRec], host: &HostRec) -> bool
+    ensures { result ≡ finds_room conf.now limit kept.now host.now }
 {
     !is_port_full(conf, kept, host)
         && !is_vlan_full(conf, kept, host)
@@ -102,7 +102,7 @@ fn with_room(
 {
     let mut kept = Vec::new(alloc);
     for host in hosts {
-        if has_room(conf, limit, kept.as_slice(), host) {
+        if finds_room(conf, limit, kept.as_slice(), host) {
             kept.push(*host)?;
         }
     }

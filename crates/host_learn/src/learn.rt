@@ -3,7 +3,7 @@ ghost use Rattle.std.specs.List.{list_any};
 ghost use Rattle.conf_types.specs.Groups.{group_of};
 ghost use Rattle.conf_types.specs.Lists.{is_same};
 ghost use Rattle.conf_types.specs.State.{is_host_in, is_permanent};
-ghost use Rattle.host_learn.specs.Learning.{answer, hosts_after, is_full, is_full_at, is_full_in, is_heard, is_in_place, is_kept_off, is_known, is_occupied, moved, refreshed, stands_there};
+ghost use Rattle.host_learn.specs.Learning.{hosts_after, is_full, is_full_at, is_full_in, is_heard, is_in_place, is_kept_off, is_known, is_occupied, moved, outcome, refreshed, stands_there};
 ghost use Rattle.host_learn.specs.Order.{AreRising, first_entry, hosts_of, is_old, is_other};
 
 use crate::addresses::Entry;
@@ -134,9 +134,9 @@ fn is_full(conf: &Conf, limit: u32, order: &Order, heard: &HostRec) -> bool
 }
 
 /// What becomes of a host that is heard.
-pub(crate) fn answer(conf: &Conf, limit: u32, order: &Order, heard: &HostRec) -> Learn
+pub(crate) fn outcome(conf: &Conf, limit: u32, order: &Order, heard: &HostRec) -> Learn
     requires { length order.now < 2 ^ 32 }
-    ensures { result ≡ answer conf.now (record { limit = limit; hosts = hosts_of order.now }) heard.now }
+    ensures { result ≡ outcome conf.now (record { limit = limit; hosts = hosts_of order.now }) heard.now }
 {
     if !is_host(conf, heard) || is_kept_off(conf, order, heard) {
         Learn::NotLearnable
@@ -216,18 +216,18 @@ fn move_last(conf: &Conf, order: &mut Order, heard: &HostRec) -> Result<(), NoMe
     Ok(())
 }
 
-/// Changes the hosts by the answer to the one that is heard.
+/// Changes the hosts by what becomes of the one that is heard.
 pub(crate) fn take_in(
     conf: &Conf,
     order: &mut Order,
     heard: &HostRec,
-    answer: Learn,
+    outcome: Learn,
 ) -> Result<(), NoMemory>
     requires { length order.old < 2 ^ 32 }
-    ensures ok { OnOk result (hosts_of order.new ≡ hosts_after conf.now heard.now (hosts_of order.old) answer) }
+    ensures ok { OnOk result (hosts_of order.new ≡ hosts_after conf.now heard.now (hosts_of order.old) outcome) }
     ensures err { OnErr result (order.new ≡ order.old) }
 {
-    match answer {
+    match outcome {
         Learn::Learned => {
             order.push(heard)?;
             Ok(())

@@ -3,7 +3,7 @@ ghost use Rattle.std.specs.List.{find, list_any};
 ghost use Rattle.std.specs.Option.{option_copied};
 ghost use Rattle.conf_types.specs.State.{is_host_at, is_to_forget};
 ghost use Rattle.host_learn.specs.Kept.{kept};
-ghost use Rattle.host_learn.specs.Learning.{answer, learned};
+ghost use Rattle.host_learn.specs.Learning.{learned, outcome};
 ghost use Rattle.host_learn.specs.Leaving.{leaves};
 ghost use Rattle.host_learn.specs.Order.{hosts_of, is_due_from};
 ghost use Rattle.host_learn.specs.Table.{first_due, has_key, host_of, off_datapath, off_due, off_port, without_first};
@@ -12,7 +12,7 @@ use crate::addresses::Entry;
 use crate::ageing::{Passed, leave_any_due, take_due};
 use crate::host::has_key;
 use crate::kept::kept_hosts;
-use crate::learn::{Learn, answer, take_in};
+use crate::learn::{Learn, outcome, take_in};
 use crate::order::{Leaving, Order, key_address};
 use conf_types::{Conf, HostRec, HostRecs, UpRec};
 use net_base::{DpId, Mac, Moment, NoMemory, PortNo, Vid};
@@ -148,7 +148,7 @@ impl HostTable {
         mac: Mac,
         now: Moment,
     ) -> Result<Learn, NoMemory>
-        ensures answer { IfOk result (λ said. said ≡ answer conf.now self.old (record { dp = dp; port = port; vid = vid; mac = mac; learned = now })) }
+        ensures outcome { IfOk result (λ told. told ≡ outcome conf.now self.old (record { dp = dp; port = port; vid = vid; mac = mac; learned = now })) }
         ensures list { IfOk result (λ _. self.new ≡ learned conf.now self.old (record { dp = dp; port = port; vid = vid; mac = mac; learned = now })) }
         ensures err { OnErr result (self.new ≡ self.old) }
     {
@@ -159,10 +159,10 @@ impl HostTable {
             mac,
             learned: now,
         };
-        let said = answer(conf, self.limit, &self.order, &heard);
+        let told = outcome(conf, self.limit, &self.order, &heard);
         self.passed = Passed::none();
-        take_in(conf, &mut self.order, &heard, said)?;
-        Ok(said)
+        take_in(conf, &mut self.order, &heard, told)?;
+        Ok(told)
     }
 
     /// Takes out the first host that is to be forgotten at a moment; `None` exactly where there is

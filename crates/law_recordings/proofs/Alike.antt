@@ -7,7 +7,8 @@ use Rattle.recording.specs.Kinds.{is_of_connection}
 use Rattle.recording.specs.Turns.{Told, clock, opens, own}
 use Rattle.recording.specs.Written.{WrittenRecord}
 use Rattle.ctl_world.specs.World.{World}
-use Rattle.ctl_core.specs.Story.{behind, saying_of}
+use Rattle.ctl_life.specs.Sayings.{saying_of}
+use Rattle.ctl_core.specs.Story.{behind}
 use Rattle.ctl_core.specs.Turns.{turn, work}
 use Rattle.ctl_drive.specs.Driving.{line_by, lines_of, record_by, records_of}
 use Rattle.ctl_drive.proofs.Stories.{behind-push, lines-push}

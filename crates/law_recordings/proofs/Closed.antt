@@ -10,8 +10,9 @@ use Rattle.recording.specs.Turns.{Closing, closings, is_shut, opens}
 use Rattle.recording.proofs.Turning.{AreWithin, closings-within, is_shut-closing, is_shut-happening, is_shut-later, within_more, within_push}
 use Rattle.ctl_world.specs.declared.said.Said.{Said}
 use Rattle.ctl_world.specs.World.{World}
-use Rattle.ctl_core.specs.declared.controller.Saying.{Saying}
-use Rattle.ctl_core.specs.Story.{behind, saying_of}
+use Rattle.ctl_life.specs.declared.saying.Saying.{Saying}
+use Rattle.ctl_life.specs.Sayings.{saying_of}
+use Rattle.ctl_core.specs.Story.{behind}
 use Rattle.ctl_core.specs.Turns.{turn}
 use Rattle.ctl_drive.specs.Driving.{closings_of, shut_by}
 

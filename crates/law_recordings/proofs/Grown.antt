@@ -12,9 +12,10 @@ use Rattle.ctl_world.specs.Frames.{behind, front, with_read}
 use Rattle.ctl_world.specs.Saying.{add_said}
 use Rattle.ctl_world.specs.World.{World}
 use Rattle.ctl_settle.specs.Settling.{settle}
-use Rattle.ctl_core.specs.Hearing.{hear_frames, hear_front, hear_next, read, unread}
+use Rattle.ctl_life.specs.Life.{read, unread}
+use Rattle.ctl_core.specs.Hearing.{hear_frames, hear_front, hear_next}
 use Rattle.ctl_core.specs.Turns.{hear_all}
-use Rattle.ctl_core.proofs.Numbered.{change_same}
+use Rattle.ctl_life.proofs.Numbered.{change_same}
 use Rattle.law_recordings.proofs.Changes.{change_twice, without_changed}
 use Rattle.law_recordings.proofs.Touches.{Touch, touch, touched}
 use Rattle.law_recordings.proofs.Hears.{front_keeps}

@@ -20,7 +20,8 @@ use Rattle.ctl_world.specs.Ends.{close, forget_lost}
 use Rattle.ctl_world.specs.Saying.{ask, repeat, say}
 use Rattle.ctl_world.specs.World.{World, running}
 use Rattle.ctl_settle.specs.Settling.{settle}
-use Rattle.ctl_core.specs.Hearing.{begin, echo, follow, hear_frame, hear_front, hear_message, hear_on, introduce, packet, replace, says, take_dp, turn_away, unfit, want_gateways, want_in, wipe}
+use Rattle.ctl_life.specs.Life.{echo, replace, says, take_dp, turn_away}
+use Rattle.ctl_core.specs.Hearing.{begin, follow, hear_frame, hear_front, hear_message, hear_on, introduce, packet, unfit, want_gateways, want_in, wipe}
 use Rattle.law_recordings.proofs.Touches.{Keeps, Touch, any, ask_keeps, both, changed, close_keeps, either, forget_keeps, found_of, found_with, itself, over, repeat_keeps, running_kept, say_keeps, touched}
 use Rattle.law_recordings.proofs.Settles.{settle_keeps}
 use Rattle.law_recordings.proofs.Packets.{packet_in_keeps}

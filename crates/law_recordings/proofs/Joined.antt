@@ -6,7 +6,8 @@ use Rattle.fg_outside.specs.declared.hub.Happening.TheVariants.{Heard}
 use Rattle.recording.specs.Written.{WrittenRecord}
 use Rattle.ctl_world.specs.declared.said.Said.{Said}
 use Rattle.ctl_world.specs.World.{World}
-use Rattle.ctl_core.specs.Story.{behind, saying_of}
+use Rattle.ctl_life.specs.Sayings.{saying_of}
+use Rattle.ctl_core.specs.Story.{behind}
 use Rattle.ctl_core.specs.Turns.{hear, turn}
 use Rattle.ctl_drive.specs.Driving.{line_by, lines_of, record_by, records_of}
 use Rattle.law_recordings.specs.Pieces.{known_only}

@@ -13,10 +13,11 @@ use Rattle.ctl_world.specs.Ends.{end_line}
 use Rattle.ctl_world.specs.Frames.{front}
 use Rattle.ctl_world.specs.World.{World}
 use Rattle.switch_session.specs.Connections.{next_id}
-use Rattle.ctl_core.specs.Hearing.{has_frame, hear_frame, hear_frames, hear_front, hear_next, read, says, unread}
-use Rattle.ctl_core.specs.Turns.{feed, hear, turn}
-use Rattle.ctl_core.proofs.Numbered.{unlike}
-use Rattle.ctl_core.proofs.Openings.{change_open, without_open, without_shut}
+use Rattle.ctl_life.specs.Life.{has_frame, read, says, unread, feed}
+use Rattle.ctl_core.specs.Hearing.{hear_frame, hear_frames, hear_front, hear_next}
+use Rattle.ctl_core.specs.Turns.{hear, turn}
+use Rattle.ctl_life.proofs.Numbered.{unlike}
+use Rattle.ctl_life.proofs.Openings.{change_open, without_open, without_shut}
 use Rattle.law_stories.proofs.Singly.{Steps, feed_stays, heard_stays, read_stays, settle_stays}
 use Rattle.law_recordings.specs.Pieces.{known_only}
 use Rattle.law_recordings.proofs.Frames.{holding}

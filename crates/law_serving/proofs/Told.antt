@@ -13,8 +13,8 @@ use Rattle.fg_outside.specs.Wrote.{appended}
 use Rattle.link_hub.specs.Runs.{said_by, said_on}
 use Rattle.watch_hub.specs.WatchedStory.{spoken}
 use Rattle.ctl_world.specs.World.{World}
-use Rattle.ctl_core.specs.declared.controller.Saying.{Saying}
-use Rattle.ctl_core.specs.declared.controller.Saying.TheVariants.{Send, Close, Line}
+use Rattle.ctl_life.specs.declared.saying.Saying.{Saying}
+use Rattle.ctl_life.specs.declared.saying.Saying.TheVariants.{Send, Close, Line}
 use Rattle.ctl_core.specs.Turns.{turn}
 use Rattle.ctl_drive.specs.declared.drive.Drove.{Drove}
 use Rattle.ctl_drive.specs.declared.drive.Drove.TheVariants as drove

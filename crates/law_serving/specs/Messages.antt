@@ -5,8 +5,8 @@ use Rattle.fg_outside.specs.declared.hub.Happening.{Happening}
 use Rattle.fg_outside.specs.declared.hub.Said.TheVariants.{Taken}
 use Rattle.fg_outside.specs.HubStep.{Event, happening, saying, closing}
 use Rattle.ctl_world.specs.World.{World}
-use Rattle.ctl_core.specs.declared.controller.Saying.{Saying}
-use Rattle.ctl_core.specs.declared.controller.Saying.TheVariants.{Send, Close, Line}
+use Rattle.ctl_life.specs.declared.saying.Saying.{Saying}
+use Rattle.ctl_life.specs.declared.saying.Saying.TheVariants.{Send, Close, Line}
 use Rattle.ctl_core.specs.Turns.{turn}
 use Rattle.ctl_drive.specs.Driving.{sayings_of}
 

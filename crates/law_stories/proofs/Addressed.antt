@@ -32,9 +32,10 @@ use Rattle.ctl_world.specs.Frames.{with_read}
 use Rattle.ctl_world.specs.Saying.{ask, packet_out, say, say_by}
 use Rattle.ctl_world.specs.World.{World, running, ups}
 use Rattle.ctl_packets.specs.Packets.{destination, gateways, glean, glean_at, glean_in, glean_to, hear_neighbour, hear_sender, is_for_gateway, is_resolved, learn, network_vlan, outgoing, packet_at, packet_by, packet_in, packet_of_table, reply, routes, sources, want}
-use Rattle.ctl_core.specs.Hearing.{hear_frame, packet, read, take_dp, want_gateways}
+use Rattle.ctl_life.specs.Life.{read, take_dp, feed, open_conn}
+use Rattle.ctl_core.specs.Hearing.{hear_frame, packet, want_gateways}
 use Rattle.ctl_core.specs.Reloading.{reload, renew}
-use Rattle.ctl_core.specs.Turns.{feed, open_conn, pass}
+use Rattle.ctl_core.specs.Turns.{pass}
 use Rattle.std.specs.Prelude.{IfSome}
 use Rattle.std.specs.List.{AllByRecursion, cons_option, filter_map}
 use Rattle.net_base.specs.Address.{IsSixBytes, is_group}
@@ -167,7 +168,7 @@ learn_addressed : (dp : DpId) (port vid : ℕ) (mac : Mac) → IsSixBytes mac.0 
 learn_addressed dp port vid mac six w known =
     let heard : HostRec = record { dp = dp; port = port; vid = vid; mac = mac; learned = w.moment } in
     either IsAddressed (is_up (ups w) dp port) (record w { hosts = learned w.conf w.hosts heard }) w
-    (hosts_learned w.conf heard six w.hosts.hosts known.0 (learning.answer w.conf w.hosts heard), known.1, known.2) known
+    (hosts_learned w.conf heard six w.hosts.hosts known.0 (learning.outcome w.conf w.hosts heard), known.1, known.2) known
 
 sender_six : (conf : Configuration) (vid : ℕ) (src : Mac) → IsSixBytes src.0 → (upper : UpperParts) → IfSome (upper_sender conf vid src upper) (λ s. IsSixBytes s.mac.0)
 sender_six conf vid src six Unknown = tt

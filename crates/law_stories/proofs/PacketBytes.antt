@@ -20,7 +20,7 @@ use Rattle.switch_session.specs.Frames.{told}
 use Rattle.ctl_world.specs.declared.frames.Front.{Front}
 use Rattle.ctl_world.specs.declared.frames.Front.TheVariants.{Part, Frame, Bad}
 use Rattle.ctl_world.specs.Frames.{behind, front, is_frame}
-use Rattle.ctl_core.specs.Hearing.{says, says_by}
+use Rattle.ctl_life.specs.Life.{says, says_by}
 
 abbrev pub AreBytes : List ℕ → Type 0
 AreBytes bytes = AllByRecursion (λ byte. byte < 256) bytes

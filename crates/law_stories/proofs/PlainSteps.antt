@@ -19,9 +19,10 @@ use Rattle.ctl_world.specs.Saying.{packet_out, repeat, say}
 use Rattle.ctl_world.specs.TablesSaid.{tables_said}
 use Rattle.ctl_world.specs.World.{World}
 use Rattle.ctl_settle.specs.Settling.{ask_all}
-use Rattle.ctl_core.specs.Hearing.{begin, echo, packet, read, replace, take_dp, tell_version}
+use Rattle.ctl_life.specs.Life.{echo, read, replace, take_dp, tell_version, feed}
+use Rattle.ctl_core.specs.Hearing.{begin, packet}
 use Rattle.ctl_core.specs.Reloading.{reload}
-use Rattle.ctl_core.specs.Turns.{feed, pass}
+use Rattle.ctl_core.specs.Turns.{pass}
 use Rattle.ctl_core.proofs.PacketSteps.{packet_kept}
 use Rattle.ctl_core.proofs.Walk.{Steps, asks_kept, begin_kept, pass_kept, reload_kept, replace_kept, wants_by}
 use Rattle.law_stories.proofs.Ways.{Holds, IsPlain, OnConn, Way, changed_to, gone_to, more_said, plain_more, say_to}

@@ -26,7 +26,8 @@ use Rattle.ctl_settle.proofs.Batches.{found_all}
 use Rattle.law_stories.proofs.Batching.{AreOf, batch_to}
 use Rattle.law_stories.proofs.Fits.{EndsIn, Fits, FitsEach, IsLow, IsNoting, Told}
 use Rattle.law_stories.proofs.Leading.{leads_on, low_difference}
-use Rattle.ctl_core.proofs.Numbered.{is_its, of_with, one_of}
+use Rattle.ctl_life.proofs.Numbered.{is_its, one_of}
+use Rattle.ctl_core.proofs.Numbered.{of_with}
 use Rattle.law_stories.proofs.PlainSteps.{asks_stays}
 use Rattle.law_stories.proofs.Settles.{asks_alike, batch_batched, batched_running, batched_wanted, batches_batched, number_of, running_stage, settled_alike}
 use Rattle.law_stories.proofs.Setup.{AreFit}

@@ -19,14 +19,13 @@ use Rattle.ctl_world.specs.Connections.{change, conn_with, is_open, put, with_sa
 use Rattle.ctl_world.specs.Ends.{end_line, ended}
 use Rattle.ctl_world.specs.TablesSaid.{is_hello}
 use Rattle.ctl_world.specs.World.{World, first}
-use Rattle.ctl_core.specs.Hearing.{says}
+use Rattle.ctl_life.specs.Life.{says, open_conn}
 use Rattle.ctl_core.specs.Reloading.{accepted}
 use Rattle.ctl_core.specs.Story.{behind}
-use Rattle.ctl_core.specs.Turns.{open_conn}
 use Rattle.law_stories.specs.Sayable.{CountUp, IdsCount, ids_more, ids_said, is_answer}
 use Rattle.law_stories.specs.Settlings.{said_in}
-use Rattle.ctl_core.proofs.Numbered.{apart, changed_other, changed_own, put_other, unlike, without_other, without_own}
-use Rattle.ctl_core.proofs.Openings.{fresh, fresh_is, opens_by}
+use Rattle.ctl_life.proofs.Numbered.{apart, changed_other, changed_own, put_other, unlike, without_other, without_own}
+use Rattle.ctl_life.proofs.Openings.{fresh, fresh_is, opens_by}
 use Rattle.law_stories.proofs.Singly.{IsCounting, IsOwn, IsStill, Steps, feed_stays, heard_stays, pass_stays, read_stays, reload_stays, settle_stays}
 use Rattle.law_stories.proofs.StoryTold.{Any}
 use Rattle.law_stories.proofs.StoryWalks.{Walks, any_pieces, story_kept}

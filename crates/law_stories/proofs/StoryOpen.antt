@@ -19,12 +19,13 @@ use Rattle.ctl_world.specs.Ends.{closing_text, end_line, ended}
 use Rattle.ctl_world.specs.Frames.{front}
 use Rattle.ctl_world.specs.World.{World}
 use Rattle.ctl_settle.specs.Settling.{settle}
-use Rattle.ctl_core.specs.Hearing.{has_frame, hear_frame, hear_frames, hear_front, hear_next, read, says, unread}
+use Rattle.ctl_life.specs.Life.{has_frame, read, says, unread, closing_for, feed, open_conn}
+use Rattle.ctl_core.specs.Hearing.{hear_frame, hear_frames, hear_front, hear_next}
 use Rattle.ctl_core.specs.Reloading.{accepted, reload}
-use Rattle.ctl_core.specs.Turns.{closing_for, feed, hear, open_conn, pass, turn, work}
+use Rattle.ctl_core.specs.Turns.{hear, pass, turn, work}
 use Rattle.law_stories.specs.Sayable.{IsOnOpen, SaysOnOpen, opens_in}
-use Rattle.ctl_core.proofs.Numbered.{unlike}
-use Rattle.ctl_core.proofs.Openings.{change_open, fresh, fresh_is, open_is, opens_by, put_open, put_opens, without_open, without_shut}
+use Rattle.ctl_life.proofs.Numbered.{unlike}
+use Rattle.ctl_life.proofs.Openings.{change_open, fresh, fresh_is, open_is, opens_by, put_open, put_opens, without_open, without_shut}
 use Rattle.law_stories.proofs.Singly.{Steps, feed_stays, heard_stays, pass_stays, read_stays, reload_stays, settle_stays}
 
 -- ---- what is said, and more

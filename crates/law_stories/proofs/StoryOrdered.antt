@@ -7,7 +7,8 @@ use Rattle.ctl_settle.specs.Settling.{settle}
 use Rattle.ctl_settle.proofs.Batches.{AreByNumber, AreInKeyOrder}
 use Rattle.ctl_core.specs.Hearing.{hear_frame}
 use Rattle.ctl_core.specs.Reloading.{accepted, reload}
-use Rattle.ctl_core.specs.Turns.{open_conn, pass}
+use Rattle.ctl_life.specs.Life.{open_conn}
+use Rattle.ctl_core.specs.Turns.{pass}
 use Rattle.ctl_core.proofs.Stands.{Stands, ended_stands, feed_stands, heard_stands, open_stands, pass_stands, read_stands, reload_stands, settle_stands}
 use Rattle.law_stories.proofs.StoryTurns.{Keeps}
 

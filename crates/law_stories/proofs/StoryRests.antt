@@ -11,10 +11,11 @@ use Rattle.ctl_world.specs.Frames.{with_read}
 use Rattle.ctl_world.specs.World.{World, first}
 use Rattle.ctl_settle.specs.Rest.{AreInOrder, IsAtRest}
 use Rattle.ctl_settle.specs.Settling.{settle}
-use Rattle.ctl_core.specs.Hearing.{hear_frame, read}
+use Rattle.ctl_life.specs.Life.{read, feed, open_conn}
+use Rattle.ctl_core.specs.Hearing.{hear_frame}
 use Rattle.ctl_core.specs.Reloading.{accepted, reload}
 use Rattle.ctl_core.specs.Story.{behind}
-use Rattle.ctl_core.specs.Turns.{feed, open_conn, pass}
+use Rattle.ctl_core.specs.Turns.{pass}
 use Rattle.ctl_core.proofs.InOrder.{ended_in_order, fed_in_order, heard_in_order, opened_in_order, passed_in_order, read_in_order, reloaded_in_order}
 use Rattle.ctl_core.proofs.Rests.{fed_face}
 use Rattle.law_stories.proofs.StoryTurns.{Keeps, behind_kept}

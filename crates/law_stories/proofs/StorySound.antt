@@ -18,7 +18,8 @@ use Rattle.ctl_settle.proofs.Batches.{AreByNumber, AreInKeyOrder}
 use Rattle.ctl_core.specs.Hearing.{hear_frame}
 use Rattle.ctl_core.specs.Reloading.{accepted, of_text, of_tree, reload}
 use Rattle.ctl_core.specs.Story.{behind}
-use Rattle.ctl_core.specs.Turns.{open_conn, pass}
+use Rattle.ctl_life.specs.Life.{open_conn}
+use Rattle.ctl_core.specs.Turns.{pass}
 use Rattle.ctl_core.proofs.SoundFrames.{heard_sound, read_sound}
 use Rattle.ctl_core.proofs.SoundReloads.{reload_sound}
 use Rattle.ctl_core.proofs.SoundTurns.{feed_sound, open_sound, pass_sound}

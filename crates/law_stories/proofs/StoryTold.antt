@@ -25,7 +25,8 @@ use Rattle.ctl_world.specs.World.{IsSound, World, first}
 use Rattle.ctl_world.proofs.SoundEnds.{ended_sound}
 use Rattle.ctl_settle.specs.Settling.{ask_all, batch, settle, wanted}
 use Rattle.ctl_settle.proofs.Batches.{AreByNumber, AreInKeyOrder}
-use Rattle.ctl_core.specs.Hearing.{hear_frame, read, says}
+use Rattle.ctl_life.specs.Life.{read, says}
+use Rattle.ctl_core.specs.Hearing.{hear_frame}
 use Rattle.ctl_core.specs.Reloading.{accepted}
 use Rattle.ctl_core.proofs.SoundFrames.{heard_sound, read_sound}
 use Rattle.ctl_core.proofs.SoundReloads.{reload_sound}

@@ -11,10 +11,11 @@ use Rattle.ctl_world.specs.Ends.{ended}
 use Rattle.ctl_world.specs.Frames.{front}
 use Rattle.ctl_world.specs.World.{World}
 use Rattle.ctl_settle.specs.Settling.{settle}
-use Rattle.ctl_core.specs.Hearing.{has_frame, hear_frame, hear_frames, hear_front, hear_next, read, says, unread}
+use Rattle.ctl_life.specs.Life.{has_frame, read, says, unread, closing_for, feed, open_conn}
+use Rattle.ctl_core.specs.Hearing.{hear_frame, hear_frames, hear_front, hear_next}
 use Rattle.ctl_core.specs.Reloading.{accepted, reload}
 use Rattle.ctl_core.specs.Story.{behind}
-use Rattle.ctl_core.specs.Turns.{closing_for, feed, hear, open_conn, pass, turn, work}
+use Rattle.ctl_core.specs.Turns.{hear, pass, turn, work}
 
 -- what each part of a turn keeps, with the settling behind it
 pub record Keeps (J : World → Type 0) : Type 0 where

@@ -13,10 +13,11 @@ use Rattle.ctl_world.specs.Ends.{close, ended}
 use Rattle.ctl_world.specs.Frames.{front}
 use Rattle.ctl_world.specs.World.{World}
 use Rattle.ctl_settle.specs.Settling.{settle}
-use Rattle.ctl_core.specs.Hearing.{has_frame, hear_frame, hear_next, read, says, unread}
+use Rattle.ctl_life.specs.Life.{has_frame, read, says, unread, closing_for, feed, open_conn}
+use Rattle.ctl_core.specs.Hearing.{hear_frame, hear_next}
 use Rattle.ctl_core.specs.Reloading.{accepted, reload}
 use Rattle.ctl_core.specs.Story.{said_by_turn}
-use Rattle.ctl_core.specs.Turns.{closing_for, feed, open_conn, pass, turn}
+use Rattle.ctl_core.specs.Turns.{pass, turn}
 
 -- all that is said in a story, in order
 abbrev pub said_in : World → List Happening → List Said

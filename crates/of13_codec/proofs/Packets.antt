@@ -28,7 +28,7 @@ use Rattle.of13_codec.specs.declared.message.Message.TheVariants.{PacketIn as Pa
 use Rattle.of13_codec.specs.declared.packet_in.PacketIn.{PacketIn}
 use Rattle.of13_codec.specs.declared.packet_out.PacketOut.{PacketOut}
 use Rattle.of13_codec.specs.declared.flow_mod.FlowMod.{FlowMod}
-use Rattle.of13_codec.specs.Decoding.{short, at_least, packet_in_rest, packet_in_at, packet_out_with, packet_out_at, flow_mod_of, flow_mod_at}
+use Rattle.of13_codec.specs.Decoding.{short, at_least, packet_in_of, packet_in_rest, packet_in_at, packet_out_with, packet_out_at, flow_mod_of, flow_mod_at}
 use Rattle.of13_codec.specs.Spelling.{SpellsPacketIn, SpellsPacketOut, SpellsFlowMod}
 use Rattle.of13_codec.specs.Faults.{PacketInFault, seen_head, in_seen, seen_end, sent_actions, PacketOutFault, sent_end, actions_cut, in_actions, FlowModFault, change_head, in_match, in_instrs}
 use Rattle.of13_codec.proofs.Says.{Is, Says, says_bind, answer, gives_answer, says_of, head_told, least_complete}
@@ -68,17 +68,6 @@ refused_match strict at bytes f e fields spelling rest w p =
 
 -- ---- PACKET_IN
 
-packet_in_of : List Field → List ℕ → List ℕ → PacketIn
-packet_in_of fields body payload = record {
-  buffer = number_in 0 4 body;
-  total = number_in 4 2 body;
-  reason = number_in 6 1 body;
-  table = number_in 7 1 body;
-  cookie = number_in 8 8 body;
-  fields = fields;
-  payload = payload;
-}
-
 seen_cases : (P : ℕ → PartCause → Type 0) (body : List ℕ) → (length body < 16 → P (8 + length body) Short)
     → (16 ≤ length body → (q : ℕ) (d : PartCause) → From 24 (FaultInMatch false (drop 16 body)) q d → P q d)
     → ((fields : List Field) (spelling rest : List ℕ) → drop 16 body ≡ spelling ++ rest → SpellsMatchSeen fields spelling → length rest < 2 → P (8 + length body) Short)
@@ -90,7 +79,7 @@ seen_cases P body head match end q d (seen_end fields spelling rest w s l) = end
 -- what follows the match
 seen_rest : (body : List ℕ) → AreBytes body → 16 ≤ length body → (y : List Field × ℕ) → match_at false 24 (drop 16 body) ≡ Ok y → Front false (drop 16 body) y
     → ((q : ℕ) (d : PartCause) → From 24 (FaultInMatch false (drop 16 body)) q d → ⊥) → Says (Is 4 10 body) (PacketInFault body) (packet_in_rest y.0 body (drop y.1 (drop 16 body)))
-unfolding packet_in_rest packet_in_of
+unfolding packet_in_rest
 seen_rest body h head y is f none =
     let n = y.1 in
     let behind = drop 16 body in
@@ -137,7 +126,7 @@ packet_in_told body h =
     }))
 
 pub packet_in_complete : (m : PacketIn) (body : List ℕ) → SpellsPacketIn m body → packet_in_at body ≡ Ok (Packet m)
-unfolding packet_in_at packet_in_rest packet_in_of
+unfolding packet_in_at packet_in_rest
 packet_in_complete m body p =
     let a = number_again 0 4 m.buffer _ body p in
     let b = number_again 4 2 m.total _ body a.behind in

@@ -10,6 +10,7 @@ use Rattle.of_wire.specs.Reading.{◌>>=◌, fault_at, many, padding_at, past_en
 use Rattle.net_base.specs.declared.field.Field.{Field}
 use Rattle.of_match.specs.declared.action.Instr.{Instr}
 use Rattle.of13_codec.specs.declared.message.Message.{Message}
+use Rattle.of13_codec.specs.declared.packet_in.PacketIn.{PacketIn}
 use Rattle.of13_codec.specs.declared.message.Message.TheVariants.{Hello, Error, EchoRequest, EchoReply, FeaturesRequest, FeaturesReply as Features, PacketIn as Packet, PortStatus, PacketOut as Send, FlowMod as Change, PortDescRequest, PortStatsRequest, PortDescReply, PortStatsReply, BarrierRequest, BarrierReply, Other}
 use Rattle.of13_codec.specs.declared.flow_mod.FlowMod.{FlowMod}
 use Rattle.of13_codec.specs.declared.ports.PortDesc.{PortDesc}
@@ -66,17 +67,21 @@ features_at body = exactly 24 body >>= λ n. Ok (Features (record {
 
 -- ---- PACKET_IN (7.4.1)
 
+-- the packet of a body with this match and this payload behind it
+abbrev pub packet_in_of : List Field → List ℕ → List ℕ → PacketIn
+packet_in_of fields body payload = record {
+  buffer = number_in 0 4 body;
+  total = number_in 4 2 body;
+  reason = number_in 6 1 body;
+  table = number_in 7 1 body;
+  cookie = number_in 8 8 body;
+  fields = fields;
+  payload = payload;
+}
+
 unfoldable pub packet_in_rest : List Field → List ℕ → List ℕ → Result Message PartFault
 packet_in_rest fields body rest =
-    if nat_lt (length rest) 2 then Err (short body) else Ok (Packet (record {
-      buffer = number_in 0 4 body;
-      total = number_in 4 2 body;
-      reason = number_in 6 1 body;
-      table = number_in 7 1 body;
-      cookie = number_in 8 8 body;
-      fields = fields;
-      payload = drop 2 rest;
-    }))
+    if nat_lt (length rest) 2 then Err (short body) else Ok (Packet (packet_in_of fields body (drop 2 rest)))
 
 unfoldable pub packet_in_at : List ℕ → Result Message PartFault
 packet_in_at body = do

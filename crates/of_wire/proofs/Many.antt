@@ -39,6 +39,23 @@ pub is_done : {S : Type 0} (step : S → ℕ → List ℕ → Result (S × ℕ) 
     → Left step total s at rest → total ≡ Ok s
 is_done step total s at rest e left = sym left.same ∙ no_more step left.steps s at rest e
 
+-- where a loop over the parts of bytes stands
+pub record Way {S : Type 0} (step : S → ℕ → List ℕ → Result (S × ℕ) PartFault) (total : Result S PartFault) (at : ℕ) (bytes : List ℕ) (s : S) (here : ℕ) (rest : List ℕ) : Type 0 where
+  pub place : here + length rest ≡ at + length bytes
+  pub within : length rest ≤ length bytes
+  pub left : Left step total s here rest
+
+pub way_starts : {S : Type 0} (step : S → ℕ → List ℕ → Result (S × ℕ) PartFault) (s : S) (at : ℕ) (bytes : List ℕ) → Way step (many step (length bytes) s at bytes) at bytes s at bytes
+way_starts step s at bytes = record { place = refl; within = omega arith; left = starts step s at bytes }
+
+pub way_goes : {S : Type 0} (step : S → ℕ → List ℕ → Result (S × ℕ) PartFault) (total : Result S PartFault) (at : ℕ) (bytes : List ℕ) (s : S) (here : ℕ) (rest : List ℕ) (x : S × ℕ) → 0 < length rest → 1 ≤ x.1 → x.1 ≤ length rest → step s here rest ≡ Ok x
+    → Way step total at bytes s here rest → Way step total at bytes x.0 (here + x.1) (drop x.1 rest)
+way_goes step total at bytes s here rest x lt some fits h way = record {
+  place = omega (arith, length-drop x.1 rest, way.place);
+  within = omega (arith, length-drop x.1 rest, way.within);
+  left = goes step total s here rest x lt some h way.left;
+}
+
 pub is_some : (rest : List ℕ) → false ≡ eqb (length rest) 0 → 0 < length rest
 is_some rest e =
     let ne : length rest ≡ 0 → ⊥ = eqb-false (length rest) 0 (sym e) in

@@ -5,7 +5,7 @@ ghost use Rattle.of_match.specs.declared.action.Action.{Action};
 ghost use Rattle.of_wire.specs.Spelling.{SpellsActions};
 ghost use Rattle.of_wire.specs.Faults.{TellsFirst, FaultInActions, FaultInActionsAt};
 ghost use Rattle.of_wire.specs.Answers.{Gives, fault_at};
-ghost use Rattle.of_wire.specs.Reading.{payload_len, set_named, set_at, sized_at, output_at, push_at, bare_at, action_of, action_at, action_step, actions_at};
+ghost use Rattle.of_wire.specs.Reading.{payload_len, set_named, set_at, sized_at, action_of, action_at, action_step, actions_at};
 
 use crate::fault::{PartCause, PartFault, PartRefused};
 use crate::matches::{field_len, field_named, field_value, has_mask, put_field};
@@ -178,7 +178,7 @@ fn read_set(
 
 /// A length that is fixed: it has to be this one, and its bytes have to be there.
 #[tactic(auto, unfolding(crate::specs::Reading::sized_at))]
-fn take_sized(
+pub(crate) fn take_sized(
     past: PartFault,
     size: usize,
     len: usize,
@@ -201,62 +201,8 @@ fn take_sized(
     Ok(size)
 }
 
-#[tactic(auto, unfolding(crate::specs::Reading::output_at))]
-fn read_output(
-    past: PartFault,
-    len: usize,
-    at: u32,
-    bytes: &[u8],
-) -> Result<(Action, usize), PartRefused>
-    requires head { 4 ≤ length bytes.now }
-    requires small { at + length bytes.now < 2 ^ 32 }
-    ensures exact { Gives (λ x. x) result (output_at past len at bytes.now) }
-    ensures taken { IfOk result (λ x. (4 ≤ x.1) × (x.1 ≤ length bytes.now)) }
-    ensures sure { IfErr result (λ e. e ≢ PartRefused.Memory) }
-{
-    let taken = take_sized(past, 16, len, at, bytes)?;
-    let port = u32_at(bytes, 4);
-    let max_len = u16_at(bytes, 8);
-    Ok((Action::Output { port, max_len }, taken))
-}
-
-#[tactic(auto, unfolding(crate::specs::Reading::push_at))]
-fn read_push(
-    past: PartFault,
-    len: usize,
-    at: u32,
-    bytes: &[u8],
-) -> Result<(Action, usize), PartRefused>
-    requires head { 4 ≤ length bytes.now }
-    requires small { at + length bytes.now < 2 ^ 32 }
-    ensures exact { Gives (λ x. x) result (push_at past len at bytes.now) }
-    ensures taken { IfOk result (λ x. (4 ≤ x.1) × (x.1 ≤ length bytes.now)) }
-    ensures sure { IfErr result (λ e. e ≢ PartRefused.Memory) }
-{
-    let taken = take_sized(past, 8, len, at, bytes)?;
-    Ok((Action::PushVlan(u16_at(bytes, 4)), taken))
-}
-
-#[tactic(auto, unfolding(crate::specs::Reading::bare_at))]
-fn read_bare(
-    past: PartFault,
-    action: Action,
-    len: usize,
-    at: u32,
-    bytes: &[u8],
-) -> Result<(Action, usize), PartRefused>
-    requires head { 4 ≤ length bytes.now }
-    requires small { at + length bytes.now < 2 ^ 32 }
-    ensures exact { Gives (λ x. x) result (bare_at past action len at bytes.now) }
-    ensures taken { IfOk result (λ x. (4 ≤ x.1) × (x.1 ≤ length bytes.now)) }
-    ensures sure { IfErr result (λ e. e ≢ PartRefused.Memory) }
-{
-    let taken = take_sized(past, 8, len, at, bytes)?;
-    Ok((action, taken))
-}
-
-/// Reads an action of a type.
-#[tactic(auto, unfolding(crate::specs::Reading::action_of))]
+/// Reads an action of a type. But for SET_FIELD each type has a fixed length.
+#[tactic(auto, unfolding(crate::specs::Reading::action_of, crate::specs::Reading::output_at, crate::specs::Reading::push_at, crate::specs::Reading::bare_at))]
 fn read_action_of(
     kind: u16,
     past: PartFault,
@@ -272,10 +218,18 @@ fn read_action_of(
     ensures sure { IfErr result (λ e. e ≢ PartRefused.Memory) }
 {
     match u128::from(kind) {
-        OUTPUT => read_output(past, len, at, bytes),
-        PUSH_VLAN => read_push(past, len, at, bytes),
-        POP_VLAN => read_bare(past, Action::PopVlan, len, at, bytes),
-        DEC_NW_TTL => read_bare(past, Action::DecTtl, len, at, bytes),
+        OUTPUT => {
+            let taken = take_sized(past, 16, len, at, bytes)?;
+            let port = u32_at(bytes, 4);
+            let max_len = u16_at(bytes, 8);
+            Ok((Action::Output { port, max_len }, taken))
+        }
+        PUSH_VLAN => {
+            let taken = take_sized(past, 8, len, at, bytes)?;
+            Ok((Action::PushVlan(u16_at(bytes, 4)), taken))
+        }
+        POP_VLAN => Ok((Action::PopVlan, take_sized(past, 8, len, at, bytes)?)),
+        DEC_NW_TTL => Ok((Action::DecTtl, take_sized(past, 8, len, at, bytes)?)),
         SET_FIELD => read_set(past, len, at, bytes),
         _ => Err(refused(at, PartCause::UnknownAction)),
     }

@@ -5,10 +5,10 @@ ghost use Rattle.of_wire.specs.Numbers.{number_in};
 ghost use Rattle.of_match.specs.declared.action.Instr.{Instr};
 ghost use Rattle.of_wire.specs.Spelling.{is_goto, has_goto, is_apply, has_apply, SpellsInstrs};
 ghost use Rattle.of_wire.specs.Answers.{Gives};
-ghost use Rattle.of_wire.specs.Reading.{goto_at, applied_at, apply_at, instr_of, instr_at, instr_step, instrs_at};
+ghost use Rattle.of_wire.specs.Reading.{applied_at, apply_at, instr_of, instr_at, instr_step, instrs_at};
 ghost use Rattle.of_wire.specs.Faults.{TellsFirst, From, FaultInInstrs};
 
-use crate::actions::{actions_len, put_actions, read_each_action};
+use crate::actions::{actions_len, put_actions, read_each_action, take_sized};
 use crate::fault::{PartCause, PartFault, PartRefused};
 use crate::number::{put_number, put_zeros, u8_at, u16_at};
 use crate::reading::{past_end, refused};
@@ -89,33 +89,6 @@ fn has_apply(instrs: &[Instr]) -> bool
     instrs.iter().any(|i| is_apply(i))
 }
 
-/// Reads a GOTO_TABLE, which comes once.
-#[tactic(auto, unfolding(crate::specs::Reading::goto_at))]
-fn read_goto(
-    past: PartFault,
-    instrs: &[Instr],
-    len: usize,
-    at: u32,
-    bytes: &[u8],
-) -> Result<(Instr, usize), PartRefused>
-    requires head { 4 ≤ length bytes.now }
-    requires small { at + length bytes.now < 2 ^ 32 }
-    ensures exact { Gives (λ x. x) result (goto_at past instrs.now len at bytes.now) }
-    ensures taken { IfOk result (λ x. (4 ≤ x.1) × (x.1 ≤ length bytes.now)) }
-    ensures sure { IfErr result (λ e. e ≢ PartRefused.Memory) }
-{
-    if has_goto(instrs) {
-        return Err(refused(at, PartCause::Repeated));
-    }
-    if len != 8 {
-        return Err(refused(at + 2, PartCause::BadLength));
-    }
-    if bytes.len() < 8 {
-        return Err(PartRefused::At(past));
-    }
-    Ok((Instr::Goto(u8_at(bytes, 4)), 8))
-}
-
 /// Reads the actions of an APPLY_ACTIONS whose length this is.
 #[tactic(auto, unfolding(crate::specs::Reading::applied_at))]
 fn read_applied(
@@ -177,8 +150,8 @@ fn read_apply(
     read_applied(alloc, past, len, at, bytes)
 }
 
-/// Reads an instruction of a type.
-#[tactic(auto, unfolding(crate::specs::Reading::instr_of))]
+/// Reads an instruction of a type. A GOTO_TABLE comes once.
+#[tactic(auto, unfolding(crate::specs::Reading::instr_of, crate::specs::Reading::goto_at, crate::specs::Reading::sized_at))]
 fn read_instr_of(
     alloc: Global,
     kind: u16,
@@ -195,7 +168,13 @@ fn read_instr_of(
 {
     let len = usize::from(u16_at(bytes, 2));
     match u128::from(kind) {
-        GOTO_TABLE => read_goto(past, instrs, len, at, bytes),
+        GOTO_TABLE => {
+            if has_goto(instrs) {
+                return Err(refused(at, PartCause::Repeated));
+            }
+            let taken = take_sized(past, 8, len, at, bytes)?;
+            Ok((Instr::Goto(u8_at(bytes, 4)), taken))
+        }
         APPLY_ACTIONS => read_apply(alloc, past, instrs, len, at, bytes),
         _ => Err(refused(at, PartCause::UnknownInstr)),
     }

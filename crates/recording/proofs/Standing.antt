@@ -148,17 +148,21 @@ named_open kinds.Moment conn opened of_conn is = cc
 
 -- ---- what stands, apart from the events
 
--- a part of what a hub stands for, by the closings and the happenings of the story
-pub record Core {S : Type 0} (left : S → Option (List ℕ)) (whole : Option (List ℕ)) (hub : ScriptHub S) (records : List Record) (waits : Option Record) (closes : List Closing) (given : List Happening) : Type 0 where
+-- the records that a hub has read are those that the front of the recording spells
+pub record Front (whole : Option (List ℕ)) (records : List Record) : Type 0 where
   pub front : List ℕ
   pub rest : Option (List ℕ)
   pub parts : whole ≡ prepended front rest
-  pub spell : AllSpell (records ++ listed waits) front
-  pub follow : AllFollow first_place (records ++ listed waits)
+  pub spell : AllSpell records front
+  pub follow : AllFollow first_place records
+
+-- a part of what a hub stands for, by the closings and the happenings of the story
+pub record Core {S : Type 0} (left : S → Option (List ℕ)) (whole : Option (List ℕ)) (hub : ScriptHub S) (records : List Record) (waits : Option Record) (closes : List Closing) (given : List Happening) : Type 0 where
+  pub read : Front whole (records ++ listed waits)
   pub gave : given ≡ (told_by closes records).given ++ clock_of (told_by closes records).moment waits
   pub within : AreWithin (length given) closes
   pub shut : (conn : ℕ) → is_among (after_all first_place records).opened conn ≡ true → SaysShut hub.live closes given conn
-  pub runs : is_spent hub ≡ false → Runs left hub records waits rest
+  pub runs : is_spent hub ≡ false → Runs left hub records waits read.rest
 
 neither : (same shut : Bool) → (not same && not shut) ≡ not (shut || same)
 neither true true = refl
@@ -172,11 +176,7 @@ not_both b h k = cc
 module _ {S : Type 0} (left : S → Option (List ℕ)) (whole : Option (List ℕ)) where
   pub core_of : (hub : ScriptHub S) (records : List Record) (waits : Option Record) (events : List Event) → StandsFor left whole hub records waits events → Core left whole hub records waits (closings 0 events) (happenings events)
   core_of hub records waits events stands = record {
-    front = stands.front;
-    rest = stands.rest;
-    parts = stands.parts;
-    spell = stands.spell;
-    follow = stands.follow;
+    read = record { front = stands.front; rest = stands.rest; parts = stands.parts; spell = stands.spell; follow = stands.follow };
     gave = stands.gave;
     within = within_more (0 + length (happenings events)) (length (happenings events)) (closings 0 events) (omega arith) (closings-within 0 events);
     shut = stands.shut;
@@ -185,11 +185,11 @@ module _ {S : Type 0} (left : S → Option (List ℕ)) (whole : Option (List ℕ
 
   pub stands_by : (hub : ScriptHub S) (records : List Record) (waits : Option Record) (events : List Event) → Core left whole hub records waits (closings 0 events) (happenings events) → ((conn : ℕ) → is_live hub conn ≡ is_open_in events conn) → StandsFor left whole hub records waits events
   stands_by hub records waits events core live = record {
-    front = core.front;
-    rest = core.rest;
-    parts = core.parts;
-    spell = core.spell;
-    follow = core.follow;
+    front = core.read.front;
+    rest = core.read.rest;
+    parts = core.read.parts;
+    spell = core.read.spell;
+    follow = core.read.follow;
     gave = core.gave;
     live = live;
     shut = core.shut;
@@ -207,17 +207,19 @@ module _ {S : Type 0} (left : S → Option (List ℕ)) (whole : Option (List ℕ
   own_told hub new records r closes given core told =
       let place = after_all first_place records in
       let so_far = told_by closes records in
-      let follows : Follows place r = AllFollow-last first_place records r core.follow in
+      let follows : Follows place r = AllFollow-last first_place records r core.read.follow in
       let all : (records ++ r ∷ []) ++ [] ≡ records ++ r ∷ [] = append-nil (records ++ r ∷ []) in
       let live_says : is_of_connection r.kind ≡ true → is_live hub r.conn ≡ not (is_shut closes given r.conn) =
       λ of_conn. core.shut r.conn (named_open r.kind r.conn place.opened of_conn follows.conn)
       in
       record {
-        front = core.front;
-        rest = core.rest;
-        parts = core.parts;
-        spell = subst (λ (l : List Record). AllSpell l core.front) (sym all) core.spell;
-        follow = subst (λ (l : List Record). AllFollow first_place l) (sym all) core.follow;
+        read = record {
+          front = core.read.front;
+          rest = core.read.rest;
+          parts = core.read.parts;
+          spell = subst (λ (l : List Record). AllSpell l core.read.front) (sym all) core.read.spell;
+          follow = subst (λ (l : List Record). AllFollow first_place l) (sym all) core.read.follow;
+        };
         gave =
             sym (own_given r.kind r.conn r.body (is_live hub r.conn) (is_shut closes given r.conn) given live_says)
             ∙ ap (λ (l : List Happening). with_own closes l r) core.gave
@@ -247,11 +249,13 @@ module _ {S : Type 0} (left : S → Option (List ℕ)) (whole : Option (List ℕ
       let so_far = told_by closes records in
       let first : told ≡ clock so_far.moment r = sym waits.told_first ∙ ap (λ (p : Place). clock p.moment r) place ∙ ap (λ m. clock m r) (same_moment closes first_place (record { given = []; moment = 0 }) records refl) in
       record {
-        front = core.front ++ waits.takes.piece;
-        rest = left_of left new.reader;
-        parts = core.parts ∙ ap (λ k. prepended core.front k) (runs.behind ∙ waits.takes.parts) ∙ prepended-append core.front waits.takes.piece (left_of left new.reader);
-        spell = AllSpell-push records core.front r waits.takes.piece (subst (λ (l : List Record). AllSpell l core.front) all core.spell) waits.takes.spells;
-        follow = AllFollow-push first_place records r (subst (λ (l : List Record). AllFollow first_place l) all core.follow) (subst (λ (p : Place). Follows p r) place waits.takes.follows);
+        read = record {
+          front = core.read.front ++ waits.takes.piece;
+          rest = left_of left new.reader;
+          parts = core.read.parts ∙ ap (λ k. prepended core.read.front k) (runs.behind ∙ waits.takes.parts) ∙ prepended-append core.read.front waits.takes.piece (left_of left new.reader);
+          spell = AllSpell-push records core.read.front r waits.takes.piece (subst (λ (l : List Record). AllSpell l core.read.front) all core.read.spell) waits.takes.spells;
+          follow = AllFollow-push first_place records r (subst (λ (l : List Record). AllFollow first_place l) all core.read.follow) (subst (λ (p : Place). Follows p r) place waits.takes.follows);
+        };
         gave = ap (λ (l : List Happening). l ++ told) (core.gave ∙ append-nil so_far.given) ∙ ap (λ (l : List Happening). so_far.given ++ l) first;
         within = within_more (length given) _ closes (omega (arith, length-append given told)) core.within;
         shut = λ conn there.
@@ -270,11 +274,7 @@ module _ {S : Type 0} (left : S → Option (List ℕ)) (whole : Option (List ℕ
   read_stays hub new records closes given running core stays =
       let runs = core.runs running in
       record {
-        front = core.front;
-        rest = core.rest;
-        parts = core.parts;
-        spell = core.spell;
-        follow = core.follow;
+        read = core.read;
         gave = core.gave;
         within = core.within;
         shut = λ conn there. subst (λ (l : List ℕ). SaysShut l closes given conn) (sym stays.live) (core.shut conn there);
@@ -295,11 +295,7 @@ module _ {S : Type 0} (left : S → Option (List ℕ)) (whole : Option (List ℕ
       told_by-later closes k records (omega (arith, ap (λ (l : List Happening). length l) core.gave, length-append so_far.given (clock_of so_far.moment waits)))
       in
       record {
-        front = core.front;
-        rest = core.rest;
-        parts = core.parts;
-        spell = core.spell;
-        follow = core.follow;
+        read = core.read;
         gave = core.gave ∙ ap (λ (t : turning.Told). t.given ++ clock_of t.moment waits) (sym later);
         within = within_push (length given) closes k core.within (omega arith);
         shut = λ conn there.
@@ -321,11 +317,7 @@ module _ {S : Type 0} (left : S → Option (List ℕ)) (whole : Option (List ℕ
   -- memory runs out
   pub spent_core : (hub new : ScriptHub S) (records : List Record) (waits : Option Record) (closes : List Closing) (given : List Happening) → Core left whole hub records waits closes given → script.RanOut hub new → Core left whole new records waits closes given
   spent_core hub new records waits closes given core out = record {
-    front = core.front;
-    rest = core.rest;
-    parts = core.parts;
-    spell = core.spell;
-    follow = core.follow;
+    read = core.read;
     gave = core.gave;
     within = core.within;
     shut = λ conn there. subst (λ (l : List ℕ). SaysShut l closes given conn) (sym out.live) (core.shut conn there);

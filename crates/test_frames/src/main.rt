@@ -9,7 +9,7 @@ use net_base::NoMemory;
 use std::alloc::Global;
 use std::io;
 use std::str::SplitWhitespace;
-use test_lines::{Answers, answered};
+use test_lines::{Answers, print_answered, shown};
 
 mod frames;
 mod table;
@@ -63,15 +63,10 @@ impl Answers for Bench {
             let answer = take_conf(alloc, self, text);
             return format!(in alloc; " => {answer}");
         }
-        match answer(alloc, self, &mut line.split_whitespace())? {
-            Some(answer) => format!(in alloc; " => {answer}"),
-            None => String::from_str(alloc, " => no case"),
-        }
+        shown(alloc, answer(alloc, self, &mut line.split_whitespace())?)
     }
 }
 
 fn main(rt: HostRuntime) -> io::Result<()> {
-    let table = io::read_to_string(rt.alloc(), rt.stdin())?;
-    let text = answered(rt.alloc(), &mut open(rt.alloc())?, table.as_str())?;
-    print!(rt; "{text}")
+    print_answered(&rt, &mut open(rt.alloc())?)
 }

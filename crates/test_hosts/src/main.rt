@@ -14,7 +14,7 @@ use net_base::NoMemory;
 use std::alloc::Global;
 use std::io;
 use std::mem::replace;
-use test_lines::{Answers, answered};
+use test_lines::{Answers, print_answered, shown};
 
 /// What the cases speak of: the last two configurations, and the table of the lines before.
 #[derive(Drop)]
@@ -67,15 +67,10 @@ impl Answers for Bench {
             let answer = take_conf(alloc, self, text);
             return format!(in alloc; " => {answer}");
         }
-        match answer(alloc, self, line)? {
-            Some(answer) => format!(in alloc; " => {answer}"),
-            None => String::from_str(alloc, " => no case"),
-        }
+        shown(alloc, answer(alloc, self, line)?)
     }
 }
 
 fn main(rt: HostRuntime) -> io::Result<()> {
-    let table = io::read_to_string(rt.alloc(), rt.stdin())?;
-    let text = answered(rt.alloc(), &mut open(rt.alloc())?, table.as_str())?;
-    print!(rt; "{text}")
+    print_answered(&rt, &mut open(rt.alloc())?)
 }

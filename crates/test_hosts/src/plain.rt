@@ -1,11 +1,12 @@
-//! The table of hosts as a plain list: with no index, each call goes over all hosts. Its contracts are
-//! those of the table.
+//! The table of hosts as a plain list, with no index: each call goes over the hosts one by one, as its
+//! definition does. The contracts are those of the table.
 
-ghost use Rattle.std.specs.Prelude.{◌≡◌, ◌<◌, [], filter, length, position, IfOk, IfSome, OnOk, OnErr};
+ghost use Rattle.std.specs.Prelude.{◌≡◌, ◌==◌, ◌&&◌, ◌<◌, [], filter, length, position, IfOk, IfSome, OnOk, OnErr};
+ghost use Rattle.std.specs.List.{find};
 ghost use Rattle.std.specs.Option.{option_copied};
-ghost use Rattle.conf_types.specs.State.{is_to_forget};
-ghost use Rattle.host_learn.specs.Kept.{has_room, kept, last_of_each, may_stay, with_room};
-ghost use Rattle.host_learn.specs.Learning.{answer, hosts_after, is_full, is_full_at, is_full_in, is_host, is_in_place, is_kept_off, is_known, is_occupied, learned, moved, refreshed, stands_there, takes_in};
+ghost use Rattle.conf_types.specs.State.{is_host_at, is_to_forget};
+ghost use Rattle.host_learn.specs.Kept.{finds_room, kept, last_of_each, may_stay, with_room};
+ghost use Rattle.host_learn.specs.Learning.{hosts_after, is_full, is_full_at, is_full_in, is_heard, is_host, is_in_place, is_kept_off, is_known, is_occupied, learned, moved, outcome, refreshed, stands_there, takes_in};
 ghost use Rattle.host_learn.specs.Table.{first_due, has_key, host_of, off_datapath, off_due, off_port, without_first};
 
 use conf_types::{Conf, HostRec, UpRec, is_up};
@@ -30,77 +31,94 @@ impl Model for Plain {
     ghost view = { λ t. record { limit = t.limit; hosts = t.hosts.items } };
 }
 
-fn has_key(conf: &Conf, host: &HostRec, group: DpId, vid: Vid, mac: Mac) -> bool
-    ensures { result ≡ has_key conf.now group vid mac.0 host.now }
+/// Whether a host is the one that is heard, wherever it stands.
+fn is_heard(conf: &Conf, heard: &HostRec, host: &HostRec) -> bool
+    ensures { result ≡ is_heard conf.now heard.now host.now }
 {
-    host.has_mac(mac) && conf.is_host_in(group, vid, host)
+    conf.is_host_in(conf.group_number(heard.dp), heard.vid, host) && host.has_mac(heard.mac)
+}
+
+/// Whether a host of the VLAN stands where this one is heard.
+fn is_beside(heard: &HostRec, host: &HostRec) -> bool
+    ensures { result ≡ (is_host_at heard.now.dp heard.now.port host.now && host.now.vid == heard.now.vid) }
+{
+    let HostRec { dp, port, vid, .. } = *heard;
+    host.vid.get() == vid.get() && host.is_at(dp, port)
 }
 
 fn is_in_place(heard: &HostRec, host: &HostRec) -> bool
     ensures { result ≡ is_in_place heard.now host.now }
 {
-    host.is_at(heard.dp, heard.port) && host.vid.get() == heard.vid.get() && host.has_mac(heard.mac)
-}
-
-fn is_taken_in(conf: &Conf, host: &HostRec) -> bool
-    ensures { result ≡ takes_in conf.now host.now }
-{
-    match conf.port(host.dp, host.port) {
-        Some(port) => port.is_accepting() && port.is_edge_member(host.vid),
-        None => false,
-    }
-}
-
-fn is_host(conf: &Conf, host: &HostRec) -> bool
-    ensures { result ≡ is_host conf.now host.now }
-{
-    is_taken_in(conf, host) && !host.mac.is_group() && !conf.is_gateway_address(host.mac)
+    is_beside(heard, host) && host.has_mac(heard.mac)
 }
 
 fn stands_there(hosts: &[HostRec], heard: &HostRec) -> bool
     ensures { result ≡ stands_there hosts.now heard.now }
 {
-    hosts.iter().any(|host| is_in_place(heard, host))
+    match hosts {
+        [] => false,
+        [host, more @ ..] => is_in_place(heard, host) || stands_there(more, heard),
+    }
 }
 
 fn is_known(conf: &Conf, hosts: &[HostRec], heard: &HostRec) -> bool
     ensures { result ≡ is_known conf.now hosts.now heard.now }
 {
-    let group = conf.group_number(heard.dp);
-    hosts
-        .iter()
-        .any(|host| has_key(conf, host, group, heard.vid, heard.mac))
+    match hosts {
+        [] => false,
+        [host, more @ ..] => is_heard(conf, heard, host) || is_known(conf, more, heard),
+    }
 }
 
 fn is_occupied(hosts: &[HostRec], heard: &HostRec) -> bool
     ensures { result ≡ is_occupied hosts.now heard.now }
 {
-    hosts.iter().any(|host| host.is_at(heard.dp, heard.port) && host.vid.get() == heard.vid.get())
+    match hosts {
+        [] => false,
+        [host, more @ ..] => is_beside(heard, host) || is_occupied(more, heard),
+    }
+}
+
+fn takes_in(conf: &Conf, heard: &HostRec) -> bool
+    ensures { result ≡ takes_in conf.now heard.now }
+{
+    let Some(port) = conf.port(heard.dp, heard.port) else {
+        return false;
+    };
+    port.is_accepting() && port.is_edge_member(heard.vid)
+}
+
+fn is_host(conf: &Conf, heard: &HostRec) -> bool
+    ensures { result ≡ is_host conf.now heard.now }
+{
+    let is_station = !heard.mac.is_group() && !conf.is_gateway_address(heard.mac);
+    takes_in(conf, heard) && is_station
 }
 
 fn is_kept_off(conf: &Conf, hosts: &[HostRec], heard: &HostRec) -> bool
     ensures { result ≡ is_kept_off conf.now hosts.now heard.now }
 {
-    match conf.port(heard.dp, heard.port) {
-        Some(port) => conf.is_barred(hosts, heard.dp, port, heard.vid, heard.mac),
-        None => false,
-    }
+    let Some(port) = conf.port(heard.dp, heard.port) else {
+        return false;
+    };
+    conf.is_barred(hosts, heard.dp, port, heard.vid, heard.mac)
 }
 
-fn is_port_full(conf: &Conf, hosts: &[HostRec], host: &HostRec) -> bool
+fn is_full_at(conf: &Conf, hosts: &[HostRec], host: &HostRec) -> bool
     ensures { result ≡ is_full_at conf.now hosts.now host.now }
 {
-    match conf.port(host.dp, host.port) {
-        Some(port) => port.is_full(hosts, host.dp),
-        None => false,
-    }
+    let Some(port) = conf.port(host.dp, host.port) else {
+        return false;
+    };
+    port.is_full(hosts, host.dp)
 }
 
-fn is_vlan_full(conf: &Conf, hosts: &[HostRec], host: &HostRec) -> bool
+fn is_full_in(conf: &Conf, hosts: &[HostRec], host: &HostRec) -> bool
     ensures { result ≡ is_full_in conf.now hosts.now host.now }
 {
+    let group = conf.group_number(host.dp);
     match conf.vlan(host.vid) {
-        Some(vlan) => conf.is_vlan_full(hosts, conf.group_number(host.dp), vlan),
+        Some(vlan) => conf.is_vlan_full(hosts, group, vlan),
         None => false,
     }
 }
@@ -108,24 +126,26 @@ fn is_vlan_full(conf: &Conf, hosts: &[HostRec], host: &HostRec) -> bool
 fn is_full(conf: &Conf, limit: u32, hosts: &[HostRec], heard: &HostRec) -> bool
     ensures { result ≡ is_full conf.now (record { limit = limit; hosts = hosts.now }) heard.now }
 {
-    let full_port = !stands_there(hosts, heard) && is_port_full(conf, hosts, heard);
-    let full_table = is_vlan_full(conf, hosts, heard) || hosts.len() >= limit as usize;
-    full_port || !is_known(conf, hosts, heard) && full_table
+    if is_full_at(conf, hosts, heard) && !stands_there(hosts, heard) {
+        return true;
+    }
+    let no_room = hosts.len() >= limit as usize || is_full_in(conf, hosts, heard);
+    no_room && !is_known(conf, hosts, heard)
 }
 
-fn answer(conf: &Conf, limit: u32, hosts: &[HostRec], heard: &HostRec) -> Learn
-    ensures { result ≡ answer conf.now (record { limit = limit; hosts = hosts.now }) heard.now }
+fn outcome(conf: &Conf, limit: u32, hosts: &[HostRec], heard: &HostRec) -> Learn
+    ensures { result ≡ outcome conf.now (record { limit = limit; hosts = hosts.now }) heard.now }
 {
-    if !is_host(conf, heard) || is_kept_off(conf, hosts, heard) {
-        Learn::NotLearnable
-    } else if is_full(conf, limit, hosts, heard) {
-        Learn::Full
-    } else if stands_there(hosts, heard) {
-        Learn::Refreshed
-    } else if is_known(conf, hosts, heard) {
-        Learn::Moved
-    } else {
-        Learn::Learned
+    if is_kept_off(conf, hosts, heard) || !is_host(conf, heard) {
+        return Learn::NotLearnable;
+    }
+    if is_full(conf, limit, hosts, heard) {
+        return Learn::Full;
+    }
+    match (stands_there(hosts, heard), is_known(conf, hosts, heard)) {
+        (true, _) => Learn::Refreshed,
+        (false, true) => Learn::Moved,
+        (false, false) => Learn::Learned,
     }
 }
 
@@ -148,49 +168,41 @@ fn move_last(conf: &Conf, hosts: &mut Vec<HostRec>, heard: HostRec) -> Result<()
     ensures err { OnErr result (hosts.new.items ≡ hosts.old.items) }
 {
     hosts.reserve(1)?;
-    let group = conf.group_number(heard.dp);
-    hosts.retain(|host| !has_key(conf, host, group, heard.vid, heard.mac));
+    hosts.retain(|host| !is_heard(conf, &heard, host));
     hosts.push(heard)?;
     Ok(())
 }
 
-/// Changes the hosts by the answer to the one that is heard.
+/// Changes the hosts by what becomes of the one that is heard.
 fn take_in(
     conf: &Conf,
     hosts: &mut Vec<HostRec>,
     heard: HostRec,
-    answer: Learn,
+    outcome: Learn,
 ) -> Result<(), NoMemory>
-    ensures ok { OnOk result (hosts.new.items ≡ hosts_after conf.now heard hosts.old.items answer) }
+    ensures ok { OnOk result (hosts.new.items ≡ hosts_after conf.now heard hosts.old.items outcome) }
     ensures err { OnErr result (hosts.new.items ≡ hosts.old.items) }
 {
-    match answer {
-        Learn::Learned => {
-            hosts.push(heard)?;
-            Ok(())
-        }
-        Learn::Moved => move_last(conf, hosts, heard),
-        Learn::Refreshed => {
-            refresh(hosts.as_mut_slice(), &heard);
-            Ok(())
-        }
-        Learn::Full | Learn::NotLearnable => Ok(()),
+    match outcome {
+        Learn::Full | Learn::NotLearnable => {}
+        Learn::Refreshed => refresh(hosts.as_mut_slice(), &heard),
+        Learn::Moved => move_last(conf, hosts, heard)?,
+        Learn::Learned => hosts.push(heard)?,
     }
+    Ok(())
 }
 
-fn find_host<'a>(
-    hosts: &'a [HostRec],
+/// The first host of a group with an address in a VLAN.
+fn host_in<'a>(
     conf: &Conf,
-    dp: DpId,
+    hosts: &'a [HostRec],
+    group: DpId,
     vid: Vid,
     mac: Mac,
 ) -> Option<&'a HostRec>
-    ensures { option_copied result ≡ host_of conf.now hosts.now dp vid mac.0 }
+    ensures { option_copied result ≡ find (has_key conf.now group vid mac.0) hosts.now }
 {
-    let group = conf.group_number(dp);
-    hosts
-        .iter()
-        .find(|host| has_key(conf, host, group, vid, mac))
+    hosts.iter().find(|host| conf.is_host_in(group, vid, host) && host.has_mac(mac))
 }
 
 /// Where the first host stands that is to be forgotten.
@@ -233,64 +245,70 @@ fn leave_datapath(hosts: &mut Vec<HostRec>, dp: DpId)
 fn may_stay(conf: &Conf, ups: &[UpRec], now: Moment, host: &HostRec) -> bool
     ensures { result ≡ may_stay conf.now ups.now now.0 host.now }
 {
-    is_host(conf, host) && is_up(ups, host.dp, host.port) && !conf.is_to_forget(now, host)
+    if !is_up(ups, host.dp, host.port) || conf.is_to_forget(now, host) {
+        return false;
+    }
+    is_host(conf, host)
 }
 
+/// First, the hosts that may stay.
 fn staying(
     alloc: Global,
+    hosts: &[HostRec],
     conf: &Conf,
     ups: &[UpRec],
     now: Moment,
-    hosts: &[HostRec],
 ) -> Result<Vec<HostRec>, NoMemory>
     ensures { IfOk result (λ v. v.items ≡ filter (may_stay conf.now ups.now now.0) hosts.now) }
 {
-    hosts
-        .iter()
-        .copied()
-        .filter(|host| may_stay(conf, ups, now, host))
-        .collect(alloc)
+    let [host, more @ ..] = hosts else {
+        return Ok(Vec::new(alloc));
+    };
+    let mut rest = staying(alloc, more, conf, ups, now)?;
+    if may_stay(conf, ups, now, host) {
+        rest.insert(0, *host)?;
+    }
+    Ok(rest)
 }
 
-/// Of several hosts with one key the last.
+/// Second, of several hosts with one key the last.
 fn last_of_each(alloc: Global, conf: &Conf, hosts: &[HostRec]) -> Result<Vec<HostRec>, NoMemory>
     ensures { IfOk result (λ v. v.items ≡ last_of_each conf.now hosts.now) }
 {
-    let mut last = Vec::new(alloc);
-    for (at, host) in hosts.iter().enumerate() {
-        if !is_known(conf, &hosts[at + 1..], host) {
-            last.push(*host)?;
-        }
+    let [host, more @ ..] = hosts else {
+        return Ok(Vec::new(alloc));
+    };
+    let mut last = last_of_each(alloc, conf, more)?;
+    if !is_known(conf, more, host) {
+        last.insert(0, *host)?;
     }
     Ok(last)
 }
 
-/// Whether a host finds room beside those that are kept.
-fn has_room(conf: &Conf, limit: u32, kept: &[HostRec], host: &HostRec) -> bool
-    ensures { result ≡ has_room conf.now limit kept.now host.now }
+fn finds_room(conf: &Conf, limit: u32, kept: &[HostRec], host: &HostRec) -> bool
+    ensures { result ≡ finds_room conf.now limit kept.now host.now }
 {
-    !is_port_full(conf, kept, host)
-        && !is_vlan_full(conf, kept, host)
-        && kept.len() < limit as usize
-        && !(conf.is_permanent(host) && is_occupied(kept, host))
+    let is_full = is_full_at(conf, kept, host) || is_full_in(conf, kept, host);
+    let is_taken = is_occupied(kept, host) && conf.is_permanent(host);
+    !is_full && !is_taken && kept.len() < limit as usize
 }
 
-/// The hosts, in order, that find room among those kept before.
+/// Third, in order, the hosts that find room beside those that are kept already.
 fn with_room(
-    alloc: Global,
     conf: &Conf,
     limit: u32,
+    mut kept: Vec<HostRec>,
     hosts: &[HostRec],
 ) -> Result<Vec<HostRec>, NoMemory>
-    ensures { IfOk result (λ v. v.items ≡ with_room conf.now limit [] hosts.now) }
+    ensures { IfOk result (λ v. v.items ≡ with_room conf.now limit kept.items hosts.now) }
 {
-    let mut kept = Vec::new(alloc);
-    for host in hosts {
-        if has_room(conf, limit, kept.as_slice(), host) {
-            kept.push(*host)?;
-        }
+    let [host, more @ ..] = hosts else {
+        return Ok(kept);
+    };
+    if finds_room(conf, limit, kept.as_slice(), host) {
+        kept.push(*host)?;
     }
-    Ok(kept)
+    with_room(conf, limit, kept, more)
 }
 
 impl Plain {
@@ -314,13 +332,13 @@ impl Plain {
 
     /// What `HostTable::learn` does with this host.
     pub fn learn(&mut self, conf: &Conf, heard: HostRec) -> Result<Learn, NoMemory>
-        ensures answer { IfOk result (λ said. said ≡ answer conf.now self.old heard) }
+        ensures outcome { IfOk result (λ told. told ≡ outcome conf.now self.old heard) }
         ensures list { IfOk result (λ _. self.new ≡ learned conf.now self.old heard) }
         ensures err { OnErr result (self.new ≡ self.old) }
     {
-        let said = answer(conf, self.limit, self.hosts.as_slice(), &heard);
-        take_in(conf, &mut self.hosts, heard, said)?;
-        Ok(said)
+        let told = outcome(conf, self.limit, self.hosts.as_slice(), &heard);
+        take_in(conf, &mut self.hosts, heard, told)?;
+        Ok(told)
     }
 
     /// Takes out the first host that is to be forgotten at a moment.
@@ -356,19 +374,17 @@ impl Plain {
     pub fn get(&self, conf: &Conf, dp: DpId, vid: Vid, mac: Mac) -> Option<&HostRec>
         ensures { option_copied result ≡ host_of conf.now self.now.hosts dp vid mac.0 }
     {
-        find_host(self.hosts.as_slice(), conf, dp, vid, mac)
+        host_in(conf, self.hosts.as_slice(), conf.group_number(dp), vid, mac)
     }
 
     /// What is kept under a configuration, with these ports up.
     pub fn kept(&self, conf: &Conf, ups: &[UpRec], now: Moment) -> Result<Plain, NoMemory>
         ensures { IfOk result (λ table. table ≡ kept conf.now ups.now now.0 self.now) }
     {
-        let staying = staying(self.alloc, conf, ups, now, self.hosts.as_slice())?;
-        let last = last_of_each(self.alloc, conf, staying.as_slice())?;
-        Ok(Plain {
-            alloc: self.alloc,
-            limit: self.limit,
-            hosts: with_room(self.alloc, conf, self.limit, last.as_slice())?,
-        })
+        let fit = staying(self.alloc, self.hosts.as_slice(), conf, ups, now)?;
+        let last = last_of_each(self.alloc, conf, fit.as_slice())?;
+        let none = Vec::new(self.alloc);
+        let hosts = with_room(conf, self.limit, none, last.as_slice())?;
+        Ok(Plain { hosts, ..*self })
     }
 }

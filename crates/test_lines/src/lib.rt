@@ -10,4 +10,4 @@ mod table;
 pub use digits::bytes_of;
 pub use escapes::{unescaped, write_escaped};
 pub use repeats::write_repeated;
-pub use table::{Answers, answered};
+pub use table::{Answers, answered, print_answered, shown};

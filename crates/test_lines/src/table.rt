@@ -1,5 +1,6 @@
 use net_base::NoMemory;
 use std::alloc::Global;
+use std::io;
 
 /// What answers cases, line by line.
 pub trait Answers {
@@ -23,4 +24,22 @@ pub fn answered<A: Answers>(
         out.push_str("\n")?;
     }
     Ok(out)
+}
+
+/// What stands behind the line of a case whose words may be none.
+pub fn shown(alloc: Global, answer: Option<String>) -> Result<String, NoMemory> {
+    match answer {
+        Some(answer) => format!(in alloc; " => {answer}"),
+        None => String::from_str(alloc, " => no case"),
+    }
+}
+
+/// Prints the table of the standard input, each line with what stands behind it.
+pub fn print_answered<R: Input + Print + AllocGlobal, A: Answers>(
+    rt: &R,
+    answers: &mut A,
+) -> io::Result<()> {
+    let table = io::read_to_string(rt.alloc(), rt.reader())?;
+    let text = answered(rt.alloc(), answers, table.as_str())?;
+    print!(rt; "{text}")
 }

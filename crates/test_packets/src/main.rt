@@ -12,7 +12,7 @@ use net_base::NoMemory;
 use of_match::Tables;
 use std::alloc::Global;
 use std::io;
-use test_lines::{Answers, answered, bytes_of};
+use test_lines::{Answers, bytes_of, print_answered};
 
 /// The flow tables of the lines before.
 #[derive(Drop)]
@@ -54,13 +54,10 @@ impl Answers for Bench {
 }
 
 fn main(rt: HostRuntime) -> io::Result<()> {
-    let table = io::read_to_string(rt.alloc(), rt.stdin())?;
-    let text = answered(
-        rt.alloc(),
+    print_answered(
+        &rt,
         &mut Bench {
             tables: Tables::new(rt.alloc()),
         },
-        table.as_str(),
-    )?;
-    print!(rt; "{text}")
+    )
 }

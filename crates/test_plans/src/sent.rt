@@ -39,8 +39,8 @@ fn put_sents(alloc: Global, out: &mut String, sents: &[Sent]) -> Result<(), NoMe
     Ok(())
 }
 
-/// What is sent of a packet by the description.
-fn put_described(
+/// What is sent of a packet by the description, and by the tables of a cold start.
+fn put_both(
     alloc: Global,
     out: &mut String,
     conf: &Conf,
@@ -53,23 +53,11 @@ fn put_described(
 {
     let paths = make_paths(alloc, conf, now.ups.as_slice())?;
     let described = sends(alloc, conf, now, &paths, dp, port, packet)?;
-    put_sents(alloc, out, described.as_slice())
-}
-
-/// What is sent of it by the tables of a cold start.
-fn put_by_tables(
-    alloc: Global,
-    out: &mut String,
-    conf: &Conf,
-    now: &Now,
-    dp: DpId,
-    port: PortNo,
-    packet: &Packet,
-) -> Result<(), NoMemory>
-    requires { IsValidState conf.now (state_of now.now) }
-{
+    out.push_str("described")?;
+    put_sents(alloc, out, described.as_slice())?;
     let tables = cold(alloc, conf, now, dp, &mut Units::new())?;
     let sent = run(alloc, &tables, port, packet)?;
+    out.push_str("\n  sent")?;
     put_sents(alloc, out, sent.as_slice())
 }
 
@@ -99,10 +87,7 @@ pub fn sent(
         return Ok(out);
     }
     if let Some(packet) = packet_in(alloc, digits)? {
-        out.push_str("described")?;
-        put_described(alloc, &mut out, conf, now, dp, port, &packet)?;
-        out.push_str("\n  sent")?;
-        put_by_tables(alloc, &mut out, conf, now, dp, port, &packet)?;
+        put_both(alloc, &mut out, conf, now, dp, port, &packet)?;
     }
     Ok(out)
 }

@@ -9,7 +9,7 @@ mod worked;
 use net_base::{Bytes, NoMemory};
 use std::alloc::Global;
 use std::io;
-use test_lines::{Answers, answered, bytes_of};
+use test_lines::{Answers, bytes_of, print_answered};
 use turns::{write_again, write_turns};
 
 /// The bytes of the recording that the lines speak of.
@@ -38,13 +38,10 @@ impl Answers for Bench {
 }
 
 fn main(rt: HostRuntime) -> io::Result<()> {
-    let table = io::read_to_string(rt.alloc(), rt.stdin())?;
-    let text = answered(
-        rt.alloc(),
+    print_answered(
+        &rt,
         &mut Bench {
             records: Bytes::new(rt.alloc()),
         },
-        table.as_str(),
-    )?;
-    print!(rt; "{text}")
+    )
 }

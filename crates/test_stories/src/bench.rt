@@ -3,7 +3,8 @@
 use crate::happening::happening;
 use crate::units::Uncounted;
 use conf_check::conf_of_bytes;
-use ctl_core::{Controller, Saying};
+use ctl_core::Controller;
+use ctl_life::Saying;
 use fg_outside::Happening;
 use net_base::NoMemory;
 use std::alloc::Global;

@@ -11,7 +11,7 @@ mod worked;
 use net_base::NoMemory;
 use std::alloc::Global;
 use std::io;
-use test_lines::{Answers, answered, bytes_of};
+use test_lines::{Answers, bytes_of, print_answered};
 
 /// Each case stands alone.
 #[derive(Drop)]
@@ -42,7 +42,5 @@ impl Answers for Alone {
 }
 
 fn main(rt: HostRuntime) -> io::Result<()> {
-    let table = io::read_to_string(rt.alloc(), rt.stdin())?;
-    let text = answered(rt.alloc(), &mut Alone, table.as_str())?;
-    print!(rt; "{text}")
+    print_answered(&rt, &mut Alone)
 }

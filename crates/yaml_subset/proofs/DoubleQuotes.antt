@@ -15,6 +15,7 @@ use Rattle.yaml_subset.specs.Quoted.{hex_digit, utf8_bytes, after_backslash, fir
 use Rattle.yaml_subset.specs.DoubleQuoted.{ShortEscape, backslash, quote, line_feed, tab, carriage_return, IsNoSurrogate, IsEscape, short, low, unicode, IsPiece, character, escape, IsSpelled, spelled_none, spelled_more, IsDoubleQuoted}
 use Rattle.yaml_subset.proofs.LineValues.{same}
 use Rattle.yaml_subset.proofs.FirstFaults.{and_parts, or_cases}
+use Rattle.yaml_subset.proofs.QuoteLaws.{read_ok, same_read}
 
 -- ---- hexadecimal digits
 
@@ -471,15 +472,6 @@ module _ (P : List ℕ → Result (List ℕ × List ℕ) YamlCause → List ℕ 
   along (c ∷ cs) state front out (within s f at) = within_along s f c cs out at (λ s f o a. along cs s f o a)
 
 -- ---- a text that is read
-
-abbrev read_ok : List ℕ → List ℕ → Result (List ℕ × List ℕ) YamlCause
-read_ok text after = Ok (text, after)
-
-abbrev both : List ℕ → List ℕ → List ℕ × List ℕ
-both text after = (text, after)
-
-same_read : (text text' after after' : List ℕ) → read_ok text after ≡ read_ok text' after' → (text ≡ text') × (after ≡ after')
-same_read text text' after after' h = let q : both text after ≡ both text' after' = cc in (ap (λ x. x.0) q, ap (λ x. x.1) q)
 
 -- the text behind `out` is spelled there
 abbrev Found : List ℕ → Result (List ℕ × List ℕ) YamlCause → List ℕ → Type 0

@@ -101,35 +101,29 @@ items_step m n nested at fs l items v frames slot indent rest ls end later few s
         let bad : Err (no_item rest) ≡ Ok end = ap (λ q. then_steps q ls) (sym (next ∙ none)) ∙ r in
         absurd cc
 
-items_split : (m n : ℕ) → NestedSplits n → (at : ℕ) (fs : List Frame) (end : State) → length fs + suc n ≡ 32 → ItemsLater m n at fs end
-items_split m n nested at fs end l items v frames slot [] few s p r = record {
+-- no further one is read where the block ends
+items_ended : (n at : ℕ) (fs : List Frame) (items : List Tree) (v : Tree) (frames : List Frame) (slot : Option Tree) (ls : List Line) (end : State) → Stands (Passes at true) (list_frame at items ∷ fs) v frames slot
+    → steps (Blocks frames slot) ls ≡ Ok end → Stops (Ends at true fs) ls → ItemsSplit n at fs items v ls end
+items_ended n at fs items v frames slot ls end s r stops = record {
   values = [];
   below = [];
-  more = [];
+  more = ls;
   frames = frames;
   slot = slot;
   split = refl;
   are = refl;
   stands = stands_closed (list_frame at items) fs v frames slot s;
   runs = r;
-  stops = tt;
+  stops = stops;
 }
+
+items_split : (m n : ℕ) → NestedSplits n → (at : ℕ) (fs : List Frame) (end : State) → length fs + suc n ≡ 32 → ItemsLater m n at fs end
+items_split m n nested at fs end l items v frames slot [] few s p r = items_ended n at fs items v frames slot [] end s r tt
 items_split zero n nested at fs end l items v frames slot (line ∷ ls) few s p r = absurd (omega arith)
 items_split (suc m) n nested at fs end l items v frames slot (line ∷ ls) few s p r = by_end (ends at true fs line.0 (marks 45 line.1)) refl (items_split m n nested at fs end l)
   where
     by_end : (b : Bool) → ends at true fs line.0 (marks 45 line.1) ≡ b → ItemsLater m n at fs end → ItemsSplit n at fs items v (line ∷ ls) end
-    by_end true e later = record {
-      values = [];
-      below = [];
-      more = line ∷ ls;
-      frames = frames;
-      slot = slot;
-      split = refl;
-      are = refl;
-      stands = stands_closed (list_frame at items) fs v frames slot s;
-      runs = r;
-      stops = e;
-    }
+    by_end true e later = items_ended n at fs items v frames slot (line ∷ ls) end s r e
     by_end false e later = items_step m n nested at fs l items v frames slot line.0 line.1 ls end later (omega arith) s p e r
 
 -- a block list that is read
@@ -223,35 +217,29 @@ entries_step m n nested at fs l pairs k v frames slot indent rest ls end later f
       stops = w.stops;
     }
 
-entries_split : (m n : ℕ) → NestedSplits n → (at : ℕ) (fs : List Frame) (end : State) → length fs + suc n ≡ 32 → EntriesLater m n at fs end
-entries_split m n nested at fs end l pairs k v frames slot [] few s p r = record {
+-- no further one is read where the block ends
+entries_ended : (n at : ℕ) (fs : List Frame) (pairs : List Pair) (k : Key) (v : Tree) (frames : List Frame) (slot : Option Tree) (ls : List Line) (end : State) → Stands (Passes at false) (map_frame at pairs k ∷ fs) v frames slot
+    → steps (Blocks frames slot) ls ≡ Ok end → Stops (Ends at false fs) ls → EntriesSplit n at fs pairs k v ls end
+entries_ended n at fs pairs k v frames slot ls end s r stops = record {
   later = [];
   below = [];
-  more = [];
+  more = ls;
   frames = frames;
   slot = slot;
   split = refl;
   are = refl;
   stands = stands_closed (map_frame at pairs k) fs v frames slot s;
   runs = r;
-  stops = tt;
+  stops = stops;
 }
+
+entries_split : (m n : ℕ) → NestedSplits n → (at : ℕ) (fs : List Frame) (end : State) → length fs + suc n ≡ 32 → EntriesLater m n at fs end
+entries_split m n nested at fs end l pairs k v frames slot [] few s p r = entries_ended n at fs pairs k v frames slot [] end s r tt
 entries_split zero n nested at fs end l pairs k v frames slot (line ∷ ls) few s p r = absurd (omega arith)
 entries_split (suc m) n nested at fs end l pairs k v frames slot (line ∷ ls) few s p r = by_end (ends at false fs line.0 (marks 45 line.1)) refl (entries_split m n nested at fs end l)
   where
     by_end : (b : Bool) → ends at false fs line.0 (marks 45 line.1) ≡ b → EntriesLater m n at fs end → EntriesSplit n at fs pairs k v (line ∷ ls) end
-    by_end true e later = record {
-      later = [];
-      below = [];
-      more = line ∷ ls;
-      frames = frames;
-      slot = slot;
-      split = refl;
-      are = refl;
-      stands = stands_closed (map_frame at pairs k) fs v frames slot s;
-      runs = r;
-      stops = e;
-    }
+    by_end true e later = entries_ended n at fs pairs k v frames slot (line ∷ ls) end s r e
     by_end false e later = entries_step m n nested at fs l pairs k v frames slot line.0 line.1 ls end later (omega arith) s p e r
 
 -- a block map that is read

@@ -9,13 +9,14 @@ use Rattle.yaml_subset.specs.Quoted.{single_from}
 use Rattle.yaml_subset.specs.SingleQuoted.{doubled, IsSingleQuoted}
 use Rattle.yaml_subset.proofs.LineValues.{same}
 
-abbrev read_ok : List ℕ → List ℕ → Result (List ℕ × List ℕ) YamlCause
+abbrev pub read_ok : List ℕ → List ℕ → Result (List ℕ × List ℕ) YamlCause
 read_ok text after = Ok (text, after)
 
 abbrev both : List ℕ → List ℕ → List ℕ × List ℕ
 both text after = (text, after)
 
-same_read : (text text' after after' : List ℕ) → read_ok text after ≡ read_ok text' after' → (text ≡ text') × (after ≡ after')
+-- a text and what is behind it are read in one way
+pub same_read : (text text' after after' : List ℕ) → read_ok text after ≡ read_ok text' after' → (text ≡ text') × (after ≡ after')
 same_read text text' after after' h = let q : both text after ≡ both text' after' = cc in (ap (λ x. x.0) q, ap (λ x. x.1) q)
 
 -- what is read from here on, where a quote was just read or not

@@ -3,7 +3,7 @@ use Rattle.std.proofs.lemmas.Result.{on_ok_weaker}
 use Rattle.ctl_world.specs.World.{IsSound}
 use Rattle.ctl_settle.specs.Rest.{AreInOrder}
 use Rattle.ctl_settle.proofs.Until.{end_alike}
-use Rattle.ctl_core.specs.Hearing.{says}
+use Rattle.ctl_life.specs.Life.{says}
 use Rattle.ctl_core.specs.Known.{IsEarly}
 use Rattle.ctl_core.proofs.hearing.hear_one.Goals as goal
 

@@ -1,7 +1,7 @@
 use Rattle.std.proofs.Common.{refl, subst, sym}
 use Rattle.std.proofs.lemmas.Result.{on_ok_weaker}
 use Rattle.ctl_world.specs.Frames.{with_read}
-use Rattle.ctl_core.specs.Hearing.{read}
+use Rattle.ctl_life.specs.Life.{read}
 use Rattle.ctl_core.specs.Known.{HasSettled}
 use Rattle.ctl_core.proofs.Rests.{still_settled}
 use Rattle.ctl_core.proofs.hearing.read_front.Goals as goal

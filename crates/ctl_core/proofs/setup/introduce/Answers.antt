@@ -2,7 +2,7 @@ use Rattle.std.proofs.Common.{ap, ◌∙◌}
 use Rattle.std.proofs.lemmas.Result.{on_ok_weaker}
 use Rattle.of13_codec.specs.declared.message.Message.TheVariants.{PortDescRequest}
 use Rattle.ctl_world.specs.Saying.{ask}
-use Rattle.ctl_core.specs.Hearing.{take_dp}
+use Rattle.ctl_life.specs.Life.{take_dp}
 use Rattle.ctl_core.proofs.setup.introduce.Goals as goal
 
 pub returns-in_ok-take_dp-in-None : goal.returns-in_ok-take_dp-in-None

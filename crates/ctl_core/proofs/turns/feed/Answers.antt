@@ -2,7 +2,7 @@ use Rattle.std.proofs.Common.{subst, sym}
 use Rattle.std.proofs.lemmas.Result.{on_ok_weaker}
 use Rattle.ctl_world.specs.Connections.{with_fed}
 use Rattle.ctl_core.specs.Known.{HasSettled}
-use Rattle.ctl_core.specs.Turns.{feed}
+use Rattle.ctl_life.specs.Life.{feed}
 use Rattle.ctl_core.proofs.Rests.{fed_face, still_settled}
 use Rattle.ctl_core.proofs.turns.feed.Goals as goal
 

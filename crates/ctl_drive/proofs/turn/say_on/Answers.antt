@@ -1,7 +1,7 @@
 use Rattle.std.proofs.Common.{◌≡◌, [], ◌∷◌, refl}
 use Rattle.fg_outside.specs.declared.hub.Said.TheVariants as answers
 use Rattle.fg_outside.specs.HubStep.{said as step_said}
-use Rattle.ctl_core.specs.declared.controller.Saying.TheVariants.{Send}
+use Rattle.ctl_life.specs.declared.saying.Saying.TheVariants.{Send}
 use Rattle.ctl_drive.specs.declared.sayings.Outlet.TheVariants.{Records}
 use Rattle.ctl_drive.specs.Driving.{said, deeds_by}
 use Rattle.ctl_drive.proofs.Telling.{Tells-none, Tells-one, Tells-same, TellsPart-one, TellsPart-same}

@@ -1,6 +1,6 @@
 use Rattle.std.proofs.Common.{List, refl, ap, ◌∙◌}
 use Rattle.std.specs.List.{flat_map}
-use Rattle.ctl_core.specs.declared.controller.Saying.{Saying}
+use Rattle.ctl_life.specs.declared.saying.Saying.{Saying}
 use Rattle.ctl_core.specs.Turns.{turn}
 use Rattle.ctl_drive.specs.Driving.{deeds_by, line_by, written_on}
 use Rattle.ctl_drive.proofs.Answering.{nothing_done, part_lined, part_told, part_written, whole_told}

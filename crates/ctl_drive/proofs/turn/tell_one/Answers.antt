@@ -1,6 +1,6 @@
 use Rattle.std.proofs.Common.{[], ◌∷◌, refl, sym, ap, ◌∙◌}
 use Rattle.fg_outside.specs.HubStep.{closed}
-use Rattle.ctl_core.specs.declared.controller.Saying.{Saying}
+use Rattle.ctl_life.specs.declared.saying.Saying.{Saying}
 use Rattle.ctl_drive.specs.Driving.{shut, deeds_by}
 use Rattle.ctl_drive.proofs.Telling.{Tells-none, Tells-one, Tells-same}
 use Rattle.ctl_drive.proofs.Told.{line_nothing, shut_one}

@@ -7,7 +7,8 @@ use Rattle.ctl_settle.specs.Rest.{AreInOrder}
 use Rattle.ctl_core.specs.Hearing.{hear_frame}
 use Rattle.ctl_core.specs.Reloading.{accepted, reload}
 use Rattle.ctl_core.specs.Story.{behind}
-use Rattle.ctl_core.specs.Turns.{open_conn, pass}
+use Rattle.ctl_life.specs.Life.{open_conn}
+use Rattle.ctl_core.specs.Turns.{pass}
 use Rattle.law_stories.proofs.StoryTurns.{Keeps, behind_kept}
 use Rattle.law_stories.proofs.laws.connections_stand_by_number.Goals as goal
 

@@ -1,18 +1,14 @@
-use Rattle.std.proofs.Common.{◌+◌, length, [], refl, arith}
+use Rattle.std.proofs.Common.{◌+◌, length, [], arith}
 use Rattle.std.proofs.lemmas.Result.{err_from_is_err_and}
 use Rattle.of_wire.specs.Answers.{fault_at}
 use Rattle.of_wire.specs.Reading.{instr_step, instrs_at}
 use Rattle.of_wire.specs.declared.fault.PartCause.TheVariants.{Short}
-use Rattle.of_wire.proofs.Many.{starts, goes, ends, is_done, is_some, is_none}
+use Rattle.of_wire.proofs.Many.{way_starts, way_goes, ends, is_done, is_some, is_none}
 use Rattle.of_wire.proofs.instructions.read_each_instr.Goals as goal
 
 pub loop-rest-init : goal.loop-rest-init
 unfolding instrs_at
-loop-rest-init c = record {
-  place = refl;
-  within = omega arith;
-  left = rw c.new-instrs.ensures (starts (instr_step (fault_at (c.args.at + length c.args.bytes.now) Short)) [] c.args.at c.args.bytes.now);
-}
+loop-rest-init c = rw c.new-instrs.ensures (way_starts (instr_step (fault_at (c.args.at + length c.args.bytes.now) Short)) [] c.args.at c.args.bytes.now)
 
 pub returns-in_err-taken-clause-exact : goal.returns-in_err-taken-clause-exact
 returns-in_err-taken-clause-exact c =
@@ -22,12 +18,8 @@ returns-in_err-taken-clause-exact c =
 
 pub loop-rest-preserved : goal.loop-rest-preserved
 loop-rest-preserved c =
-    record {
-      place = omega (arith, c.loop-rest.invariant.place, c.split_at.ensures.back_len);
-      within = omega (arith, c.loop-rest.invariant.within, c.split_at.ensures.back_len);
-      left = rw c.split_at.ensures.back (goes (instr_step (fault_at (c.args.at + length c.args.bytes.now) Short)) (instrs_at c.args.at c.args.bytes.now) c.loop-rest.instrs c.loop-rest.place c.loop-rest.rest.now (c.take_instr.new.instrs, c.in_ok-taken.taken)
-          (is_some c.loop-rest.rest.now c.loop-rest-test.ensures) (omega (arith, c.in_ok-taken.ensures.taken.0)) c.in_ok-taken.ensures.exact c.loop-rest.invariant.left);
-    }
+    rw c.split_at.ensures.back (way_goes (instr_step (fault_at (c.args.at + length c.args.bytes.now) Short)) (instrs_at c.args.at c.args.bytes.now) c.args.at c.args.bytes.now c.loop-rest.instrs c.loop-rest.place c.loop-rest.rest.now (c.take_instr.new.instrs, c.in_ok-taken.taken)
+    (is_some c.loop-rest.rest.now c.loop-rest-test.ensures) (omega (arith, c.in_ok-taken.ensures.taken.0)) c.in_ok-taken.ensures.taken.1 c.in_ok-taken.ensures.exact c.loop-rest.invariant)
 
 pub returns-clause-exact : goal.returns-clause-exact
 returns-clause-exact c = is_done (instr_step (fault_at (c.args.at + length c.args.bytes.now) Short)) (instrs_at c.args.at c.args.bytes.now) c.loop-rest.instrs c.loop-rest.place c.loop-rest.rest.now (is_none c.loop-rest.rest.now c.loop-rest-test.ensures) c.loop-rest.invariant.left

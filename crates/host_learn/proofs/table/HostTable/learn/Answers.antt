@@ -14,7 +14,7 @@ invariant_of-self-2 c =
     let order = c.self.inside.order in
     let new = c.take_in.new.order in
     let heard : HostRec = record { dp = c.args.dp; port = c.args.port; vid = c.args.vid; mac = c.args.mac; learned = c.args.now } in
-    let after = c.in_ok-take_in.ensures.ok ∙ ap (hosts_after conf heard (hosts_of order)) c.answer-said.ensures in
+    let after = c.in_ok-take_in.ensures.ok ∙ ap (hosts_after conf heard (hosts_of order)) c.outcome-told.ensures in
     let before : length (hosts_of order) ≤ limit = omega (arith, hosts_many order, c.self.invariant.0) in
     let within : length (hosts_of new) ≤ limit = subst (λ (hs : List HostRec). length hs ≤ limit) (sym after) (learned_within conf limit heard (hosts_of order) before) in
     let few : length new ≤ limit = omega (arith, hosts_many new, within) in

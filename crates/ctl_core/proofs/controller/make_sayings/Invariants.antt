@@ -1,6 +1,0 @@
-use Rattle.std.proofs.Common.{◌≡◌, map, take}
-use Rattle.ctl_core.specs.Story.{saying_of}
-use Rattle.ctl_core.proofs.controller.make_sayings.Given as goal
-
-abbrev pub invariant-loop-one : goal.invariant-loop-one
-invariant-loop-one l = l.made ≡ map saying_of (take l.one-index l.said)

@@ -1,0 +1,5 @@
+pub mod FallsSilent
+pub mod Heard
+pub mod Looks
+pub mod Numbered
+pub mod Openings
