@@ -33,6 +33,10 @@ abbrev pub checked_with_text : Tree → Result (Configuration × List ℕ) LoadR
 checked_with_text t = checked t >>= λ conf. Ok (conf, printed t)
 
 -- the configuration of the file of this name with the canonical text of the document that is gathered, or why there is none, where
--- these files are held
+-- trees are found so
+abbrev pub loaded_with_text_by : Finds → (name : List ℕ) → Result (Configuration × List ℕ) LoadRefused
+loaded_with_text_by finds name = gathered_by finds name >>= checked_with_text
+
+-- the same, where these files are held
 abbrev pub loaded_with_text : Held → (name : List ℕ) → Result (Configuration × List ℕ) LoadRefused
-loaded_with_text held name = gathered_by (held_by held) name >>= checked_with_text
+loaded_with_text held name = loaded_with_text_by (held_by held) name

@@ -5,7 +5,7 @@ ghost use Rattle.yaml_tree.specs.declared.tree.Tree.{Tree};
 ghost use Rattle.conf_check.specs.Accepted.{IsRefused};
 ghost use Rattle.conf_gather.specs.Gives.{Fails, Gives, IsWithin};
 ghost use Rattle.conf_gather.specs.Gathered.{NamesUnread};
-ghost use Rattle.conf_load.specs.Loaded.{checked, loaded, loaded_by, loaded_with_text};
+ghost use Rattle.conf_load.specs.Loaded.{checked, loaded, loaded_by, loaded_with_text, loaded_with_text_by};
 
 use conf_check::conf_of_tree;
 use conf_gather::{LoadRefused, gather};
@@ -67,6 +67,7 @@ pub fn load_with_text<F: Files>(
     name: &str,
 ) -> Result<(Conf, Bytes), LoadRefused>
     ensures told { (held : Contents) → F.contents files.old ≡ Some held → Gives result (loaded_with_text (held 0) name.now) }
+    ensures unread { NamesUnread (F.contents files.old) result (λ finds. loaded_with_text_by finds name.now) }
     ensures read { (file : List ℕ) → IsErrOf result (LoadRefused.Read file)
         → Rose (F.faults files.old) (F.faults files.new) }
     ensures no_fault { ((file : List ℕ) → IsErrOf result (LoadRefused.Read file) → ⊥)

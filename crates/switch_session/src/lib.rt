@@ -13,7 +13,7 @@ mod stream;
 
 pub use closing::Closing;
 pub use pieces::{Split, frames_of};
-pub use ports::PortTold;
+pub use ports::{PortTold, is_up};
 pub use quiet::Quiet;
 pub use session::Session;
 pub use state::{Stage, Step};

@@ -37,8 +37,8 @@ impl Model for PortsTold {
     ghost view = { λ p. p.ports.items };
 }
 
-/// Whether the port is up.
-fn is_up(port: &PortDesc) -> bool
+/// Whether the port is neither administratively down nor without a link (OpenFlow 1.3, 7.2.1).
+pub fn is_up(port: &PortDesc) -> bool
     ensures { result ≡ is_up port.now }
 {
     port.config & PORT_DOWN == 0 && port.state & LINK_DOWN == 0

@@ -46,7 +46,7 @@ pub record WatchedStory {H F : Type 0} (may : H → HubStep → H → Type 0) (c
   pub few_missed : (held : Contents) → contents (files_in from) ≡ Some held → min (faults (files_in from) + missed held (name_in from) 1 texts) (2 ^ 64 - 1) ≤ faults (files_in to)
 
 -- The story of a watch in whose last call memory may have run out: it is such a story up to a state of the watch, behind which the
--- hub gave at most one happening, which was lost, and said nothing else.
+-- hub gave at most one happening, which was lost, and was told nothing else.
 pub record WatchedPart {H F : Type 0} (may : H → HubStep → H → Type 0) (contents : F → Option Contents) (faults : F → ℕ) (from : Watch H F) (events : List Event) (to : Watch H F) : Type 0 where
   pub until : Watch H F
   pub watched : WatchedStory may contents faults from events until
