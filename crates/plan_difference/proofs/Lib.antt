@@ -3,3 +3,4 @@ pub mod Order
 pub mod Leads
 pub mod Needs
 pub mod Least
+pub mod Walked

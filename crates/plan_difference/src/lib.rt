@@ -5,5 +5,7 @@ pub mod laws;
 mod merge;
 #[cfg(test)]
 mod tests;
+mod told;
 
 pub use merge::difference;
+pub use told::difference_at;
