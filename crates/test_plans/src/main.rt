@@ -12,6 +12,7 @@ use std::str::SplitWhitespace;
 use std::{io, mem};
 use test_lines::{Answers, answered};
 
+mod named;
 mod plan;
 mod sent;
 mod state;

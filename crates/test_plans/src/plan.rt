@@ -4,6 +4,7 @@ ghost use Rattle.std.specs.Prelude.{◌≡◌};
 ghost use Rattle.conf_types.specs.State.{IsValidState};
 ghost use Rattle.packet_way.specs.Present.{state_of};
 
+use crate::named::all_named;
 use crate::units::Units;
 use cold_start::cold;
 use conf_types::Conf;
@@ -80,7 +81,8 @@ pub fn event(
     let mut units = Units::new();
     let mut warm = Warm::open(alloc, conf, before, dp, &mut units)?;
     let _ = warm.take(alloc)?;
-    warm.event(alloc, conf, now, &[], &mut units)?;
+    let changes = all_named(alloc, conf, before, now)?;
+    warm.event(alloc, conf, now, changes.as_slice(), &mut units)?;
     taken(alloc, &mut warm)
 }
 

@@ -1,11 +1,20 @@
 -- A datapath's plan that is kept, as contracts see it.
-use Rattle.std.specs.Prelude.{◌≡◌, Bool, false, List}
+use Rattle.std.specs.Prelude.{◌≡◌, Bool, false, List, [], filter}
+use Rattle.std.specs.Option.{option_map_or}
 use Rattle.net_base.specs.declared.numbers.DpId.{DpId}
 use Rattle.of_match.specs.declared.entry.Entry.{Entry}
 use Rattle.of_match.specs.FlowTables.{IsInKeyOrder}
-use Rattle.conf_types.specs.Configuration.{Configuration}
-use Rattle.conf_types.specs.State.{State}
-use Rattle.cold_start.specs.Cold.{cold_at}
+use Rattle.conf_types.specs.declared.state.HostRec.{HostRec}
+use Rattle.conf_types.specs.Configuration.{Configuration, dp_with}
+use Rattle.conf_types.specs.State.{State, IsValidState}
+use Rattle.conf_types.specs.Valid.{IsValid}
+use Rattle.plan_units.specs.declared.unit.Unit.{Unit as PlanUnit}
+use Rattle.plan_units.specs.Laws.{HasAddresses}
+use Rattle.cold_start.specs.Cold.{cold_at, units_of}
+use Rattle.law_units.specs.declared.change.Change.{Change}
+use Rattle.law_units.specs.Reached.{is_reached}
+use Rattle.warm_plan.specs.declared.plan.Part.{Part}
+use Rattle.warm_plan.specs.Parts.{ArePartsOf}
 
 pub record Kept : Type 0 where
   pub dp : DpId
@@ -24,3 +33,26 @@ pub record IsKept (k : Kept) : Type 0 where
   pub warm : k.is_spent ≡ false → k.wanted ≡ cold_at k.conf k.state k.dp
   pub sent : IsInKeyOrder k.sent
   pub wanted : IsInKeyOrder k.wanted
+
+-- the units of the datapath that changes reach between two states, each once; where there is no such datapath,
+-- none
+abbrev pub reached_at : Configuration → State → State → DpId → List Change → List PlanUnit
+reached_at conf old new id changes = option_map_or (λ d. filter (is_reached conf old new d changes) (units_of conf new d)) (dp_with conf.dps id) []
+
+-- ---- what is kept beside it
+
+-- a valid configuration and state, of Ethernet addresses
+pub record IsSound (conf : Configuration) (now : State) : Type 0 where
+  pub valid : IsValid conf
+  pub state : IsValidState conf now
+  pub addresses : HasAddresses now
+
+-- the hosts of the state, and the keys of each unit's entries
+pub record IsIndexed (conf : Configuration) (now : State) (wanted : List Entry) (hosts : List HostRec) (parts : List Part) : Type 0 where
+  pub sound : IsSound conf now
+  pub stand : hosts ≡ now.hosts
+  pub keyed : ArePartsOf parts wanted
+
+pub record IsWarm (k : Kept) (hosts : List HostRec) (parts : List Part) : Type 0 where
+  pub kept : IsKept k
+  pub indexed : k.is_spent ≡ false → IsIndexed k.conf k.state k.wanted hosts parts

@@ -2,9 +2,14 @@
 //! that lead from the one to the other.
 #![tactic(auto)]
 
-mod change;
+mod again;
+mod effect;
 pub mod laws;
+mod plan;
+mod reaches;
+mod sound;
+mod units;
 mod warm;
 
-pub use change::Change;
+pub use law_units::Change;
 pub use warm::Warm;

@@ -1,5 +1,4 @@
-//! The plan of one datapath, kept from one state to the next. This body makes the whole plan at each
-//! event.
+//! The plan of one datapath, kept from one state to the next: an event makes again what its changes reach.
 
 ghost use Rattle.std.specs.Prelude.{◌≡◌, ◌*◌, true, false, [], length, IfOk, OnOk, OnErr, IsErr};
 ghost use Rattle.conf_types.specs.State.{IsValidState};
@@ -7,11 +6,14 @@ ghost use Rattle.packet_way.specs.Present.{state_of};
 ghost use Rattle.plan_difference.specs.Difference.{difference};
 ghost use Rattle.cold_start.specs.Cold.{cold_at, units_at};
 ghost use Rattle.cold_start.specs.Counts.{RisesAtMost, RisesAtLeast};
-ghost use Rattle.warm_plan.specs.Kept.{IsKept};
+ghost use Rattle.law_units.specs.Reach.{AreNamed};
+ghost use Rattle.warm_plan.specs.Kept.{reached_at};
 
-use crate::change::Change;
-use cold_start::cold;
-use conf_types::{Conf, Tally};
+use crate::again::{make_again, make_whole};
+use crate::plan::Plan;
+use crate::sound::are_ordered;
+use conf_types::{Conf, HostRecs, Tally};
+use law_units::Change;
 use net_base::{DpId, NoMemory, TryCopy};
 use of_match::{Commands, Tables};
 use packet_way::Now;
@@ -27,20 +29,22 @@ pub struct Warm {
     dp: DpId,
     conf: Snapshot<Conf>,
     state: Snapshot<Now>,
+    /// The hosts of that state.
+    hosts: HostRecs,
+    plan: Plan,
     sent: Tables,
-    wanted: Tables,
     spent: bool,
 }
 
 impl Model for Warm {
     ghost use Rattle.packet_way.specs.Present.{state_of};
-    ghost use Rattle.warm_plan.specs.Kept.{Kept, IsKept};
+    ghost use Rattle.warm_plan.specs.Kept.{Kept, IsWarm};
 
     ghost Value = { Kept };
 
-    ghost view = { λ w. record { dp = w.dp; conf = w.conf.value; state = state_of w.state.value; sent = w.sent; wanted = w.wanted; is_spent = w.spent } };
+    ghost view = { λ w. record { dp = w.dp; conf = w.conf.value; state = state_of w.state.value; sent = w.sent; wanted = w.plan.wanted; is_spent = w.spent } };
 
-    ghost invariant = { λ w. IsKept (record { dp = w.dp; conf = w.conf.value; state = state_of w.state.value; sent = w.sent; wanted = w.wanted; is_spent = w.spent }) };
+    ghost invariant = { λ w. IsWarm (record { dp = w.dp; conf = w.conf.value; state = state_of w.state.value; sent = w.sent; wanted = w.plan.wanted; is_spent = w.spent }) w.hosts w.plan.parts };
 }
 
 impl Warm {
@@ -69,57 +73,27 @@ impl Warm {
             dp,
             conf: Snapshot::of(conf),
             state: Snapshot::of(now),
+            hosts: now.hosts.copy(alloc)?,
+            plan: make_whole(alloc, conf, now, dp, units)?,
             sent: Tables::new(alloc),
-            wanted: cold(alloc, conf, now, dp, units)?,
             spent: false,
         })
     }
 
-    // Makes the plan of another configuration or state.
-    fn renew<T: Tally>(
-        &mut self,
-        alloc: Global,
-        conf: &Conf,
-        now: &Now,
-        units: &mut T,
-    ) -> Result<(), NoMemory>
-        requires { IsValidState conf.now (state_of now.now) }
-        ensures warm { OnOk result (self.new ≡ record self.old {
-          conf = conf.now;
-          state = state_of now.now;
-          wanted = cold_at conf.now (state_of now.now) self.old.dp;
-        }) }
-        ensures spent { OnErr result (self.new.is_spent ≡ true) }
-        ensures again { self.old.is_spent ≡ true → IsErr result }
-        ensures sent { self.new.sent ≡ self.old.sent }
-        ensures most { RisesAtMost (3 * length (units_at conf.now (state_of now.now) self.old.dp)) (T.count units.old) (T.count units.new) }
-        ensures least { OnOk result (RisesAtLeast (length (units_at conf.now (state_of now.now) self.old.dp)) (T.count units.old) (T.count units.new)) }
-    {
-        let was_spent = self.spent;
-        self.spent = true;
-        self.conf = Snapshot::of(conf);
-        self.state = Snapshot::of(now);
-        if was_spent {
-            return Err(AllocError);
-        }
-        self.wanted = cold(alloc, conf, now, self.dp, units)?;
-        self.spent = false;
-        Ok(())
-    }
-
     /// Takes another state of the same configuration, which differs from the last one at most in what
     /// `changes` names. Want of memory spends the plan, and a spent one answers nothing else. At most
-    /// three units of work are counted for each unit of the datapath.
+    /// three units of work are counted for each unit of the datapath that the changes reach.
     pub fn event<T: Tally>(
         &mut self,
         alloc: Global,
         conf: &Conf,
         now: &Now,
-        _changes: &[Change],
+        changes: &[Change],
         units: &mut T,
     ) -> Result<(), NoMemory>
         requires same { conf.now ≡ self.old.conf }
         requires state { IsValidState conf.now (state_of now.now) }
+        requires named { AreNamed conf.now self.old.state (state_of now.now) changes.now }
         ensures warm { OnOk result (self.new ≡ record self.old {
           state = state_of now.now;
           wanted = cold_at conf.now (state_of now.now) self.old.dp;
@@ -127,9 +101,30 @@ impl Warm {
         ensures spent { OnErr result (self.new.is_spent ≡ true) }
         ensures again { self.old.is_spent ≡ true → IsErr result }
         ensures sent { self.new.sent ≡ self.old.sent }
-        ensures most { RisesAtMost (3 * length (units_at conf.now (state_of now.now) self.old.dp)) (T.count units.old) (T.count units.new) }
+        ensures most { RisesAtMost (3 * length (reached_at conf.now self.old.state (state_of now.now) self.old.dp changes.now)) (T.count units.old) (T.count units.new) }
     {
-        self.renew(alloc, conf, now, units)
+        let was_spent = self.spent;
+        self.spent = true;
+        self.state = Snapshot::of(now);
+        if was_spent {
+            return Err(AllocError);
+        }
+        let hosts = self.hosts.as_slice();
+        let made = make_again(
+            &mut self.plan,
+            alloc,
+            conf,
+            now,
+            self.dp,
+            hosts,
+            changes,
+            units,
+        );
+        are_ordered(&self.plan.wanted);
+        made?;
+        self.hosts = now.hosts.copy(alloc)?;
+        self.spent = false;
+        Ok(())
     }
 
     /// Takes another configuration, and the state under it. Want of memory spends the plan, and a spent
@@ -153,7 +148,17 @@ impl Warm {
         ensures most { RisesAtMost (3 * length (units_at next.now (state_of now.now) self.old.dp)) (T.count units.old) (T.count units.new) }
         ensures least { OnOk result (RisesAtLeast (length (units_at next.now (state_of now.now) self.old.dp)) (T.count units.old) (T.count units.new)) }
     {
-        self.renew(alloc, next, now, units)
+        let was_spent = self.spent;
+        self.spent = true;
+        self.conf = Snapshot::of(next);
+        self.state = Snapshot::of(now);
+        if was_spent {
+            return Err(AllocError);
+        }
+        self.plan = make_whole(alloc, next, now, self.dp, units)?;
+        self.hosts = now.hosts.copy(alloc)?;
+        self.spent = false;
+        Ok(())
     }
 
     /// The commands that lead from what the switch was sent to what it is to hold, which is from now on
@@ -169,8 +174,8 @@ impl Warm {
             return Err(AllocError);
         }
         self.spent = true;
-        let batch = difference(alloc, &self.sent, &self.wanted)?;
-        self.sent = self.wanted.copy(alloc)?;
+        let batch = difference(alloc, &self.sent, &self.plan.wanted)?;
+        self.sent = self.plan.wanted.copy(alloc)?;
         self.spent = false;
         Ok(batch)
     }
@@ -188,7 +193,7 @@ impl Warm {
         ensures value { result.now ≡ self.now.wanted }
         ensures cold { self.now.is_spent ≡ false → result.now ≡ cold_at self.now.conf self.now.state self.now.dp }
     {
-        &self.wanted
+        &self.plan.wanted
     }
 
     /// Whether memory ran out in an earlier call.

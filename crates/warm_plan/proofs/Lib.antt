@@ -1,0 +1,5 @@
+pub mod Commands
+pub mod Made
+pub mod Remade
+pub mod Reaching
+pub mod Settings

@@ -1,0 +1,83 @@
+//! A datapath's plan, made whole, and made again where something changed.
+
+ghost use Rattle.std.specs.Prelude.{◌≡◌, ◌*◌, length, IfOk, OnOk};
+ghost use Rattle.conf_types.specs.State.{State, IsValidState};
+ghost use Rattle.packet_way.specs.Present.{state_of};
+ghost use Rattle.cold_start.specs.Cold.{cold_at, units_at};
+ghost use Rattle.cold_start.specs.Counts.{RisesAtMost, RisesAtLeast};
+ghost use Rattle.law_units.specs.Reach.{AreNamed};
+ghost use Rattle.warm_plan.specs.Kept.{IsSound, reached_at};
+ghost use Rattle.warm_plan.specs.Parts.{ArePartsOf};
+
+use crate::effect::effects;
+use crate::laws;
+use crate::plan::Plan;
+use crate::reaches::reached;
+use crate::sound::is_sound;
+use crate::units::units_of;
+use conf_types::{Conf, HostRec, Tally};
+use law_units::Change;
+use net_base::{DpId, NoMemory};
+use packet_way::Now;
+use std::alloc::Global;
+
+/// The plan of a datapath, of which all units are made. For each at least one unit of work is counted where
+/// they are made, and at most three.
+pub(crate) fn make_whole<T: Tally>(
+    alloc: Global,
+    conf: &Conf,
+    now: &Now,
+    dp: DpId,
+    units: &mut T,
+) -> Result<Plan, NoMemory>
+    requires { IsValidState conf.now (state_of now.now) }
+    ensures sound { IsSound conf.now (state_of now.now) }
+    ensures wanted { IfOk result (λ made. made.wanted ≡ cold_at conf.now (state_of now.now) dp) }
+    ensures parts { IfOk result (λ made. ArePartsOf made.parts made.wanted) }
+    ensures most { RisesAtMost (3 * length (units_at conf.now (state_of now.now) dp)) (T.count units.old) (T.count units.new) }
+    ensures least { OnOk result (RisesAtLeast (length (units_at conf.now (state_of now.now) dp)) (T.count units.old) (T.count units.new)) }
+{
+    is_sound(conf, now);
+    let mut plan = Plan::new(alloc);
+    let Some(dp) = conf.dp(dp) else {
+        return Ok(plan);
+    };
+    laws::all_units_make_the_cold_start();
+    let all = units_of(alloc, conf, now, dp)?;
+    plan.make(alloc, conf, now, dp, all.as_slice(), units)?;
+    Ok(plan)
+}
+
+/// Makes again the units that changes reach, so that the plan of a state with these hosts becomes that of this
+/// state. For each at most three units of work are counted.
+pub(crate) fn make_again<T: Tally>(
+    plan: &mut Plan,
+    alloc: Global,
+    conf: &Conf,
+    now: &Now,
+    dp: DpId,
+    hosts: &[HostRec],
+    changes: &[Change],
+    units: &mut T,
+) -> Result<(), NoMemory>
+    requires { IsValidState conf.now (state_of now.now) }
+    ensures sound { IsSound conf.now (state_of now.now) }
+    ensures warm { OnOk result ((before : State) → before.hosts ≡ hosts.now → IsSound conf.now before
+        → AreNamed conf.now before (state_of now.now) changes.now
+        → plan.old.wanted ≡ cold_at conf.now before dp → ArePartsOf plan.old.parts plan.old.wanted
+        → (plan.new.wanted ≡ cold_at conf.now (state_of now.now) dp) × ArePartsOf plan.new.parts plan.new.wanted) }
+    ensures most { (before : State) → before.hosts ≡ hosts.now
+        → RisesAtMost (3 * length (reached_at conf.now before (state_of now.now) dp changes.now)) (T.count units.old) (T.count units.new) }
+{
+    is_sound(conf, now);
+    let Some(dp) = conf.dp(dp) else {
+        return Ok(());
+    };
+    laws::what_is_made_again_is_the_cold_start();
+    let effects = effects(alloc, conf, dp, hosts, now.hosts.as_slice(), changes)?;
+    let all = units_of(alloc, conf, now, dp)?;
+    let again = reached(alloc, conf, dp, effects.as_slice(), all.as_slice())?;
+    plan.drop_reached(alloc, conf, dp, effects.as_slice())?;
+    plan.make(alloc, conf, now, dp, again.as_slice(), units)?;
+    Ok(())
+}
