@@ -12,4 +12,7 @@ mod take;
 mod wrong;
 
 pub use gathering::gather;
+pub use include::{Include, Role};
+pub use names::whole_name;
 pub use refused::LoadRefused;
+pub use take::read_tree;

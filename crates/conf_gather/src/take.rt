@@ -1,8 +1,9 @@
 //! The tree of one file, and what it adds to those gathered before.
 
-ghost use Rattle.std.specs.Prelude.{◌≡◌, ◌≤◌, ℕ, List, IfOk, OnOk, IfErr, IsErrOf};
+ghost use Rattle.std.specs.Prelude.{◌≡◌, ◌≤◌, ℕ, List, false, None, IfOk, OnOk, IfErr, IsErrOf};
 ghost use Rattle.yaml_subset.specs.Reading.{read_of};
 ghost use Rattle.conf_shape.specs.Reads.{entries_of};
+ghost use Rattle.conf_gather.specs.Includes.{is_optional};
 ghost use Rattle.conf_gather.specs.Gives.{Gives, GivesTold, FaultsTell, AbsencesTell, TellsRefused, IsWithin};
 ghost use Rattle.conf_gather.specs.Gathered.{tree_of, text_tree, unread, fault_at, entries_fault, tree_fault, taken, was_reached};
 
@@ -43,6 +44,7 @@ pub fn was_reached(name: &str, reached: &[Text]) -> bool
 /// The tree of a file's text.
 fn parse_text(alloc: Global, name: &Text, text: &[u8]) -> Result<Option<Tree>, LoadRefused>
     ensures told { Gives result (text_tree name.now (read_of text.now)) }
+    ensures needed { IfOk result (λ tree. tree ≡ None → ⊥) }
     ensures within { IfErr result IsWithin }
 {
     match read_yaml(alloc, text) {
@@ -71,6 +73,7 @@ pub fn read_tree<F: Files>(
     include: &Include,
 ) -> Result<Option<Tree>, LoadRefused>
     ensures told { GivesTold (F.contents files.old) result (λ held. tree_of include.now (held include.now.name)) }
+    ensures needed { is_optional include.now.role ≡ false → IfOk result (λ tree. tree ≡ None → ⊥) }
     ensures named { (file : List ℕ) → IsErrOf result (LoadRefused.Read file) → file ≡ include.now.name }
     ensures contents { F.contents files.new ≡ F.contents files.old }
     ensures faults { IfErr result (λ e. FaultsTell e (F.faults files.old) (F.faults files.new)) }

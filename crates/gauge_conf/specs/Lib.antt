@@ -1,0 +1,5 @@
+pub mod Conflicts
+pub mod Faults
+pub mod Keys
+pub mod Raw
+pub mod Resolved
