@@ -1,7 +1,8 @@
 """Runs a controller with two real switches and their hosts: see live.sh, which calls it in a network namespace of its own.
 
-live.py PROGRAM FOLDER   the whole; FOLDER is an empty folder for files
-live.py host             a host: does what its standard input says, a line of JSON each
+live.py PROGRAM FOLDER [RECORDER]   the whole; FOLDER is an empty folder for files. RECORDER is faucet_recorded: it runs in the
+                                    place of PROGRAM's serve, and what its recordings say is compared with the wire
+live.py host                        a host: does what its standard input says, a line of JSON each
 """
 import atexit, json, os, re, select, signal, socket, struct, subprocess, sys, threading, time
 
@@ -265,7 +266,7 @@ class Proxy:
         """Begins another recording."""
         with self.lock:
             self.records, self.started, self.run = [], time.time() - 1, object()
-            self.number, self.open, self.datapath = 0, set(), {}
+            self.number, self.open, self.datapath, self.wire = 0, set(), {}, {}
 
     def record(self, kind, conn=0, data=b"", of=None):
         with self.lock:
@@ -297,7 +298,7 @@ class Proxy:
                 conn, of = self.number, self.run
             self.record(OPENED, conn, of=of)
             threading.Thread(target=self.pass_on, args=(switch, controller, conn, of), daemon=True).start()
-            threading.Thread(target=self.pass_back, args=(controller, switch), daemon=True).start()
+            threading.Thread(target=self.pass_back, args=(controller, switch, conn, of), daemon=True).start()
 
     def pass_on(self, switch, controller, conn, of):
         whole = b""
@@ -317,9 +318,12 @@ class Proxy:
         self.record(CLOSED, conn, of=of)
         self.shut(switch, controller)
 
-    def pass_back(self, controller, switch):
+    def pass_back(self, controller, switch, conn, of):
         try:
             while piece := controller.recv(65536):
+                with self.lock:
+                    if of is self.run:
+                        self.wire[conn] = self.wire.get(conn, b"") + piece
                 switch.sendall(piece)
         except OSError:
             pass
@@ -334,9 +338,9 @@ class Proxy:
 
 
 class Controller:
-    def __init__(self, program, folder):
+    def __init__(self, program, folder, recorder=None):
         self.program, self.file, self.said = program, f"{folder}/faucet.yaml", f"{folder}/said"
-        self.process = None
+        self.folder, self.recorder, self.flights, self.process = folder, recorder, 0, None
         atexit.register(self.kill)
 
     def write(self, text):
@@ -346,7 +350,14 @@ class Controller:
         os.rename(self.file + ".new", self.file)
 
     def start(self):
-        words = [self.program, "serve", self.file, "--events", "1000000000", "--reload-ms", "500", "--listen", f"127.0.0.1:{PROGRAM_AT}"]
+        words = [self.program, "serve"]
+        if self.recorder:
+            self.flights += 1
+            with open(self.file) as now, open(f"{self.folder}/flight{self.flights}.yaml", "w") as kept:
+                kept.write(now.read())
+            words = [self.recorder, "--record", f"{self.folder}/flight{self.flights}.rec"]
+        words += [self.file, "--events", "1000000000", "--reload-ms", "500", "--listen", f"127.0.0.1:{PROGRAM_AT}"]
+        self.started = time.time()
         self.process = subprocess.Popen(words, stderr=open(self.said, "a"))
 
     def lines(self):
@@ -364,7 +375,7 @@ class Controller:
 class Stage:
     """All that runs."""
 
-    def __init__(self, program, folder):
+    def __init__(self, program, folder, recorder=None):
         self.program, self.folder = program, folder
         run("ip", "link", "set", "lo", "up")
         self.switches = {number: Switch(number, folder) for number in (1, 2)}
@@ -373,7 +384,7 @@ class Stage:
         self.switches[2].add_port(3, "s2p3")
         check = self.switches[1]
         check.set_up("add-br", "check", "--", "set", "bridge", "check", "datapath_type=netdev", "protocols=OpenFlow13", "fail_mode=secure", "--", "set-controller", "check", f"ptcp:{CHECK_AT}:{check.there}")
-        self.proxy, self.controller = Proxy(), Controller(program, folder)
+        self.proxy, self.controller = Proxy(), Controller(program, folder, recorder)
         for name, vlan in (("h1", 100), ("h2", 100), ("h3", 100), ("h4", 200)):
             self.hosts[name].lives_at(vlan)
 
@@ -426,6 +437,30 @@ class Stage:
             entries = ", ".join(str(len(it)) for it in held.values())
             done(f"{when}, each switch holds what a replay of the {len(self.proxy.records)} records leads to: {entries} entries")
 
+    def end(self):
+        """Ends the controller. What a replay of its recording says on each connection has to begin with what went over the wire,
+        and to be just that, but for what wasn't sent any more on a connection when it ended."""
+        controller = self.controller
+        time.sleep(1)
+        controller.kill()
+        if not controller.recorder:
+            return
+        flight = f"{self.folder}/flight{controller.flights}"
+        ran = subprocess.run([self.program, "replay", f"{flight}.yaml", f"{flight}.rec"], capture_output=True)
+        # A record that was cut when it was ended is refused as such.
+        if ran.returncode not in (0, 5):
+            sys.exit(f"the replay of the recording ended with {ran.returncode}: {ran.stderr.decode()}")
+        said = sayings(ran.stdout)
+        with self.proxy.lock:
+            wire, last = dict(self.proxy.wire), max(self.proxy.datapath)
+        for conn, sent in wire.items():
+            if not said.get(conn, b"").startswith(sent):
+                sys.exit(f"on connection {conn} the replay of the recording says something else than the wire")
+        if said.get(last, b"") != wire[last]:
+            sys.exit(f"on connection {last} the replay of the recording says more than went over the wire")
+        size, hours = os.path.getsize(f"{flight}.rec"), (time.time() - controller.started) / 3600
+        done(f"a replay of the recording says what went over the wire, {sum(map(len, wire.values()))} bytes on {len(wire)} connections; the recording has {size} bytes, {size / hours:.0f} an hour")
+
     def hold_the_plan(self, path):
         for number, switch in self.switches.items():
             plan = subprocess.run([self.program, "plan", path, f"sw{number}"], capture_output=True, check=True).stdout
@@ -439,9 +474,9 @@ class Stage:
         hosts["h4"].reaches("10.0.200.254", hosts["h3"].address)
 
 
-def whole(program, folder):
+def whole(program, folder, recorder=None):
     lab, office = (CONFIGURATION.replace("VLAN_OF_H4", vlan) for vlan in ("lab", "office"))
-    stage = Stage(program, folder)
+    stage = Stage(program, folder, recorder)
     hosts, switches, controller = stage.hosts, stage.switches, stage.controller
     for switch in switches.values():
         switch.connect()
@@ -488,7 +523,7 @@ def whole(program, folder):
     done("a switch that was killed and came back")
     stage.hold_what_a_replay_says("behind that")
 
-    controller.kill()
+    stage.end()
     assert hosts["h1"].asked("ping", hosts["h2"].address, 5, 0.1) == 5
     done("known hosts reach each other with no controller")
     hosts["h1"].begin("ping", hosts["h2"].address, 500, 0.02)
@@ -501,6 +536,7 @@ def whole(program, folder):
     assert not stage.proxy.errors, stage.proxy.errors
     done("no error from a switch in all that")
     print("memory of the program:", controller.memory())
+    stage.end()
 
 
 if sys.argv[1:] == ["host"]:

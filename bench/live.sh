@@ -6,7 +6,9 @@
 # controller that are killed. A proxy between keeps what the switches say as a recording; replayed, it has to lead to
 # the entries that the switches hold. Status 1 where one of these fails. Takes some minutes, and ends what it started.
 # Needs root, python3, iproute2 and Debian's openvswitch-switch.
-# Usage: bench/live.sh [PROGRAM]    PROGRAM is another one than bin/faucet, with the same words
+# With RECORDER, the program faucet_recorded, that runs in the place of `serve`: what a replay of its recordings says on
+# each connection has to be, byte for byte, what went over the wire; their size an hour is told.
+# Usage: bench/live.sh [PROGRAM [RECORDER]]    PROGRAM is another one than bin/faucet, with the same words
 set -eu
 top=$(cd "$(dirname "$0")/.." && pwd)
 work=$(mktemp -d)
@@ -16,4 +18,4 @@ if [ $# -eq 0 ]; then
   "$top/bin/faucet" check "$top/examples/quick-start/faucet.yaml" >/dev/null
 fi
 ovs-vswitchd --version | head -n 1
-timeout 900 unshare --net -- python3 "$top/bench/live.py" "$program" "$work"
+timeout 900 unshare --net -- python3 "$top/bench/live.py" "$program" "$work" ${2:+"$2"}

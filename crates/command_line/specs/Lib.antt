@@ -3,3 +3,4 @@ pub mod Parting
 pub mod Written
 pub mod Values
 pub mod Meaning
+pub mod Recorded

@@ -43,10 +43,10 @@ pub enum Job {
 
 /// The options of `serve`.
 #[derive(Clone, Copy, Debug)]
-struct ServeOptions {
-    events: u64,
-    reload_ms: u64,
-    listen: Listen,
+pub(crate) struct ServeOptions {
+    pub(crate) events: u64,
+    pub(crate) reload_ms: u64,
+    pub(crate) listen: Listen,
 }
 
 fn command_of(word: &str) -> Option<Command>
@@ -75,7 +75,7 @@ fn options_of(command: Command) -> &'static [&'static str]
     }
 }
 
-fn is_listed(name: &str, names: &[&'static str]) -> bool
+pub(crate) fn is_listed(name: &str, names: &[&'static str]) -> bool
     ensures { result ≡ list_any (λ listed. bytes_eq listed name.now) (map (λ listed. listed.now) names.now) }
 {
     for listed in names {
@@ -96,7 +96,7 @@ fn are_taken(command: Command, options: &[CommandOption]) -> bool
 }
 
 /// One plain word; `None` where there are none or more.
-fn one_word(alloc: Global, plain: &[Text]) -> Result<Option<Text>, NoMemory>
+pub(crate) fn one_word(alloc: Global, plain: &[Text]) -> Result<Option<Text>, NoMemory>
     ensures { IfOk result (λ one. one ≡ one_of plain.now) }
 {
     match plain {
@@ -117,7 +117,7 @@ fn two_words(alloc: Global, plain: &[Text]) -> Result<Option<(Text, Text)>, NoMe
 
 /// What the options of `serve` say, or their defaults; `None` where one has no value in its range, or there is
 /// no number of events.
-fn serve_options(options: &[CommandOption]) -> Option<ServeOptions>
+pub(crate) fn serve_options(options: &[CommandOption]) -> Option<ServeOptions>
     ensures { result ≡ serve_options options.now }
 {
     let events = number_in(value_of(options, "events")?, 1, 1_000_000_000)?;

@@ -5,6 +5,7 @@ ghost use Rattle.std.specs.Prelude.{◌≡◌, Some, None, [], ◌∷◌, codes}
 ghost use Rattle.command_line.specs.declared.meaning.Job.TheVariants as jobs;
 ghost use Rattle.command_line.specs.Parts.{parts_of};
 ghost use Rattle.command_line.specs.Meaning.{meaning};
+ghost use Rattle.command_line.specs.Recorded.{recorded_meaning};
 
 /// The first word is a command.
 #[tactic(auto, unfolding(crate::specs::Meaning::meaning))]
@@ -88,4 +89,20 @@ pub fn options_among_words()
     ensures no_name { parts_of (codes "--=1" ∷ []) ≡ None }
     ensures one_dash { parts_of (codes "-" ∷ []) ≡ None }
     ensures empty_word { parts_of (codes "a" ∷ [] ∷ []) ≡ None }
+{}
+
+/// `faucet_recorded`: one configuration file, the options of `serve`, and the file of the recording.
+#[tactic(auto, unfolding(crate::specs::Recorded::recorded_meaning, crate::specs::Meaning::meaning, crate::specs::Parts::parts_of, crate::specs::Parts::parted))]
+pub fn recorded_words()
+    ensures all { recorded_meaning (codes "--record" ∷ codes "r" ∷ codes "a" ∷ codes "--events=3" ∷ codes "--reload-ms=100" ∷ codes "--listen=10.0.0.1:1" ∷ [])
+        ≡ Some (record { config = codes "a"; events = 3; reload_ms = 100; listen = record { ip = record { 0 = 167772161 }; port = 1 }; record_file = codes "r" }) }
+    ensures defaults { recorded_meaning (codes "a" ∷ codes "--events=3" ∷ codes "--record=r" ∷ [])
+        ≡ Some (record { config = codes "a"; events = 3; reload_ms = 1000; listen = record { ip = record { 0 = 2130706433 }; port = 6653 }; record_file = codes "r" }) }
+    ensures no_recording { recorded_meaning (codes "a" ∷ codes "--events=3" ∷ []) ≡ None }
+    ensures two_recordings { recorded_meaning (codes "a" ∷ codes "--events=3" ∷ codes "--record=r" ∷ codes "--record=r" ∷ []) ≡ None }
+    ensures no_events { recorded_meaning (codes "a" ∷ codes "--record=r" ∷ []) ≡ None }
+    ensures command_word { recorded_meaning (codes "serve" ∷ codes "a" ∷ codes "--events=3" ∷ codes "--record=r" ∷ []) ≡ None }
+    ensures other_option { recorded_meaning (codes "a" ∷ codes "--events=3" ∷ codes "--record=r" ∷ codes "--dp=1" ∷ []) ≡ None }
+    ensures no_file { recorded_meaning (codes "--events=3" ∷ codes "--record=r" ∷ []) ≡ None }
+    ensures not_for_serve { meaning (codes "serve" ∷ codes "a" ∷ codes "--events=3" ∷ codes "--record=r" ∷ []) ≡ None }
 {}

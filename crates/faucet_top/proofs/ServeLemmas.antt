@@ -110,7 +110,7 @@ module _ (contents : Option Contents) (absence fault : Type 0) (refused name : L
 
 module _ {H F : Type 0} (may : H → HubStep → H → Type 0) (contents : F → Option Contents) (faults : F → ℕ) (config text : List ℕ) (reload_ms : ℕ) (hub0 hub1 : H) (files0 loaded_from files1 : F)
     (same : contents loaded_from ≡ contents files0) (as_often : faults loaded_from ≡ faults files0) where
-  served_since : (most : ℕ) (w : World) (happened : List Happening) (end : Drove) → Served may contents faults config text reload_ms most w happened end hub0 hub1 loaded_from files1
+  pub served_since : (most : ℕ) (w : World) (happened : List Happening) (end : Drove) → Served may contents faults config text reload_ms most w happened end hub0 hub1 loaded_from files1
       → Served may contents faults config text reload_ms most w happened end hub0 hub1 files0 files1
   served_since most w happened end s = record {
     steps = s.steps;
@@ -127,7 +127,7 @@ module _ {H F : Type 0} (may : H → HubStep → H → Type 0) (contents : F →
     few_missed = λ held is. subst (λ n. min (n + missed held config 1 s.texts) (2 ^ 64 - 1) ≤ faults files1) as_often (s.few_missed held (same ∙ is));
   }
 
-  part_since : (w : World) (happened : List Happening) → ServedPart may contents faults config text reload_ms w happened hub0 hub1 loaded_from files1 → ServedPart may contents faults config text reload_ms w happened hub0 hub1 files0 files1
+  pub part_since : (w : World) (happened : List Happening) → ServedPart may contents faults config text reload_ms w happened hub0 hub1 loaded_from files1 → ServedPart may contents faults config text reload_ms w happened hub0 hub1 files0 files1
   part_since w happened s = record {
     steps = s.steps;
     leads = s.leads;
@@ -164,7 +164,7 @@ module _ {H F : Type 0} (may : H → HubStep → H → Type 0) (contents : F →
       (λ a. Delivers a (number_of_status ended) o0 o1 e0 e2 m0 m1 n0 n2) (λ a. BreaksOff a (number_of_status ended) o0 o1 e0 e2 m0 m1 n0 n2) end
 
   -- the line that says how it ended stands behind the controller's
-  last_line_behind : (lines : List ℕ) (end : Drove) → o1 ≡ o0 → e1 ≡ appended e0 lines → (m1 ≡ m0) × (n1 ≡ n0) → Ends (status_served end) (served_line end) e1 e2 n1 n2 ended
+  pub last_line_behind : (lines : List ℕ) (end : Drove) → o1 ≡ o0 → e1 ≡ appended e0 lines → (m1 ≡ m0) × (n1 ≡ n0) → Ends (status_served end) (served_line end) e1 e2 n1 n2 ended
       → Delivers (served_answer lines end) (number_of_status ended) o0 o1 e0 e2 m0 m1 n0 n2
   last_line_behind lines end quiet said kept ends =
       line_behind o0 o1 e0 e1 e2 m0 m1 n0 n1 n2 [] lines (served_line end) (status_served end) ended (quiet ∙ sym (appended-nil o0)) said kept.0 kept.1 ends

@@ -64,7 +64,7 @@ pub fn end_with_bytes<O: Sink>(out: &mut O, bytes: &[u8], status: Status) -> Sta
 }
 
 /// Writes a line of these pieces, and ends with this status.
-fn end_with_line<E: Sink>(err: &mut E, pieces: &[&str], status: Status) -> Status
+pub fn end_with_line<E: Sink>(err: &mut E, pieces: &[&str], status: Status) -> Status
     ensures ends { Ends status (line_of pieces.now) (E.wrote err.old) (E.wrote err.new) (E.faults err.old) (E.faults err.new) result }
     ensures faults { E.faults err.old ≤ E.faults err.new }
 {

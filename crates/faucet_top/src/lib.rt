@@ -10,5 +10,6 @@ mod serve;
 mod top;
 mod units;
 
+pub use deliver::{Status, deliver_out_of_memory, deliver_refusal, deliver_served, end_with_line};
 pub use top::{faucet, local, refuse_for_memory};
 pub use units::Units;

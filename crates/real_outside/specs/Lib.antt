@@ -1,3 +1,4 @@
 -- What the clauses cite.
+pub mod NewFile
 pub mod Opened
 pub mod Words

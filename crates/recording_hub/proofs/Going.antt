@@ -1,10 +1,13 @@
 -- Single steps of a hub whose happenings are recorded.
-use Rattle.std.proofs.Common.{◌≡◌, ◌≤◌, inl, inr, ℕ, Bool, List, [], ◌∷◌, Option, refl, sym, ap, subst, arith}
+use Rattle.std.proofs.Common.{◌≡◌, ◌≤◌, ℕ, true, false, List, [], ◌∷◌, Option, refl, sym, ◌∙◌, ap, subst, arith, true≢false}
 use Rattle.fg_outside.specs.declared.hub.Said.{Said}
 use Rattle.fg_outside.specs.declared.hub.Said.TheVariants.{Taken, Gone, Memory}
-use Rattle.fg_outside.specs.HubStep.{HubStep, said, Leads, start, next}
+use Rattle.fg_outside.specs.declared.hub.Turn.TheVariants.{Failed}
+use Rattle.fg_outside.specs.HubStep.{HubStep, turned, said, Leads, start, next}
 use Rattle.recording_hub.specs.declared.recording_hub.RecordingHub.{RecordingHub}
-use Rattle.recording_hub.specs.RecordingHub.{hub_in, faults_of, GoesAlong, Calls, Does}
+use Rattle.recording_hub.specs.declared.recorder.Recorder.{Recorder}
+use Rattle.recording_hub.specs.Recorder.{Rests}
+use Rattle.recording_hub.specs.RecordingHub.{hub_in, sink_in, has_failed, faults_of, GoesAlong, Calls, Counts, Does}
 
 module _ {H S : Type 0} (may : H → HubStep → H → Type 0) where
   -- the hub isn't called
@@ -25,3 +28,49 @@ pub does_say : {H S : Type 0} (may : H → HubStep → H → Type 0) (wrote : S 
 does_say may wrote faults old new conn piece Taken other calls = calls
 does_say may wrote faults old new conn piece Gone other calls = calls
 does_say may wrote faults old new conn piece Memory other calls = absurd (other refl)
+
+-- a call behind which neither the hub's faults nor its own are more
+pub counts_same : {H S : Type 0} (hub_faults : H → ℕ) (faults : S → ℕ) (old new : RecordingHub H S) (step : HubStep) → hub_faults (hub_in new) ≡ hub_faults (hub_in old) → new.failures ≡ old.failures → faults (sink_in old) ≤ faults (sink_in new)
+    → Counts hub_faults faults old step new
+counts_same hub_faults faults old new step same own sink = record {
+  answered = λ other. same;
+  broken = λ broke. same;
+  own = λ whole. own;
+  hub = omega (arith, same);
+  sink = sink;
+}
+
+-- a turn that fails since the recording is broken
+pub counts_failed : {H S : Type 0} (hub_faults : H → ℕ) (faults : S → ℕ) (old new : RecordingHub H S) (step : HubStep) → hub_faults (hub_in new) ≡ hub_faults (hub_in old) → has_failed new ≡ true → faults (sink_in old) ≤ faults (sink_in new)
+    → Counts hub_faults faults old step new
+counts_failed hub_faults faults old new step same broke sink = record {
+  answered = λ other. same;
+  broken = λ is. same;
+  own = λ whole. absurd (true≢false (sym broke ∙ whole));
+  hub = omega (arith, same);
+  sink = sink;
+}
+
+-- the hub's turn failed
+pub counts_hub : {H S : Type 0} (hub_faults : H → ℕ) (faults : S → ℕ) (old new : RecordingHub H S) → hub_faults (hub_in old) ≤ hub_faults (hub_in new) → has_failed new ≡ false → new.failures ≡ old.failures → faults (sink_in old) ≤ faults (sink_in new)
+    → Counts hub_faults faults old (turned Failed) new
+counts_hub hub_faults faults old new more whole own sink = record {
+  answered = λ other. absurd (other refl);
+  broken = λ broke. absurd (true≢false (sym broke ∙ whole));
+  own = λ is. own;
+  hub = more;
+  sink = sink;
+}
+
+-- memory ran out in a turn, behind which it is spent
+pub spent_counts : {H S : Type 0} (hub_faults : H → ℕ) (faults : S → ℕ) (old new : RecordingHub H S) (step : HubStep) → Counts hub_faults faults old step new → Counts hub_faults faults old step (record new { spent = true })
+spent_counts hub_faults faults old new step counts = record {
+  answered = counts.answered;
+  broken = counts.broken;
+  own = counts.own;
+  hub = counts.hub;
+  sink = counts.sink;
+}
+
+pub rests_still : {S : Type 0} (wrote : S → Option (List ℕ)) (rec : Recorder S) → Rests wrote rec rec
+rests_still wrote rec = record { bytes = refl; place = refl; broken = refl }

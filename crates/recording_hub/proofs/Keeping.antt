@@ -1,5 +1,5 @@
 -- What is written of a story, a record at a time.
-use Rattle.std.proofs.Common.{◌≡◌, ◌==◌, ◌&&◌, ◌||◌, inl, inr, ℕ, ◌+◌, ◌-◌, ◌^◌, ◌<◌, ◌≤◌, Bool, true, false, not, nat_lt, nat_le, if◌then◌else◌, List, [], ◌∷◌, ◌++◌, length, take, Option, Some, None, refl, sym, ◌∙◌, ap, subst, arith, append_assoc, length-append, true≢false}
+use Rattle.std.proofs.Common.{◌≡◌, ◌==◌, ◌&&◌, ◌||◌, inl, inr, ℕ, ◌-◌, ◌^◌, ◌<◌, Bool, true, false, not, nat_lt, nat_le, if◌then◌else◌, List, [], ◌∷◌, ◌++◌, length, take, Option, Some, None, refl, sym, ◌∙◌, ap, subst, arith, append_assoc, length-append, true≢false}
 use Rattle.std.proofs.lemmas.List.{append-nil}
 use Rattle.std.proofs.lemmas.Bool.{eqb-true, eq-eqb, le-ltb, ltb-true, leb-true, or_right, or_from, and_parts}
 use Rattle.fg_outside.specs.declared.hub.Happening.{Happening}
@@ -8,7 +8,7 @@ use Rattle.fg_outside.specs.Wrote.{appended}
 use Rattle.recording.specs.declared.kind.RecordKind.{RecordKind}
 use Rattle.recording.specs.declared.kind.RecordKind.TheVariants as kinds
 use Rattle.recording.specs.declared.record.Record.{Record}
-use Rattle.recording.specs.Kinds.{is_length, is_moment, is_of_connection}
+use Rattle.recording.specs.Kinds.{is_length, is_moment}
 use Rattle.recording.specs.Conns.{is_among, is_conn, open_after}
 use Rattle.recording.specs.Recording.{Place, first_place, after, after_all, Follows, AllSpell, AllFollow}
 use Rattle.recording.specs.Turns.{Closing, Told, opens, is_shut, clock, own, tell, told_by, is_passed_over, with_own}
@@ -16,7 +16,7 @@ use Rattle.recording.proofs.Turning.{AreWithin, within_more, within_push, is_shu
 use Rattle.recording.proofs.Standing.{AllSpell-push, AllFollow-push, after_all-push, is_among-push, is_among-without}
 use Rattle.recording_hub.specs.declared.recorder.Recorder.{Recorder}
 use Rattle.recording_hub.specs.Recorded.{bytes_of, held, held_text, record_of, record_of_closing}
-use Rattle.recording_hub.specs.Recorder.{place_of, is_broken, may_follow, Notes, Breaks, PassesClosing, NotesClosing}
+use Rattle.recording_hub.specs.Recorder.{place_of, is_broken, may_follow, Notes, Breaks, NotesClosing, Rests}
 use Rattle.recording_hub.specs.RecordedStory.{IsCut}
 
 appended-twice : (start : Option (List ℕ)) (xs ys : List ℕ) → appended (appended start xs) ys ≡ appended start (xs ++ ys)
@@ -40,15 +40,15 @@ follows_if place r h =
 pub cut_none : IsCut []
 cut_none = record { r = record_of 0 (happens.Moment 0); len = 0; front = refl }
 
--- what stands while the recording is whole
-pub record Goes {S : Type 0} (rec : Recorder S) (records : List Record) (part : List ℕ) (closes : List Closing) (given : List Happening) : Type 0 where
-  pub none : part ≡ []
+-- what stands while the recording is whole and goes on
+pub record Goes {S : Type 0} (rec : Recorder S) (records : List Record) (closes : List Closing) (given : List Happening) : Type 0 where
   pub place : place_of rec ≡ after_all first_place records
   pub moment : (place_of rec).moment ≡ (told_by closes records).moment
   pub shut : (conn : ℕ) → is_among (place_of rec).opened conn ≡ true → is_shut closes given conn ≡ false
 
--- what was written since the start, by the closings and the happenings of the story, as records hold them
-pub record Kept {S : Type 0} (wrote : S → Option (List ℕ)) (start : Option (List ℕ)) (rec : Recorder S) (closes : List Closing) (given : List Happening) : Type 0 where
+-- what was written since the start, by the closings and the happenings of the story, as records hold them; it goes on where `live`
+-- holds
+pub record Kept {S : Type 0} (wrote : S → Option (List ℕ)) (start : Option (List ℕ)) (live : Type 0) (rec : Recorder S) (closes : List Closing) (given : List Happening) : Type 0 where
   pub records : List Record
   pub bytes : List ℕ
   pub part : List ℕ
@@ -58,7 +58,8 @@ pub record Kept {S : Type 0} (wrote : S → Option (List ℕ)) (start : Option (
   pub gave : (told_by closes records).given ≡ given
   pub within : AreWithin (length given) closes
   pub cut : IsCut part
-  pub runs : is_broken rec ≡ false → Goes rec records part closes given
+  pub none : is_broken rec ≡ false → part ≡ []
+  pub runs : live → is_broken rec ≡ false → Goes rec records closes given
 
 -- ---- the records of happenings
 
@@ -95,15 +96,16 @@ tells_moment closes told given moment same =
 
 -- ---- a record more
 
-module _ {S : Type 0} (wrote : S → Option (List ℕ)) (start : Option (List ℕ)) where
-  noted : (old new : Recorder S) (r : Record) (closes closes' : List Closing) (given given' : List Happening) → is_broken old ≡ false → (kept : Kept wrote start old closes given) → Notes wrote old r new
+-- behind a state that goes on where `live` holds, one that goes on where `later` does
+module _ {S : Type 0} (wrote : S → Option (List ℕ)) (start : Option (List ℕ)) (live later : Type 0) where
+  noted : (old new : Recorder S) (r : Record) (closes closes' : List Closing) (given given' : List Happening) → live → is_broken old ≡ false → (kept : Kept wrote start live old closes given) → Notes wrote old r new
       → told_by closes' kept.records ≡ told_by closes kept.records
       → ((told : Told) → told.given ≡ given → told.moment ≡ (place_of old).moment → (tell closes' told r).given ≡ given')
       → AreWithin (length given') closes'
       → ((conn : ℕ) → is_among (open_after r.kind r.conn (place_of old).opened) conn ≡ true → is_shut closes' given' conn ≡ false)
-      → Kept wrote start new closes' given'
-  noted old new r closes closes' given given' whole kept notes same tells within shut =
-      let goes = kept.runs whole in
+      → Kept wrote start later new closes' given'
+  noted old new r closes closes' given given' alive whole kept notes same tells within shut =
+      let goes = kept.runs alive whole in
       let told = told_by closes' kept.records in
       let more = told_by-push closes' kept.records r in
       record {
@@ -112,7 +114,7 @@ module _ {S : Type 0} (wrote : S → Option (List ℕ)) (start : Option (List �
         part = [];
         written =
             notes.bytes
-            ∙ ap (λ (o : Option (List ℕ)). appended o (bytes_of r)) (kept.written ∙ ap (λ (p : List ℕ). appended (appended start kept.bytes) p) goes.none ∙ appended-none (appended start kept.bytes))
+            ∙ ap (λ (o : Option (List ℕ)). appended o (bytes_of r)) (kept.written ∙ ap (λ (p : List ℕ). appended (appended start kept.bytes) p) (kept.none whole) ∙ appended-none (appended start kept.bytes))
             ∙ appended-twice start kept.bytes (bytes_of r)
             ∙ sym (appended-none (appended start (kept.bytes ++ bytes_of r)));
         spell = AllSpell-push kept.records kept.bytes r (bytes_of r) kept.spell notes.spells;
@@ -122,8 +124,8 @@ module _ {S : Type 0} (wrote : S → Option (List ℕ)) (start : Option (List �
             ∙ tells told (ap (λ (t : Told). t.given) same ∙ kept.gave) (ap (λ (t : Told). t.moment) same ∙ sym goes.moment);
         within = within;
         cut = cut_none;
-        runs = λ still_whole. record {
-          none = refl;
+        none = λ still_whole. refl;
+        runs = λ now still_whole. record {
           place = notes.place ∙ ap (λ (p : Place). after p r) goes.place ∙ sym (after_all-push first_place kept.records r);
           moment = ap (λ (p : Place). p.moment) notes.place ∙ sym (ap (λ (t : Told). t.moment) more);
           shut = λ conn there. shut conn (sym (ap (λ (p : Place). is_among p.opened conn) notes.place) ∙ there);
@@ -131,23 +133,23 @@ module _ {S : Type 0} (wrote : S → Option (List ℕ)) (start : Option (List �
       }
 
   -- no record more, but a part of one
-  broken : (faults : S → ℕ) (old new : Recorder S) (r : Record) (closes closes' : List Closing) (given : List Happening) → is_broken old ≡ false → (kept : Kept wrote start old closes given) → Breaks wrote faults old r new
-      → told_by closes' kept.records ≡ told_by closes kept.records → AreWithin (length given) closes' → Kept wrote start new closes' given
+  broken : (faults : S → ℕ) (old new : Recorder S) (r : Record) (closes closes' : List Closing) (given : List Happening) → is_broken old ≡ false → (kept : Kept wrote start live old closes given) → Breaks wrote faults old r new
+      → told_by closes' kept.records ≡ told_by closes kept.records → AreWithin (length given) closes' → Kept wrote start later new closes' given
   broken faults old new r closes closes' given whole kept breaks same within =
-      let goes = kept.runs whole in
       record {
         records = kept.records;
         bytes = kept.bytes;
         part = take breaks.front.count (bytes_of r);
         written =
             breaks.front.front
-            ∙ ap (λ (o : Option (List ℕ)). appended o (take breaks.front.count (bytes_of r))) (kept.written ∙ ap (λ (p : List ℕ). appended (appended start kept.bytes) p) goes.none ∙ appended-none (appended start kept.bytes));
+            ∙ ap (λ (o : Option (List ℕ)). appended o (take breaks.front.count (bytes_of r))) (kept.written ∙ ap (λ (p : List ℕ). appended (appended start kept.bytes) p) (kept.none whole) ∙ appended-none (appended start kept.bytes));
         spell = kept.spell;
         follow = kept.follow;
         gave = ap (λ (t : Told). t.given) same ∙ kept.gave;
         within = within;
         cut = record { r = r; len = breaks.front.count; front = refl };
-        runs = λ still_whole. absurd (true≢false (sym breaks.broken ∙ still_whole));
+        none = λ still_whole. absurd (true≢false (sym breaks.broken ∙ still_whole));
+        runs = λ now still_whole. absurd (true≢false (sym breaks.broken ∙ still_whole));
       }
 
   -- ---- a happening
@@ -188,17 +190,17 @@ module _ {S : Type 0} (wrote : S → Option (List ℕ)) (start : Option (List �
   held_shut closes given place (happens.Moment moment) conn within shut there = stays_shut closes given (held (happens.Moment moment)) conn within (shut conn there)
   held_shut closes given place (happens.Reload text) conn within shut there = stays_shut closes given (held (happens.Reload text)) conn within (shut conn there)
 
-  pub kept_happening : (old new : Recorder S) (it : Happening) (closes : List Closing) (given : List Happening) → is_broken old ≡ false → Kept wrote start old closes given → Notes wrote old (record_of (place_of old).moment it) new → Kept wrote start new closes (given ++ held it ∷ [])
-  kept_happening old new it closes given whole kept notes =
+  pub kept_happening : (old new : Recorder S) (it : Happening) (closes : List Closing) (given : List Happening) → live → is_broken old ≡ false → Kept wrote start live old closes given → Notes wrote old (record_of (place_of old).moment it) new → Kept wrote start later new closes (given ++ held it ∷ [])
+  kept_happening old new it closes given alive whole kept notes =
       let r = record_of (place_of old).moment it in
-      let goes = kept.runs whole in
+      let goes = kept.runs alive whole in
       let follows : Follows (place_of old) r = follows_if (place_of old) r notes.follows in
-      noted old new r closes closes given (given ++ held it ∷ []) whole kept notes refl
+      noted old new r closes closes given (given ++ held it ∷ []) alive whole kept notes refl
       (λ told same last. tells_held closes given (place_of old) it told goes.shut follows.conn same last)
       (within_more (length given) (length (given ++ held it ∷ [])) closes (omega (arith, length-append given (held it ∷ []))) kept.within)
       (λ conn there. held_shut closes given (place_of old) it conn kept.within goes.shut there)
 
-  pub kept_broken : (faults : S → ℕ) (old new : Recorder S) (it : Happening) (closes : List Closing) (given : List Happening) → is_broken old ≡ false → Kept wrote start old closes given → Breaks wrote faults old (record_of (place_of old).moment it) new → Kept wrote start new closes given
+  pub kept_broken : (faults : S → ℕ) (old new : Recorder S) (it : Happening) (closes : List Closing) (given : List Happening) → is_broken old ≡ false → Kept wrote start live old closes given → Breaks wrote faults old (record_of (place_of old).moment it) new → Kept wrote start later new closes given
   kept_broken faults old new it closes given whole kept breaks = broken faults old new (record_of (place_of old).moment it) closes closes given whole kept breaks refl kept.within
 
   -- ---- a closing
@@ -221,10 +223,10 @@ module _ {S : Type 0} (wrote : S → Option (List ℕ)) (start : Option (List �
   shut_then : (closes : List Closing) (given : List Happening) (c conn : ℕ) → is_shut closes given conn ≡ false → (c == conn) ≡ false → is_shut (with_closing closes given c) given conn ≡ false
   shut_then closes given c conn before not_it = is_shut-closing closes given c conn ∙ or_from (is_shut closes given conn) (c == conn) before not_it
 
-  pub kept_closing : (faults : S → ℕ) (old new : Recorder S) (c : ℕ) (closes : List Closing) (given : List Happening) → Kept wrote start old closes given → NotesClosing wrote faults old c new → Kept wrote start new (with_closing closes given c) given
-  kept_closing faults old new c closes given kept (inl passes) =
+  pub kept_closing : (faults : S → ℕ) (old new : Recorder S) (c : ℕ) (closes : List Closing) (given : List Happening) → live → Kept wrote start live old closes given → NotesClosing wrote faults old c new → Kept wrote start later new (with_closing closes given c) given
+  kept_closing faults old new c closes given alive kept (inl passes) =
       let same = same_told closes given c kept.records kept.gave in
-      subst (λ (rec : Recorder S). Kept wrote start rec (with_closing closes given c) given) (sym passes.same) (
+      subst (λ (rec : Recorder S). Kept wrote start later rec (with_closing closes given c) given) (sym passes.same) (
       record {
         records = kept.records;
         bytes = kept.bytes;
@@ -235,10 +237,10 @@ module _ {S : Type 0} (wrote : S → Option (List ℕ)) (start : Option (List �
         gave = ap (λ (t : Told). t.given) same ∙ kept.gave;
         within = within_push (length given) closes (record { conn = c; behind = length given }) kept.within (omega arith);
         cut = kept.cut;
-        runs = λ whole.
-            let goes = kept.runs whole in
+        none = kept.none;
+        runs = λ now whole.
+            let goes = kept.runs alive whole in
             record {
-              none = goes.none;
               place = goes.place;
               moment = goes.moment ∙ sym (ap (λ (t : Told). t.moment) same);
               shut = λ conn there. shut_then closes given c conn (goes.shut conn there) (
@@ -248,16 +250,56 @@ module _ {S : Type 0} (wrote : S → Option (List ℕ)) (start : Option (List �
                   ]);
             };
       })
-  kept_closing faults old new c closes given kept (inr too) =
-      let goes = kept.runs too.whole in
+  kept_closing faults old new c closes given alive kept (inr too) =
+      let goes = kept.runs alive too.whole in
       let same = same_told closes given c kept.records kept.gave in
       let r = record_of_closing (place_of old).moment c in
       let within : AreWithin (length given) (with_closing closes given c) = within_push (length given) closes (record { conn = c; behind = length given }) kept.within (omega arith) in
       let passed : is_passed_over (with_closing closes given c) given r ≡ true = is_shut-closing closes given c c ∙ or_right (is_shut closes given c) (c == c) (eq-eqb c c refl) in
       elim too.puts [
-        | inl notes ↦ noted old new r closes (with_closing closes given c) given given too.whole kept notes same
+        | inl notes ↦ noted old new r closes (with_closing closes given c) given given alive too.whole kept notes same
             (λ told same_given last. tells_none (with_closing closes given c) told given kinds.Close (place_of old).moment c [] same_given last refl passed)
             within
             (λ conn there. let opened = still_open (place_of old).opened c conn there in shut_then closes given c conn (goes.shut conn opened.1) (not_same (c == conn) opened.0))
         | inr breaks ↦ broken faults old new r closes (with_closing closes given c) given too.whole kept breaks same within
       ]
+
+  -- ---- nothing written
+
+  -- memory ran out: it doesn't go on, and closings behind all that was given tell nothing else
+  pub kept_rests : (old new : Recorder S) (closes closes' : List Closing) (given : List Happening) → (later → ⊥) → Kept wrote start live old closes given → Rests wrote old new
+      → ((records : List Record) → (told_by closes records).given ≡ given → told_by closes' records ≡ told_by closes records) → AreWithin (length given) closes' → Kept wrote start later new closes' given
+  kept_rests old new closes closes' given over kept rests same within = record {
+    records = kept.records;
+    bytes = kept.bytes;
+    part = kept.part;
+    written = rests.bytes ∙ kept.written;
+    spell = kept.spell;
+    follow = kept.follow;
+    gave = ap (λ (t : Told). t.given) (same kept.records kept.gave) ∙ kept.gave;
+    within = within;
+    cut = kept.cut;
+    none = λ whole. kept.none (sym rests.broken ∙ whole);
+    runs = λ now whole. absurd (over now);
+  }
+
+  pub kept_unnoted : (old new : Recorder S) (c : ℕ) (closes : List Closing) (given : List Happening) → (later → ⊥) → Kept wrote start live old closes given → Rests wrote old new → Kept wrote start later new (with_closing closes given c) given
+  kept_unnoted old new c closes given over kept rests =
+      kept_rests old new closes (with_closing closes given c) given over kept rests (λ records gave. same_told closes given c records gave)
+      (within_push (length given) closes (record { conn = c; behind = length given }) kept.within (omega arith))
+
+  -- the same recorder goes on
+  pub kept_on : (rec : Recorder S) (closes : List Closing) (given : List Happening) → (later → live) → Kept wrote start live rec closes given → Kept wrote start later rec closes given
+  kept_on rec closes given still kept = record {
+    records = kept.records;
+    bytes = kept.bytes;
+    part = kept.part;
+    written = kept.written;
+    spell = kept.spell;
+    follow = kept.follow;
+    gave = kept.gave;
+    within = kept.within;
+    cut = kept.cut;
+    none = kept.none;
+    runs = λ now whole. kept.runs (still now) whole;
+  }

@@ -10,7 +10,7 @@ use Rattle.recording.specs.Recording.{Records}
 use Rattle.recording.specs.Turns.{closings, turns}
 use Rattle.recording_hub.specs.declared.recording_hub.RecordingHub.{RecordingHub}
 use Rattle.recording_hub.specs.Recorded.{bytes_of, held}
-use Rattle.recording_hub.specs.RecordingHub.{has_failed, hub_in, sink_in}
+use Rattle.recording_hub.specs.RecordingHub.{has_failed, hub_in, is_spent, sink_in}
 
 -- the bytes are the front of a record
 pub record IsCut (bytes : List ℕ) : Type 0 where
@@ -21,8 +21,8 @@ pub record IsCut (bytes : List ℕ) : Type 0 where
 -- Between two states the sink took a recording of the story: its records give the turns that happened, as records can hold
 -- them, where the connections are closed that were closed. A part of one more record may stand behind it once it is broken.
 pub record RecordedStory {H S : Type 0} (may : H → HubStep → H → Type 0) (wrote : S → Option (List ℕ)) (from : RecordingHub H S) (events : List Event) (to : RecordingHub H S) : Type 0 where
-  -- the story is the hub's
-  pub hub : has_failed to ≡ false → Story may (hub_in from) events (hub_in to)
+  -- the story is the hub's, unless the last happening was lost
+  pub hub : has_failed to ≡ false → is_spent to ≡ false → Story may (hub_in from) events (hub_in to)
   pub records : List Record
   pub bytes : List ℕ
   pub part : List ℕ

@@ -1,4 +1,4 @@
-ghost use Rattle.std.specs.Prelude.{◌≡◌, false, OnOk, OnErr};
+ghost use Rattle.std.specs.Prelude.{◌≡◌, ◌≤◌, false, OnOk, OnErr};
 ghost use Rattle.recording.specs.Kinds.{is_length};
 ghost use Rattle.recording.specs.Recording.{first_place};
 ghost use Rattle.recording_hub.specs.Recorded.{held_text, record_of};
@@ -95,6 +95,7 @@ impl<S: Sink> Recorder<S> {
         requires { is_broken self.old ≡ false }
         ensures ok { OnOk result (Puts S.wrote S.faults self.old (record { moment = moment; kind = kind; conn = conn; body = body.now }) self.new) }
         ensures err { OnErr result (Rests S.wrote self.old self.new) }
+        ensures faults { S.faults self.old.sink ≤ S.faults self.new.sink }
     {
         if !self.may_follow(moment, kind, conn, body) {
             self.broken = true;
@@ -114,6 +115,7 @@ impl<S: Sink> Recorder<S> {
         requires { is_broken self.old ≡ false }
         ensures ok { OnOk result (Puts S.wrote S.faults self.old (record_of (place_of self.old).moment it.now) self.new) }
         ensures err { OnErr result (Rests S.wrote self.old self.new) }
+        ensures faults { S.faults self.old.sink ≤ S.faults self.new.sink }
     {
         let last = self.moment;
         match it {
@@ -134,6 +136,7 @@ impl<S: Sink> Recorder<S> {
     pub fn note_closing(&mut self, conn: u32) -> Result<(), NoMemory>
         ensures ok { OnOk result (NotesClosing S.wrote S.faults self.old conn self.new) }
         ensures err { OnErr result (Rests S.wrote self.old self.new) }
+        ensures faults { S.faults self.old.sink ≤ S.faults self.new.sink }
     {
         if self.broken || !self.opened.has(conn) {
             return Ok(());

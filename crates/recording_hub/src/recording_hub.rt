@@ -1,5 +1,6 @@
-ghost use Rattle.std.specs.Prelude.{◌≡◌, ◌≢◌, ◌≤◌, ◌+◌, Ok, IfOk};
+ghost use Rattle.std.specs.Prelude.{◌≡◌, ◌≢◌, ◌≤◌, ◌+◌, false, Ok, IfOk, OnErr};
 ghost use Rattle.fg_outside.specs.Counts.{Rose, counted};
+ghost use Rattle.fg_outside.specs.declared.hub.Turn.TheVariants.{Memory};
 ghost use Rattle.fg_outside.specs.HubStep.{turned};
 
 use crate::recorder::Recorder;
@@ -16,7 +17,8 @@ use std::alloc::{AllocError, Global};
 /// written, and this turn and each later one fails. Of an end by a fault an end is written, and of a text of
 /// more than 1,048,576 bytes one byte 0: neither is a configuration.
 ///
-/// Once it answered want of memory it is spent: each later turn and each piece said is answered so too.
+/// Once memory ran out it is spent: each later turn and each piece said is answered so, and nothing more is
+/// written.
 #[derive(Debug, Drop)]
 pub struct RecordingHub<H, S> {
     hub: H,
@@ -27,7 +29,8 @@ pub struct RecordingHub<H, S> {
 }
 
 impl<H: Hub, S: Sink> RecordingHub<H, S> {
-    ghost use Rattle.recording_hub.specs.RecordingHub.{hub_in, sink_in, has_failed, is_spent, faults_of, IsBegun, Does, GoesAlong};
+    ghost use Rattle.recording_hub.specs.RecordingHub.{hub_in, sink_in, has_failed, is_spent, faults_of, IsAskedOnce, IsBegun, Counts, Does, GoesAlong};
+    ghost use Rattle.recording_hub.specs.Recorder.{Rests};
 
     /// A hub, and a sink that takes its recording behind what it has taken.
     pub fn new(alloc: Global, hub: H, sink: S) -> RecordingHub<H, S>
@@ -70,7 +73,12 @@ impl<H: Hub, S: Sink> RecordingHub<H, S> {
 
     // The next turn of the hub, once its record is written.
     fn next_turn(&mut self) -> Result<Turn, NoMemory>
+        requires { is_spent self.old ≡ false }
         ensures does { IfOk result (λ turn. Does H.may S.wrote S.faults self.old (turned turn) self.new) }
+        ensures asked { OnErr result (IsAskedOnce H.may (hub_in self.old) (hub_in self.new)) }
+        ensures rests { OnErr result (Rests S.wrote self.old.recorder self.new.recorder) }
+        ensures counts { IfOk result (λ turn. Counts H.faults S.faults self.old (turned turn) self.new) }
+        ensures memory { OnErr result (Counts H.faults S.faults self.old (turned Memory) self.new) }
         ensures along { GoesAlong H.may self.old self.new }
         ensures spent { is_spent self.new ≡ is_spent self.old }
 
@@ -99,7 +107,7 @@ impl<H: Hub, S: Sink> RecordingHub<H, S> {
 impl<H: Hub, S: Sink> Hub for RecordingHub<H, S> {
     ghost use Rattle.recording_hub.specs.RecordingHub.{hub_in, faults_of, RecordingStep};
 
-    ghost may = { RecordingStep H.may S.wrote S.faults };
+    ghost may = { RecordingStep H.may H.faults S.wrote S.faults };
 
     ghost is_open = { λ it conn. H.is_open (hub_in it) conn };
 
@@ -133,6 +141,9 @@ impl<H: Hub, S: Sink> Hub for RecordingHub<H, S> {
 
     fn close(&mut self, conn: u32) {
         self.hub.close(conn);
+        if self.spent {
+            return;
+        }
         match self.recorder.note_closing(conn) {
             Ok(()) => {}
             Err(_) => self.spent = true,

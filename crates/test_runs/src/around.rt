@@ -46,7 +46,7 @@ fn turn_of(alloc: Global, word: &str) -> Result<Happening, NoMemory> {
 }
 
 /// A hub that gives these turns; behind `fail:N` the N-th call fails.
-fn hub_of(alloc: Global, line: &str) -> Result<MemHub, NoMemory> {
+pub fn hub_of(alloc: Global, line: &str) -> Result<MemHub, NoMemory> {
     let mut turns = Happenings::new(alloc);
     let mut fail = CallNos::new(alloc);
     for word in line.split_whitespace() {
@@ -59,7 +59,7 @@ fn hub_of(alloc: Global, line: &str) -> Result<MemHub, NoMemory> {
 }
 
 /// What a hub was told.
-fn put_told(alloc: Global, text: &mut String, story: &[StoryStep]) -> Result<(), NoMemory> {
+pub fn put_told(alloc: Global, text: &mut String, story: &[StoryStep]) -> Result<(), NoMemory> {
     for step in story {
         match step {
             StoryStep::Gave(Happening::Reload(_)) => text.push_str("\n hub gave a reload")?,

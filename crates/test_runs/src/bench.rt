@@ -1,19 +1,22 @@
 //! The files that the runs see, and what fails in them.
 
 use crate::around::{Around, run_around};
+use crate::flights::run_recorded;
 use crate::runs::refuse;
 use fg_outside::{CallNos, Folder, Folders, HeldFile, HeldFiles, MemFiles};
 use net_base::{NoMemory, Text, TryCopy};
 use std::alloc::Global;
 use test_lines::{Answers, bytes_of, unescaped, write_repeated};
 
-/// Which calls of a run fail, numbered from 1 on, and how many bytes standard output holds.
+/// Which calls of a run fail, numbered from 1 on, and how many bytes standard output and a recording hold.
 #[derive(Clone, Copy, Debug)]
 pub struct Outside {
     pub read: u64,
     pub out: u64,
     pub err: u64,
     pub room: usize,
+    pub record: u64,
+    pub record_room: usize,
 }
 
 /// Nothing fails, and there is room.
@@ -22,6 +25,8 @@ const SURE: Outside = Outside {
     out: 0,
     err: 0,
     room: 100_000,
+    record: 0,
+    record_room: 100_000,
 };
 
 /// The files of the lines before, and what fails in the next run.
@@ -79,7 +84,7 @@ impl Bench {
         Ok(MemFiles::new(folders, CallNos::from_slice(alloc, &[self.outside.read])?))
     }
 
-    /// Takes what fails in the next run: `read N`, `out N`, `err N` or `room N`.
+    /// Takes what fails in the next run: `read N`, `out N`, `err N`, `room N`, `record N` or `tape N`.
     fn take_fault(&mut self, fault: &str) {
         let (what, number) = fault.split_once(' ').unwrap_or((fault, ""));
         let number = number.parse::<u64>().unwrap_or(0);
@@ -87,6 +92,8 @@ impl Bench {
             "read" => self.outside.read = number,
             "out" => self.outside.out = number,
             "err" => self.outside.err = number,
+            "record" => self.outside.record = number,
+            "tape" => self.outside.record_room = number as usize,
             _ => self.outside.room = number as usize,
         }
     }
@@ -94,6 +101,25 @@ impl Bench {
     /// The hub of this run, and none in the next.
     fn take_around(&mut self) -> Around {
         std::mem::replace(&mut self.around, Around::Nothing)
+    }
+
+    /// A recorded run over the turns of this hub, or over none, and its recording as a file for the next runs, in
+    /// place of that of the run before.
+    fn record(&mut self, alloc: Global, words: &str) -> Result<String, NoMemory> {
+        let files = self.files(alloc)?;
+        let outside = self.take_outside();
+        let turns = match self.take_around() {
+            Around::Turns(turns) => turns,
+            _ => String::new(alloc),
+        };
+        let (text, flight) = run_recorded(alloc, words, turns.as_str(), files, outside)?;
+        let mut held = HeldFiles::new(alloc);
+        held.push(flight)?;
+        for file in self.held.as_slice() {
+            held.push(file.copy(alloc)?)?;
+        }
+        self.held = held;
+        Ok(text)
     }
 
     /// What fails in this run, and nothing in the next.
@@ -124,6 +150,7 @@ impl Answers for Bench {
                 let outside = self.take_outside();
                 return run_around(alloc, words, files, outside, &self.take_around());
             }
+            ("record", words) => return self.record(alloc, words),
             ("no", "memory") => return refuse(alloc, self.take_outside()),
             _ => {}
         }

@@ -4,6 +4,7 @@
 
 mod around;
 mod bench;
+mod flights;
 mod runs;
 
 use bench::Bench;

@@ -10,7 +10,7 @@ use std::str::from_utf8;
 use test_lines::write_escaped;
 
 /// The words of a line, of which `''` is the empty one.
-fn words(alloc: Global, line: &str) -> Result<Names, NoMemory> {
+pub fn words(alloc: Global, line: &str) -> Result<Names, NoMemory> {
     let mut words = Names::new(alloc);
     for word in line.split_whitespace() {
         let word = if word == "''" { "" } else { word };
@@ -71,7 +71,12 @@ fn put_each(alloc: Global, out: &mut String, row: Row, bytes: &[u8]) -> Result<(
 
 /// What a stream took: messages, as they begin with a version; records, as they begin with a moment that isn't
 /// so great; or else a text in one line.
-fn put_written(alloc: Global, out: &mut String, name: &str, bytes: &[u8]) -> Result<(), NoMemory> {
+pub fn put_written(
+    alloc: Global,
+    out: &mut String,
+    name: &str,
+    bytes: &[u8],
+) -> Result<(), NoMemory> {
     match bytes {
         [] => Ok(()),
         [4, ..] => {
