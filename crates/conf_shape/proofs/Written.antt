@@ -20,6 +20,7 @@ use Rattle.conf_shape.specs.declared.kinds.Kind.TheVariants.{One}
 use Rattle.conf_shape.specs.declared.kinds.Kind.TheVariants as kinds_of
 use Rattle.conf_shape.specs.declared.kinds.Scalar.{Scalar}
 use Rattle.conf_shape.specs.declared.kinds.Scalar.TheVariants.{Flag, Number}
+use Rattle.conf_shape.specs.declared.kinds.TheConstants.{MOST_VID, MOST_PORT_NO}
 use Rattle.conf_shape.specs.declared.kinds.MapKind.{MapKind}
 use Rattle.conf_shape.specs.declared.kinds.MapKind.TheVariants as kinds
 use Rattle.conf_shape.specs.Keys.{KeyRow, Keys, keys_of}
@@ -221,10 +222,10 @@ numbered_right inner t (Ok number) kind e h =
     (number, map_right (inner number) t (subst (λ kind. faults_of t kind ≡ []) (sym same) h))
 
 pub interfaces_right : (pairs : List Pair) → IsRight kinds.Interfaces pairs → AllByRecursion (λ p. (number : Option ℕ) × IsRight (kinds.Interface number) (entries_of p.value)) pairs
-interfaces_right pairs right = each_right kinds.Interfaces (λ p. (number : Option ℕ) × IsRight (kinds.Interface number) (entries_of p.value)) (λ earlier p kind e h. numbered_right kinds.Interface p.value (number_or_name 1 0xffffff00 p.key) kind e h) [] pairs right
+interfaces_right pairs right = each_right kinds.Interfaces (λ p. (number : Option ℕ) × IsRight (kinds.Interface number) (entries_of p.value)) (λ earlier p kind e h. numbered_right kinds.Interface p.value (number_or_name 1 MOST_PORT_NO p.key) kind e h) [] pairs right
 
 pub vlans_right : (pairs : List Pair) → IsRight kinds.Vlans pairs → AllByRecursion (λ p. (number : Option ℕ) × IsRight (kinds.Vlan number) (entries_of p.value)) pairs
-vlans_right pairs right = each_right kinds.Vlans (λ p. (number : Option ℕ) × IsRight (kinds.Vlan number) (entries_of p.value)) (λ earlier p kind e h. numbered_right kinds.Vlan p.value (number_or_name 1 4094 p.key) kind e h) [] pairs right
+vlans_right pairs right = each_right kinds.Vlans (λ p. (number : Option ℕ) × IsRight (kinds.Vlan number) (entries_of p.value)) (λ earlier p kind e h. numbered_right kinds.Vlan p.value (number_or_name 1 MOST_VID p.key) kind e h) [] pairs right
 
 -- ---- what stands in the raw configuration
 

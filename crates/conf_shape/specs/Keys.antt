@@ -9,7 +9,8 @@ use Rattle.conf_shape.specs.declared.refused.ConfCause.{ConfCause}
 use Rattle.conf_shape.specs.declared.refused.ConfCause.TheVariants.{UnknownKey, LeftOut}
 use Rattle.conf_shape.specs.declared.kinds.Kind.{Kind}
 use Rattle.conf_shape.specs.declared.kinds.Kind.TheVariants.{One, Several, OneOrSeveral, Given, Asked, Map, Maps, MapOrMaps}
-use Rattle.conf_shape.specs.declared.kinds.Scalar.TheVariants.{Flag, Number, Name, Words, Label, Reference, Permission, NoEffect, StationMac, Vip, Destination, Gateway}
+use Rattle.conf_shape.specs.declared.kinds.Scalar.TheVariants.{Flag, Number, Name, Words, Label, Permission, NoEffect, StationMac, Vip, Destination, Gateway}
+use Rattle.conf_shape.specs.declared.kinds.TheConstants.{MOST_VID, MOST_PORT_NO, VLAN_NAMED, PORT_NAMED}
 use Rattle.conf_shape.specs.declared.kinds.MapKind.{MapKind}
 use Rattle.conf_shape.specs.declared.kinds.MapKind.TheVariants.{Top, Datapaths, Datapath, DatapathStack, Interfaces, Interface, PortStack, Vlans, Vlan, RouteItem, Route, Acls, RuleItem, Rule, Actions, Output, Routers, Router}
 use Rattle.conf_shape.specs.declared.kinds.Need.{Need}
@@ -47,61 +48,51 @@ pub record Keys : Type 0 where
 abbrev pub row : List ℕ → Kind → Need → KeyDefault → KeyRow
 row key kind need default = record { key = key; kind = kind; need = need; default = default }
 
+-- the keys of a map with no other spellings, which knows no key that stands nowhere here
+abbrev pub keys : List KeyRow → List (List ℕ) → Keys
+keys rows left_out = record { rows = rows; left_out = left_out; spellings = []; unlisted = UnknownKey }
+
 abbrev pub top_keys : Keys
-top_keys = record {
-  rows =
-      row (codes "dps") (Map Datapaths) Always Nothing ∷
-      row (codes "vlans") (Map Vlans) Never Nothing ∷
-      row (codes "acls") (Map Acls) Never Nothing ∷
-      row (codes "routers") (Map Routers) Never Nothing ∷
-      row (codes "version") (One (Number 2 2)) Never Nothing ∷
-      [];
-  left_out =
-      codes "include" ∷ codes "include-optional" ∷ codes "meters" ∷ [];
-  spellings =
-      [];
-  unlisted = UnknownKey;
-}
+top_keys = keys
+    (row (codes "dps") (Map Datapaths) Always Nothing ∷
+    row (codes "vlans") (Map Vlans) Never Nothing ∷
+    row (codes "acls") (Map Acls) Never Nothing ∷
+    row (codes "routers") (Map Routers) Never Nothing ∷
+    row (codes "version") (One (Number 2 2)) Never Nothing ∷ [])
+    (codes "include" ∷ codes "include-optional" ∷ codes "meters" ∷ [])
 
 abbrev pub datapath_keys : Keys
-datapath_keys = record {
-  rows =
-      row (codes "dp_id") (One (Number 0 (2 ^ 64 - 1))) Always Nothing ∷
-      row (codes "interfaces") (Map Interfaces) Always Nothing ∷
-      row (codes "name") (One Name) Never OwnKey ∷
-      row (codes "description") (One Name) Never OwnName ∷
-      row (codes "hardware") (One Words) Never (Spelled (codes "Open vSwitch")) ∷
-      row (codes "timeout") (One (Number 1 604800)) Never (Count 300) ∷
-      row (codes "arp_neighbor_timeout") (One (Number 1 604800)) Never (Count 30) ∷
-      row (codes "stack") (Map DatapathStack) Never Nothing ∷
-      row (codes "drop_spoofed_faucet_mac") (One Flag) Never On ∷
-      row (codes "drop_broadcast_source_address") (One Flag) Never On ∷
-      row (codes "drop_bpdu") (One Flag) Never On ∷
-      row (codes "drop_lldp") (One Flag) Never On ∷
-      row (codes "learn_ban_timeout") (One NoEffect) Never Nothing ∷
-      row (codes "learn_jitter") (One NoEffect) Never Nothing ∷
-      row (codes "ignore_learn_ins") (One NoEffect) Never Nothing ∷
-      row (codes "packetin_pps") (One NoEffect) Never Nothing ∷
-      row (codes "slowpath_pps") (One NoEffect) Never Nothing ∷
-      row (codes "max_resolve_backoff_time") (One NoEffect) Never Nothing ∷
-      row (codes "max_host_fib_retry_count") (One NoEffect) Never Nothing ∷
-      row (codes "max_hosts_per_resolve_cycle") (One NoEffect) Never Nothing ∷
-      row (codes "metrics_rate_limit_sec") (One NoEffect) Never Nothing ∷
-      row (codes "ofchannel_log") (One NoEffect) Never Nothing ∷
-      row (codes "combinatorial_port_flood") (One NoEffect) Never Nothing ∷
-      row (codes "cache_update_guard_time") (One NoEffect) Never Nothing ∷
-      [];
-  left_out =
-      codes "interface_ranges" ∷ codes "lldp_beacon" ∷ codes "dot1x" ∷ codes "egress_pipeline" ∷
-      codes "group_table" ∷ codes "use_idle_timeout" ∷ codes "priority_offset" ∷ codes "low_priority" ∷
-      codes "high_priority" ∷ codes "lowest_priority" ∷ codes "highest_priority" ∷ codes "proactive_learn_v4" ∷
-      codes "proactive_learn_v6" ∷ codes "nd_neighbor_timeout" ∷ codes "idle_dst" ∷ codes "dp_acls" ∷
-      codes "global_vlan" ∷ codes "strict_packet_in_cookie" ∷ codes "multi_out" ∷ codes "advertise_interval" ∷
-      codes "table_sizes" ∷ codes "use_classification" ∷ codes "lacp_timeout" ∷ [];
-  spellings =
-      [];
-  unlisted = UnknownKey;
-}
+datapath_keys = keys
+    (row (codes "dp_id") (One (Number 0 (2 ^ 64 - 1))) Always Nothing ∷
+    row (codes "interfaces") (Map Interfaces) Always Nothing ∷
+    row (codes "name") (One Name) Never OwnKey ∷
+    row (codes "description") (One Name) Never OwnName ∷
+    row (codes "hardware") (One Words) Never (Spelled (codes "Open vSwitch")) ∷
+    row (codes "timeout") (One (Number 1 604800)) Never (Count 300) ∷
+    row (codes "arp_neighbor_timeout") (One (Number 1 604800)) Never (Count 30) ∷
+    row (codes "stack") (Map DatapathStack) Never Nothing ∷
+    row (codes "drop_spoofed_faucet_mac") (One Flag) Never On ∷
+    row (codes "drop_broadcast_source_address") (One Flag) Never On ∷
+    row (codes "drop_bpdu") (One Flag) Never On ∷
+    row (codes "drop_lldp") (One Flag) Never On ∷
+    row (codes "learn_ban_timeout") (One NoEffect) Never Nothing ∷
+    row (codes "learn_jitter") (One NoEffect) Never Nothing ∷
+    row (codes "ignore_learn_ins") (One NoEffect) Never Nothing ∷
+    row (codes "packetin_pps") (One NoEffect) Never Nothing ∷
+    row (codes "slowpath_pps") (One NoEffect) Never Nothing ∷
+    row (codes "max_resolve_backoff_time") (One NoEffect) Never Nothing ∷
+    row (codes "max_host_fib_retry_count") (One NoEffect) Never Nothing ∷
+    row (codes "max_hosts_per_resolve_cycle") (One NoEffect) Never Nothing ∷
+    row (codes "metrics_rate_limit_sec") (One NoEffect) Never Nothing ∷
+    row (codes "ofchannel_log") (One NoEffect) Never Nothing ∷
+    row (codes "combinatorial_port_flood") (One NoEffect) Never Nothing ∷
+    row (codes "cache_update_guard_time") (One NoEffect) Never Nothing ∷ [])
+    (codes "interface_ranges" ∷ codes "lldp_beacon" ∷ codes "dot1x" ∷ codes "egress_pipeline" ∷
+    codes "group_table" ∷ codes "use_idle_timeout" ∷ codes "priority_offset" ∷ codes "low_priority" ∷
+    codes "high_priority" ∷ codes "lowest_priority" ∷ codes "highest_priority" ∷ codes "proactive_learn_v4" ∷
+    codes "proactive_learn_v6" ∷ codes "nd_neighbor_timeout" ∷ codes "idle_dst" ∷ codes "dp_acls" ∷
+    codes "global_vlan" ∷ codes "strict_packet_in_cookie" ∷ codes "multi_out" ∷ codes "advertise_interval" ∷
+    codes "table_sizes" ∷ codes "use_classification" ∷ codes "lacp_timeout" ∷ [])
 
 abbrev pub datapath_stack_keys : Keys
 datapath_stack_keys = record {
@@ -116,106 +107,64 @@ datapath_stack_keys = record {
 }
 
 abbrev pub interface_keys : Keys
-interface_keys = record {
-  rows =
-      row (codes "number") (Given 1 0xffffff00) UnlessNumbered OwnKey ∷
-      row (codes "name") (One Name) Never OwnKey ∷
-      row (codes "description") (One Name) Never OwnName ∷
-      row (codes "enabled") (One Flag) Never On ∷
-      row (codes "unicast_flood") (One Flag) Never On ∷
-      row (codes "opstatus_reconf") (One Flag) Never On ∷
-      row (codes "output_only") (One Flag) Never Off ∷
-      row (codes "hairpin") (One Flag) Never Off ∷
-      row (codes "permanent_learn") (One Flag) Never Off ∷
-      row (codes "native_vlan") (One (Reference 1 4094)) Never Nothing ∷
-      row (codes "tagged_vlans") (Several (Reference 1 4094)) Never Nothing ∷
-      row (codes "acl_in") (One Label) Never Nothing ∷
-      row (codes "acls_in") (Several Label) Never Nothing ∷
-      row (codes "max_hosts") (One (Number 1 16384)) Never (Count 255) ∷
-      row (codes "mirror") (OneOrSeveral (Reference 1 0xffffff00)) Never Nothing ∷
-      row (codes "stack") (Map PortStack) Never Nothing ∷
-      [];
-  left_out =
-      codes "acls_out" ∷ codes "dot1x" ∷ codes "dot1x_acl" ∷ codes "dot1x_mab" ∷ codes "lacp" ∷
-      codes "lacp_active" ∷ codes "lldp_beacon" ∷ codes "receive_lldp" ∷ codes "loop_protect" ∷
-      codes "loop_protect_external" ∷ codes "override_output_port" ∷ codes "restricted_bcast_arpnd" ∷
-      codes "coprocessor" ∷ [];
-  spellings =
-      [];
-  unlisted = UnknownKey;
-}
+interface_keys = keys
+    (row (codes "number") (Given 1 MOST_PORT_NO) UnlessNumbered OwnKey ∷
+    row (codes "name") (One Name) Never OwnKey ∷
+    row (codes "description") (One Name) Never OwnName ∷
+    row (codes "enabled") (One Flag) Never On ∷
+    row (codes "unicast_flood") (One Flag) Never On ∷
+    row (codes "opstatus_reconf") (One Flag) Never On ∷
+    row (codes "output_only") (One Flag) Never Off ∷
+    row (codes "hairpin") (One Flag) Never Off ∷
+    row (codes "permanent_learn") (One Flag) Never Off ∷
+    row (codes "native_vlan") (One VLAN_NAMED) Never Nothing ∷
+    row (codes "tagged_vlans") (Several VLAN_NAMED) Never Nothing ∷
+    row (codes "acl_in") (One Label) Never Nothing ∷
+    row (codes "acls_in") (Several Label) Never Nothing ∷
+    row (codes "max_hosts") (One (Number 1 16384)) Never (Count 255) ∷
+    row (codes "mirror") (OneOrSeveral PORT_NAMED) Never Nothing ∷
+    row (codes "stack") (Map PortStack) Never Nothing ∷ [])
+    (codes "acls_out" ∷ codes "dot1x" ∷ codes "dot1x_acl" ∷ codes "dot1x_mab" ∷ codes "lacp" ∷
+    codes "lacp_active" ∷ codes "lldp_beacon" ∷ codes "receive_lldp" ∷ codes "loop_protect" ∷
+    codes "loop_protect_external" ∷ codes "override_output_port" ∷ codes "restricted_bcast_arpnd" ∷
+    codes "coprocessor" ∷ [])
 
 abbrev pub port_stack_keys : Keys
-port_stack_keys = record {
-  rows =
-      row (codes "dp") (One Words) Always Nothing ∷
-      row (codes "port") (One (Reference 1 0xffffff00)) Always Nothing ∷
-      [];
-  left_out =
-      [];
-  spellings =
-      [];
-  unlisted = UnknownKey;
-}
+port_stack_keys = keys
+    (row (codes "dp") (One Words) Always Nothing ∷
+    row (codes "port") (One PORT_NAMED) Always Nothing ∷ [])
+    []
 
 abbrev pub vlan_keys : Keys
-vlan_keys = record {
-  rows =
-      row (codes "vid") (Given 1 4094) UnlessNumbered OwnKey ∷
-      row (codes "name") (One Name) Never OwnKey ∷
-      row (codes "description") (One Name) Never OwnName ∷
-      row (codes "acl_in") (One Label) Never Nothing ∷
-      row (codes "acls_in") (Several Label) Never Nothing ∷
-      row (codes "faucet_mac") (One StationMac) Never (Spelled (codes "0e:00:00:00:00:01")) ∷
-      row (codes "faucet_vips") (Several Vip) Never Nothing ∷
-      row (codes "routes") (Maps RouteItem) Never Nothing ∷
-      row (codes "max_hosts") (One (Number 1 16384)) Never (Count 255) ∷
-      row (codes "unicast_flood") (One Flag) Never On ∷
-      [];
-  left_out =
-      codes "acls_out" ∷ codes "targeted_gw_resolution" ∷ codes "minimum_ip_size_check" ∷
-      codes "proactive_arp_limit" ∷ codes "proactive_nd_limit" ∷ [];
-  spellings =
-      [];
-  unlisted = UnknownKey;
-}
+vlan_keys = keys
+    (row (codes "vid") (Given 1 MOST_VID) UnlessNumbered OwnKey ∷
+    row (codes "name") (One Name) Never OwnKey ∷
+    row (codes "description") (One Name) Never OwnName ∷
+    row (codes "acl_in") (One Label) Never Nothing ∷
+    row (codes "acls_in") (Several Label) Never Nothing ∷
+    row (codes "faucet_mac") (One StationMac) Never (Spelled (codes "0e:00:00:00:00:01")) ∷
+    row (codes "faucet_vips") (Several Vip) Never Nothing ∷
+    row (codes "routes") (Maps RouteItem) Never Nothing ∷
+    row (codes "max_hosts") (One (Number 1 16384)) Never (Count 255) ∷
+    row (codes "unicast_flood") (One Flag) Never On ∷ [])
+    (codes "acls_out" ∷ codes "targeted_gw_resolution" ∷ codes "minimum_ip_size_check" ∷
+    codes "proactive_arp_limit" ∷ codes "proactive_nd_limit" ∷ [])
 
 abbrev pub route_item_keys : Keys
-route_item_keys = record {
-  rows =
-      row (codes "route") (Map Route) Always Nothing ∷
-      [];
-  left_out =
-      [];
-  spellings =
-      [];
-  unlisted = UnknownKey;
-}
+route_item_keys = keys
+    (row (codes "route") (Map Route) Always Nothing ∷ [])
+    []
 
 abbrev pub route_keys : Keys
-route_keys = record {
-  rows =
-      row (codes "ip_dst") (One Destination) Always Nothing ∷
-      row (codes "ip_gw") (One Gateway) Always Nothing ∷
-      [];
-  left_out =
-      [];
-  spellings =
-      [];
-  unlisted = UnknownKey;
-}
+route_keys = keys
+    (row (codes "ip_dst") (One Destination) Always Nothing ∷
+    row (codes "ip_gw") (One Gateway) Always Nothing ∷ [])
+    []
 
 abbrev pub rule_item_keys : Keys
-rule_item_keys = record {
-  rows =
-      row (codes "rule") (Map Rule) Always Nothing ∷
-      [];
-  left_out =
-      [];
-  spellings =
-      [];
-  unlisted = UnknownKey;
-}
+rule_item_keys = keys
+    (row (codes "rule") (Map Rule) Always Nothing ∷ [])
+    []
 
 abbrev pub rule_keys : Keys
 rule_keys = record {
@@ -252,48 +201,27 @@ rule_keys = record {
 }
 
 abbrev pub actions_keys : Keys
-actions_keys = record {
-  rows =
-      row (codes "allow") (One Permission) Never Off ∷
-      row (codes "mirror") (One (Reference 1 0xffffff00)) Never Nothing ∷
-      row (codes "output") (MapOrMaps Output) Never Nothing ∷
-      [];
-  left_out =
-      codes "meter" ∷ codes "ct" ∷ codes "force_port_vlan" ∷ [];
-  spellings =
-      [];
-  unlisted = UnknownKey;
-}
+actions_keys = keys
+    (row (codes "allow") (One Permission) Never Off ∷
+    row (codes "mirror") (One PORT_NAMED) Never Nothing ∷
+    row (codes "output") (MapOrMaps Output) Never Nothing ∷ [])
+    (codes "meter" ∷ codes "ct" ∷ codes "force_port_vlan" ∷ [])
 
 abbrev pub output_keys : Keys
-output_keys = record {
-  rows =
-      row (codes "port") (One (Reference 1 0xffffff00)) Never Nothing ∷
-      row (codes "ports") (Several (Reference 1 0xffffff00)) Never Nothing ∷
-      [];
-  left_out =
-      codes "set_fields" ∷ codes "vlan_vid" ∷ codes "vlan_vids" ∷ codes "pop_vlans" ∷ codes "swap_vid" ∷
-      codes "failover" ∷ codes "tunnel" ∷ [];
-  spellings =
-      [];
-  unlisted = UnknownKey;
-}
+output_keys = keys
+    (row (codes "port") (One PORT_NAMED) Never Nothing ∷
+    row (codes "ports") (Several PORT_NAMED) Never Nothing ∷ [])
+    (codes "set_fields" ∷ codes "vlan_vid" ∷ codes "vlan_vids" ∷ codes "pop_vlans" ∷ codes "swap_vid" ∷
+    codes "failover" ∷ codes "tunnel" ∷ [])
 
 abbrev pub router_keys : Keys
-router_keys = record {
-  rows =
-      row (codes "vlans") (Several (Reference 1 4094)) Always Nothing ∷
-      [];
-  left_out =
-      codes "bgp" ∷ [];
-  spellings =
-      [];
-  unlisted = UnknownKey;
-}
+router_keys = keys
+    (row (codes "vlans") (Several VLAN_NAMED) Always Nothing ∷ [])
+    (codes "bgp" ∷ [])
 
 -- a map whose keys are names or numbers of the user's
 abbrev pub no_keys : Keys
-no_keys = record { rows = []; left_out = []; spellings = []; unlisted = UnknownKey }
+no_keys = keys [] []
 
 abbrev pub keys_of : MapKind → Keys
 keys_of Top = top_keys

@@ -1,6 +1,6 @@
 -- The raw configuration of a tree, key by key: what is written, and where a key isn't given its default by
 -- the tables.
-use Rattle.std.specs.Prelude.{ℕ, ◌-◌, ◌^◌, Bool, is_some, List, [], ◌∷◌, map, codes, Option, None, option_and_then, unwrap_or}
+use Rattle.std.specs.Prelude.{ℕ, Bool, is_some, List, [], ◌∷◌, map, codes, Option, None, unwrap_or}
 use Rattle.net_base.specs.declared.address.Mac.{Mac}
 use Rattle.net_base.specs.declared.net4.Net4.{Net4}
 use Rattle.net_base.specs.declared.numbers.DpId.{DpId}
@@ -10,6 +10,7 @@ use Rattle.yaml_tree.specs.declared.tree.Key.{Key}
 use Rattle.yaml_tree.specs.declared.tree.Pair.{Pair}
 use Rattle.yaml_tree.specs.declared.tree.Tree.{Tree}
 use Rattle.conf_shape.specs.declared.kinds.MapKind.TheVariants as kinds
+use Rattle.conf_shape.specs.declared.kinds.TheConstants.{MOST_VID, MOST_PORT_NO}
 use Rattle.conf_shape.specs.declared.kinds.MapKind.{MapKind}
 use Rattle.conf_shape.specs.declared.raw.RawAclNames.{RawAclNames}
 use Rattle.conf_shape.specs.declared.raw.RawNames.{RawNames}
@@ -25,7 +26,7 @@ use Rattle.conf_shape.specs.declared.raw.RawAcl.{RawAcl}
 use Rattle.conf_shape.specs.declared.raw.RawRouter.{RawRouter}
 use Rattle.conf_shape.specs.declared.raw.RawConf.{RawConf}
 use Rattle.conf_shape.specs.Keys.{keys_of, match_keys}
-use Rattle.conf_shape.specs.Reads.{value_at, number_of, words_of, items_of, entries_of, words_at, entries_at, option_at, list_at, one_or_list_at, flag_at, permission_at, number_at, text_at, label_of, port_of, vlan_of, own_number}
+use Rattle.conf_shape.specs.Reads.{value_at, words_of, items_of, entries_of, words_at, entries_at, option_at, list_at, one_or_list_at, number_under, flag_at, permission_at, number_at, text_at, label_of, port_of, vlan_of, own_number}
 use Rattle.conf_shape.specs.Sections.{key_text}
 use Rattle.conf_shape.specs.Values.{mac_of, ip_of, net_of, fields_by}
 
@@ -83,7 +84,7 @@ port_flags pairs = port_flags_by (λ name. flag_at (kinds.Interface None) name p
 
 -- the number of an interface is its key, or else `number`
 abbrev pub port_number : Key → List Pair → ℕ
-port_number key pairs = unwrap_or (own_number 1 0xffffff00 key (value_at (codes "number") pairs)) 1
+port_number key pairs = unwrap_or (own_number 1 MOST_PORT_NO key (value_at (codes "number") pairs)) 1
 
 abbrev pub port_with : Key → List Pair → RawPort
 port_with key pairs = record {
@@ -123,10 +124,10 @@ abbrev pub drop_flags : List Pair → DropFlags
 drop_flags pairs = drop_flags_by (λ name. flag_at kinds.Datapath name pairs)
 
 abbrev pub datapath_id : List Pair → DpId
-datapath_id pairs = record { 0 = unwrap_or (option_and_then (number_of 0 (2 ^ 64 - 1)) (value_at (codes "dp_id") pairs)) 0 }
+datapath_id pairs = record { 0 = unwrap_or (number_under 64 (codes "dp_id") pairs) 0 }
 
 abbrev pub stack_priority : List Pair → Option ℕ
-stack_priority pairs = option_and_then (number_of 0 (2 ^ 32 - 1)) (value_at (codes "priority") (entries_at (codes "stack") pairs))
+stack_priority pairs = number_under 32 (codes "priority") (entries_at (codes "stack") pairs)
 
 abbrev pub datapath_with : Key → List Pair → RawDp
 datapath_with key pairs = record {
@@ -156,7 +157,7 @@ route_of t = let pairs = entries_at (codes "route") (entries_of t) in record {
 
 -- the identifier of a VLAN is its key, or else `vid`
 abbrev pub vlan_number : Key → List Pair → ℕ
-vlan_number key pairs = unwrap_or (own_number 1 4094 key (value_at (codes "vid") pairs)) 1
+vlan_number key pairs = unwrap_or (own_number 1 MOST_VID key (value_at (codes "vid") pairs)) 1
 
 abbrev pub mac_at : List Pair → Mac
 mac_at pairs = mac_of (text_at (kinds.Vlan None) (codes "faucet_mac") [] pairs)

@@ -11,6 +11,7 @@ use Rattle.yaml_tree.specs.declared.tree.Tree.TheOpen.{Tree-F}
 use Rattle.yaml_tree.specs.declared.tree.Tree.TheOpen as tree
 use Rattle.conf_types.specs.declared.acl.PortRef.{PortRef}
 use Rattle.conf_types.specs.declared.acl.PortRef.TheVariants as port_refs
+use Rattle.conf_shape.specs.declared.kinds.TheConstants.{MOST_VID, MOST_PORT_NO}
 use Rattle.conf_shape.specs.declared.kinds.MapKind.{MapKind}
 use Rattle.conf_shape.specs.declared.raw.OneOrList.{OneOrList}
 use Rattle.conf_shape.specs.declared.raw.OneOrList.TheVariants as one_or_list
@@ -99,6 +100,10 @@ list_at each name pairs = map each (option_map_or items_of (value_at name pairs)
 abbrev pub one_or_list_at : {A : Type 0} → (Tree → A) → List ℕ → List Pair → OneOrList A
 one_or_list_at each name pairs = option_map_or (one_or_list_of each) (value_at name pairs) (one_or_list.List [])
 
+-- a number of so many bits, whose range is that of its row
+abbrev pub number_under : ℕ → List ℕ → List Pair → Option ℕ
+number_under bits name pairs = option_and_then (number_of 0 (2 ^ bits - 1)) (value_at name pairs)
+
 -- ---- what stands where a key isn't given, by the tables
 
 abbrev pub default_in : Option KeyRow → KeyDefault
@@ -130,7 +135,7 @@ abbrev pub permission_at : MapKind → List ℕ → List Pair → Bool
 permission_at m name pairs = unwrap_or (option_and_then permission_of (value_at name pairs)) (default_flag (default_of m name))
 
 abbrev pub number_at : MapKind → List ℕ → List Pair → ℕ
-number_at m name pairs = unwrap_or (option_and_then (number_of 0 (2 ^ 32 - 1)) (value_at name pairs)) (default_number (default_of m name))
+number_at m name pairs = unwrap_or (number_under 32 name pairs) (default_number (default_of m name))
 
 abbrev pub text_at : MapKind → List ℕ → List ℕ → List Pair → List ℕ
 text_at m name own pairs = unwrap_or (option_and_then text_of (value_at name pairs)) (default_text own (default_of m name))
@@ -152,7 +157,7 @@ port_or name (Some number) = port_refs.No number
 
 -- a port by its number or its name
 abbrev pub port_of : Tree → PortRef
-port_of t = port_or (label_of t) (number_of 1 0xffffff00 t)
+port_of t = port_or (label_of t) (number_of 1 MOST_PORT_NO t)
 
 abbrev pub vlan_or : List ℕ → Option ℕ → VlanRef
 vlan_or name None = vlan_refs.Name name
@@ -160,7 +165,7 @@ vlan_or name (Some number) = vlan_refs.Vid number
 
 -- a VLAN by its number or its name
 abbrev pub vlan_of : Tree → VlanRef
-vlan_of t = vlan_or (label_of t) (number_of 1 4094 t)
+vlan_of t = vlan_or (label_of t) (number_of 1 MOST_VID t)
 
 -- the number of a map: its own key, or what it gives where that is a name
 abbrev pub own_number : ℕ → ℕ → Key → Option Tree → Option ℕ

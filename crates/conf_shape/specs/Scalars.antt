@@ -7,6 +7,7 @@ use Rattle.conf_shape.specs.declared.refused.ConfCause.{ConfCause}
 use Rattle.conf_shape.specs.declared.refused.ConfCause.TheVariants.{WrongType, OutOfRange}
 use Rattle.conf_shape.specs.declared.kinds.Kind.{Kind}
 use Rattle.conf_shape.specs.declared.kinds.Kind.TheVariants.{One, Several, OneOrSeveral, Given, Asked, Map, Maps, MapOrMaps}
+use Rattle.conf_shape.specs.declared.kinds.TheConstants.{MOST_VID}
 use Rattle.conf_shape.specs.declared.kinds.MapKind.{MapKind}
 use Rattle.conf_shape.specs.declared.kinds.Scalar.{Scalar}
 use Rattle.conf_shape.specs.declared.kinds.Scalar.TheVariants.{Flag, Number, Name, Words, Label, Reference, Permission, NoEffect, StationMac, MaskedMac, Vip, Destination, Gateway, Prefix}
@@ -68,7 +69,7 @@ bits_scalar bits false = Number 0 (2 ^ bits - 1)
 
 -- by the field's row in the table of fields; a VLAN is asked for by its number
 abbrev pub asked_scalar : FieldId → Scalar
-asked_scalar VlanVid = Number 1 4094
+asked_scalar VlanVid = Number 1 MOST_VID
 asked_scalar id = bits_scalar (bits_of id) (may_be_masked id)
 
 -- what a scalar, an item of a list, a map has to be where a value of a kind stands

@@ -11,6 +11,7 @@ use Rattle.conf_shape.specs.declared.refused.ConfCause.TheVariants.{LeftOut, Out
 use Rattle.conf_shape.specs.declared.kinds.Kind.{Kind}
 use Rattle.conf_shape.specs.declared.kinds.Kind.TheVariants.{One, Given, Map, Maps}
 use Rattle.conf_shape.specs.declared.kinds.Scalar.TheVariants.{Number}
+use Rattle.conf_shape.specs.declared.kinds.TheConstants.{MOST_VID, MOST_PORT_NO}
 use Rattle.conf_shape.specs.declared.kinds.MapKind.{MapKind}
 use Rattle.conf_shape.specs.declared.kinds.MapKind.TheVariants.{Datapaths, Datapath, Interfaces, Interface, Vlans, Vlan, Acls, RuleItem, Routers, Router}
 use Rattle.conf_shape.specs.declared.kinds.Need.{Need}
@@ -106,8 +107,8 @@ abbrev pub under_key : MapKind → List Key → Key → Result Kind ConfCause
 under_key Datapaths earlier key = named_once Datapaths earlier key
 under_key Acls earlier key = named_once Acls earlier key
 under_key Routers earlier key = named_once Routers earlier key
-under_key Interfaces earlier key = numbered 1 0xffffff00 Interface key
-under_key Vlans earlier key = numbered 1 4094 Vlan key
+under_key Interfaces earlier key = numbered 1 MOST_PORT_NO Interface key
+under_key Vlans earlier key = numbered 1 MOST_VID Vlan key
 under_key m earlier key = listed_kind (keys_of m) (number_of m) earlier key
 
 abbrev pub is_needed : Option ℕ → Need → Bool

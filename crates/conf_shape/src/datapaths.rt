@@ -11,8 +11,8 @@ use crate::raw::{
     DropFlags, PortFlags, RawAclNames, RawDp, RawNames, RawPort, RawPorts, RawStackEnd,
 };
 use crate::reads::{
-    Read, ReadEntry, as_entries, as_number, entries_at, flag_at, given_number, list_at, number_at,
-    one_or_list_at, option_at, own_port_no, read_entries, text_at, value_at, words_at,
+    Read, ReadEntry, as_entries, entries_at, flag_at, list_at, number_at, one_or_list_at,
+    option_at, own_port_no, read_entries, text_at, u32_under, u64_under, value_at, words_at,
 };
 use conf_types::PortRef;
 use net_base::{DpId, NoMemory, PortNo, Text};
@@ -148,16 +148,13 @@ fn drop_flags(pairs: &[Pair]) -> DropFlags
 fn datapath_id(pairs: &[Pair]) -> DpId
     ensures { result ≡ datapath_id pairs.now }
 {
-    match value_at(pairs, "dp_id") {
-        Some(tree) => DpId(as_number(tree, 0, u64::MAX).unwrap_or(0)),
-        None => DpId(0),
-    }
+    DpId(u64_under(pairs, "dp_id").unwrap_or(0))
 }
 
 fn stack_priority(pairs: &[Pair]) -> Option<u32>
     ensures { result ≡ stack_priority pairs.now }
 {
-    given_number(entries_at(pairs, "stack"), "priority")
+    u32_under(entries_at(pairs, "stack"), "priority")
 }
 
 fn read_ports(alloc: Global, pairs: &[Pair]) -> Result<RawPorts, NoMemory>

@@ -3,10 +3,11 @@ ghost use Rattle.std.specs.List.{list_any};
 ghost use Rattle.std.specs.Option.{option_map};
 ghost use Rattle.std.specs.Str.{bytes_eq};
 ghost use Rattle.conf_shape.specs.declared.kinds.MapKind.TheVariants.{Interface, Vlan};
+ghost use Rattle.conf_shape.specs.declared.kinds.TheConstants.{MOST_PORT_NO, MOST_VID};
 ghost use Rattle.conf_shape.specs.Keys.{seen_row, seen_pair, seen_table};
 ghost use Rattle.conf_shape.specs.Sections.{map_keys, key_text, is_key, canonical, row_at, spells, given, number_of, row_kind, text_kind, listed_kind, has_text, number_or_name, named_kind, named_once, numbered, under_key, is_needed, lacks};
 
-use crate::kinds::{Kind, MapKind, Need, Scalar};
+use crate::kinds::{Kind, MOST_PORT_NO, MOST_VID, MapKind, Need, Scalar};
 use crate::refused::ConfCause;
 use crate::scalars::{is_name, within};
 use crate::tables::{Row, Table, table_of};
@@ -241,16 +242,16 @@ pub fn under_key(
 }
 
 fn interface_kind(key: &Key) -> Result<Kind, ConfCause>
-    ensures { result ≡ numbered 1 0xffffff00 Interface key.now }
+    ensures { result ≡ numbered 1 MOST_PORT_NO Interface key.now }
 {
-    let number = number_or_name(1, 0xffff_ff00, key)?;
+    let number = number_or_name(1, MOST_PORT_NO, key)?;
     Ok(Kind::Map(MapKind::Interface { number }))
 }
 
 fn vlan_kind(key: &Key) -> Result<Kind, ConfCause>
-    ensures { result ≡ numbered 1 4094 Vlan key.now }
+    ensures { result ≡ numbered 1 MOST_VID Vlan key.now }
 {
-    let number = number_or_name(1, 4094, key)?;
+    let number = number_or_name(1, MOST_VID, key)?;
     Ok(Kind::Map(MapKind::Vlan { number }))
 }
 

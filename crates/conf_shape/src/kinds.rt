@@ -1,5 +1,23 @@
 use net_base::FieldId;
 
+/// The greatest identifier of a VLAN; the least is 1 (IEEE 802.1Q, 9.6).
+pub const MOST_VID: u64 = 4094;
+
+/// The greatest number of a port; the least is 1 (OpenFlow 1.3, 7.2.1).
+pub const MOST_PORT_NO: u64 = 0xffff_ff00;
+
+/// A VLAN by its name or its number.
+pub const VLAN_NAMED: Scalar = Scalar::Reference {
+    low: 1,
+    high: MOST_VID,
+};
+
+/// A port by its name or its number.
+pub const PORT_NAMED: Scalar = Scalar::Reference {
+    low: 1,
+    high: MOST_PORT_NO,
+};
+
 /// What a value that is no list and no map has to be.
 #[derive(Clone, Copy)]
 pub enum Scalar {

@@ -1,13 +1,14 @@
 ghost use Rattle.std.specs.Prelude.{◌≡◌, ◌-◌, ◌^◌, map, option_and_then, IfOk};
 ghost use Rattle.std.specs.Option.{option_copied};
+ghost use Rattle.conf_shape.specs.declared.kinds.TheConstants.{MOST_PORT_NO, MOST_VID};
 ghost use Rattle.conf_shape.specs.Scalars.{within};
 ghost use Rattle.conf_shape.specs.Keys.{seen_default};
 ghost use Rattle.yaml_tree.specs.declared.tree.Tree.{Tree};
 ghost use Rattle.yaml_tree.specs.declared.tree.Pair.{Pair};
-ghost use Rattle.conf_shape.specs.Reads.{value_at, flag_of, permission_of, number_of, text_of, words_of, items_of, entries_of, one_or_list_of, words_at, entries_at, option_at, list_at, one_or_list_at, default_of, default_flag, default_number, default_text, flag_at, permission_at, number_at, text_at, label_of, port_of, vlan_of, own_number};
+ghost use Rattle.conf_shape.specs.Reads.{value_at, flag_of, permission_of, number_of, text_of, words_of, items_of, entries_of, one_or_list_of, words_at, entries_at, option_at, list_at, one_or_list_at, number_under, default_of, default_flag, default_number, default_text, flag_at, permission_at, number_at, text_at, label_of, port_of, vlan_of, own_number};
 
 use crate::keys::{is_key, row_at};
-use crate::kinds::{DefaultValue, MapKind};
+use crate::kinds::{DefaultValue, MOST_PORT_NO, MOST_VID, MapKind};
 use crate::raw::{OneOrList, VlanRef};
 use crate::scalars::within;
 use crate::tables::table_of;
@@ -52,7 +53,7 @@ fn as_permission(tree: &Tree) -> Option<bool>
 }
 
 /// A whole number from `low` to `high`.
-pub fn as_number(tree: &Tree, low: u64, high: u64) -> Option<u64>
+fn as_number(tree: &Tree, low: u64, high: u64) -> Option<u64>
     ensures { result ≡ number_of low high tree.now }
 {
     match tree {
@@ -62,7 +63,7 @@ pub fn as_number(tree: &Tree, low: u64, high: u64) -> Option<u64>
 }
 
 /// A whole number of 32 bits.
-pub fn as_u32(tree: &Tree) -> Option<u32>
+fn as_u32(tree: &Tree) -> Option<u32>
     ensures { result ≡ number_of 0 (2 ^ 32 - 1) tree.now }
 {
     u32::try_from(as_number(tree, 0, 0xffff_ffff)?).ok()
@@ -195,9 +196,16 @@ pub fn permission_at(map: MapKind, pairs: &[Pair], name: &str) -> bool
     }
 }
 
+/// The whole number of 64 bits under a key.
+pub fn u64_under(pairs: &[Pair], name: &str) -> Option<u64>
+    ensures { result ≡ number_under 64 name.now pairs.now }
+{
+    as_number(value_at(pairs, name)?, 0, u64::MAX)
+}
+
 /// The whole number of 32 bits under a key.
-pub fn given_number(pairs: &[Pair], name: &str) -> Option<u32>
-    ensures { result ≡ option_and_then (number_of 0 (2 ^ 32 - 1)) (value_at name.now pairs.now) }
+pub fn u32_under(pairs: &[Pair], name: &str) -> Option<u32>
+    ensures { result ≡ number_under 32 name.now pairs.now }
 {
     as_u32(value_at(pairs, name)?)
 }
@@ -206,7 +214,7 @@ pub fn given_number(pairs: &[Pair], name: &str) -> Option<u32>
 pub fn number_at(map: MapKind, pairs: &[Pair], name: &str) -> u32
     ensures { result ≡ number_at map name.now pairs.now }
 {
-    match given_number(pairs, name) {
+    match u32_under(pairs, name) {
         Some(n) => n,
         None => default_number(default_of(map, name)),
     }
@@ -346,20 +354,20 @@ impl Read for Text {
 
 /// The port with a number in its range.
 fn port_no(n: i128) -> Option<PortNo>
-    ensures { result ≡ within 1 0xffffff00 n }
+    ensures { result ≡ within 1 MOST_PORT_NO n }
 {
-    PortNo::new(u32::try_from(within(1, 0xffff_ff00, n)?).ok()?)
+    PortNo::new(u32::try_from(within(1, MOST_PORT_NO, n)?).ok()?)
 }
 
 /// The VLAN identifier with a number in its range.
 fn vid(n: i128) -> Option<Vid>
-    ensures { result ≡ within 1 4094 n }
+    ensures { result ≡ within 1 MOST_VID n }
 {
-    Vid::new(u16::try_from(within(1, 4094, n)?).ok()?)
+    Vid::new(u16::try_from(within(1, MOST_VID, n)?).ok()?)
 }
 
 fn as_port_no(tree: &Tree) -> Option<PortNo>
-    ensures { result ≡ number_of 1 0xffffff00 tree.now }
+    ensures { result ≡ number_of 1 MOST_PORT_NO tree.now }
 {
     match tree {
         Tree::Int(n) => port_no(*n),
@@ -368,7 +376,7 @@ fn as_port_no(tree: &Tree) -> Option<PortNo>
 }
 
 fn as_vid(tree: &Tree) -> Option<Vid>
-    ensures { result ≡ number_of 1 4094 tree.now }
+    ensures { result ≡ number_of 1 MOST_VID tree.now }
 {
     match tree {
         Tree::Int(n) => vid(*n),
@@ -378,7 +386,7 @@ fn as_vid(tree: &Tree) -> Option<Vid>
 
 /// The number of an interface: its own key, or what it gives where that is a name.
 pub fn own_port_no(key: &Key, given: Option<&Tree>) -> Option<PortNo>
-    ensures { result ≡ own_number 1 0xffffff00 key.now (option_copied given.entry) }
+    ensures { result ≡ own_number 1 MOST_PORT_NO key.now (option_copied given.entry) }
 {
     match key {
         Key::Int(n) => port_no(*n),
@@ -388,7 +396,7 @@ pub fn own_port_no(key: &Key, given: Option<&Tree>) -> Option<PortNo>
 
 /// The number of a VLAN: its own key, or what it gives where that is a name.
 pub fn own_vid(key: &Key, given: Option<&Tree>) -> Option<Vid>
-    ensures { result ≡ own_number 1 4094 key.now (option_copied given.entry) }
+    ensures { result ≡ own_number 1 MOST_VID key.now (option_copied given.entry) }
 {
     match key {
         Key::Int(n) => vid(*n),

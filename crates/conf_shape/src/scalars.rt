@@ -5,7 +5,7 @@ ghost use Rattle.conf_shape.specs.Scalars.{within, if_within, is_name, flag_faul
 use crate::addresses::{
     destination_cause, gateway_cause, masked_cause, prefix_cause, station_cause, vip_cause,
 };
-use crate::kinds::{Kind, MapKind, Scalar};
+use crate::kinds::{Kind, MOST_VID, MapKind, Scalar};
 use crate::refused::ConfCause;
 use net_base::FieldId;
 
@@ -90,7 +90,10 @@ pub fn asked_scalar(id: FieldId) -> Scalar
     ensures { result ≡ asked_scalar id }
 {
     if let FieldId::VlanVid = id {
-        return Scalar::Number { low: 1, high: 4094 };
+        return Scalar::Number {
+            low: 1,
+            high: MOST_VID,
+        };
     }
     if !id.may_be_masked() {
         let high = (1_u64 << id.bits()) - 1;

@@ -9,10 +9,11 @@ use crate::kinds::MapKind::{
 };
 use crate::kinds::Need::{Always, Never, UnlessNumbered};
 use crate::kinds::Scalar::{
-    Destination, Flag, Gateway, Label, Name, NoEffect, Number, Permission, Reference, StationMac,
-    Vip, Words,
+    Destination, Flag, Gateway, Label, Name, NoEffect, Number, Permission, StationMac, Vip, Words,
 };
-use crate::kinds::{DefaultValue, Kind, MapKind, Need, Scalar};
+use crate::kinds::{
+    DefaultValue, Kind, MOST_PORT_NO, MOST_VID, MapKind, Need, PORT_NAMED, VLAN_NAMED,
+};
 use crate::refused::ConfCause;
 use net_base::FieldId;
 
@@ -72,15 +73,6 @@ macro_rules! asked {
     };
 }
 
-/// A VLAN by its name or its number.
-const VLAN_NAMED: Scalar = Reference { low: 1, high: 4094 };
-
-/// A port by its name or its number.
-const PORT_NAMED: Scalar = Reference {
-    low: 1,
-    high: 0xffff_ff00,
-};
-
 const TOP: Table = Table {
     rows: &[
         row!("dps", Map(Datapaths), Always, Nothing),
@@ -90,8 +82,7 @@ const TOP: Table = Table {
         row!("version", One(number!(2, 2)), Never, Nothing),
     ],
     left_out: &["include", "include-optional", "meters"],
-    spellings: &[],
-    unlisted: ConfCause::UnknownKey,
+    ..NONE
 };
 
 const DATAPATH: Table = Table {
@@ -151,8 +142,7 @@ const DATAPATH: Table = Table {
         "use_classification",
         "lacp_timeout",
     ],
-    spellings: &[],
-    unlisted: ConfCause::UnknownKey,
+    ..NONE
 };
 
 const DATAPATH_STACK: Table = Table {
@@ -168,7 +158,7 @@ const INTERFACE: Table = Table {
             "number",
             Given {
                 low: 1,
-                high: 0xffff_ff00
+                high: MOST_PORT_NO
             },
             UnlessNumbered,
             OwnKey
@@ -204,8 +194,7 @@ const INTERFACE: Table = Table {
         "restricted_bcast_arpnd",
         "coprocessor",
     ],
-    spellings: &[],
-    unlisted: ConfCause::UnknownKey,
+    ..NONE
 };
 
 const PORT_STACK: Table = Table {
@@ -213,14 +202,20 @@ const PORT_STACK: Table = Table {
         row!("dp", One(Words), Always, Nothing),
         row!("port", One(PORT_NAMED), Always, Nothing),
     ],
-    left_out: &[],
-    spellings: &[],
-    unlisted: ConfCause::UnknownKey,
+    ..NONE
 };
 
 const VLAN: Table = Table {
     rows: &[
-        row!("vid", Given { low: 1, high: 4094 }, UnlessNumbered, OwnKey),
+        row!(
+            "vid",
+            Given {
+                low: 1,
+                high: MOST_VID
+            },
+            UnlessNumbered,
+            OwnKey
+        ),
         row!("name", One(Name), Never, OwnKey),
         row!("description", One(Name), Never, OwnName),
         row!("acl_in", One(Label), Never, Nothing),
@@ -243,15 +238,12 @@ const VLAN: Table = Table {
         "proactive_arp_limit",
         "proactive_nd_limit",
     ],
-    spellings: &[],
-    unlisted: ConfCause::UnknownKey,
+    ..NONE
 };
 
 const ROUTE_ITEM: Table = Table {
     rows: &[row!("route", Map(Route), Always, Nothing)],
-    left_out: &[],
-    spellings: &[],
-    unlisted: ConfCause::UnknownKey,
+    ..NONE
 };
 
 const ROUTE: Table = Table {
@@ -259,16 +251,12 @@ const ROUTE: Table = Table {
         row!("ip_dst", One(Destination), Always, Nothing),
         row!("ip_gw", One(Gateway), Always, Nothing),
     ],
-    left_out: &[],
-    spellings: &[],
-    unlisted: ConfCause::UnknownKey,
+    ..NONE
 };
 
 const RULE_ITEM: Table = Table {
     rows: &[row!("rule", Map(Rule), Always, Nothing)],
-    left_out: &[],
-    spellings: &[],
-    unlisted: ConfCause::UnknownKey,
+    ..NONE
 };
 
 const RULE: Table = Table {
@@ -324,8 +312,7 @@ const ACTIONS: Table = Table {
         row!("output", MapOrMaps(Output), Never, Nothing),
     ],
     left_out: &["meter", "ct", "force_port_vlan"],
-    spellings: &[],
-    unlisted: ConfCause::UnknownKey,
+    ..NONE
 };
 
 const OUTPUT: Table = Table {
@@ -342,15 +329,13 @@ const OUTPUT: Table = Table {
         "failover",
         "tunnel",
     ],
-    spellings: &[],
-    unlisted: ConfCause::UnknownKey,
+    ..NONE
 };
 
 const ROUTER: Table = Table {
     rows: &[row!("vlans", Several(VLAN_NAMED), Always, Nothing)],
     left_out: &["bgp"],
-    spellings: &[],
-    unlisted: ConfCause::UnknownKey,
+    ..NONE
 };
 
 /// The keys of a map whose keys are names or numbers of the user's.

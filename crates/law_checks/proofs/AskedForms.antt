@@ -16,6 +16,7 @@ use Rattle.yaml_tree.specs.declared.tree.Tree.TheOpen.{Tree-F}
 use Rattle.yaml_tree.specs.declared.tree.Tree.TheOpen as tree
 use Rattle.yaml_tree.specs.declared.tree.Tree.TheFolds.{fold-roll-Tree}
 use Rattle.conf_types.specs.RuleFields.{IsMasked, IsPrefix, MayAskBits, MayAsk}
+use Rattle.conf_shape.specs.declared.kinds.TheConstants.{MOST_VID}
 use Rattle.conf_shape.specs.declared.kinds.Kind.{Kind}
 use Rattle.conf_shape.specs.declared.kinds.Kind.TheVariants.{One, Asked}
 use Rattle.conf_shape.specs.declared.kinds.Scalar.TheVariants.{Number, MaskedMac, Prefix}
@@ -77,7 +78,7 @@ by_row VlanVid port tag = absurd cc
 by_row id port tag = (refl, refl, λ field h. h)
 
 vlan_form : IsNumberField VlanVid
-vlan_form = record { low = 1; high = 4094; scalar = refl; small = omega arith; may = λ n least most. record { from = omega arith; to = omega arith; whole = refl } }
+vlan_form = record { low = 1; high = MOST_VID; scalar = refl; small = omega arith; may = λ n least most. record { from = omega arith; to = omega arith; whole = refl } }
 
 module _ (id : FieldId) (port : (number_of id == 0) ≡ false) (tag : (number_of id == 6) ≡ false) where
   mac_form : is_mac id ≡ true → IsMacField id

@@ -1,4 +1,4 @@
--- Keys that take a number and have a default, by the range of their rows.
+-- Keys that take a number, by the range of their rows.
 use Rattle.std.proofs.Common.{◌≡◌, ℕ, ◌^◌, ◌<◌, ◌≤◌, ◌&&◌, Bool, true, false, List, [], None, Ok, refl}
 use Rattle.std.specs.Prelude.{codes, nat_lt, nat_le, Result}
 use Rattle.std.proofs.lemmas.Bool.{and_parts, ltb-true, leb-true}
@@ -27,41 +27,69 @@ most_of m name = (range_in (under_key m [] (key.Text name))).1
 abbrev pub ranged : MapKind → List ℕ → Scalar
 ranged m name = Number (least_of m name) (most_of m name)
 
--- a range of 32 bits, with the default in it
-abbrev has_range : ℕ → Result Kind ConfCause → Bool
-has_range default (Ok (One (Number low high))) = nat_lt high (2 ^ 32) && (nat_le low default && nat_le default high)
-has_range default _ = false
+-- ---- a number of so many bits
+
+abbrev fits : ℕ → Result Kind ConfCause → Bool
+fits bits (Ok (One (Number low high))) = nat_lt high (2 ^ bits)
+fits bits _ = false
 
 -- what stands under the key is a number of this range
-pub record IsRange (default : ℕ) (kind : Result Kind ConfCause) : Type 0 where
+pub record IsRange (bits : ℕ) (kind : Result Kind ConfCause) : Type 0 where
   pub takes : kind ≡ Ok (One (Number (range_in kind).0 (range_in kind).1))
-  pub small : (range_in kind).1 < 2 ^ 32
+  pub small : (range_in kind).1 < 2 ^ bits
+
+abbrev pub HasRange : ℕ → MapKind → List ℕ → Type 0
+HasRange bits m name = IsRange bits (under_key m [] (key.Text name))
+
+range_is : (bits : ℕ) (kind : Result Kind ConfCause) → fits bits kind ≡ true → IsRange bits kind
+range_is bits (Ok (One (Number low high))) is = record { takes = refl; small = ltb-true high (2 ^ bits) is }
+range_is bits kind is = absurd cc
+
+-- ---- a number of 32 bits with a default, which is in its range
+
+abbrev holds : ℕ → ℕ × ℕ → Bool
+holds default range = nat_le range.0 default && nat_le default range.1
+
+pub record IsDefault (default : ℕ) (kind : Result Kind ConfCause) : Type 0 where
+  pub range : IsRange 32 kind
   pub least : (range_in kind).0 ≤ default
   pub most : default ≤ (range_in kind).1
 
-abbrev pub HasRange : MapKind → List ℕ → Type 0
-HasRange m name = IsRange (default_number (default_of m name)) (under_key m [] (key.Text name))
+abbrev pub HasDefault : MapKind → List ℕ → Type 0
+HasDefault m name = IsDefault (default_number (default_of m name)) (under_key m [] (key.Text name))
 
-range_is : (default : ℕ) (kind : Result Kind ConfCause) → has_range default kind ≡ true → IsRange default kind
-range_is default (Ok (One (Number low high))) is =
-    let sides = and_parts (nat_lt high (2 ^ 32)) (nat_le low default && nat_le default high) is in
-    let ends = and_parts (nat_le low default) (nat_le default high) sides.1 in
-    record { takes = refl; small = ltb-true high (2 ^ 32) sides.0; least = leb-true low default ends.0; most = leb-true default high ends.1 }
-range_is default kind is = absurd cc
+default_is : (default : ℕ) (kind : Result Kind ConfCause) → fits 32 kind ≡ true → holds default (range_in kind) ≡ true → IsDefault default kind
+default_is default kind small is =
+    let ends = and_parts (nat_le (range_in kind).0 default) (nat_le default (range_in kind).1) is in
+    record { range = range_is 32 kind small; least = leb-true (range_in kind).0 default ends.0; most = leb-true default (range_in kind).1 ends.1 }
 
--- tests of the tables, which computing answers
-pub timeout_range : HasRange maps.Datapath (codes "timeout")
+-- ---- tests of the tables, which computing answers
+
+module _ (m : MapKind) (name : List ℕ) where
+  has_range : (bits : ℕ) → fits bits (under_key m [] (key.Text name)) ≡ true → HasRange bits m name
+  has_range bits is = range_is bits (under_key m [] (key.Text name)) is
+
+  has_default : fits 32 (under_key m [] (key.Text name)) ≡ true → holds (default_number (default_of m name)) (least_of m name, most_of m name) ≡ true → HasDefault m name
+  has_default small is = default_is (default_number (default_of m name)) (under_key m [] (key.Text name)) small is
+
+pub dp_id_range : HasRange 64 maps.Datapath (codes "dp_id")
+dp_id_range = has_range maps.Datapath (codes "dp_id") 64 refl
+
+pub priority_range : HasRange 32 maps.DatapathStack (codes "priority")
+priority_range = has_range maps.DatapathStack (codes "priority") 32 refl
+
+pub timeout_default : HasDefault maps.Datapath (codes "timeout")
 unfolding default_of
-timeout_range = range_is (default_number (default_of maps.Datapath (codes "timeout"))) (under_key maps.Datapath [] (key.Text (codes "timeout"))) refl
+timeout_default = has_default maps.Datapath (codes "timeout") refl refl
 
-pub arp_timeout_range : HasRange maps.Datapath (codes "arp_neighbor_timeout")
+pub arp_timeout_default : HasDefault maps.Datapath (codes "arp_neighbor_timeout")
 unfolding default_of
-arp_timeout_range = range_is (default_number (default_of maps.Datapath (codes "arp_neighbor_timeout"))) (under_key maps.Datapath [] (key.Text (codes "arp_neighbor_timeout"))) refl
+arp_timeout_default = has_default maps.Datapath (codes "arp_neighbor_timeout") refl refl
 
-pub port_hosts_range : HasRange (maps.Interface None) (codes "max_hosts")
+pub port_hosts_default : HasDefault (maps.Interface None) (codes "max_hosts")
 unfolding default_of
-port_hosts_range = range_is (default_number (default_of (maps.Interface None) (codes "max_hosts"))) (under_key (maps.Interface None) [] (key.Text (codes "max_hosts"))) refl
+port_hosts_default = has_default (maps.Interface None) (codes "max_hosts") refl refl
 
-pub vlan_hosts_range : HasRange (maps.Vlan None) (codes "max_hosts")
+pub vlan_hosts_default : HasDefault (maps.Vlan None) (codes "max_hosts")
 unfolding default_of
-vlan_hosts_range = range_is (default_number (default_of (maps.Vlan None) (codes "max_hosts"))) (under_key (maps.Vlan None) [] (key.Text (codes "max_hosts"))) refl
+vlan_hosts_default = has_default (maps.Vlan None) (codes "max_hosts") refl refl

@@ -5,6 +5,7 @@ use Rattle.std.specs.List.{AllByRecursion, list_any}
 use Rattle.std.specs.Option.{option_map, option_map_or}
 use Rattle.std.proofs.lemmas.Bool.{or_left, or_right, true≢false}
 use Rattle.std.proofs.lemmas.List.Folds.{list_any-append}
+use Rattle.std.proofs.lemmas.Nat.{pow_pos}
 use Rattle.std.proofs.lemmas.Slice.Eq.{bytes_eq-Decides}
 use Rattle.net_base.specs.AddressReading.{spelled_mac, pair_at, next_at}
 use Rattle.yaml_tree.specs.declared.tree.Tree.{Tree, out-Tree}
@@ -20,20 +21,21 @@ use Rattle.conf_shape.specs.declared.raw.OneOrList.TheVariants as one_or_list
 use Rattle.conf_shape.specs.declared.kinds.Kind.{Kind}
 use Rattle.conf_shape.specs.declared.kinds.Kind.TheVariants.{One, Several, Map, Maps}
 use Rattle.conf_shape.specs.declared.kinds.Scalar.TheVariants.{Name, StationMac, Vip, Destination}
+use Rattle.conf_shape.specs.declared.kinds.TheConstants.{MOST_VID, MOST_PORT_NO}
 use Rattle.conf_shape.specs.declared.kinds.MapKind.{MapKind}
 use Rattle.conf_shape.specs.declared.kinds.MapKind.TheVariants as maps
 use Rattle.conf_shape.specs.Addresses.{station_cause}
 use Rattle.conf_shape.specs.Faults.{faults_of, entry_of, map_faults, first_fault}
 use Rattle.conf_shape.specs.Keys.{OwnKey, OwnName}
 use Rattle.conf_shape.specs.Raw.{names_by, port_of_entry, datapath_of_entry, vip_of, route_of, mac_at, vlan_of_entry, output_of, rule_with, rule_of, acl_of_entry, router_of_entry, raw_of}
-use Rattle.conf_shape.specs.Reads.{value_at, number_of, words_of, text_of, items_of, entries_of, entries_at, words_at, text_in, text_at, default_of, default_number, default_text, port_or, port_of, vlan_or, vlan_of, label_of, own_number, number_at, one_or_list_in, one_or_list_of}
+use Rattle.conf_shape.specs.Reads.{value_at, number_of, words_of, text_of, items_of, entries_of, entries_at, words_at, text_in, text_at, default_of, default_number, default_text, number_under, port_or, port_of, vlan_or, vlan_of, label_of, own_number, number_at, one_or_list_in, one_or_list_of}
 use Rattle.conf_shape.specs.Sections.{key_text, has_text, named_once, named_kind, under_key}
 use Rattle.conf_shape.specs.Values.{ip_of, net_of}
 use Rattle.conf_shape.specs.Written.{IsRight, Takes}
 use Rattle.conf_resolve.specs.InRange.{NamesVlan, AreNames, PortIsInRange, DpIsInRange, VlanIsInRange, OutputIsInRange, RuleIsInRange, IsInRange}
 use Rattle.conf_resolve.specs.Resolved.{items_of as outputs_of}
 use Rattle.law_checks.proofs.Right.{document_right, map_right, entry_right, each_right, value_right, takes_by, below_right, items_right, all_through, all_read, listed_right}
-use Rattle.law_checks.proofs.Bounds.{least_of, most_of, ranged, HasRange, timeout_range, arp_timeout_range, port_hosts_range, vlan_hosts_range}
+use Rattle.law_checks.proofs.Bounds.{least_of, most_of, ranged, HasDefault, timeout_default, arp_timeout_default, port_hosts_default, vlan_hosts_default}
 use Rattle.law_checks.proofs.Values.{number_or, own_range, number_bounds, within_bounds, text_right, text_or, name_or, named_right, numbered_right}
 use Rattle.law_checks.proofs.Addresses.{IsDestination, station_right, vip_right, network_right, no_network, gateway_below}
 use Rattle.law_checks.proofs.Fields.{fields_may, fields_apart}
@@ -53,9 +55,22 @@ module _ (m : MapKind) (label : List ℕ) (pairs : List Pair) where
       }
 
 -- a number with a default
-number_in_range : (m : MapKind) (name : List ℕ) (pairs : List Pair) → HasRange m name
+number_in_range : (m : MapKind) (name : List ℕ) (pairs : List Pair) → HasDefault m name
     → IfSome (value_at name pairs) (λ t. faults_of t (One (ranged m name)) ≡ []) → (least_of m name ≤ number_at m name pairs) × (number_at m name pairs ≤ most_of m name)
-number_in_range m name pairs range h = number_or (least_of m name) (most_of m name) (default_number (default_of m name)) range.small range.least range.most (value_at name pairs) h
+number_in_range m name pairs range h = number_or (least_of m name) (most_of m name) (default_number (default_of m name)) range.range.small range.least range.most (value_at name pairs) h
+
+-- whatever stands under a key, what is read as a number of so many bits is one
+number_small : (bits : ℕ) (o : Option Tree) → IfSome (option_and_then (number_of 0 (2 ^ bits - 1)) o) (λ n. n < 2 ^ bits)
+number_small bits None = tt
+number_small bits (Some t) = by (number_of 0 (2 ^ bits - 1) t) (number_bounds 0 (2 ^ bits - 1) t)
+  where
+    by : (o : Option ℕ) → IfSome o (λ n. (0 ≤ n) × (n ≤ 2 ^ bits - 1)) → IfSome o (λ n. n < 2 ^ bits)
+    by None h = tt
+    by (Some n) h = omega (arith, h.1, pow_pos bits)
+
+small_or_zero : (bits : ℕ) (o : Option ℕ) → IfSome o (λ n. n < 2 ^ bits) → unwrap_or o 0 < 2 ^ bits
+small_or_zero bits None h = pow_pos bits
+small_or_zero bits (Some n) h = h
 
 -- the number of an interface or a VLAN
 own_bounds : (low high : ℕ) (k : Key) (o : Option Tree) → IfSome (own_number low high k o) (λ n. (low ≤ n) × (n ≤ high))
@@ -64,16 +79,16 @@ own_bounds low high (key.Text text) None = tt
 own_bounds low high (key.Text text) (Some t) = number_bounds low high t
 
 names_vlan : (t : Tree) → NamesVlan (vlan_of t)
-names_vlan t = by (number_of 1 4094 t) (number_bounds 1 4094 t)
+names_vlan t = by (number_of 1 MOST_VID t) (number_bounds 1 MOST_VID t)
   where
-    by : (o : Option ℕ) → IfSome o (λ n. (1 ≤ n) × (n ≤ 4094)) → NamesVlan (vlan_or (label_of t) o)
+    by : (o : Option ℕ) → IfSome o (λ n. (1 ≤ n) × (n ≤ MOST_VID)) → NamesVlan (vlan_or (label_of t) o)
     by None h = tt
     by (Some n) h = record { least = h.0; most = h.1 }
 
 names_port : (t : Tree) → NamesPort (port_of t)
-names_port t = by (number_of 1 0xffffff00 t) (number_bounds 1 0xffffff00 t)
+names_port t = by (number_of 1 MOST_PORT_NO t) (number_bounds 1 MOST_PORT_NO t)
   where
-    by : (o : Option ℕ) → IfSome o (λ n. (1 ≤ n) × (n ≤ 0xffffff00)) → NamesPort (port_or (label_of t) o)
+    by : (o : Option ℕ) → IfSome o (λ n. (1 ≤ n) × (n ≤ MOST_PORT_NO)) → NamesPort (port_or (label_of t) o)
     by None h = tt
     by (Some n) h = record { least = h.0; most = h.1 }
 
@@ -93,14 +108,14 @@ module _ (number : Option ℕ) where
   port_names label pairs is right =
       names_right (maps.Interface None) label pairs refl refl is (port_takes (codes "name") (One Name) refl (λ n. refl) pairs right) (port_takes (codes "description") (One Name) refl (λ n. refl) pairs right)
 
-  port_hosts : (pairs : List Pair) → IsRight (maps.Interface number) pairs → (1 ≤ number_at (maps.Interface None) (codes "max_hosts") pairs) × (number_at (maps.Interface None) (codes "max_hosts") pairs ≤ 16384)
+  port_hosts : (pairs : List Pair) → IsRight (maps.Interface number) pairs → (least_of (maps.Interface None) (codes "max_hosts") ≤ number_at (maps.Interface None) (codes "max_hosts") pairs) × (number_at (maps.Interface None) (codes "max_hosts") pairs ≤ most_of (maps.Interface None) (codes "max_hosts"))
   port_hosts pairs right =
-      number_in_range (maps.Interface None) (codes "max_hosts") pairs port_hosts_range (port_takes (codes "max_hosts") (One (ranged (maps.Interface None) (codes "max_hosts"))) refl (λ n. refl) pairs right)
+      number_in_range (maps.Interface None) (codes "max_hosts") pairs port_hosts_default (port_takes (codes "max_hosts") (One (ranged (maps.Interface None) (codes "max_hosts"))) refl (λ n. refl) pairs right)
 
 port_right : (p : Pair) (number : Option ℕ) → IsLabel (key_text p.key) → IsRight (maps.Interface number) (entries_of p.value) → PortIsInRange (port_of_entry p)
 port_right p number label right =
     let pairs : List Pair = entries_of p.value in
-    let no = own_range 1 0xffffff00 1 (omega arith) (omega arith) (own_number 1 0xffffff00 p.key (value_at (codes "number") pairs)) (own_bounds 1 0xffffff00 p.key (value_at (codes "number") pairs)) in
+    let no = own_range 1 MOST_PORT_NO 1 (omega arith) (omega arith) (own_number 1 MOST_PORT_NO p.key (value_at (codes "number") pairs)) (own_bounds 1 MOST_PORT_NO p.key (value_at (codes "number") pairs)) in
     let hosts = port_hosts number pairs right in
     record {
       number = record { least = no.0; most = no.1 };
@@ -115,7 +130,7 @@ ports_right : (pairs : List Pair) → IsRight maps.Interfaces pairs → AllByRec
 ports_right pairs right =
     all_through (λ p. PortIsInRange (port_of_entry p)) PortIsInRange port_of_entry (λ p h. h) pairs
     (each_right maps.Interfaces (λ p. PortIsInRange (port_of_entry p)) (λ earlier p h.
-    let k = numbered_right 1 0xffffff00 maps.Interface p.key h.0 (omega arith) h.1 in
+    let k = numbered_right 1 MOST_PORT_NO maps.Interface p.key h.0 (omega arith) h.1 in
     port_right p k.0 k.2 (map_right (maps.Interface k.0) p.value (subst (λ kind. faults_of p.value kind ≡ []) k.1 h.2))) [] pairs right)
 
 -- ---- datapaths
@@ -126,36 +141,23 @@ dp_names label pairs is right = names_right maps.Datapath label pairs refl refl 
 
 dp_timeout : (pairs : List Pair) → IsRight maps.Datapath pairs → IsTimeout (number_at maps.Datapath (codes "timeout") pairs)
 dp_timeout pairs right =
-    let r = number_in_range maps.Datapath (codes "timeout") pairs timeout_range (value_right maps.Datapath (codes "timeout") (One (ranged maps.Datapath (codes "timeout"))) refl pairs right) in
+    let r = number_in_range maps.Datapath (codes "timeout") pairs timeout_default (value_right maps.Datapath (codes "timeout") (One (ranged maps.Datapath (codes "timeout"))) refl pairs right) in
     record { least = r.0; most = r.1 }
 
 dp_arp_timeout : (pairs : List Pair) → IsRight maps.Datapath pairs → IsTimeout (number_at maps.Datapath (codes "arp_neighbor_timeout") pairs)
 dp_arp_timeout pairs right =
-    let r = number_in_range maps.Datapath (codes "arp_neighbor_timeout") pairs arp_timeout_range (value_right maps.Datapath (codes "arp_neighbor_timeout") (One (ranged maps.Datapath (codes "arp_neighbor_timeout"))) refl pairs right) in
+    let r = number_in_range maps.Datapath (codes "arp_neighbor_timeout") pairs arp_timeout_default (value_right maps.Datapath (codes "arp_neighbor_timeout") (One (ranged maps.Datapath (codes "arp_neighbor_timeout"))) refl pairs right) in
     record { least = r.0; most = r.1 }
-
-dp_id : (o : Option Tree) → unwrap_or (option_and_then (number_of 0 (2 ^ 64 - 1)) o) 0 < 2 ^ 64
-dp_id None = omega arith
-dp_id (Some t) = let r = own_range 0 (2 ^ 64 - 1) 0 (omega arith) (omega arith) (number_of 0 (2 ^ 64 - 1) t) (number_bounds 0 (2 ^ 64 - 1) t) in omega (arith, r.1)
-
--- whatever stands there, what is read as a priority is one
-dp_priority : (o : Option Tree) → IfSome (option_and_then (number_of 0 (2 ^ 32 - 1)) o) (λ priority. priority < 2 ^ 32)
-dp_priority None = tt
-dp_priority (Some t) = by (number_of 0 (2 ^ 32 - 1) t) (number_bounds 0 (2 ^ 32 - 1) t)
-  where
-    by : (o : Option ℕ) → IfSome o (λ n. (0 ≤ n) × (n ≤ 2 ^ 32 - 1)) → IfSome o (λ priority. priority < 2 ^ 32)
-    by None h = tt
-    by (Some n) h = omega (arith, h.1)
 
 dp_right : (p : Pair) → IsLabel (key_text p.key) → IsRight maps.Datapath (entries_of p.value) → DpIsInRange (datapath_of_entry p)
 dp_right p label right =
     let pairs : List Pair = entries_of p.value in
     record {
-      id = dp_id (value_at (codes "dp_id") pairs);
+      id = small_or_zero 64 (number_under 64 (codes "dp_id") pairs) (number_small 64 (value_at (codes "dp_id") pairs));
       names = dp_names (key_text p.key) pairs label right;
       timeout = dp_timeout pairs right;
       arp_timeout = dp_arp_timeout pairs right;
-      stack_priority = dp_priority (value_at (codes "priority") (entries_at (codes "stack") pairs));
+      stack_priority = number_small 32 (value_at (codes "priority") (entries_at (codes "stack") pairs));
       ports = below_right maps.Interfaces (λ pairs. AllByRecursion PortIsInRange (map port_of_entry pairs)) ports_right tt (value_at (codes "interfaces") pairs) (value_right maps.Datapath (codes "interfaces") (Map maps.Interfaces) refl pairs right);
     }
 
@@ -209,9 +211,9 @@ module _ (number : Option ℕ) where
   vlan_names label pairs is right =
       names_right (maps.Vlan None) label pairs refl refl is (vlan_takes (codes "name") (One Name) refl (λ n. refl) pairs right) (vlan_takes (codes "description") (One Name) refl (λ n. refl) pairs right)
 
-  vlan_hosts : (pairs : List Pair) → IsRight (maps.Vlan number) pairs → (1 ≤ number_at (maps.Vlan None) (codes "max_hosts") pairs) × (number_at (maps.Vlan None) (codes "max_hosts") pairs ≤ 16384)
+  vlan_hosts : (pairs : List Pair) → IsRight (maps.Vlan number) pairs → (least_of (maps.Vlan None) (codes "max_hosts") ≤ number_at (maps.Vlan None) (codes "max_hosts") pairs) × (number_at (maps.Vlan None) (codes "max_hosts") pairs ≤ most_of (maps.Vlan None) (codes "max_hosts"))
   vlan_hosts pairs right =
-      number_in_range (maps.Vlan None) (codes "max_hosts") pairs vlan_hosts_range (vlan_takes (codes "max_hosts") (One (ranged (maps.Vlan None) (codes "max_hosts"))) refl (λ n. refl) pairs right)
+      number_in_range (maps.Vlan None) (codes "max_hosts") pairs vlan_hosts_default (vlan_takes (codes "max_hosts") (One (ranged (maps.Vlan None) (codes "max_hosts"))) refl (λ n. refl) pairs right)
 
   vlan_mac : (pairs : List Pair) → IsRight (maps.Vlan number) pairs → IsStation (mac_at pairs).0
   vlan_mac pairs right =
@@ -222,7 +224,7 @@ module _ (number : Option ℕ) where
 vlan_right : (p : Pair) (number : Option ℕ) → IsLabel (key_text p.key) → IsRight (maps.Vlan number) (entries_of p.value) → VlanIsInRange (vlan_of_entry p)
 vlan_right p number label right =
     let pairs : List Pair = entries_of p.value in
-    let no = own_range 1 4094 1 (omega arith) (omega arith) (own_number 1 4094 p.key (value_at (codes "vid") pairs)) (own_bounds 1 4094 p.key (value_at (codes "vid") pairs)) in
+    let no = own_range 1 MOST_VID 1 (omega arith) (omega arith) (own_number 1 MOST_VID p.key (value_at (codes "vid") pairs)) (own_bounds 1 MOST_VID p.key (value_at (codes "vid") pairs)) in
     let hosts = vlan_hosts number pairs right in
     record {
       number = record { least = no.0; most = no.1 };
@@ -238,7 +240,7 @@ vlans_right : (pairs : List Pair) → IsRight maps.Vlans pairs → AllByRecursio
 vlans_right pairs right =
     all_through (λ p. VlanIsInRange (vlan_of_entry p)) VlanIsInRange vlan_of_entry (λ p h. h) pairs
     (each_right maps.Vlans (λ p. VlanIsInRange (vlan_of_entry p)) (λ earlier p h.
-    let k = numbered_right 1 4094 maps.Vlan p.key h.0 (omega arith) h.1 in
+    let k = numbered_right 1 MOST_VID maps.Vlan p.key h.0 (omega arith) h.1 in
     vlan_right p k.0 k.2 (map_right (maps.Vlan k.0) p.value (subst (λ kind. faults_of p.value kind ≡ []) k.1 h.2))) [] pairs right)
 
 -- ---- ACLs and routers

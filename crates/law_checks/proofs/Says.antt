@@ -11,11 +11,12 @@ use Rattle.conf_types.specs.declared.vlan.Route.{Route}
 use Rattle.conf_shape.specs.declared.refused.ConfCause.TheVariants.{OutOfRange}
 use Rattle.conf_shape.specs.declared.kinds.Kind.{Kind}
 use Rattle.conf_shape.specs.declared.kinds.Kind.TheVariants.{One, Several, OneOrSeveral, Given, Map, Maps, MapOrMaps}
+use Rattle.conf_shape.specs.declared.kinds.TheConstants.{MOST_VID, MOST_PORT_NO, VLAN_NAMED, PORT_NAMED}
 use Rattle.conf_shape.specs.declared.kinds.MapKind.{MapKind}
 use Rattle.conf_shape.specs.declared.kinds.MapKind.TheVariants as maps
 use Rattle.conf_shape.specs.declared.kinds.Need.TheVariants.{Always, UnlessNumbered}
 use Rattle.conf_shape.specs.declared.kinds.Scalar.{Scalar}
-use Rattle.conf_shape.specs.declared.kinds.Scalar.TheVariants.{Flag, Number, Name, Words, Label, Reference, Permission, StationMac, Vip, Destination, Gateway}
+use Rattle.conf_shape.specs.declared.kinds.Scalar.TheVariants.{Flag, Number, Name, Words, Label, Permission, StationMac, Vip, Destination, Gateway}
 use Rattle.conf_shape.specs.declared.raw.OneOrList.TheVariants as several
 use Rattle.conf_shape.specs.declared.raw.RawConf.{RawConf}
 use Rattle.conf_shape.specs.declared.raw.RawOutput.{RawOutput}
@@ -25,7 +26,7 @@ use Rattle.conf_shape.specs.declared.raw.RawStackEnd.{RawStackEnd}
 use Rattle.conf_shape.specs.Faults.{faults_of, first_fault}
 use Rattle.conf_shape.specs.Keys.{Nothing, OwnKey, row, keys_of}
 use Rattle.conf_shape.specs.Raw.{acls_at, names_by, port_flag_keys, port_flags_by, port_flags, port_with, port_of_entry, drop_flag_keys, drop_flags_by, drop_flags, datapath_with, datapath_of_entry, vip_of, route_of, mac_at, vlan_with, vlan_of_entry, output_of, rule_with, rule_of, acl_of_entry, router_of_entry, raw_of}
-use Rattle.conf_shape.specs.Reads.{value_at, permission_of, number_of, text_of, words_of, items_of, entries_of, words_at, entries_at, option_at, list_at, one_or_list_of, default_of, default_flag, default_number, default_text, flag_at, number_at, text_at, label_of, port_of, vlan_of}
+use Rattle.conf_shape.specs.Reads.{value_at, permission_of, number_of, text_of, words_of, items_of, entries_of, words_at, entries_at, option_at, list_at, one_or_list_of, number_under, default_of, default_flag, default_number, default_text, flag_at, number_at, text_at, label_of, port_of, vlan_of}
 use Rattle.conf_shape.specs.Sections.{key_text, row_at, named_kind, number_or_name}
 use Rattle.conf_shape.specs.Values.{mac_of, net_of, ip_of}
 use Rattle.conf_shape.specs.Written.{IsRight, Takes, IsTextAlone}
@@ -36,7 +37,7 @@ use Rattle.law_checks.proofs.Right.{document_fine, each_right, value_right}
 use Rattle.law_checks.proofs.Values.{named_right}
 use Rattle.law_checks.proofs.KeyRanges.{port_takes, vlan_takes, once_right}
 use Rattle.law_checks.proofs.Asked.{fields_say}
-use Rattle.law_checks.proofs.Bounds.{least_of, most_of, ranged, HasRange, timeout_range, arp_timeout_range, port_hosts_range, vlan_hosts_range}
+use Rattle.law_checks.proofs.Bounds.{least_of, most_of, ranged, HasRange, HasDefault, dp_id_range, priority_range, timeout_default, arp_timeout_default, port_hosts_default, vlan_hosts_default}
 use Rattle.law_checks.proofs.Flags.{port_fields, drop_fields, ports_take, flag_says, flags_say}
 use Rattle.law_checks.proofs.Stands.{stands, is_there, needed_there, number_stands, option_number_stands, text_stands, permission_stands, label_stands, vlan_stands, port_stands, mac_stands, vip_stands, destination_stands, gateway_stands, each_map, list_stands, map_stands, ports_stand, maps_stand, IsRightBy, numbered_stands, numbered_found}
 
@@ -48,11 +49,24 @@ needed : {A : Type 0} (m : MapKind) (name : List ℕ) (kind : Kind) → row_at n
 needed m name kind at takes P read some pairs right = is_there P kind read some (value_at name pairs) (needed_there m (row name kind Always Nothing) at refl pairs right) (value_right m name kind takes pairs right)
 
 module _ (m : MapKind) (name : List ℕ) (pairs : List Pair) where
-  number_says : HasRange m name → IfSome (value_at name pairs) (λ t. faults_of t (One (ranged m name)) ≡ []) → NumberSays m name pairs (number_at m name pairs)
-  number_says range h =
+  number_says : HasDefault m name → IfSome (value_at name pairs) (λ t. faults_of t (One (ranged m name)) ≡ []) → NumberSays m name pairs (number_at m name pairs)
+  number_says is h =
       let default = default_number (default_of m name) in
-      let small : most_of m name ≤ 2 ^ 32 - 1 = omega (arith, range.small) in
-      stands IsNumber (One (ranged m name)) (λ o. unwrap_or (option_and_then (number_of 0 (2 ^ 32 - 1)) o) default) default refl (number_stands (least_of m name) (most_of m name) (2 ^ 32 - 1) default small) (value_at name pairs) h
+      let small : most_of m name ≤ 2 ^ 32 - 1 = omega (arith, is.range.small) in
+      stands IsNumber (One (ranged m name)) (λ o. unwrap_or (option_and_then (number_of 0 (2 ^ 32 - 1)) o) default) default refl (λ t h. number_stands (least_of m name) (most_of m name) (2 ^ 32 - 1) small t h default) (value_at name pairs) h
+
+  -- a number with no default, where it is written and where it has to be
+  wide : (bits : ℕ) → HasRange bits m name → most_of m name ≤ 2 ^ bits - 1
+  wide bits range = omega (arith, range.small)
+
+  number_given : (bits : ℕ) → HasRange bits m name → IsRight m pairs → says.Given name pairs (number_under bits name pairs ≡ None) (λ t. IsSomeAnd (number_under bits name pairs) (IsNumber t))
+  number_given bits range right =
+      stands (λ t n. IsSomeAnd n (IsNumber t)) (One (ranged m name)) (option_and_then (number_of 0 (2 ^ bits - 1))) None refl (option_number_stands (least_of m name) (most_of m name) (2 ^ bits - 1) (wide bits range)) (value_at name pairs)
+      (value_right m name (One (ranged m name)) range.takes pairs right)
+
+  number_needed : (bits : ℕ) → HasRange bits m name → row_at name (keys_of m).rows ≡ Some (row name (One (ranged m name)) Always Nothing) → IsRight m pairs → Needed name pairs (λ t. IsNumber t (unwrap_or (number_under bits name pairs) 0))
+  number_needed bits range at right =
+      needed m name (One (ranged m name)) at range.takes IsNumber (λ o. unwrap_or (option_and_then (number_of 0 (2 ^ bits - 1)) o) 0) (λ t h. number_stands (least_of m name) (most_of m name) (2 ^ bits - 1) (wide bits range) t h 0) pairs right
 
   text_says : (s : Scalar) (own default : List ℕ) → IsTextAlone s → default_text own (default_of m name) ≡ default → IfSome (value_at name pairs) (λ t. faults_of t (One s) ≡ []) → says.Given name pairs (text_at m name own pairs ≡ default) (λ t. IsText t (text_at m name own pairs))
   text_says s own default alone is h = stands IsText (One s) (λ o. unwrap_or (option_and_then text_of o) (default_text own (default_of m name))) default is (text_stands s alone (default_text own (default_of m name))) (value_at name pairs) h
@@ -75,8 +89,8 @@ acls_say pairs one list = record {
       (list_stands (λ item. IsLabelOf (out-Tree item)) label_of (One Label) label_stands (Several Label) refl refl refl) (value_at (codes "acls_in") pairs) list;
 }
 
-vlans_stand : (t : Tree) → faults_of t (Several (Reference 1 4094)) ≡ [] → IsList (λ item. IsVlanOf (out-Tree item)) t (map vlan_of (items_of t))
-vlans_stand t h = list_stands (λ item. IsVlanOf (out-Tree item)) vlan_of (One (Reference 1 4094)) vlan_stands (Several (Reference 1 4094)) refl refl refl t h
+vlans_stand : (t : Tree) → faults_of t (Several VLAN_NAMED) ≡ [] → IsList (λ item. IsVlanOf (out-Tree item)) t (map vlan_of (items_of t))
+vlans_stand t h = list_stands (λ item. IsVlanOf (out-Tree item)) vlan_of (One VLAN_NAMED) vlan_stands (Several VLAN_NAMED) refl refl refl t h
 
 -- ---- interfaces
 
@@ -86,7 +100,7 @@ end_with pairs = record { dp = words_at (codes "dp") pairs; port = unwrap_or (op
 end_says : (pairs : List Pair) → IsRight maps.PortStack pairs → StackEndSays pairs (end_with pairs)
 end_says pairs right = record {
   dp = needed maps.PortStack (codes "dp") (One Words) refl refl IsText (λ o. option_map_or words_of o []) (text_stands Words (record { no_flag = refl; no_number = λ n. refl }) []) pairs right;
-  port = needed maps.PortStack (codes "port") (One (Reference 1 0xffffff00)) refl refl (λ t. IsPortOf (out-Tree t)) (λ o. unwrap_or (option_map port_of o) (port_refs.Name [])) port_stands pairs right;
+  port = needed maps.PortStack (codes "port") (One PORT_NAMED) refl refl (λ t. IsPortOf (out-Tree t)) (λ o. unwrap_or (option_map port_of o) (port_refs.Name [])) port_stands pairs right;
 }
 
 module _ (number : Option ℕ) (pairs : List Pair) (right : IsRight (maps.Interface number) pairs) where
@@ -101,25 +115,25 @@ module _ (number : Option ℕ) (pairs : List Pair) (right : IsRight (maps.Interf
   port_names_say key = names_say (maps.Interface None) key pairs (λ own. refl) (λ own. refl) (port_takes_one (codes "name") Name refl (λ n. refl)) (port_takes_one (codes "description") Name refl (λ n. refl))
 
   port_hosts_say : NumberSays (maps.Interface None) (codes "max_hosts") pairs (number_at (maps.Interface None) (codes "max_hosts") pairs)
-  port_hosts_say = number_says (maps.Interface None) (codes "max_hosts") pairs port_hosts_range (port_takes_one (codes "max_hosts") (ranged (maps.Interface None) (codes "max_hosts")) refl (λ n. refl))
+  port_hosts_say = number_says (maps.Interface None) (codes "max_hosts") pairs port_hosts_default (port_takes_one (codes "max_hosts") (ranged (maps.Interface None) (codes "max_hosts")) refl (λ n. refl))
 
-port_number_right : (number : Option ℕ) (pairs : List Pair) → IsRight (maps.Interface number) pairs → IsRightBy 1 0xffffff00 number (value_at (codes "number") pairs)
-port_number_right None pairs right = (needed_there (maps.Interface None) (row (codes "number") (Given 1 0xffffff00) UnlessNumbered OwnKey) refl refl pairs right, value_right (maps.Interface None) (codes "number") (Given 1 0xffffff00) refl pairs right)
+port_number_right : (number : Option ℕ) (pairs : List Pair) → IsRight (maps.Interface number) pairs → IsRightBy 1 MOST_PORT_NO number (value_at (codes "number") pairs)
+port_number_right None pairs right = (needed_there (maps.Interface None) (row (codes "number") (Given 1 MOST_PORT_NO) UnlessNumbered OwnKey) refl refl pairs right, value_right (maps.Interface None) (codes "number") (Given 1 MOST_PORT_NO) refl pairs right)
 port_number_right (Some n) pairs right = value_right (maps.Interface (Some n)) (codes "number") (One (Number n n)) refl pairs right
 
-port_says : (key : Key) (number : Option ℕ) → number_or_name 1 0xffffff00 key ≡ Ok number → (pairs : List Pair) → IsRight (maps.Interface number) pairs → PortSays key pairs (port_with key pairs)
+port_says : (key : Key) (number : Option ℕ) → number_or_name 1 MOST_PORT_NO key ≡ Ok number → (pairs : List Pair) → IsRight (maps.Interface number) pairs → PortSays key pairs (port_with key pairs)
 port_says key number found pairs right = record {
   names = port_names_say number pairs right key;
   has_number = refl;
-  number = numbered_stands 1 0xffffff00 key number found (value_at (codes "number") pairs) (port_number_right number pairs right);
+  number = numbered_stands 1 MOST_PORT_NO key number found (value_at (codes "number") pairs) (port_number_right number pairs right);
   flags = port_flags_say number pairs right;
-  native = stands (λ t native. IsSomeAnd native (IsVlanOf (out-Tree t))) (One (Reference 1 4094)) (option_map vlan_of) None refl vlan_stands (value_at (codes "native_vlan") pairs) (port_takes_one number pairs right (codes "native_vlan") (Reference 1 4094) refl (λ n. refl));
-  tagged = stands (IsList (λ item. IsVlanOf (out-Tree item))) (Several (Reference 1 4094)) (λ o. map vlan_of (option_map_or items_of o [])) [] refl vlans_stand
-      (value_at (codes "tagged_vlans") pairs) (port_takes number (codes "tagged_vlans") (Several (Reference 1 4094)) refl (λ n. refl) pairs right);
+  native = stands (λ t native. IsSomeAnd native (IsVlanOf (out-Tree t))) (One VLAN_NAMED) (option_map vlan_of) None refl vlan_stands (value_at (codes "native_vlan") pairs) (port_takes_one number pairs right (codes "native_vlan") VLAN_NAMED refl (λ n. refl));
+  tagged = stands (IsList (λ item. IsVlanOf (out-Tree item))) (Several VLAN_NAMED) (λ o. map vlan_of (option_map_or items_of o [])) [] refl vlans_stand
+      (value_at (codes "tagged_vlans") pairs) (port_takes number (codes "tagged_vlans") (Several VLAN_NAMED) refl (λ n. refl) pairs right);
   acls = acls_say pairs (port_takes_one number pairs right (codes "acl_in") Label refl (λ n. refl)) (port_takes number (codes "acls_in") (Several Label) refl (λ n. refl) pairs right);
   max_hosts = port_hosts_say number pairs right;
-  mirror = stands (IsOneOrList (λ item. IsPortOf (out-Tree item))) (OneOrSeveral (Reference 1 0xffffff00)) (λ o. option_map_or (one_or_list_of port_of) o (several.List [])) (several.List []) refl ports_stand
-      (value_at (codes "mirror") pairs) (port_takes number (codes "mirror") (OneOrSeveral (Reference 1 0xffffff00)) refl (λ n. refl) pairs right);
+  mirror = stands (IsOneOrList (λ item. IsPortOf (out-Tree item))) (OneOrSeveral PORT_NAMED) (λ o. option_map_or (one_or_list_of port_of) o (several.List [])) (several.List []) refl ports_stand
+      (value_at (codes "mirror") pairs) (port_takes number (codes "mirror") (OneOrSeveral PORT_NAMED) refl (λ n. refl) pairs right);
   stack = stands (λ t end. IsSomeAnd end (IsMap StackEndSays t)) (Map maps.PortStack) (option_map (λ t. end_with (entries_of t))) None refl (map_stands StackEndSays maps.PortStack end_with end_says) (value_at (codes "stack") pairs) (port_takes number (codes "stack") (Map maps.PortStack) refl (λ n. refl) pairs right);
 }
 
@@ -127,15 +141,13 @@ ports_say : (pairs : List Pair) → IsRight maps.Interfaces pairs → AreMaps Po
 ports_say pairs right =
     each_map (λ p port. IsMap (PortSays p.key) p.value port) port_of_entry pairs
     (each_right maps.Interfaces (λ p. IsMap (PortSays p.key) p.value (port_of_entry p)) (λ earlier p h.
-    let k = numbered_found 1 0xffffff00 maps.Interface p.key h.0 h.1 in
+    let k = numbered_found 1 MOST_PORT_NO maps.Interface p.key h.0 h.1 in
     map_stands (PortSays p.key) (maps.Interface k.0) (port_with p.key) (port_says p.key k.0 k.1) p.value (subst (λ kind. faults_of p.value kind ≡ []) k.2 h.2)) [] pairs right)
 
 -- ---- datapaths
 
-priority_says : (pairs : List Pair) → IsRight maps.DatapathStack pairs → PrioritySays pairs (option_and_then (number_of 0 (2 ^ 32 - 1)) (value_at (codes "priority") pairs))
-priority_says pairs right =
-    stands (λ t priority. IsSomeAnd priority (IsNumber t)) (One (Number 0 (2 ^ 32 - 1))) (option_and_then (number_of 0 (2 ^ 32 - 1))) None refl (option_number_stands (2 ^ 32 - 1)) (value_at (codes "priority") pairs)
-    (value_right maps.DatapathStack (codes "priority") (One (Number 0 (2 ^ 32 - 1))) refl pairs right)
+priority_says : (pairs : List Pair) → IsRight maps.DatapathStack pairs → PrioritySays pairs (number_under 32 (codes "priority") pairs)
+priority_says pairs right = number_given maps.DatapathStack (codes "priority") pairs 32 priority_range right
 
 module _ (pairs : List Pair) (right : IsRight maps.Datapath pairs) where
   dp_takes : (name : List ℕ) (s : Scalar) → Takes maps.Datapath name (One s) → IfSome (value_at name pairs) (λ t. faults_of t (One s) ≡ [])
@@ -151,18 +163,18 @@ module _ (pairs : List Pair) (right : IsRight maps.Datapath pairs) where
   dp_hardware : TextSays maps.Datapath (codes "hardware") pairs (text_at maps.Datapath (codes "hardware") [] pairs)
   dp_hardware = text_says maps.Datapath (codes "hardware") pairs Words [] (default_text [] (default_of maps.Datapath (codes "hardware"))) (record { no_flag = refl; no_number = λ n. refl }) refl (dp_takes (codes "hardware") Words refl)
 
-  dp_number_says : (name : List ℕ) → HasRange maps.Datapath name → NumberSays maps.Datapath name pairs (number_at maps.Datapath name pairs)
-  dp_number_says name range = number_says maps.Datapath name pairs range (dp_takes name (ranged maps.Datapath name) range.takes)
+  dp_number_says : (name : List ℕ) → HasDefault maps.Datapath name → NumberSays maps.Datapath name pairs (number_at maps.Datapath name pairs)
+  dp_number_says name is = number_says maps.Datapath name pairs is (dp_takes name (ranged maps.Datapath name) is.range.takes)
 
 dp_says : (key : Key) (pairs : List Pair) → IsRight maps.Datapath pairs → DpSays key pairs (datapath_with key pairs)
 dp_says key pairs right = record {
   names = dp_names_say pairs right key;
-  id = needed maps.Datapath (codes "dp_id") (One (Number 0 (2 ^ 64 - 1))) refl refl IsNumber (λ o. unwrap_or (option_and_then (number_of 0 (2 ^ 64 - 1)) o) 0) (number_stands 0 (2 ^ 64 - 1) (2 ^ 64 - 1) 0 (omega arith)) pairs right;
+  id = number_needed maps.Datapath (codes "dp_id") pairs 64 dp_id_range refl right;
   hardware = dp_hardware pairs right;
-  timeout = dp_number_says pairs right (codes "timeout") timeout_range;
-  arp_timeout = dp_number_says pairs right (codes "arp_neighbor_timeout") arp_timeout_range;
-  stack_priority = stands (IsMap PrioritySays) (Map maps.DatapathStack) (λ o. option_and_then (number_of 0 (2 ^ 32 - 1)) (value_at (codes "priority") (option_map_or entries_of o []))) None refl
-      (map_stands PrioritySays maps.DatapathStack (λ pairs. option_and_then (number_of 0 (2 ^ 32 - 1)) (value_at (codes "priority") pairs)) priority_says) (value_at (codes "stack") pairs) (value_right maps.Datapath (codes "stack") (Map maps.DatapathStack) refl pairs right);
+  timeout = dp_number_says pairs right (codes "timeout") timeout_default;
+  arp_timeout = dp_number_says pairs right (codes "arp_neighbor_timeout") arp_timeout_default;
+  stack_priority = stands (IsMap PrioritySays) (Map maps.DatapathStack) (λ o. number_under 32 (codes "priority") (option_map_or entries_of o [])) None refl
+      (map_stands PrioritySays maps.DatapathStack (number_under 32 (codes "priority")) priority_says) (value_at (codes "stack") pairs) (value_right maps.Datapath (codes "stack") (Map maps.DatapathStack) refl pairs right);
   drops = drops_say pairs right;
   ports = needed maps.Datapath (codes "interfaces") (Map maps.Interfaces) refl refl (IsMap (AreMaps PortSays)) (λ o. map port_of_entry (option_map_or entries_of o [])) (map_stands (AreMaps PortSays) maps.Interfaces (map port_of_entry) ports_say) pairs right;
 }
@@ -207,7 +219,7 @@ module _ (number : Option ℕ) (pairs : List Pair) (right : IsRight (maps.Vlan n
   vlan_names_say key = names_say (maps.Vlan None) key pairs (λ own. refl) (λ own. refl) (vlan_takes_one (codes "name") Name refl (λ n. refl)) (vlan_takes_one (codes "description") Name refl (λ n. refl))
 
   vlan_hosts_say : NumberSays (maps.Vlan None) (codes "max_hosts") pairs (number_at (maps.Vlan None) (codes "max_hosts") pairs)
-  vlan_hosts_say = number_says (maps.Vlan None) (codes "max_hosts") pairs vlan_hosts_range (vlan_takes_one (codes "max_hosts") (ranged (maps.Vlan None) (codes "max_hosts")) refl (λ n. refl))
+  vlan_hosts_say = number_says (maps.Vlan None) (codes "max_hosts") pairs vlan_hosts_default (vlan_takes_one (codes "max_hosts") (ranged (maps.Vlan None) (codes "max_hosts")) refl (λ n. refl))
 
   vlan_flood_says : FlagSays (maps.Vlan None) (codes "unicast_flood") pairs (flag_at (maps.Vlan None) (codes "unicast_flood") pairs)
   vlan_flood_says = flag_says (maps.Vlan None) (codes "unicast_flood") pairs (vlan_takes_one (codes "unicast_flood") Flag refl (λ n. refl))
@@ -216,15 +228,15 @@ module _ (number : Option ℕ) (pairs : List Pair) (right : IsRight (maps.Vlan n
   vlan_mac_says =
       mac_given (default_text [] (default_of (maps.Vlan None) (codes "faucet_mac"))) own_bytes (value_at (codes "faucet_mac") pairs) (vlan_takes_one (codes "faucet_mac") StationMac refl (λ n. refl))
 
-vlan_number_right : (number : Option ℕ) (pairs : List Pair) → IsRight (maps.Vlan number) pairs → IsRightBy 1 4094 number (value_at (codes "vid") pairs)
-vlan_number_right None pairs right = (needed_there (maps.Vlan None) (row (codes "vid") (Given 1 4094) UnlessNumbered OwnKey) refl refl pairs right, value_right (maps.Vlan None) (codes "vid") (Given 1 4094) refl pairs right)
+vlan_number_right : (number : Option ℕ) (pairs : List Pair) → IsRight (maps.Vlan number) pairs → IsRightBy 1 MOST_VID number (value_at (codes "vid") pairs)
+vlan_number_right None pairs right = (needed_there (maps.Vlan None) (row (codes "vid") (Given 1 MOST_VID) UnlessNumbered OwnKey) refl refl pairs right, value_right (maps.Vlan None) (codes "vid") (Given 1 MOST_VID) refl pairs right)
 vlan_number_right (Some n) pairs right = value_right (maps.Vlan (Some n)) (codes "vid") (One (Number n n)) refl pairs right
 
-vlan_says : (key : Key) (number : Option ℕ) → number_or_name 1 4094 key ≡ Ok number → (pairs : List Pair) → IsRight (maps.Vlan number) pairs → VlanSays key pairs (vlan_with key pairs)
+vlan_says : (key : Key) (number : Option ℕ) → number_or_name 1 MOST_VID key ≡ Ok number → (pairs : List Pair) → IsRight (maps.Vlan number) pairs → VlanSays key pairs (vlan_with key pairs)
 vlan_says key number found pairs right = record {
   names = vlan_names_say number pairs right key;
   has_vid = refl;
-  vid = numbered_stands 1 4094 key number found (value_at (codes "vid") pairs) (vlan_number_right number pairs right);
+  vid = numbered_stands 1 MOST_VID key number found (value_at (codes "vid") pairs) (vlan_number_right number pairs right);
   acls = acls_say pairs (vlan_takes_one number pairs right (codes "acl_in") Label refl (λ n. refl)) (vlan_takes number (codes "acls_in") (Several Label) refl (λ n. refl) pairs right);
   mac = vlan_mac_says number pairs right;
   vips = stands (IsList IsNetwork) (Several Vip) (λ o. map vip_of (option_map_or items_of o [])) [] refl (list_stands IsNetwork vip_of (One Vip) vip_stands (Several Vip) refl refl refl)
@@ -240,7 +252,7 @@ vlans_say : (pairs : List Pair) → IsRight maps.Vlans pairs → AreMaps VlanSay
 vlans_say pairs right =
     each_map (λ p vlan. IsMap (VlanSays p.key) p.value vlan) vlan_of_entry pairs
     (each_right maps.Vlans (λ p. IsMap (VlanSays p.key) p.value (vlan_of_entry p)) (λ earlier p h.
-    let k = numbered_found 1 4094 maps.Vlan p.key h.0 h.1 in
+    let k = numbered_found 1 MOST_VID maps.Vlan p.key h.0 h.1 in
     map_stands (VlanSays p.key) (maps.Vlan k.0) (vlan_with p.key) (vlan_says p.key k.0 k.1) p.value (subst (λ kind. faults_of p.value kind ≡ []) k.2 h.2)) [] pairs right)
 
 -- ---- ACLs and routers
@@ -250,10 +262,10 @@ output_with pairs = record { port = option_at port_of (codes "port") pairs; port
 
 output_says : (pairs : List Pair) → IsRight maps.Output pairs → OutputSays pairs (output_with pairs)
 output_says pairs right = record {
-  port = stands (λ t port. IsSomeAnd port (IsPortOf (out-Tree t))) (One (Reference 1 0xffffff00)) (option_map port_of) None refl port_stands (value_at (codes "port") pairs) (value_right maps.Output (codes "port") (One (Reference 1 0xffffff00)) refl pairs right);
-  ports = stands (IsList (λ item. IsPortOf (out-Tree item))) (Several (Reference 1 0xffffff00)) (λ o. map port_of (option_map_or items_of o [])) [] refl
-      (list_stands (λ item. IsPortOf (out-Tree item)) port_of (One (Reference 1 0xffffff00)) port_stands (Several (Reference 1 0xffffff00)) refl refl refl)
-      (value_at (codes "ports") pairs) (value_right maps.Output (codes "ports") (Several (Reference 1 0xffffff00)) refl pairs right);
+  port = stands (λ t port. IsSomeAnd port (IsPortOf (out-Tree t))) (One PORT_NAMED) (option_map port_of) None refl port_stands (value_at (codes "port") pairs) (value_right maps.Output (codes "port") (One PORT_NAMED) refl pairs right);
+  ports = stands (IsList (λ item. IsPortOf (out-Tree item))) (Several PORT_NAMED) (λ o. map port_of (option_map_or items_of o [])) [] refl
+      (list_stands (λ item. IsPortOf (out-Tree item)) port_of (One PORT_NAMED) port_stands (Several PORT_NAMED) refl refl refl)
+      (value_at (codes "ports") pairs) (value_right maps.Output (codes "ports") (Several PORT_NAMED) refl pairs right);
 }
 
 allow_given : (other : Bool) → other ≡ false → (o : Option Tree) → IfSome o (λ t. faults_of t (One Permission) ≡ []) → MatchOption o (unwrap_or (option_and_then permission_of o) other ≡ false) (λ t. IsPermission (out-Tree t) (unwrap_or (option_and_then permission_of o) other))
@@ -267,7 +279,7 @@ denied = refl
 actions_say : (pairs actions : List Pair) → IsRight maps.Actions actions → ActionsSay actions (rule_with pairs actions)
 actions_say pairs actions right = record {
   allow = allow_given (default_flag (default_of maps.Actions (codes "allow"))) denied (value_at (codes "allow") actions) (value_right maps.Actions (codes "allow") (One Permission) refl actions right);
-  mirror = stands (λ t port. IsSomeAnd port (IsPortOf (out-Tree t))) (One (Reference 1 0xffffff00)) (option_map port_of) None refl port_stands (value_at (codes "mirror") actions) (value_right maps.Actions (codes "mirror") (One (Reference 1 0xffffff00)) refl actions right);
+  mirror = stands (λ t port. IsSomeAnd port (IsPortOf (out-Tree t))) (One PORT_NAMED) (option_map port_of) None refl port_stands (value_at (codes "mirror") actions) (value_right maps.Actions (codes "mirror") (One PORT_NAMED) refl actions right);
   output = stands (IsOneOrList (IsMap OutputSays)) (MapOrMaps maps.Output) (λ o. option_map_or (one_or_list_of output_of) o (several.List [])) (several.List []) refl (maps_stand OutputSays maps.Output output_with refl output_says)
       (value_at (codes "output") actions) (value_right maps.Actions (codes "output") (MapOrMaps maps.Output) refl actions right);
 }
@@ -301,7 +313,7 @@ router_with key pairs = record { name = key_text key; vlans = list_at vlan_of (c
 router_says : (key : Key) (pairs : List Pair) → IsRight maps.Router pairs → RouterSays key pairs (router_with key pairs)
 router_says key pairs right = record {
   name = refl;
-  vlans = needed maps.Router (codes "vlans") (Several (Reference 1 4094)) refl refl (IsList (λ item. IsVlanOf (out-Tree item))) (λ o. map vlan_of (option_map_or items_of o [])) vlans_stand pairs right;
+  vlans = needed maps.Router (codes "vlans") (Several VLAN_NAMED) refl refl (IsList (λ item. IsVlanOf (out-Tree item))) (λ o. map vlan_of (option_map_or items_of o [])) vlans_stand pairs right;
 }
 
 router_entry : (p : Pair) (kind : Kind) → named_kind (key_text p.key) maps.Routers ≡ Ok kind → faults_of p.value kind ≡ [] → IsMap (RouterSays p.key) p.value (router_of_entry p)

@@ -23,6 +23,7 @@ use Rattle.conf_shape.specs.declared.kinds.Kind.{Kind}
 use Rattle.conf_shape.specs.declared.kinds.Kind.TheVariants as kind_of
 use Rattle.conf_shape.specs.declared.kinds.Scalar.{Scalar}
 use Rattle.conf_shape.specs.declared.kinds.Scalar.TheVariants as scalars
+use Rattle.conf_shape.specs.declared.kinds.TheConstants.{MOST_VID, MOST_PORT_NO, VLAN_NAMED, PORT_NAMED}
 use Rattle.conf_shape.specs.declared.kinds.MapKind.{MapKind}
 use Rattle.conf_shape.specs.Addresses.{station_fault, other_cause, vip_fault, network_fault, address_or}
 use Rattle.conf_shape.specs.Faults.{null_faults, in_map, here, missing, missing_row, missing_in, map_faults, may_be_null, faults_of, entry_of}
@@ -99,17 +100,16 @@ flag_right t h = by (out-Tree t) (fine (kind_of.One scalars.Flag) t h)
 pub flag_stands : (other : Bool) (t : Tree) → faults_of t (kind_of.One scalars.Flag) ≡ [] → IsFlag t (unwrap_or (flag_of t) other)
 flag_stands other t h = let r = flag_right t h in r.1 ∙ ap (λ x. tree.Bool (unwrap_or (flag_in x) other)) (sym r.1)
 
-pub number_stands : (low high wide other : ℕ) → high ≤ wide → (t : Tree) → faults_of t (kind_of.One (scalars.Number low high)) ≡ [] → IsNumber t (unwrap_or (number_of 0 wide t) other)
-number_stands low high wide other within t h =
-    let r = number_right low high t h in
-    let read : number_of 0 wide t ≡ Some r.0 = ap (number_in 0 wide) r.1 ∙ within_again 0 wide r.0 (omega arith) (omega (arith, r.3)) in
-    r.1 ∙ ap (λ o. tree.Int (pos (unwrap_or o other))) (sym read)
+-- a number of a range, read as one of more
+module _ (low high wide : ℕ) (within : high ≤ wide) (t : Tree) (h : faults_of t (kind_of.One (scalars.Number low high)) ≡ []) where
+  number_read : (n : ℕ) × IsNumber t n × (number_of 0 wide t ≡ Some n)
+  number_read = let r = number_right low high t h in (r.0, r.1, ap (number_in 0 wide) r.1 ∙ within_again 0 wide r.0 (omega arith) (omega (arith, r.3, within)))
 
-pub option_number_stands : (high : ℕ) (t : Tree) → faults_of t (kind_of.One (scalars.Number 0 high)) ≡ [] → IsSomeAnd (number_of 0 high t) (IsNumber t)
-option_number_stands high t h =
-    let r = number_right 0 high t h in
-    let read : number_of 0 high t ≡ Some r.0 = ap (number_in 0 high) r.1 ∙ within_again 0 high r.0 r.2 r.3 in
-    subst (λ o. IsSomeAnd o (IsNumber t)) (sym read) r.1
+  pub option_number_stands : IsSomeAnd (number_of 0 wide t) (IsNumber t)
+  option_number_stands = let r = number_read in subst (λ o. IsSomeAnd o (IsNumber t)) (sym r.2) r.1
+
+  pub number_stands : (other : ℕ) → IsNumber t (unwrap_or (number_of 0 wide t) other)
+  number_stands other = let r = number_read in r.1 ∙ ap (λ o. tree.Int (pos (unwrap_or o other))) (sym r.2)
 
 pub text_stands : (s : Scalar) → IsTextAlone s → (other : List ℕ) (t : Tree) → faults_of t (kind_of.One s) ≡ [] → IsText t (unwrap_or (text_of t) other)
 text_stands s alone other t h = let r = text_right s alone t h in r.1 ∙ ap (λ x. tree.Text (unwrap_or (text_in x) other)) (sym r.1)
@@ -151,13 +151,13 @@ label_stands t h = by (out-Tree t) (fine (kind_of.One scalars.Label) t h)
 
 -- ---- references
 
-vlan_number : (n : ℤ) → if_within (within 1 4094 n) ≡ None → IsVlanOf (tree.Int n) (vlan_or (signed_decimal n) (within 1 4094 n))
-vlan_number n e = let is = within_is 1 4094 n e in rw (is.1, within_again 1 4094 is.0 is.2 is.3) refl
+vlan_number : (n : ℤ) → if_within (within 1 MOST_VID n) ≡ None → IsVlanOf (tree.Int n) (vlan_or (signed_decimal n) (within 1 MOST_VID n))
+vlan_number n e = let is = within_is 1 MOST_VID n e in rw (is.1, within_again 1 MOST_VID is.0 is.2 is.3) refl
 
-pub vlan_stands : (t : Tree) → faults_of t (kind_of.One (scalars.Reference 1 4094)) ≡ [] → IsVlanOf (out-Tree t) (vlan_of t)
-vlan_stands t h = by (out-Tree t) (fine (kind_of.One (scalars.Reference 1 4094)) t h)
+pub vlan_stands : (t : Tree) → faults_of t (kind_of.One VLAN_NAMED) ≡ [] → IsVlanOf (out-Tree t) (vlan_of t)
+vlan_stands t h = by (out-Tree t) (fine (kind_of.One VLAN_NAMED) t h)
   where
-    by : (x : Tree-F Tree Pair) → IsFine (kind_of.One (scalars.Reference 1 4094)) x → IsVlanOf x (vlan_or (label_in x) (number_in 1 4094 x))
+    by : (x : Tree-F Tree Pair) → IsFine (kind_of.One VLAN_NAMED) x → IsVlanOf x (vlan_or (label_in x) (number_in 1 MOST_VID x))
     by (tree.Text text) f = refl
     by (tree.Int n) f = vlan_number n f
     by (tree.Bool flag) f = absurd cc
@@ -165,10 +165,10 @@ vlan_stands t h = by (out-Tree t) (fine (kind_of.One (scalars.Reference 1 4094))
     by (tree.List items) f = absurd cc
     by (tree.Map pairs) f = absurd cc
 
-port_number : (n : ℤ) → if_within (within 1 0xffffff00 n) ≡ None → IsPortOf (tree.Int n) (port_or (signed_decimal n) (within 1 0xffffff00 n))
-port_number n e = let is = within_is 1 0xffffff00 n e in rw (is.1, within_again 1 0xffffff00 is.0 is.2 is.3) refl
+port_number : (n : ℤ) → if_within (within 1 MOST_PORT_NO n) ≡ None → IsPortOf (tree.Int n) (port_or (signed_decimal n) (within 1 MOST_PORT_NO n))
+port_number n e = let is = within_is 1 MOST_PORT_NO n e in rw (is.1, within_again 1 MOST_PORT_NO is.0 is.2 is.3) refl
 
-port_in : (x : Tree-F Tree Pair) → IsFine (kind_of.One (scalars.Reference 1 0xffffff00)) x → IsPortOf x (port_or (label_in x) (number_in 1 0xffffff00 x))
+port_in : (x : Tree-F Tree Pair) → IsFine (kind_of.One PORT_NAMED) x → IsPortOf x (port_or (label_in x) (number_in 1 MOST_PORT_NO x))
 port_in (tree.Text text) f = refl
 port_in (tree.Int n) f = port_number n f
 port_in (tree.Bool flag) f = absurd cc
@@ -176,8 +176,8 @@ port_in tree.Null f = absurd cc
 port_in (tree.List items) f = absurd cc
 port_in (tree.Map pairs) f = absurd cc
 
-pub port_stands : (t : Tree) → faults_of t (kind_of.One (scalars.Reference 1 0xffffff00)) ≡ [] → IsPortOf (out-Tree t) (port_of t)
-port_stands t h = port_in (out-Tree t) (fine (kind_of.One (scalars.Reference 1 0xffffff00)) t h)
+pub port_stands : (t : Tree) → faults_of t (kind_of.One PORT_NAMED) ≡ [] → IsPortOf (out-Tree t) (port_of t)
+port_stands t h = port_in (out-Tree t) (fine (kind_of.One PORT_NAMED) t h)
 
 -- ---- addresses
 
@@ -267,14 +267,14 @@ map_stands P m read each t h = (entries_of t, entries_there m (out-Tree t) (fine
 
 -- ---- one value, or a list
 
-pub ports_stand : (t : Tree) → faults_of t (kind_of.OneOrSeveral (scalars.Reference 1 0xffffff00)) ≡ [] → IsOneOrList (λ item. IsPortOf (out-Tree item)) t (one_or_list_of port_of t)
-ports_stand t h = by (out-Tree t) refl (fine kind t h) (items_say (λ item. IsPortOf (out-Tree item)) port_of (kind_of.One (scalars.Reference 1 0xffffff00)) port_stands kind t refl h)
+pub ports_stand : (t : Tree) → faults_of t (kind_of.OneOrSeveral PORT_NAMED) ≡ [] → IsOneOrList (λ item. IsPortOf (out-Tree item)) t (one_or_list_of port_of t)
+ports_stand t h = by (out-Tree t) refl (fine kind t h) (items_say (λ item. IsPortOf (out-Tree item)) port_of (kind_of.One PORT_NAMED) port_stands kind t refl h)
   where
     kind : Kind
-    kind = kind_of.OneOrSeveral (scalars.Reference 1 0xffffff00)
+    kind = kind_of.OneOrSeveral PORT_NAMED
 
-    alone : (x : Tree-F Tree Pair) → out-Tree t ≡ x → IsFine (kind_of.One (scalars.Reference 1 0xffffff00)) x → IsPortOf (out-Tree t) (port_of t)
-    alone x e f = subst (λ x. IsPortOf x (port_or (label_in x) (number_in 1 0xffffff00 x))) (sym e) (port_in x f)
+    alone : (x : Tree-F Tree Pair) → out-Tree t ≡ x → IsFine (kind_of.One PORT_NAMED) x → IsPortOf (out-Tree t) (port_of t)
+    alone x e f = subst (λ x. IsPortOf x (port_or (label_in x) (number_in 1 MOST_PORT_NO x))) (sym e) (port_in x f)
 
     by : (x : Tree-F Tree Pair) → out-Tree t ≡ x → IsFine kind x → Each (λ item. IsPortOf (out-Tree item)) (items_in x) (map port_of (items_in x)) → IsOneOrList (λ item. IsPortOf (out-Tree item)) t (one_or_list_in port_of (port_of t) x)
     by (tree.List items) e f say = (items, e, say)

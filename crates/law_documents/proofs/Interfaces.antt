@@ -1,6 +1,6 @@
 -- What is read of datapaths and their interfaces, where they are the same but for the order of entries.
 use Rattle.std.proofs.Common.{◌≡◌, ℕ, true, List, [], Option, Some, None, Ok, Err, refl, ap, ◌∙◌, subst}
-use Rattle.std.specs.Prelude.{◌-◌, ◌^◌, map, codes, option_and_then, unwrap_or, Bool, if◌then◌else◌, false, Result}
+use Rattle.std.specs.Prelude.{map, codes, unwrap_or, Bool, if◌then◌else◌, false, Result}
 use Rattle.conf_types.specs.declared.acl.PortRef.TheVariants as port_refs
 use Rattle.yaml_tree.specs.declared.tree.Key.{Key}
 use Rattle.yaml_tree.specs.declared.tree.Key.TheVariants as key
@@ -8,6 +8,7 @@ use Rattle.yaml_tree.specs.declared.tree.Pair.{Pair}
 use Rattle.yaml_tree.specs.declared.tree.Tree.{Tree}
 use Rattle.conf_shape.specs.declared.kinds.Kind.{Kind}
 use Rattle.conf_shape.specs.declared.kinds.Kind.TheVariants.{Map}
+use Rattle.conf_shape.specs.declared.kinds.TheConstants.{MOST_PORT_NO}
 use Rattle.conf_shape.specs.declared.kinds.MapKind.{MapKind}
 use Rattle.conf_shape.specs.declared.kinds.MapKind.TheVariants as maps
 use Rattle.conf_shape.specs.declared.refused.ConfCause.{ConfCause}
@@ -16,7 +17,7 @@ use Rattle.conf_shape.specs.declared.raw.RawDp.{RawDp}
 use Rattle.conf_shape.specs.Faults.{faults_of}
 use Rattle.conf_shape.specs.Keys.{keys_of}
 use Rattle.conf_shape.specs.Raw.{acls_at, names_by, stack_end_of, port_flags_by, port_flags, port_with, port_of_entry, drop_flags_by, drop_flags, stack_priority, datapath_with, datapath_of_entry}
-use Rattle.conf_shape.specs.Reads.{number_of, items_of, entries_of, entries_at, text_at, label_of, port_of, vlan_of, own_number}
+use Rattle.conf_shape.specs.Reads.{items_of, entries_of, entries_at, text_at, label_of, port_of, vlan_of, own_number}
 use Rattle.conf_shape.specs.Scalars.{is_name}
 use Rattle.conf_shape.specs.Sections.{key_text, under_key}
 use Rattle.law_checks.proofs.Right.{HasKind, takes_by}
@@ -25,7 +26,7 @@ use Rattle.law_documents.specs.SameButOrder.{SameButOrder}
 use Rattle.law_documents.proofs.Clash.{spelled_itself}
 use Rattle.law_documents.proofs.Kept.{Entries, each_entry, entries_kept, Keeps, number_read, label_read, port_read, vlan_read, read_items, one_or_list_read}
 use Rattle.law_documents.proofs.Layers.{IsSameEntry}
-use Rattle.law_documents.proofs.Looked.{Looked, look, read_at, given_same, flag_same, number_same, text_same, words_same, option_same, list_same, one_or_list_same, below}
+use Rattle.law_documents.proofs.Looked.{Looked, look, read_at, given_same, flag_same, number_under_same, number_same, text_same, words_same, option_same, list_same, one_or_list_same, below}
 use Rattle.law_documents.proofs.Reordered.{Reordered}
 
 -- ---- what maps of several kinds have
@@ -70,7 +71,7 @@ module _ (number : Option ℕ) (ps qs : List Pair) (e : Entries (maps.Interface 
   port_same k =
       let names = names_same (maps.Interface number) ps qs looked (maps.Interface None) (key_text k) in
       let has_number = given_same (maps.Interface number) ps qs looked (codes "number") in
-      let no = read_at (maps.Interface number) ps qs looked (codes "number") (λ o. unwrap_or (own_number 1 0xffffff00 k o) 1) (λ t u a. ap (λ o. unwrap_or o 1) (own_same 1 0xffffff00 k t u a.0)) in
+      let no = read_at (maps.Interface number) ps qs looked (codes "number") (λ o. unwrap_or (own_number 1 MOST_PORT_NO k o) 1) (λ t u a. ap (λ o. unwrap_or o 1) (own_same 1 MOST_PORT_NO k t u a.0)) in
       let flags = flags_same in
       let native = option_same (maps.Interface number) ps qs looked vlan_of (codes "native_vlan") (λ t u a. vlan_read t u a.0) in
       let tagged = list_same (maps.Interface number) ps qs looked vlan_of (codes "tagged_vlans") (λ t u a. read_items vlan_of vlan_read t u a.0) in
@@ -82,7 +83,7 @@ module _ (number : Option ℕ) (ps qs : List Pair) (e : Entries (maps.Interface 
 
 port_entry : (p q : Pair) → HasKind p.value (under_key maps.Interfaces [] p.key) → IsSameEntry p q → port_of_entry p ≡ port_of_entry q
 port_entry p q has same =
-    let found = numbered_found 1 0xffffff00 maps.Interface p.key has.0 has.1 in
+    let found = numbered_found 1 MOST_PORT_NO maps.Interface p.key has.0 has.1 in
     let h : faults_of p.value (Map (maps.Interface found.0)) ≡ [] = subst (λ kind. faults_of p.value kind ≡ []) found.2 has.2 in
     port_same found.0 (entries_of p.value) (entries_of q.value) (entries_kept (Map (maps.Interface found.0)) (maps.Interface found.0) refl p.value q.value h same.1) p.key
     ∙ ap (λ k. port_with k (entries_of q.value)) same.0
@@ -105,7 +106,7 @@ module _ (ps qs : List Pair) (e : Entries maps.Datapath ps qs) where
   priority_same =
       let inner = look maps.DatapathStack (spelled_itself (keys_of maps.DatapathStack)) (entries_at (codes "stack") ps) (entries_at (codes "stack") qs)
       (below maps.Datapath ps qs looked_dp maps.DatapathStack (Map maps.DatapathStack) (codes "stack") refl refl) in
-      read_at maps.DatapathStack (entries_at (codes "stack") ps) (entries_at (codes "stack") qs) inner (codes "priority") (option_and_then (number_of 0 (2 ^ 32 - 1))) (λ t u a. number_read 0 (2 ^ 32 - 1) t u a.0)
+      number_under_same maps.DatapathStack (entries_at (codes "stack") ps) (entries_at (codes "stack") qs) inner 32 (codes "priority")
 
   ports_same : Reordered (λ p q. p ≡ q) (map port_of_entry (entries_at (codes "interfaces") ps)) (map port_of_entry (entries_at (codes "interfaces") qs))
   ports_same =
@@ -115,7 +116,7 @@ module _ (ps qs : List Pair) (e : Entries maps.Datapath ps qs) where
   pub datapath_same : (k : Key) → IsSameDp (datapath_with k ps) (datapath_with k qs)
   datapath_same k =
       let names = names_same maps.Datapath ps qs looked_dp maps.Datapath (key_text k) in
-      let id = read_at maps.Datapath ps qs looked_dp (codes "dp_id") (λ o. unwrap_or (option_and_then (number_of 0 (2 ^ 64 - 1)) o) 0) (λ t u a. ap (λ o. unwrap_or o 0) (number_read 0 (2 ^ 64 - 1) t u a.0)) in
+      let id = ap (λ o. unwrap_or o 0) (number_under_same maps.Datapath ps qs looked_dp 64 (codes "dp_id")) in
       let hardware = text_same maps.Datapath ps qs looked_dp maps.Datapath (codes "hardware") [] in
       let timeout = number_same maps.Datapath ps qs looked_dp maps.Datapath (codes "timeout") in
       let arp_timeout = number_same maps.Datapath ps qs looked_dp maps.Datapath (codes "arp_neighbor_timeout") in

@@ -8,6 +8,7 @@ use Rattle.yaml_tree.specs.declared.tree.Tree.TheOpen.{Tree-F}
 use Rattle.yaml_tree.specs.declared.tree.Tree.TheOpen as tree
 use Rattle.conf_types.specs.Lists.{EachBefore}
 use Rattle.conf_shape.specs.declared.kinds.Kind.{Kind}
+use Rattle.conf_shape.specs.declared.kinds.TheConstants.{MOST_VID, MOST_PORT_NO}
 use Rattle.conf_shape.specs.declared.kinds.MapKind.{MapKind}
 use Rattle.conf_shape.specs.declared.raw.OneOrList.TheVariants as several
 use Rattle.conf_shape.specs.Faults.{in_map, faults_of, entry_of}
@@ -42,10 +43,10 @@ pub label_read : IsRead label_of
 label_read = read_alone label_in (record { no_list = λ ts us. refl; no_map = λ ps qs. refl })
 
 pub port_read : IsRead port_of
-port_read = read_alone (λ x. port_or (label_in x) (number_in 1 0xffffff00 x)) (record { no_list = λ ts us. refl; no_map = λ ps qs. refl })
+port_read = read_alone (λ x. port_or (label_in x) (number_in 1 MOST_PORT_NO x)) (record { no_list = λ ts us. refl; no_map = λ ps qs. refl })
 
 pub vlan_read : IsRead vlan_of
-vlan_read = read_alone (λ x. vlan_or (label_in x) (number_in 1 4094 x)) (record { no_list = λ ts us. refl; no_map = λ ps qs. refl })
+vlan_read = read_alone (λ x. vlan_or (label_in x) (number_in 1 MOST_VID x)) (record { no_list = λ ts us. refl; no_map = λ ps qs. refl })
 
 -- ---- the entries of a map
 

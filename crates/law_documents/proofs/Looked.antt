@@ -10,7 +10,7 @@ use Rattle.conf_shape.specs.declared.kinds.Kind.{Kind}
 use Rattle.conf_shape.specs.declared.kinds.MapKind.{MapKind}
 use Rattle.conf_shape.specs.Faults.{faults_of}
 use Rattle.conf_shape.specs.Raw.{is_given}
-use Rattle.conf_shape.specs.Reads.{value_at, flag_of, permission_of, number_of, text_of, words_of, items_of, entries_of, words_at, entries_at, option_at, list_at, one_or_list_of, one_or_list_at, default_of, default_flag, default_number, default_text, flag_at, permission_at, number_at, text_at}
+use Rattle.conf_shape.specs.Reads.{value_at, flag_of, permission_of, number_of, text_of, words_of, items_of, entries_of, words_at, entries_at, option_at, list_at, one_or_list_of, one_or_list_at, number_under, default_of, default_flag, default_number, default_text, flag_at, permission_at, number_at, text_at}
 use Rattle.conf_shape.specs.declared.raw.OneOrList.TheVariants as several
 use Rattle.conf_shape.specs.Scalars.{map_kind}
 use Rattle.conf_shape.specs.Sections.{is_key, under_key}
@@ -76,9 +76,11 @@ module _ (m : MapKind) (ps qs : List Pair) (looked : Looked m ps qs) where
   pub permission_same : (d : MapKind) (name : List ℕ) → permission_at d name ps ≡ permission_at d name qs
   permission_same d name = read_at name (λ o. unwrap_or (option_and_then permission_of o) (default_flag (default_of d name))) (λ t u a. ap (λ o. unwrap_or o (default_flag (default_of d name))) (permission_read t u a.0))
 
+  pub number_under_same : (bits : ℕ) (name : List ℕ) → number_under bits name ps ≡ number_under bits name qs
+  number_under_same bits name = read_at name (option_and_then (number_of 0 (2 ^ bits - 1))) (λ t u a. number_read 0 (2 ^ bits - 1) t u a.0)
+
   pub number_same : (d : MapKind) (name : List ℕ) → number_at d name ps ≡ number_at d name qs
-  number_same d name =
-      read_at name (λ o. unwrap_or (option_and_then (number_of 0 (2 ^ 32 - 1)) o) (default_number (default_of d name))) (λ t u a. ap (λ o. unwrap_or o (default_number (default_of d name))) (number_read 0 (2 ^ 32 - 1) t u a.0))
+  number_same d name = ap (λ o. unwrap_or o (default_number (default_of d name))) (number_under_same 32 name)
 
   pub text_same : (d : MapKind) (name own : List ℕ) → text_at d name own ps ≡ text_at d name own qs
   text_same d name own = read_at name (λ o. unwrap_or (option_and_then text_of o) (default_text own (default_of d name))) (λ t u a. ap (λ o. unwrap_or o (default_text own (default_of d name))) (text_read t u a.0))

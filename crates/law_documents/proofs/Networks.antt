@@ -3,6 +3,7 @@ use Rattle.std.proofs.Common.{◌≡◌, ℕ, List, [], Option, None, refl, ap, 
 use Rattle.std.specs.Prelude.{codes, unwrap_or}
 use Rattle.yaml_tree.specs.declared.tree.Key.{Key}
 use Rattle.yaml_tree.specs.declared.tree.Pair.{Pair}
+use Rattle.conf_shape.specs.declared.kinds.TheConstants.{MOST_VID}
 use Rattle.conf_shape.specs.declared.kinds.Kind.TheVariants.{Map, Maps}
 use Rattle.conf_shape.specs.declared.kinds.MapKind.TheVariants as maps
 use Rattle.conf_shape.specs.Faults.{faults_of}
@@ -42,7 +43,7 @@ module _ (number : Option ℕ) (ps qs : List Pair) (e : Entries (maps.Vlan numbe
   vlan_same k =
       let names = names_same (maps.Vlan number) ps qs looked (maps.Vlan None) (key_text k) in
       let has_vid = given_same (maps.Vlan number) ps qs looked (codes "vid") in
-      let vid = read_at (maps.Vlan number) ps qs looked (codes "vid") (λ o. unwrap_or (own_number 1 4094 k o) 1) (λ t u a. ap (λ o. unwrap_or o 1) (own_same 1 4094 k t u a.0)) in
+      let vid = read_at (maps.Vlan number) ps qs looked (codes "vid") (λ o. unwrap_or (own_number 1 MOST_VID k o) 1) (λ t u a. ap (λ o. unwrap_or o 1) (own_same 1 MOST_VID k t u a.0)) in
       let acls = acls_same (maps.Vlan number) ps qs looked in
       let mac = ap mac_of (text_same (maps.Vlan number) ps qs looked (maps.Vlan None) (codes "faucet_mac") []) in
       let vips = list_same (maps.Vlan number) ps qs looked vip_of (codes "faucet_vips") (λ t u a. read_items vip_of vip_read t u a.0) in
@@ -53,7 +54,7 @@ module _ (number : Option ℕ) (ps qs : List Pair) (e : Entries (maps.Vlan numbe
 
 pub vlan_entry : (p q : Pair) → HasKind p.value (under_key maps.Vlans [] p.key) → IsSameEntry p q → vlan_of_entry p ≡ vlan_of_entry q
 vlan_entry p q has same =
-    let found = numbered_found 1 4094 maps.Vlan p.key has.0 has.1 in
+    let found = numbered_found 1 MOST_VID maps.Vlan p.key has.0 has.1 in
     let h : faults_of p.value (Map (maps.Vlan found.0)) ≡ [] = subst (λ kind. faults_of p.value kind ≡ []) found.2 has.2 in
     vlan_same found.0 (entries_of p.value) (entries_of q.value) (entries_kept (Map (maps.Vlan found.0)) (maps.Vlan found.0) refl p.value q.value h same.1) p.key
     ∙ ap (λ k. vlan_with k (entries_of q.value)) same.0
