@@ -1,14 +1,12 @@
 //! A long row of calls on the table of hosts and on a plain list, side by side.
 
-ghost use Rattle.std.specs.Prelude.{◌<◌};
-
 use crate::plain::Plain;
 use conf_types::{Conf, HostRec, UpRec, UpRecs};
 use host_learn::HostTable;
 use net_base::{DpId, Mac, Moment, NoMemory, PortNo, Vid};
 use std::alloc::Global;
 use std::str::SplitWhitespace;
-use test_words::number;
+use test_words::{draw, number};
 
 /// Milliseconds between two calls.
 const STEP: u64 = 500;
@@ -18,17 +16,6 @@ const STEP: u64 = 500;
 struct Pair {
     table: HostTable,
     plain: Plain,
-}
-
-/// The next of a row of numbers that looks like chance, and one below a bound of it.
-fn draw(seed: &mut u64, bound: u64) -> u64
-    requires { 0 < bound }
-    ensures { result < bound }
-{
-    *seed = seed
-        .wrapping_mul(6_364_136_223_846_793_005)
-        .wrapping_add(1_442_695_040_888_963_407);
-    (*seed >> 33) % bound
 }
 
 /// One of few stations; the last is all of them.

@@ -3,3 +3,4 @@ pub mod Made
 pub mod Remade
 pub mod Reaching
 pub mod Settings
+pub mod Telling

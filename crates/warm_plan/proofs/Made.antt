@@ -1,5 +1,5 @@
 -- The entries of a datapath, unit by unit.
-use Rattle.std.proofs.Common.{◌≡◌, Some, List, [], ◌∷◌, map, sym, ap, subst, ◌∙◌, IsPermutation}
+use Rattle.std.proofs.Common.{◌≡◌, Some, List, [], map, sym, ap, subst, ◌∙◌, IsPermutation}
 use Rattle.std.specs.Prelude.{Contains}
 use Rattle.std.specs.List.{AllByRecursion, flat_map}
 use Rattle.std.proofs.lemmas.List.Sorted.{Contains-permutation, IsPermutation-sym}

@@ -1,7 +1,6 @@
 -- What is worked out for each change reaches what the change does.
-use Rattle.std.proofs.Common.{◌≡◌, ℕ, Bool, true, false, ◌==◌, ◌&&◌, ◌||◌, List, [], ◌∷◌, map, filter, Option, Some, None, if◌then◌else◌, refl, sym, ap, ◌∙◌, subst, true≢false, IsPermutation}
+use Rattle.std.proofs.Common.{◌≡◌, ℕ, Bool, true, false, ◌==◌, ◌&&◌, ◌||◌, List, [], ◌∷◌, map, Option, Some, None, if◌then◌else◌, refl, sym, ap, ◌∙◌, subst, true≢false, IsPermutation}
 use Rattle.std.specs.Prelude.{Contains, IsTrue, ◌↔◌}
-use Rattle.std.specs.List.{list_any}
 use Rattle.std.specs.Option.{option_and_then, option_map_or}
 use Rattle.std.proofs.lemmas.List.Sorted.{Contains-permutation, IsPermutation-sym}
 use Rattle.net_base.specs.declared.address.Mac.{Mac}
@@ -11,7 +10,7 @@ use Rattle.conf_types.specs.declared.datapath.Dp.{Dp}
 use Rattle.conf_types.specs.declared.state.HostRec.{HostRec}
 use Rattle.conf_types.specs.Configuration.{Configuration, port_at}
 use Rattle.conf_types.specs.Groups.{group_of}
-use Rattle.conf_types.specs.Lists.{is_among, is_same}
+use Rattle.conf_types.specs.Lists.{is_among}
 use Rattle.conf_types.specs.Membership.{is_stack}
 use Rattle.conf_types.specs.Routing.{routing_set}
 use Rattle.conf_types.specs.State.{State, is_host_at, is_table_full}
@@ -19,7 +18,6 @@ use Rattle.plan_units.specs.declared.unit.Unit.{Unit as PlanUnit}
 use Rattle.plan_units.specs.declared.unit.Unit.TheVariants as unit
 use Rattle.plan_units.specs.Laws.{IsSetting}
 use Rattle.plan_units.specs.Units.{entries}
-use Rattle.cold_start.specs.Cold.{units_of}
 use Rattle.law_units.specs.declared.change.Change.{Change}
 use Rattle.law_units.specs.declared.change.Change.TheVariants as change
 use Rattle.law_units.specs.Reach.{host_by, AreNamed, IsInReach}

@@ -1,5 +1,5 @@
 -- What is made again is the cold start.
-use Rattle.std.proofs.Common.{◌≡◌, Bool, true, false, not, inl, inr, Some, List, [], ◌∷◌, ◌++◌, map, filter, refl, sym, ap, subst, ◌∙◌, true≢false, IsPermutation}
+use Rattle.std.proofs.Common.{◌≡◌, Bool, true, false, not, inl, inr, Some, List, ◌++◌, map, filter, refl, sym, ap, subst, ◌∙◌, true≢false, IsPermutation}
 use Rattle.std.specs.Prelude.{Contains}
 use Rattle.std.specs.List.{AllByRecursion, flat_map}
 use Rattle.std.proofs.lemmas.Option.{same_Some}

@@ -1,8 +1,9 @@
 -- A plan that is made, and made again, of the datapath with an identifier.
-use Rattle.std.proofs.Common.{◌≡◌, ℕ, ◌*◌, length, Bool, false, not, Some, List, [], ◌++◌, map, filter, refl, sym, ap, subst, ◌∙◌}
+use Rattle.std.proofs.Common.{◌≡◌, ℕ, ◌*◌, length, Bool, false, Some, List, [], map, filter, sym, ap, subst, ◌∙◌}
 use Rattle.std.specs.Option.{option_map_or}
 use Rattle.net_base.specs.declared.numbers.DpId.{DpId}
 use Rattle.of_match.specs.declared.entry.Entry.{Entry}
+use Rattle.of_match.specs.declared.entry.Key.{Key}
 use Rattle.conf_types.specs.declared.datapath.Dp.{Dp}
 use Rattle.conf_types.specs.declared.state.HostRec.{HostRec}
 use Rattle.conf_types.specs.Configuration.{Configuration, dp_with}
@@ -19,7 +20,7 @@ use Rattle.warm_plan.specs.declared.effect.Effect.{Effect}
 use Rattle.warm_plan.specs.declared.plan.Part.{Part}
 use Rattle.warm_plan.specs.Effects.{effect_of, reached_by}
 use Rattle.warm_plan.specs.Kept.{Kept, IsSound, IsWarm, reached_at}
-use Rattle.warm_plan.specs.Parts.{ArePartsOf, part_of, with_units, without_parts, entries_again, parts_again}
+use Rattle.warm_plan.specs.Parts.{ArePartsOf, with_units, without_parts, entries_again, parts_again}
 use Rattle.warm_plan.proofs.Reaching.{same_reach}
 
 pub setting_of : (conf : Configuration) (now : State) (id : DpId) (d : Dp) → dp_with conf.dps id ≡ Some d → IsSound conf now → IsSetting conf now d
@@ -78,11 +79,11 @@ module _ (wanted_law : (conf : Configuration) (old new : State) (d : Dp) (change
 
 -- ---- what was kept, after an event
 
-pub kept_again : (k : Kept) (hosts : List HostRec) (parts : List Part) → IsWarm k hosts parts → k.is_spent ≡ false → (conf : Configuration) → conf ≡ k.conf
+pub kept_again : (k : Kept) (hosts : List HostRec) (parts : List Part) (touched : List Key) (stood : List Entry) → IsWarm k hosts parts touched stood → k.is_spent ≡ false → (conf : Configuration) → conf ≡ k.conf
     → (new : State) (changes : List Change) → AreNamed conf k.state new changes → (made : List Entry) (made_parts : List Part)
     → ((before : State) → before.hosts ≡ hosts → IsSound conf before → AreNamed conf before new changes
     → k.wanted ≡ cold_at conf before k.dp → ArePartsOf parts k.wanted → (made ≡ cold_at conf new k.dp) × ArePartsOf made_parts made)
     → (made ≡ cold_at conf new k.dp) × ArePartsOf made_parts made
-kept_again k hosts parts warm fresh conf same new changes named made made_parts by =
+kept_again k hosts parts touched stood warm fresh conf same new changes named made made_parts by =
     let index = warm.indexed fresh in
     by k.state (sym index.stand) (subst (λ (c : Configuration). IsSound c k.state) (sym same) index.sound) named (warm.kept.warm fresh ∙ ap (λ (c : Configuration). cold_at c k.state k.dp) (sym same)) index.keyed

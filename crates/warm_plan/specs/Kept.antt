@@ -3,6 +3,7 @@ use Rattle.std.specs.Prelude.{◌≡◌, Bool, false, List, [], filter}
 use Rattle.std.specs.Option.{option_map_or}
 use Rattle.net_base.specs.declared.numbers.DpId.{DpId}
 use Rattle.of_match.specs.declared.entry.Entry.{Entry}
+use Rattle.of_match.specs.declared.entry.Key.{Key}
 use Rattle.of_match.specs.FlowTables.{IsInKeyOrder}
 use Rattle.conf_types.specs.declared.state.HostRec.{HostRec}
 use Rattle.conf_types.specs.Configuration.{Configuration, dp_with}
@@ -11,6 +12,7 @@ use Rattle.conf_types.specs.Valid.{IsValid}
 use Rattle.plan_units.specs.declared.unit.Unit.{Unit as PlanUnit}
 use Rattle.plan_units.specs.Laws.{HasAddresses}
 use Rattle.cold_start.specs.Cold.{cold_at, units_of}
+use Rattle.plan_difference.specs.Difference.{AreAllTold}
 use Rattle.law_units.specs.declared.change.Change.{Change}
 use Rattle.law_units.specs.Reached.{is_reached}
 use Rattle.warm_plan.specs.declared.plan.Part.{Part}
@@ -53,6 +55,8 @@ pub record IsIndexed (conf : Configuration) (now : State) (wanted : List Entry) 
   pub stand : hosts ≡ now.hosts
   pub keyed : ArePartsOf parts wanted
 
-pub record IsWarm (k : Kept) (hosts : List HostRec) (parts : List Part) : Type 0 where
+-- these keys tell where the entries that were made differ from what was sent
+pub record IsWarm (k : Kept) (hosts : List HostRec) (parts : List Part) (touched : List Key) (made : List Entry) : Type 0 where
   pub kept : IsKept k
   pub indexed : k.is_spent ≡ false → IsIndexed k.conf k.state k.wanted hosts parts
+  pub told : k.is_spent ≡ false → AreAllTold touched k.sent made

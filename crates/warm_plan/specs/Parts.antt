@@ -1,5 +1,5 @@
 -- The keys of each unit's entries, as they are kept; entries that are taken out and added by units.
-use Rattle.std.specs.Prelude.{◌≡◌, ◌∷◌, ◌++◌, Bool, not, Some, List, [], map, filter, Contains}
+use Rattle.std.specs.Prelude.{◌≡◌, ◌∷◌, ◌++◌, not, Some, List, [], map, filter, Contains}
 use Rattle.std.specs.List.{AllByRecursion, flat_map}
 use Rattle.of_match.specs.declared.entry.Command.TheVariants.{Add, DeleteStrict}
 use Rattle.of_match.specs.declared.entry.Entry.{Entry}

@@ -7,7 +7,9 @@ ghost use Rattle.cold_start.specs.Cold.{cold_at, units_at};
 ghost use Rattle.cold_start.specs.Counts.{RisesAtMost, RisesAtLeast};
 ghost use Rattle.law_units.specs.Reach.{AreNamed};
 ghost use Rattle.warm_plan.specs.Kept.{IsSound, reached_at};
+ghost use Rattle.plan_difference.specs.Difference.{AreAllTold};
 ghost use Rattle.warm_plan.specs.Parts.{ArePartsOf};
+ghost use Rattle.warm_plan.specs.Touched.{KeepTold};
 
 use crate::effect::effects;
 use crate::laws;
@@ -18,27 +20,30 @@ use crate::units::units_of;
 use conf_types::{Conf, HostRec, Tally};
 use law_units::Change;
 use net_base::{DpId, NoMemory};
+use of_match::Tables;
 use packet_way::Now;
 use std::alloc::Global;
 
 /// The plan of a datapath, of which all units are made. For each at least one unit of work is counted where
-/// they are made, and at most three.
+/// they are made, and at most three. Its touched keys tell all differences from what was sent.
 pub(crate) fn make_whole<T: Tally>(
     alloc: Global,
     conf: &Conf,
     now: &Now,
     dp: DpId,
+    sent: &Tables,
     units: &mut T,
 ) -> Result<Plan, NoMemory>
     requires { IsValidState conf.now (state_of now.now) }
     ensures sound { IsSound conf.now (state_of now.now) }
     ensures wanted { IfOk result (λ made. made.wanted ≡ cold_at conf.now (state_of now.now) dp) }
     ensures parts { IfOk result (λ made. ArePartsOf made.parts made.wanted) }
+    ensures told { IfOk result (λ made. AreAllTold made.touched.keys sent.now made.wanted) }
     ensures most { RisesAtMost (3 * length (units_at conf.now (state_of now.now) dp)) (T.count units.old) (T.count units.new) }
     ensures least { OnOk result (RisesAtLeast (length (units_at conf.now (state_of now.now) dp)) (T.count units.old) (T.count units.new)) }
 {
     is_sound(conf, now);
-    let mut plan = Plan::new(alloc);
+    let mut plan = Plan::new(alloc, sent)?;
     let Some(dp) = conf.dp(dp) else {
         return Ok(plan);
     };
@@ -66,6 +71,7 @@ pub(crate) fn make_again<T: Tally>(
         → AreNamed conf.now before (state_of now.now) changes.now
         → plan.old.wanted ≡ cold_at conf.now before dp → ArePartsOf plan.old.parts plan.old.wanted
         → (plan.new.wanted ≡ cold_at conf.now (state_of now.now) dp) × ArePartsOf plan.new.parts plan.new.wanted) }
+    ensures told { OnOk result (KeepTold plan.old.touched.keys plan.old.wanted plan.new.touched.keys plan.new.wanted) }
     ensures most { (before : State) → before.hosts ≡ hosts.now
         → RisesAtMost (3 * length (reached_at conf.now before (state_of now.now) dp changes.now)) (T.count units.old) (T.count units.new) }
 {

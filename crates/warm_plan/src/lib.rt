@@ -8,6 +8,7 @@ pub mod laws;
 mod plan;
 mod reaches;
 mod sound;
+mod touched;
 mod units;
 mod warm;
 

@@ -8,14 +8,17 @@ ghost use Rattle.packet_way.specs.Present.{state_of};
 ghost use Rattle.plan_units.specs.Units.{entries};
 ghost use Rattle.cold_start.specs.Counts.{RisesAtMost, RisesAtLeast};
 ghost use Rattle.warm_plan.specs.Effects.{reached_by};
-ghost use Rattle.warm_plan.specs.Parts.{keys_of, without, without_parts, part_of, with_units};
+ghost use Rattle.plan_difference.specs.Difference.{AreAllTold};
+ghost use Rattle.warm_plan.specs.Parts.{keys_of, without_parts, part_of, with_units};
+ghost use Rattle.warm_plan.specs.Touched.{KeepTold, wanted_of};
 
 use crate::effect::Effect;
 use crate::reaches::is_reached;
+use crate::touched::{Touched, add_all, all_touched, bring, remove_all};
 use cold_start::unit_entries;
 use conf_types::{Conf, Dp, Tally};
 use net_base::{Items, NoMemory, TryCopy};
-use of_match::{Entries, Entry, Key, Tables};
+use of_match::{Entry, Key, Tables};
 use packet_way::Now;
 use plan_units::Unit;
 use std::alloc::Global;
@@ -33,11 +36,13 @@ pub(crate) struct Part {
 
 pub(crate) type Parts = Items<Part>;
 
-/// The entries that a switch is to hold, and the keys of each unit's.
+/// The entries that a switch is to hold, the keys of each unit's, and those at which they may differ from what it
+/// was sent.
 #[derive(Debug, Drop)]
 pub(crate) struct Plan {
     pub(crate) parts: Parts,
     pub(crate) wanted: Tables,
+    pub(crate) touched: Touched,
 }
 
 fn keys_of(alloc: Global, entries: &[Entry]) -> Result<Keys, NoMemory>
@@ -50,27 +55,11 @@ fn keys_of(alloc: Global, entries: &[Entry]) -> Result<Keys, NoMemory>
     Ok(keys)
 }
 
-fn add_all(tables: &mut Tables, entries: Entries) -> Result<(), NoMemory>
-    ensures { OnOk result (tables.new ≡ after_all tables.old (map Add entries)) }
-{
-    for entry in entries.into_vec() {
-        tables.add(entry)?;
-    }
-    Ok(())
-}
-
-fn remove_all(tables: &mut Tables, keys: Keys)
-    ensures { tables.new ≡ without tables.old keys }
-{
-    for key in keys.into_vec() {
-        tables.remove(&key);
-    }
-}
-
 /// Takes out the entries of the parts whose units are reached, and hands back the other parts.
 fn take_out(
     alloc: Global,
     tables: &mut Tables,
+    touched: &mut Touched,
     parts: Parts,
     conf: &Conf,
     dp: &Dp,
@@ -78,11 +67,12 @@ fn take_out(
 ) -> Result<Parts, NoMemory>
     ensures parts { IfOk result (λ kept. kept ≡ filter (λ p. not (reached_by conf.now dp.now effects.now p.unit)) parts) }
     ensures tables { OnOk result (tables.new ≡ without_parts tables.old (filter (λ p. reached_by conf.now dp.now effects.now p.unit) parts)) }
+    ensures told { OnOk result (KeepTold touched.old.keys tables.old touched.new.keys tables.new) }
 {
     let mut kept = Items::new(alloc);
     for part in parts.into_vec() {
         if is_reached(conf, dp, effects, &part.unit) {
-            remove_all(tables, part.keys);
+            remove_all(tables, touched, part.keys)?;
         } else {
             kept.push(part)?;
         }
@@ -91,15 +81,36 @@ fn take_out(
 }
 
 impl Plan {
-    /// No entry.
-    pub(crate) fn new(alloc: Global) -> Plan
-        ensures parts { result.parts ≡ [] }
-        ensures wanted { result.wanted ≡ [] }
+    /// No entry, where these were sent.
+    pub(crate) fn new(alloc: Global, sent: &Tables) -> Result<Plan, NoMemory>
+        ensures parts { IfOk result (λ made. made.parts ≡ []) }
+        ensures wanted { IfOk result (λ made. made.wanted ≡ []) }
+        ensures told { IfOk result (λ made. AreAllTold made.touched.keys sent.now made.wanted) }
     {
-        Plan {
+        let touched = all_touched(alloc, sent.as_slice())?;
+        Ok(Plan {
             parts: Items::new(alloc),
             wanted: Tables::new(alloc),
+            touched,
+        })
+    }
+
+    /// Where the entries were taken, so that those that stand here are behind, they become those that were sent.
+    pub(crate) fn renew(
+        &mut self,
+        alloc: Global,
+        sent: &Tables,
+        is_taken: bool,
+    ) -> Result<(), NoMemory>
+        requires { AreAllTold self.old.touched.keys sent.now self.old.wanted }
+        ensures parts { self.new.parts ≡ self.old.parts }
+        ensures wanted { OnOk result (self.new.wanted ≡ wanted_of is_taken sent.now self.old.wanted) }
+        ensures told { OnOk result (AreAllTold self.new.touched.keys sent.now self.new.wanted) }
+    {
+        if is_taken {
+            bring(alloc, &mut self.wanted, &mut self.touched, sent)?;
         }
+        Ok(())
     }
 
     /// Takes out the entries of each unit that is reached.
@@ -112,9 +123,18 @@ impl Plan {
     ) -> Result<(), NoMemory>
         ensures parts { OnOk result (self.new.parts ≡ filter (λ p. not (reached_by conf.now dp.now effects.now p.unit)) self.old.parts) }
         ensures wanted { OnOk result (self.new.wanted ≡ without_parts self.old.wanted (filter (λ p. reached_by conf.now dp.now effects.now p.unit) self.old.parts)) }
+        ensures told { OnOk result (KeepTold self.old.touched.keys self.old.wanted self.new.touched.keys self.new.wanted) }
     {
         let parts = mem::replace(&mut self.parts, Items::new(alloc));
-        self.parts = take_out(alloc, &mut self.wanted, parts, conf, dp, effects)?;
+        self.parts = take_out(
+            alloc,
+            &mut self.wanted,
+            &mut self.touched,
+            parts,
+            conf,
+            dp,
+            effects,
+        )?;
         Ok(())
     }
 
@@ -130,13 +150,14 @@ impl Plan {
         requires { dp_with conf.now.dps dp.now.id ≡ Some dp.now }
         ensures parts { OnOk result (self.new.parts ≡ self.old.parts ++ part_of conf.now (state_of now.now) dp.now unit ∷ []) }
         ensures wanted { OnOk result (self.new.wanted ≡ after_all self.old.wanted (map Add (entries conf.now (state_of now.now) dp.now unit))) }
+        ensures told { OnOk result (KeepTold self.old.touched.keys self.old.wanted self.new.touched.keys self.new.wanted) }
         ensures most { RisesAtMost 3 (T.count units.old) (T.count units.new) }
         ensures least { OnOk result (RisesAtLeast 1 (T.count units.old) (T.count units.new)) }
     {
         let made = unit_entries(alloc, conf, now, dp.id, &unit, units)?;
         let keys = keys_of(alloc, made.as_slice())?;
         self.parts.push(Part { unit, keys })?;
-        add_all(&mut self.wanted, made)?;
+        add_all(alloc, &mut self.wanted, &mut self.touched, made)?;
         Ok(())
     }
 
@@ -155,6 +176,7 @@ impl Plan {
         requires { dp_with conf.now.dps dp.now.id ≡ Some dp.now }
         ensures parts { OnOk result (self.new.parts ≡ self.old.parts ++ map (part_of conf.now (state_of now.now) dp.now) made.now) }
         ensures wanted { OnOk result (self.new.wanted ≡ with_units conf.now (state_of now.now) dp.now self.old.wanted made.now) }
+        ensures told { OnOk result (KeepTold self.old.touched.keys self.old.wanted self.new.touched.keys self.new.wanted) }
         ensures most { RisesAtMost (3 * length made.now) (T.count units.old) (T.count units.new) }
         ensures least { OnOk result (RisesAtLeast (length made.now) (T.count units.old) (T.count units.new)) }
     {

@@ -17,9 +17,10 @@ use law_units::Change;
 use net_base::{DpId, NoMemory, TryCopy};
 use of_match::{Commands, Tables};
 use packet_way::Now;
-use plan_difference::difference;
+use plan_difference::difference_at;
 use std::alloc::{AllocError, Global};
 use std::marker::Model;
+use std::mem;
 use std::snapshot::Snapshot;
 
 /// The plan of one datapath: the flow entries that its switch was sent, and those that it is to hold.
@@ -33,18 +34,21 @@ pub struct Warm {
     hosts: HostRecs,
     plan: Plan,
     sent: Tables,
+    /// All was taken, so that what is wanted is what was sent, and the plan's entries are behind.
+    is_taken: bool,
     spent: bool,
 }
 
 impl Model for Warm {
     ghost use Rattle.packet_way.specs.Present.{state_of};
     ghost use Rattle.warm_plan.specs.Kept.{Kept, IsWarm};
+    ghost use Rattle.warm_plan.specs.Touched.{wanted_of};
 
     ghost Value = { Kept };
 
-    ghost view = { λ w. record { dp = w.dp; conf = w.conf.value; state = state_of w.state.value; sent = w.sent; wanted = w.plan.wanted; is_spent = w.spent } };
+    ghost view = { λ w. record { dp = w.dp; conf = w.conf.value; state = state_of w.state.value; sent = w.sent; wanted = wanted_of w.is_taken w.sent w.plan.wanted; is_spent = w.spent } };
 
-    ghost invariant = { λ w. IsWarm (record { dp = w.dp; conf = w.conf.value; state = state_of w.state.value; sent = w.sent; wanted = w.plan.wanted; is_spent = w.spent }) w.hosts w.plan.parts };
+    ghost invariant = { λ w. IsWarm (record { dp = w.dp; conf = w.conf.value; state = state_of w.state.value; sent = w.sent; wanted = wanted_of w.is_taken w.sent w.plan.wanted; is_spent = w.spent }) w.hosts w.plan.parts w.plan.touched.keys w.plan.wanted };
 }
 
 impl Warm {
@@ -69,13 +73,15 @@ impl Warm {
         ensures most { RisesAtMost (3 * length (units_at conf.now (state_of now.now) dp)) (T.count units.old) (T.count units.new) }
         ensures least { OnOk result (RisesAtLeast (length (units_at conf.now (state_of now.now) dp)) (T.count units.old) (T.count units.new)) }
     {
+        let sent = Tables::new(alloc);
         Ok(Warm {
             dp,
             conf: Snapshot::of(conf),
             state: Snapshot::of(now),
             hosts: now.hosts.copy(alloc)?,
-            plan: make_whole(alloc, conf, now, dp, units)?,
-            sent: Tables::new(alloc),
+            plan: make_whole(alloc, conf, now, dp, &sent, units)?,
+            sent,
+            is_taken: false,
             spent: false,
         })
     }
@@ -109,6 +115,10 @@ impl Warm {
         if was_spent {
             return Err(AllocError);
         }
+        let renewed = self.plan.renew(alloc, &self.sent, self.is_taken);
+        self.is_taken = false;
+        are_ordered(&self.plan.wanted);
+        renewed?;
         let hosts = self.hosts.as_slice();
         let made = make_again(
             &mut self.plan,
@@ -155,7 +165,8 @@ impl Warm {
         if was_spent {
             return Err(AllocError);
         }
-        self.plan = make_whole(alloc, next, now, self.dp, units)?;
+        self.plan = make_whole(alloc, next, now, self.dp, &self.sent, units)?;
+        self.is_taken = false;
         self.hosts = now.hosts.copy(alloc)?;
         self.spent = false;
         Ok(())
@@ -174,8 +185,13 @@ impl Warm {
             return Err(AllocError);
         }
         self.spent = true;
-        let batch = difference(alloc, &self.sent, &self.plan.wanted)?;
-        self.sent = self.plan.wanted.copy(alloc)?;
+        let renewed = self.plan.renew(alloc, &self.sent, self.is_taken);
+        self.is_taken = false;
+        are_ordered(&self.plan.wanted);
+        renewed?;
+        let batch = difference_at(alloc, &self.sent, &self.plan.wanted, &self.plan.touched)?;
+        mem::swap(&mut self.sent, &mut self.plan.wanted);
+        self.is_taken = true;
         self.spent = false;
         Ok(batch)
     }
@@ -193,7 +209,11 @@ impl Warm {
         ensures value { result.now ≡ self.now.wanted }
         ensures cold { self.now.is_spent ≡ false → result.now ≡ cold_at self.now.conf self.now.state self.now.dp }
     {
-        &self.plan.wanted
+        if self.is_taken {
+            &self.sent
+        } else {
+            &self.plan.wanted
+        }
     }
 
     /// Whether memory ran out in an earlier call.

@@ -1,4 +1,4 @@
-use Rattle.std.proofs.Common.{◌≡◌, ◌∙◌, ◌++◌, Bool, not, List, map, filter, sym, ap, subst}
+use Rattle.std.proofs.Common.{◌∙◌, ◌++◌, Bool, not, List, map, filter, sym, ap, subst}
 use Rattle.packet_way.specs.Present.{state_of}
 use Rattle.plan_units.specs.declared.unit.Unit.{Unit as PlanUnit}
 use Rattle.cold_start.proofs.Groups.{own_id}
@@ -32,6 +32,9 @@ returns-clause-warm g c = λ before hosts sound named warm are.
           (subst (ArePartsOf (parts_again conf before state d changes plan.parts)) (sym wanted)
           (parts_are_again c.what_is_made_again_is_the_cold_start.ensures.wanted c.what_is_made_again_is_the_cold_start.ensures.parts conf before state c.args.dp d is sound c.is_sound.ensures changes named plan.parts plan.wanted warm are)),
     )
+
+pub returns-clause-told : goal.returns-clause-told
+returns-clause-told g c = λ from told. c.in_ok-make.ensures.told from (c.in_ok-drop_reached.ensures.told from told)
 
 pub returns-clause-most : goal.returns-clause-most
 returns-clause-most g c = λ before hosts.

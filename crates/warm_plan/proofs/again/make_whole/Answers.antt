@@ -1,8 +1,8 @@
-use Rattle.std.proofs.Common.{◌≡◌, ◌∙◌, ◌++◌, ◌*◌, List, [], map, length, sym, ap, subst}
+use Rattle.std.proofs.Common.{◌∙◌, ◌++◌, ◌*◌, List, [], map, length, sym, ap, subst}
 use Rattle.of_match.specs.declared.entry.Entry.{Entry}
 use Rattle.packet_way.specs.Present.{state_of}
 use Rattle.plan_units.specs.declared.unit.Unit.{Unit as PlanUnit}
-use Rattle.cold_start.specs.Cold.{cold_at, units_of, units_at}
+use Rattle.cold_start.specs.Cold.{units_of}
 use Rattle.cold_start.specs.Counts.{RisesAtMost, RisesAtLeast}
 use Rattle.cold_start.proofs.Groups.{own_id}
 use Rattle.warm_plan.specs.declared.plan.Part.{Part}
@@ -19,7 +19,7 @@ returns-clause-wanted g c =
     let state = state_of c.args.now.now in
     let d = c.in-Some.dp.now in
     let is = sym c.in-Some.ensures.found in
-    c.in_ok-make.ensures.wanted ∙ ap (λ (t : List Entry). with_units conf state d t c.as_slice.result.now) c.new-plan.ensures.wanted
+    c.in_ok-make.ensures.wanted ∙ ap (λ (t : List Entry). with_units conf state d t c.as_slice.result.now) c.in_ok-plan.ensures.wanted
     ∙ ap (with_units conf state d []) (c.as_slice.ensures ∙ c.in_ok-all.ensures)
     ∙ c.all_units_make_the_cold_start.ensures.wanted conf state d (setting_of conf state c.args.dp d is c.is_sound.ensures) ∙ sym (cold_is conf state c.args.dp d is)
 
@@ -31,10 +31,13 @@ returns-clause-parts g c =
     let is = sym c.in-Some.ensures.found in
     let setting = setting_of conf state c.args.dp d is c.is_sound.ensures in
     let units = c.as_slice.ensures ∙ c.in_ok-all.ensures in
-    let wanted = c.in_ok-make.ensures.wanted ∙ ap (λ (t : List Entry). with_units conf state d t c.as_slice.result.now) c.new-plan.ensures.wanted ∙ ap (with_units conf state d []) units ∙ c.all_units_make_the_cold_start.ensures.wanted conf state d setting in
-    let parts = c.in_ok-make.ensures.parts ∙ ap (λ (ps : List Part). ps ++ map (part_of conf state d) c.as_slice.result.now) c.new-plan.ensures.parts ∙ ap (map (part_of conf state d)) units in
+    let wanted = c.in_ok-make.ensures.wanted ∙ ap (λ (t : List Entry). with_units conf state d t c.as_slice.result.now) c.in_ok-plan.ensures.wanted ∙ ap (with_units conf state d []) units ∙ c.all_units_make_the_cold_start.ensures.wanted conf state d setting in
+    let parts = c.in_ok-make.ensures.parts ∙ ap (λ (ps : List Part). ps ++ map (part_of conf state d) c.as_slice.result.now) c.in_ok-plan.ensures.parts ∙ ap (map (part_of conf state d)) units in
     subst (λ (ps : List Part). ArePartsOf ps c.make.new.self.wanted) (sym parts)
     (subst (ArePartsOf (map (part_of conf state d) (units_of conf state d))) (sym wanted) (c.all_units_make_the_cold_start.ensures.parts conf state d setting))
+
+pub returns-clause-told : goal.returns-clause-told
+returns-clause-told g c = c.in_ok-make.ensures.told c.args.sent.now c.in_ok-plan.ensures.told
 
 pub returns-clause-most : goal.returns-clause-most
 returns-clause-most g c =

@@ -1,4 +1,4 @@
-use Rattle.std.proofs.Common.{◌≡◌, ◌∙◌, ◌++◌, List, [], ◌∷◌, map, take, get_or, sym, ap, arith}
+use Rattle.std.proofs.Common.{◌∙◌, ◌++◌, List, [], ◌∷◌, map, take, sym, ap, arith}
 use Rattle.std.proofs.lemmas.List.{append_assoc, map_more}
 use Rattle.of_match.specs.declared.entry.Command.TheVariants.{Add}
 use Rattle.of_match.specs.declared.entry.Entry.{Entry}
@@ -26,6 +26,7 @@ loop-unit-preserved g c =
           ∙ append_assoc c.args.self.now.parts (map part (take i made)) (part u ∷ []) ∙ ap (λ (ps : List Part). c.args.self.now.parts ++ ps) parts;
       wanted = c.in_ok-make_one.ensures.wanted ∙ ap (λ (t : List Entry). after_all t (map Add (entries conf state d u))) c.loop-unit.invariant.wanted
           ∙ units_more conf state d c.args.self.now.wanted made i u c.loop-unit-test.true c.unit-item.is;
+      told = λ from told. c.in_ok-make_one.ensures.told from (c.loop-unit.invariant.told from told);
       most = omega (arith, c.in_ok-make_one.ensures.most, c.loop-unit.invariant.most);
       least = omega (arith, c.in_ok-make_one.ensures.least, c.loop-unit.invariant.least);
     }

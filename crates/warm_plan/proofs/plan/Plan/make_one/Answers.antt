@@ -1,4 +1,4 @@
-use Rattle.std.proofs.Common.{◌≡◌, ◌∙◌, ◌++◌, List, [], ◌∷◌, map, ap}
+use Rattle.std.proofs.Common.{◌∙◌, ◌++◌, List, [], ◌∷◌, map, ap}
 use Rattle.std.specs.Option.{option_map_or}
 use Rattle.of_match.specs.declared.entry.Command.TheVariants.{Add}
 use Rattle.of_match.specs.declared.entry.Entry.{Entry}
@@ -21,4 +21,4 @@ returns-clause-parts g c =
 pub returns-clause-wanted : goal.returns-clause-wanted
 returns-clause-wanted g c =
     let made = c.in_ok-made.ensures.entries ∙ ap (λ o. option_map_or (λ (d : Dp). entries c.args.conf.now (state_of c.args.now.now) d c.args.unit) o []) c.requires in
-    c.in_ok-add_all.ensures ∙ ap (λ (es : List Entry). after_all c.args.self.now.wanted (map Add es)) made
+    c.in_ok-add_all.ensures.tables ∙ ap (λ (es : List Entry). after_all c.args.self.now.wanted (map Add es)) made
