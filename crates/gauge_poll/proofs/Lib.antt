@@ -1,0 +1,10 @@
+pub mod Opens
+pub mod Keeping
+pub mod Columns
+pub mod Monitors
+pub mod Intervals
+pub mod Rounds
+pub mod Asked
+pub mod DueComes
+pub mod GivenLines
+pub mod Turned

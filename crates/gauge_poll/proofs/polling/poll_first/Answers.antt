@@ -1,0 +1,25 @@
+use Rattle.std.proofs.Common.{◌≡◌, ◌+◌, suc, ap, sym, drop, ◌∙◌, arith}
+use Rattle.std.proofs.lemmas.List.{drop_all}
+use Rattle.gauge_poll.specs.Polls.{poll_first, poll_begun}
+use Rattle.gauge_poll.specs.StandsFor.{Keeps}
+use Rattle.gauge_poll.proofs.Keeping.{arrived, item_left, onward, set_out}
+use Rattle.gauge_poll.proofs.polling.poll_first.Goals as goal
+
+pub loop-place-init : goal.loop-place-init
+loop-place-init c = λ s keeps. set_out Keeps c.args.known.now s (poll_first 0 c.args.watchers.now c.args.dp) keeps
+
+pub loop-place-preserved : goal.loop-place-preserved
+loop-place-preserved c = λ s keeps.
+    let ws = c.args.watchers.now in
+    let i = c.loop-place.place in
+    let w = c.index-watchers-place.result in
+    let next : i + 1 ≡ suc i = omega arith in
+    onward Keeps c.loop-place.known c.poll_begun.new.known (poll_first i (drop i ws) c.args.dp) (poll_first (i + 1) (drop (i + 1) ws) c.args.dp) (poll_begun w i c.args.dp) (poll_first 0 ws c.args.dp s)
+    (λ t kept. ap (λ more. poll_first i more c.args.dp t) (item_left ws i w c.loop-place-test.true c.index-watchers-place.is) ∙ ap (λ n. poll_first n (drop (i + 1) ws) c.args.dp (poll_begun w i c.args.dp t)) (sym next))
+    c.in_ok-poll_begun.ensures (c.loop-place.invariant s keeps)
+
+pub returns : goal.returns
+returns c = λ s keeps.
+    let ws = c.args.watchers.now in
+    let i = c.loop-place.place in
+    arrived Keeps c.loop-place.known (poll_first i (drop i ws) c.args.dp) (poll_first 0 ws c.args.dp s) (λ t kept. ap (λ more. poll_first i more c.args.dp t) (drop_all i ws c.loop-place-test.false)) (c.loop-place.invariant s keeps)

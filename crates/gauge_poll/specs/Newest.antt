@@ -1,0 +1,10 @@
+-- The polls that are kept: for each connection and watcher the newest one alone.
+use Rattle.std.specs.Prelude.{ℕ, Option, option_and_then}
+use Rattle.std.specs.BTreeMap.{get}
+use Rattle.std.specs.Ordering.{nat_cmp}
+use Rattle.gauge_poll.specs.declared.newest.Newest.{Newest}
+use Rattle.gauge_poll.specs.declared.poll.Poll.{Poll}
+
+-- the poll on a connection, for the watcher at this place in the order of names
+abbrev pub at : Newest → (conn place : ℕ) → Option Poll
+at kept conn place = option_and_then (λ polls. get nat_cmp polls place) (get nat_cmp kept.conns conn)
