@@ -11,6 +11,7 @@ use Rattle.command_line.specs.declared.meaning.Job.TheVariants as jobs
 use Rattle.command_line.specs.declared.meaning.ServeOptions.{ServeOptions}
 use Rattle.command_line.specs.declared.parts.CommandOption.{CommandOption}
 use Rattle.command_line.specs.declared.parts.Parts.{Parts}
+use Rattle.command_line.specs.declared.values.Listen.{Listen}
 use Rattle.command_line.specs.Parts.{parts_of}
 use Rattle.command_line.specs.Values.{number_in, listen_of, value_of}
 
@@ -21,6 +22,8 @@ command_of word =
     else if bytes_eq word (codes "plan") then Some commands.Plan
     else if bytes_eq word (codes "replay") then Some commands.Replay
     else if bytes_eq word (codes "serve") then Some commands.Serve
+    else if bytes_eq word (codes "gauge") then Some commands.Gauge
+    else if bytes_eq word (codes "gauge-serve") then Some commands.GaugeServe
     else None
 
 -- the options that a command takes
@@ -29,6 +32,8 @@ options_of commands.Check = []
 options_of commands.Plan = []
 options_of commands.Replay = []
 options_of commands.Serve = codes "events" ∷ codes "reload-ms" ∷ codes "listen" ∷ []
+options_of commands.Gauge = []
+options_of commands.GaugeServe = codes "events" ∷ codes "listen" ∷ []
 
 -- each of these options is one that the command takes
 abbrev pub are_taken : Command → List CommandOption → Bool
@@ -42,17 +47,26 @@ two_of words = elim words [ first ∷ second ∷ [] ↦ Some (first, second) | _
 abbrev pub one_of : List (List ℕ) → Option (List ℕ)
 one_of words = elim words [ only ∷ [] ↦ Some only | _ ↦ None ]
 
+-- how many events are taken at most, which has to be said
+abbrev pub events_of : List CommandOption → Option ℕ
+events_of options = value_of (codes "events") options >>= number_in 1 1000000000
+
+-- where connections are listened for, or else here
+abbrev pub listen_or : (default : List ℕ) → List CommandOption → Option Listen
+listen_or default options = listen_of (unwrap_or (value_of (codes "listen") options) default)
+
 -- the options of `serve`: how many events are taken at most; how long after a look at the file the next one is due, in
 -- milliseconds; where connections are listened for. Without the latter two it is every second, and port 6653 of this host alone.
 abbrev pub serve_options : List CommandOption → Option ServeOptions
 serve_options options = do
-  events ← value_of (codes "events") options >>= number_in 1 1000000000
+  events ← events_of options
   reload_ms ← number_in 100 3600000 (unwrap_or (value_of (codes "reload-ms") options) (codes "1000"))
-  listen ← listen_of (unwrap_or (value_of (codes "listen") options) (codes "127.0.0.1:6653"))
+  listen ← listen_or (codes "127.0.0.1:6653") options
   Some (record { events = events; reload_ms = reload_ms; listen = listen })
 
 -- what a command asks for: `check FILE..`, one file or more; `plan CONFIG DP`; `replay CONFIG RECORDING`;
--- `serve CONFIG --events N`, with what options it has beside
+-- `serve CONFIG --events N`, with what options it has beside; `gauge GAUGE_CONFIG RECORDING`;
+-- `gauge-serve GAUGE_CONFIG --events N`, which without the other option listens at port 6654 of this host alone
 abbrev pub job_of : Command → Parts → Option Job
 job_of commands.Check parts = elim parts.plain [ [] ↦ None | file ∷ files ↦ Some (jobs.Check (file ∷ files)) ]
 job_of commands.Plan parts = option_map (λ two. jobs.Plan two.0 two.1) (two_of parts.plain)
@@ -61,6 +75,12 @@ job_of commands.Serve parts = do
   config ← one_of parts.plain
   options ← serve_options parts.options
   Some (jobs.Serve config options.events options.reload_ms options.listen)
+job_of commands.Gauge parts = option_map (λ two. jobs.Gauge two.0 two.1) (two_of parts.plain)
+job_of commands.GaugeServe parts = do
+  config ← one_of parts.plain
+  events ← events_of parts.options
+  listen ← listen_or (codes "127.0.0.1:6654") parts.options
+  Some (jobs.GaugeServe config events listen)
 
 -- the first word is the command
 unfoldable pub meaning : List (List ℕ) → Option Job

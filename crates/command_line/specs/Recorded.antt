@@ -1,5 +1,5 @@
 -- What the words of `faucet_recorded` ask for: those of `serve` behind its name, and a file for the recording.
-use Rattle.std.specs.Prelude.{ℕ, Bool, if◌then◌else◌, List, [], ◌∷◌, Option, Some, None, codes}
+use Rattle.std.specs.Prelude.{ℕ, Bool, if◌then◌else◌, List, ◌∷◌, Option, Some, None, codes}
 use Rattle.std.specs.List.{list_any, list_all}
 use Rattle.std.specs.Str.{bytes_eq}
 use Rattle.net_base.specs.AddressReading.{◌>>=◌}

@@ -1,7 +1,7 @@
 ghost use Rattle.std.specs.Prelude.{◌≡◌, List, ℕ, map, IfOk};
 ghost use Rattle.std.specs.List.{list_any};
 ghost use Rattle.std.specs.Str.{bytes_eq};
-ghost use Rattle.command_line.specs.Meaning.{command_of, options_of, are_taken, one_of, two_of, serve_options, job_of, meaning};
+ghost use Rattle.command_line.specs.Meaning.{command_of, options_of, are_taken, one_of, two_of, events_of, listen_or, serve_options, job_of, meaning};
 
 use crate::parts::{CommandOption, Parts, part_words};
 use crate::values::{Listen, listen_of, number_in, value_of, value_or};
@@ -14,6 +14,8 @@ enum Command {
     Plan,
     Replay,
     Serve,
+    Gauge,
+    GaugeServe,
 }
 
 /// What the program is asked to do.
@@ -39,6 +41,17 @@ pub enum Job {
         reload_ms: u64,
         listen: Listen,
     },
+    /// To run Gauge, by its configuration file, on a recording.
+    Gauge {
+        config: Text,
+        recording: Text,
+    },
+    /// To run Gauge, by its configuration file, on the switches that connect, for at most so many events.
+    GaugeServe {
+        config: Text,
+        events: u64,
+        listen: Listen,
+    },
 }
 
 /// The options of `serve`.
@@ -60,6 +73,10 @@ fn command_of(word: &str) -> Option<Command>
         Some(Command::Replay)
     } else if word == "serve" {
         Some(Command::Serve)
+    } else if word == "gauge" {
+        Some(Command::Gauge)
+    } else if word == "gauge-serve" {
+        Some(Command::GaugeServe)
     } else {
         None
     }
@@ -70,8 +87,9 @@ fn options_of(command: Command) -> &'static [&'static str]
     ensures { map (λ name. name.now) result.now ≡ options_of command }
 {
     match command {
-        Command::Check | Command::Plan | Command::Replay => &[],
+        Command::Check | Command::Plan | Command::Replay | Command::Gauge => &[],
         Command::Serve => &["events", "reload-ms", "listen"],
+        Command::GaugeServe => &["events", "listen"],
     }
 }
 
@@ -115,14 +133,28 @@ fn two_words(alloc: Global, plain: &[Text]) -> Result<Option<(Text, Text)>, NoMe
     }
 }
 
+/// How many events are taken at most; `None` where the option isn't there, or isn't in its range.
+fn events_of(options: &[CommandOption]) -> Option<u64>
+    ensures { result ≡ events_of options.now }
+{
+    number_in(value_of(options, "events")?, 1, 1_000_000_000)
+}
+
+/// Where connections are listened for, or else here; `None` where that is no address with a port.
+fn listen_or(options: &[CommandOption], default: &str) -> Option<Listen>
+    ensures { result ≡ listen_or default.now options.now }
+{
+    listen_of(value_or(options, "listen", default))
+}
+
 /// What the options of `serve` say, or their defaults; `None` where one has no value in its range, or there is
 /// no number of events.
 pub(crate) fn serve_options(options: &[CommandOption]) -> Option<ServeOptions>
     ensures { result ≡ serve_options options.now }
 {
-    let events = number_in(value_of(options, "events")?, 1, 1_000_000_000)?;
+    let events = events_of(options)?;
     let reload_ms = number_in(value_or(options, "reload-ms", "1000"), 100, 3_600_000)?;
-    let listen = listen_of(value_or(options, "listen", "127.0.0.1:6653"))?;
+    let listen = listen_or(options, "127.0.0.1:6653")?;
     Some(ServeOptions {
         events,
         reload_ms,
@@ -148,6 +180,26 @@ fn serve_job(alloc: Global, parts: &Parts) -> Result<Option<Job>, NoMemory>
     }))
 }
 
+/// What `gauge-serve` asks for.
+fn gauge_serve_job(alloc: Global, parts: &Parts) -> Result<Option<Job>, NoMemory>
+    ensures { IfOk result (λ job. job ≡ job_of Command.GaugeServe parts.now) }
+{
+    let Some(config) = one_word(alloc, parts.plain.as_slice())? else {
+        return Ok(None);
+    };
+    let Some(events) = events_of(parts.options.as_slice()) else {
+        return Ok(None);
+    };
+    let Some(listen) = listen_or(parts.options.as_slice(), "127.0.0.1:6654") else {
+        return Ok(None);
+    };
+    Ok(Some(Job::GaugeServe {
+        config,
+        events,
+        listen,
+    }))
+}
+
 fn job_of(alloc: Global, command: Command, parts: Parts) -> Result<Option<Job>, NoMemory>
     ensures { IfOk result (λ job. job ≡ job_of command parts) }
 {
@@ -167,6 +219,13 @@ fn job_of(alloc: Global, command: Command, parts: Parts) -> Result<Option<Job>, 
             Ok(Some(Job::Replay { config, recording }))
         }
         Command::Serve => serve_job(alloc, &parts),
+        Command::Gauge => {
+            let Some((config, recording)) = two_words(alloc, parts.plain.as_slice())? else {
+                return Ok(None);
+            };
+            Ok(Some(Job::Gauge { config, recording }))
+        }
+        Command::GaugeServe => gauge_serve_job(alloc, &parts),
     }
 }
 

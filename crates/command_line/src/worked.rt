@@ -75,6 +75,41 @@ pub fn words_behind_serve()
     ensures two_files { meaning (codes "serve" ∷ codes "a" ∷ codes "b" ∷ codes "--events=3" ∷ []) ≡ None }
 {}
 
+/// `gauge GAUGE_CONFIG RECORDING`: two words, and no option.
+#[tactic(auto, unfolding(crate::specs::Meaning::meaning, crate::specs::Parts::parts_of, crate::specs::Parts::parted))]
+pub fn words_behind_gauge()
+    ensures both { meaning (codes "gauge" ∷ codes "a" ∷ codes "b" ∷ []) ≡ Some (jobs.Gauge (codes "a") (codes "b")) }
+    ensures none { meaning (codes "gauge" ∷ []) ≡ None }
+    ensures missing { meaning (codes "gauge" ∷ codes "a" ∷ []) ≡ None }
+    ensures further { meaning (codes "gauge" ∷ codes "a" ∷ codes "b" ∷ codes "c" ∷ []) ≡ None }
+    ensures option { meaning (codes "gauge" ∷ codes "a" ∷ codes "b" ∷ codes "--x=1" ∷ []) ≡ None }
+    ensures events { meaning (codes "gauge" ∷ codes "a" ∷ codes "b" ∷ codes "--events" ∷ codes "3" ∷ []) ≡ None }
+{}
+
+/// `gauge-serve GAUGE_CONFIG --events N`, with `--listen A:P` where this isn't the default.
+#[tactic(auto, unfolding(crate::specs::Meaning::meaning, crate::specs::Parts::parts_of, crate::specs::Parts::parted, net_base::specs::AddressReading::ip4_of, net_base::specs::AddressReading::number_up_to, net_base::specs::AddressReading::number_of))]
+pub fn words_behind_gauge_serve()
+    ensures apart { meaning (codes "gauge-serve" ∷ codes "a" ∷ codes "--events" ∷ codes "1" ∷ [])
+        ≡ Some (jobs.GaugeServe (codes "a") 1 (record { ip = record { 0 = 2130706433 }; port = 6654 })) }
+    ensures joined { meaning (codes "gauge-serve" ∷ codes "--events=1000000000" ∷ codes "a" ∷ [])
+        ≡ Some (jobs.GaugeServe (codes "a") 1000000000 (record { ip = record { 0 = 2130706433 }; port = 6654 })) }
+    ensures listen_apart { meaning (codes "gauge-serve" ∷ codes "--listen" ∷ codes "10.1.2.3:1" ∷ codes "a" ∷ codes "--events=3" ∷ [])
+        ≡ Some (jobs.GaugeServe (codes "a") 3 (record { ip = record { 0 = 167838211 }; port = 1 })) }
+    ensures listen_joined { meaning (codes "gauge-serve" ∷ codes "--events" ∷ codes "3" ∷ codes "a" ∷ codes "--listen=255.255.255.255:65535" ∷ [])
+        ≡ Some (jobs.GaugeServe (codes "a") 3 (record { ip = record { 0 = 4294967295 }; port = 65535 })) }
+    ensures no_events { meaning (codes "gauge-serve" ∷ codes "a" ∷ codes "--listen=127.0.0.1:6654" ∷ []) ≡ None }
+    ensures no_value { meaning (codes "gauge-serve" ∷ codes "a" ∷ codes "--events" ∷ []) ≡ None }
+    ensures no_event { meaning (codes "gauge-serve" ∷ codes "a" ∷ codes "--events=0" ∷ []) ≡ None }
+    ensures too_many_events { meaning (codes "gauge-serve" ∷ codes "a" ∷ codes "--events=1000000001" ∷ []) ≡ None }
+    ensures events_twice { meaning (codes "gauge-serve" ∷ codes "a" ∷ codes "--events=3" ∷ codes "--events" ∷ codes "3" ∷ []) ≡ None }
+    ensures reload { meaning (codes "gauge-serve" ∷ codes "a" ∷ codes "--events=3" ∷ codes "--reload-ms" ∷ codes "1000" ∷ []) ≡ None }
+    ensures reload_joined { meaning (codes "gauge-serve" ∷ codes "a" ∷ codes "--reload-ms=1000" ∷ codes "--events=3" ∷ []) ≡ None }
+    ensures port_0 { meaning (codes "gauge-serve" ∷ codes "a" ∷ codes "--events=3" ∷ codes "--listen=127.0.0.1:0" ∷ []) ≡ None }
+    ensures great_port { meaning (codes "gauge-serve" ∷ codes "a" ∷ codes "--events=3" ∷ codes "--listen=127.0.0.1:65536" ∷ []) ≡ None }
+    ensures no_file { meaning (codes "gauge-serve" ∷ codes "--events=3" ∷ []) ≡ None }
+    ensures two_files { meaning (codes "gauge-serve" ∷ codes "a" ∷ codes "b" ∷ codes "--events=3" ∷ []) ≡ None }
+{}
+
 /// Options stand anywhere, in either spelling.
 #[tactic(auto, unfolding(crate::specs::Parts::parts_of, crate::specs::Parts::parted))]
 pub fn options_among_words()

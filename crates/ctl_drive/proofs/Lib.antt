@@ -1,7 +1,1 @@
-pub mod Answering
-pub mod Deeds
-pub mod Pieces
-pub mod Replaying
 pub mod Stories
-pub mod Telling
-pub mod Told

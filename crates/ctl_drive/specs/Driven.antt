@@ -1,110 +1,25 @@
--- What a call that drives a controller has done.
-use Rattle.std.specs.Prelude.{◌≡◌, ℕ, ◌-◌, ◌<◌, ◌≤◌, Bool, true, false, List, ◌++◌, length, take, Option, Some}
+-- What a call that drives a controller has done (`hub_drive`).
+use Rattle.std.specs.Prelude.{ℕ, List, Option}
 use Rattle.fg_outside.specs.declared.hub.Happening.{Happening}
-use Rattle.fg_outside.specs.declared.hub.Turn.TheVariants as turns
-use Rattle.fg_outside.specs.declared.hub.Said.TheVariants as answers
-use Rattle.fg_outside.specs.HubStep.{HubStep, Leads, closed, happenings, said, story, turned}
-use Rattle.fg_outside.specs.Wrote.{appended, AppendsFront}
+use Rattle.fg_outside.specs.HubStep.{HubStep}
 use Rattle.ctl_world.specs.World.{World}
-use Rattle.ctl_core.specs.Story.{behind}
-use Rattle.ctl_core.specs.Turns.{turn}
-use Rattle.ctl_drive.specs.declared.sayings.Outlet.{Outlet}
-use Rattle.ctl_drive.specs.declared.drive.Drove.{Drove}
-use Rattle.ctl_drive.specs.declared.drive.Drove.TheVariants.{Done, HubFault, Spent, WriteFault, Memory}
-use Rattle.ctl_drive.specs.declared.turn.Stopped.{Stopped}
-use Rattle.ctl_drive.specs.declared.turn.Stopped.TheVariants as stopped
-use Rattle.ctl_drive.specs.Driving.{Deed, IsFront, deeds, deeds_by, deeds_of, lines_of, out_of, sayings_of, turn_lines, written_on}
-use Rattle.std.specs.List.{AllByRecursion, flat_map}
-
-abbrev pub drove_by : Stopped → Drove
-drove_by stopped.WriteFault = WriteFault
-drove_by stopped.Memory = Memory
-
--- a call that a run goes on behind: a turn gave a happening, a piece was taken or its connection is gone, a connection was closed
-abbrev pub goes_on : HubStep → Bool
-goes_on (turned (turns.Happened it)) = true
-goes_on (turned turns.Done) = false
-goes_on (turned turns.Failed) = false
-goes_on (turned turns.Memory) = false
-goes_on (said conn piece answers.Taken) = true
-goes_on (said conn piece answers.Gone) = true
-goes_on (said conn piece answers.Memory) = false
-goes_on (closed conn) = true
-
--- a hub gave and was told this, and came from one state to another: each turn gave a happening, and no call was answered want of
--- memory
-pub record Tells {H : Type 0} (may : H → HubStep → H → Type 0) (old : H) (told : List Deed) (new : H) : Type 0 where
-  pub steps : List HubStep
-  pub leads : Leads may old steps new
-  pub deeds : deeds (story steps) ≡ told
-  pub went_on : AllByRecursion (λ step. goes_on step ≡ true) steps
-
--- a hub gave and was told a front of this: each turn gave a happening, and no call was answered want of memory, but for the last call
-pub record TellsPart {H : Type 0} (may : H → HubStep → H → Type 0) (old : H) (told : List Deed) (new : H) : Type 0 where
-  pub steps : List HubStep
-  pub leads : Leads may old steps new
-  pub front : IsFront (deeds (story steps)) told
-  pub went_on : AllByRecursion (λ step. goes_on step ≡ true) (take (length steps - 1) steps)
-
--- a message was said on a connection of the hub, for which it had no memory
-abbrev pub HasNoRoom : {H : Type 0} → (H → HubStep → H → Type 0) → (old new : H) → Type 0
-HasNoRoom may old new = (conn : ℕ) × (message : List ℕ) × may old (said conn message answers.Memory) new
-
--- ---- one turn, behind what the hub gave
-
-pub record Answers {H : Type 0} (may : H → HubStep → H → Type 0) (outlet : Outlet) (h : Happening) (w : World) (core : Option World)
-    (hub_old hub_new : H) (out_old out_new err_old err_new : Option (List ℕ)) : Type 0 where
-  pub known : core ≡ Some (turn h w)
-  pub told : Tells may hub_old (flat_map (deeds_by outlet) (sayings_of h w)) hub_new
-  pub out : out_new ≡ appended out_old (written_on outlet (turn h w).moment.0 (sayings_of h w))
-  pub err : err_new ≡ appended err_old (turn_lines h w)
-
-pub record AnswersPart {H : Type 0} (may : H → HubStep → H → Type 0) (outlet : Outlet) (h : Happening) (w : World)
-    (hub_old hub_new : H) (out_old out_new err_old err_new : Option (List ℕ)) : Type 0 where
-  pub told : TellsPart may hub_old (flat_map (deeds_by outlet) (sayings_of h w)) hub_new
-  pub out : AppendsFront out_old out_new (written_on outlet (turn h w).moment.0 (sayings_of h w))
-  pub err : AppendsFront err_old err_new (turn_lines h w)
-
--- ---- a story
-
--- all that happened is answered whole
-pub record AnswersAll {H : Type 0} (may : H → HubStep → H → Type 0) (outlet : Outlet) (w : World) (hs : List Happening) (core : Option World)
-    (hub_old hub_new : H) (out_old out_new err_old err_new : Option (List ℕ)) : Type 0 where
-  pub known : core ≡ Some (behind w hs)
-  pub told : Tells may hub_old (deeds_of outlet w hs) hub_new
-  pub out : out_new ≡ appended out_old (out_of outlet w hs)
-  pub err : err_new ≡ appended err_old (lines_of w hs)
-
--- what stands on the streams is the whole answer to all that happened but the last, and a front of the answer to that
-pub record WholeButLast (outlet : Outlet) (w : World) (hs : List Happening) (out_old out_new err_old err_new : Option (List ℕ)) : Type 0 where
-  pub before : List Happening
-  pub last : List Happening
-  pub parts : hs ≡ before ++ last
-  pub one : length last ≤ 1
-  pub out : AppendsFront (appended out_old (out_of outlet w before)) out_new (out_of outlet (behind w before) last)
-  pub err : AppendsFront (appended err_old (lines_of w before)) err_new (lines_of (behind w before) last)
+use Rattle.hub_drive.specs.declared.drive.Drove.{Drove}
+use Rattle.hub_drive.specs.declared.sayings.Outlet.{Outlet}
+use Rattle.hub_drive.specs.Driven as hub
+use Rattle.ctl_drive.specs.Controller.{controller}
 
 -- of the answer to all that happened a front is given, which ends in the last turn; where a write failed, the hub was told all
-pub record AnswersFront {H : Type 0} (may : H → HubStep → H → Type 0) (outlet : Outlet) (w : World) (hs : List Happening)
-    (hub_old hub_new : H) (out_old out_new err_old err_new : Option (List ℕ)) : Type 0 where
-  pub told : TellsPart may hub_old (deeds_of outlet w hs) hub_new
-  pub happened : happenings (story told.steps) ≡ hs
-  pub out : AppendsFront out_old out_new (out_of outlet w hs)
-  pub err : AppendsFront err_old err_new (lines_of w hs)
-  pub but_last : WholeButLast outlet w hs out_old out_new err_old err_new
+abbrev pub AnswersFront : {H : Type 0} → (H → HubStep → H → Type 0) → Outlet → World → List Happening → (hub_old hub_new : H) → (out_old out_new err_old err_new : Option (List ℕ)) → Type 0
+AnswersFront may outlet w hs hub_old hub_new out_old out_new err_old err_new = hub.AnswersFront controller may outlet w hs hub_old hub_new out_old out_new err_old err_new
+
+-- all that happened is answered whole
+abbrev pub AnswersAll : {H : Type 0} → (H → HubStep → H → Type 0) → Outlet → World → List Happening → (hub_old hub_new : H) → (out_old out_new err_old err_new : Option (List ℕ)) → Type 0
+AnswersAll may outlet w hs hub_old hub_new out_old out_new err_old err_new = hub.AnswersAll controller may outlet w hs hub_old hub_new out_old out_new err_old err_new
+
+-- what on the streams is the whole answer to all that happened but the last, and a front of the answer to that
+abbrev pub WholeButLast : Outlet → World → List Happening → (out_old out_new err_old err_new : Option (List ℕ)) → Type 0
+WholeButLast outlet w hs out_old out_new err_old err_new = hub.WholeButLast controller outlet w hs out_old out_new err_old err_new
 
 -- by how driving ended
-abbrev pub Drives : {H : Type 0} → (H → HubStep → H → Type 0) → Outlet → (most : ℕ) → World → (core : Option World) → (hub_old hub_new : H) → (out_old out_new err_old err_new : Option (List ℕ)) → Drove → Type 0
-Drives {H = H} may outlet most w core hub_old hub_new out_old out_new err_old err_new Done =
-    (hs : List Happening) × (mid : H) × (length hs < most)
-    × AnswersAll may outlet w hs core hub_old mid out_old out_new err_old err_new × may mid (turned turns.Done) hub_new
-Drives {H = H} may outlet most w core hub_old hub_new out_old out_new err_old err_new HubFault =
-    (hs : List Happening) × (mid : H) × (length hs < most)
-    × AnswersAll may outlet w hs core hub_old mid out_old out_new err_old err_new × may mid (turned turns.Failed) hub_new
-Drives may outlet most w core hub_old hub_new out_old out_new err_old err_new Spent =
-    (hs : List Happening) × (length hs ≡ most) × AnswersAll may outlet w hs core hub_old hub_new out_old out_new err_old err_new
-Drives may outlet most w core hub_old hub_new out_old out_new err_old err_new WriteFault =
-    (hs : List Happening) × (length hs ≤ most) × AnswersFront may outlet w hs hub_old hub_new out_old out_new err_old err_new
-    × Tells may hub_old (deeds_of outlet w hs) hub_new
-Drives may outlet most w core hub_old hub_new out_old out_new err_old err_new Memory =
-    (hs : List Happening) × (length hs ≤ most) × AnswersFront may outlet w hs hub_old hub_new out_old out_new err_old err_new
+abbrev pub Drives : {H : Type 0} → (H → HubStep → H → Type 0) → Outlet → (most : ℕ) → World → (hub_old hub_new : H) → (out_old out_new err_old err_new : Option (List ℕ)) → Drove → Type 0
+Drives may outlet most w hub_old hub_new out_old out_new err_old err_new how = hub.Drives controller may outlet most w hub_old hub_new out_old out_new err_old err_new how

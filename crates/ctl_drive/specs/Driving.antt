@@ -1,127 +1,38 @@
--- What is done about a story: what a hub gives and is told, and what is written.
-use Rattle.std.specs.Prelude.{◌≡◌, ℕ, ◌+◌, List, [], ◌∷◌, ◌++◌, map, Option, Some, None}
-use Rattle.std.specs.List.{flat_map}
+-- What is done about a story that happens to the controller (`hub_drive`).
+use Rattle.std.specs.Prelude.{ℕ, List}
 use Rattle.fg_outside.specs.declared.hub.Happening.{Happening}
-use Rattle.fg_outside.specs.HubStep.{Event, happening, saying, closing}
-use Rattle.recording.specs.declared.written.SwitchError.{SwitchError as Told}
-use Rattle.recording.specs.Turns.{Closing as ClosedThere}
-use Rattle.recording.specs.Written.{WrittenRecord, sent, closed, written_records}
-use Rattle.switch_session.specs.declared.closing.Closing.{Closing}
-use Rattle.switch_session.specs.declared.closing.Closing.TheVariants.{WrongVersion, BadFrame, UnknownDp, TooFewTables, Auxiliary, Replaced, SwitchError, Silent, Overfull, LinkFault, End}
-use Rattle.switch_session.specs.Closings.{number_of}
+use Rattle.recording.specs.Turns.{Closing}
+use Rattle.recording.specs.Written.{WrittenRecord}
 use Rattle.ctl_world.specs.World.{World}
 use Rattle.ctl_life.specs.declared.saying.Saying.{Saying}
-use Rattle.ctl_life.specs.declared.saying.Saying.TheVariants.{Send, Close, Line}
-use Rattle.ctl_life.specs.Sayings.{saying_of}
-use Rattle.ctl_core.specs.Turns.{turn}
-use Rattle.ctl_drive.specs.declared.sayings.Outlet.{Outlet}
-use Rattle.ctl_drive.specs.declared.sayings.Outlet.TheVariants.{Records, Hub}
-
--- a list is a front of another
-pub record IsFront {X : Type 0} (front whole : List X) : Type 0 where
-  pub rest : List X
-  pub parts : whole ≡ front ++ rest
-
--- ---- one saying
-
--- what a hub gave or was told, whatever it answered: something happened, a message was said on a connection, a connection
--- was closed
-pub data Deed : Type 0 where
-  gave : Happening → Deed
-  said : ℕ → List ℕ → Deed
-  shut : ℕ → Deed
-
-abbrev pub deeds : List Event → List Deed
-deeds [] = []
-deeds (happening it ∷ events) = gave it ∷ deeds events
-deeds (saying conn piece answer ∷ events) = said conn piece ∷ deeds events
-deeds (closing conn ∷ events) = shut conn ∷ deeds events
-
--- what a saying has for the hub
-abbrev pub deeds_by : Outlet → Saying → List Deed
-deeds_by Records (Send conn message) = []
-deeds_by Hub (Send conn message) = said conn message ∷ []
-deeds_by outlet (Close conn cause) = shut conn ∷ []
-deeds_by outlet (Line text) = []
-
--- the type and code of an error for which a connection is closed
-abbrev pub error_of : Closing → Option Told
-error_of WrongVersion = None
-error_of BadFrame = None
-error_of UnknownDp = None
-error_of TooFewTables = None
-error_of Auxiliary = None
-error_of Replaced = None
-error_of (SwitchError kind code) = Some (record { kind = kind; code = code })
-error_of Silent = None
-error_of Overfull = None
-error_of LinkFault = None
-error_of End = None
-
--- its record, if it has one
-abbrev pub record_by : (moment : ℕ) → Saying → List WrittenRecord
-record_by moment (Send conn message) = record { moment = moment; conn = conn; told = sent message } ∷ []
-record_by moment (Close conn cause) = record { moment = moment; conn = conn; told = closed (number_of cause) (error_of cause) } ∷ []
-record_by moment (Line text) = []
-
-abbrev pub written_by : (moment : ℕ) → Saying → List ℕ
-written_by moment one = written_records (record_by moment one)
-
--- what goes to standard output of these sayings
-abbrev pub written_on : Outlet → (moment : ℕ) → List Saying → List ℕ
-written_on Records moment sayings = flat_map (written_by moment) sayings
-written_on Hub moment sayings = []
-
--- its line with its end, if it is one
-abbrev pub line_by : Saying → List ℕ
-line_by (Send conn message) = []
-line_by (Close conn cause) = []
-line_by (Line text) = text ++ 10 ∷ []
-
--- the connection that it closes, if it closes one
-abbrev pub shut_by : Saying → List ℕ
-shut_by (Send conn message) = []
-shut_by (Close conn cause) = conn ∷ []
-shut_by (Line text) = []
-
--- ---- a turn, and a story
+use Rattle.hub_drive.specs.declared.sayings.Outlet.{Outlet}
+use Rattle.hub_drive.specs.Driving as hub
+use Rattle.ctl_drive.specs.Controller.{controller}
 
 -- what is said in a turn, as it goes out
 abbrev pub sayings_of : Happening → World → List Saying
-sayings_of h w = map saying_of (turn h w).said
+sayings_of h w = hub.sayings_of controller h w
 
-abbrev pub turn_deeds : Outlet → Happening → World → List Deed
-turn_deeds outlet h w = gave h ∷ flat_map (deeds_by outlet) (sayings_of h w)
-
-abbrev pub turn_lines : Happening → World → List ℕ
-turn_lines h w = flat_map line_by (sayings_of h w)
-
--- a record carries the moment of its turn
+-- its records
 abbrev pub turn_records : Happening → World → List WrittenRecord
-turn_records h w = flat_map (record_by (turn h w).moment.0) (sayings_of h w)
+turn_records h w = hub.turn_records controller h w
+
+-- its lines
+abbrev pub turn_lines : Happening → World → List ℕ
+turn_lines h w = hub.turn_lines controller h w
 
 -- what a hub gives and is told in a story that begins where this is known
-abbrev pub deeds_of : Outlet → World → List Happening → List Deed
-deeds_of outlet w [] = []
-deeds_of outlet w (h ∷ hs) = turn_deeds outlet h w ++ deeds_of outlet (turn h w) hs
+abbrev pub deeds_of : Outlet → World → List Happening → List hub.Deed
+deeds_of outlet w hs = hub.deeds_of controller outlet w hs
 
 -- its lines on standard error
 abbrev pub lines_of : World → List Happening → List ℕ
-lines_of w [] = []
-lines_of w (h ∷ hs) = turn_lines h w ++ lines_of (turn h w) hs
+lines_of w hs = hub.lines_of controller w hs
 
 -- its records, one for each message and each closing
 abbrev pub records_of : World → List Happening → List WrittenRecord
-records_of w [] = []
-records_of w (h ∷ hs) = turn_records h w ++ records_of (turn h w) hs
-
--- what goes to standard output
-abbrev pub out_of : Outlet → World → List Happening → List ℕ
-out_of Records w hs = written_records (records_of w hs)
-out_of Hub w hs = []
+records_of w hs = hub.records_of controller w hs
 
 -- the connections that the controller closes, each with how many happenings came before, where so many came before the story
-abbrev pub closings_of : (given : ℕ) → World → List Happening → List ClosedThere
-closings_of given w [] = []
-closings_of given w (h ∷ hs) =
-    map (λ conn. record { conn = conn; behind = given + 1 }) (flat_map shut_by (sayings_of h w)) ++ closings_of (given + 1) (turn h w) hs
+abbrev pub closings_of : (given : ℕ) → World → List Happening → List Closing
+closings_of given w hs = hub.closings_of controller given w hs

@@ -1,3 +1,4 @@
+pub mod Controller
 pub mod Driven
 pub mod Driving
 pub mod Replay

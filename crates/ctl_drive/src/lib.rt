@@ -1,13 +1,7 @@
-//! A controller driven by a hub, turn by turn: what it says goes out, what it closes is closed, and its lines
-//! are written. The replay of a recording is such a run.
+//! The controller as a hub drives it, and its replay of a recording.
 #![tactic(auto)]
 
-pub mod drive;
-pub mod laws;
 pub mod replay;
-mod sayings;
-mod turn;
+mod steered;
 
-pub use drive::Drove;
-pub use replay::Replayed;
-pub use sayings::Outlet;
+pub use steered::Steered;

@@ -6,8 +6,8 @@ use Rattle.fg_outside.specs.declared.hub.Said.TheVariants as answers
 use Rattle.fg_outside.specs.HubStep.{HubStep, Leads, closed, next, said, start, turned}
 use Rattle.recording_hub.specs.declared.recording_hub.RecordingHub.{RecordingHub}
 use Rattle.recording_hub.specs.RecordingHub.{Does, RecordingStep, hub_in, sink_in}
-use Rattle.ctl_drive.specs.Driving.{Deed}
-use Rattle.ctl_drive.specs.Driven.{Tells, goes_on}
+use Rattle.hub_drive.specs.Driving.{Deed}
+use Rattle.hub_drive.specs.Driven.{Tells, goes_on}
 
 -- what holds of all of a list holds of its front and of its last
 pub front_and_last : {X : Type 0} (P : X → Type 0) (xs : List X) (x : X) → AllByRecursion P (xs ++ x ∷ []) → AllByRecursion P xs × P x

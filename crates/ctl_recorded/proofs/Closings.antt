@@ -1,7 +1,7 @@
 -- What is closed in a story whose messages are said on the hub's connections.
 use Rattle.std.proofs.Common.{◌≡◌, ℕ, ◌+◌, ◌≤◌, List, [], ◌∷◌, ◌++◌, length, map, refl, sym, ap, subst, ◌∙◌, append_assoc, arith, length-append}
 use Rattle.std.proofs.lemmas.List.{append-nil, length-map}
-use Rattle.std.specs.List.{AllByRecursion, flat_map}
+use Rattle.std.specs.List.{AllByRecursion}
 use Rattle.fg_outside.specs.declared.hub.Happening.{Happening}
 use Rattle.fg_outside.specs.HubStep.{Event, happenings}
 use Rattle.recording.specs.declared.record.Record.{Record}
@@ -9,28 +9,11 @@ use Rattle.recording.specs.Turns.{Closing, Told, closings, told_by, turns}
 use Rattle.recording.proofs.Turning.{told_by-later}
 use Rattle.recording_hub.specs.Recorded.{held}
 use Rattle.ctl_world.specs.World.{World}
-use Rattle.ctl_life.specs.declared.saying.Saying.{Saying}
-use Rattle.ctl_life.specs.declared.saying.Saying.TheVariants.{Send, Close, Line}
-use Rattle.ctl_core.specs.Turns.{turn}
-use Rattle.ctl_drive.specs.declared.sayings.Outlet.TheVariants.{Hub}
-use Rattle.ctl_drive.specs.Driving.{Deed, gave, said, shut, IsFront, closings_of, deeds, deeds_by, deeds_of, sayings_of, shut_by}
-use Rattle.ctl_drive.proofs.Deeds.{closings_are, happened-append, happened-deeds, happened_in, happenings_are, shut_in}
-
-shut_by_sayings : (given : ℕ) (sayings : List Saying) (more : List Deed) → shut_in given (flat_map (deeds_by Hub) sayings ++ more) ≡ map (λ (conn : ℕ). let c : Closing = record { conn = conn; behind = given } in c) (flat_map shut_by sayings) ++ shut_in given more
-shut_by_sayings given [] more = refl
-shut_by_sayings given (Send conn message ∷ sayings) more = shut_by_sayings given sayings more
-shut_by_sayings given (Close conn cause ∷ sayings) more = ap (λ (l : List Closing). record { conn = conn; behind = given } ∷ l) (shut_by_sayings given sayings more)
-shut_by_sayings given (Line text ∷ sayings) more = shut_by_sayings given sayings more
-
-shut-deeds : (given : ℕ) (w : World) (hs : List Happening) → shut_in given (deeds_of Hub w hs) ≡ closings_of given w hs
-shut-deeds given w [] = refl
-shut-deeds given w (h ∷ hs) =
-    shut_by_sayings (given + 1) (sayings_of h w) (deeds_of Hub (turn h w) hs)
-    ∙ ap (λ (l : List Closing). map (λ (conn : ℕ). let c : Closing = record { conn = conn; behind = given + 1 } in c) (flat_map shut_by (sayings_of h w)) ++ l) (shut-deeds (given + 1) (turn h w) hs)
-
--- where all was told
-pub whole_closed : (w : World) (hs : List Happening) (events : List Event) (given : ℕ) → deeds events ≡ deeds_of Hub w hs → closings given events ≡ closings_of given w hs
-whole_closed w hs events given told = closings_are given events ∙ ap (λ (l : List Deed). shut_in given l) told ∙ shut-deeds given w hs
+use Rattle.hub_drive.specs.declared.sayings.Outlet.TheVariants.{Hub}
+use Rattle.hub_drive.specs.Driving.{Deed, gave, said, shut, IsFront, deeds}
+use Rattle.ctl_drive.specs.Driving.{closings_of, deeds_of}
+use Rattle.hub_drive.proofs.Deeds.{closings_are, happened-append, happened-deeds, happened_in, happenings_are, shut_in, shut-deeds}
+use Rattle.ctl_drive.specs.Controller.{controller}
 
 -- ---- where a front was told
 
@@ -67,7 +50,7 @@ pub front_closed : (w : World) (hs : List Happening) (events : List Event) (reco
 front_closed w hs events records front happened tells =
     let in_front : happened_in (deeds events) ≡ hs = sym (happenings_are events) ∙ happened in
     let all : hs ≡ hs ++ happened_in front.rest =
-    sym (happened-deeds Hub w hs)
+    sym (happened-deeds controller Hub w hs)
     ∙ ap (λ (l : List Deed). happened_in l) front.parts
     ∙ happened-append (deeds events) front.rest
     ∙ ap (λ (l : List Happening). l ++ happened_in front.rest) in_front
@@ -75,7 +58,7 @@ front_closed w hs events records front happened tells =
     let none : happened_in front.rest ≡ [] = no_more hs (happened_in front.rest) all in
     let more : List Closing = shut_in (length hs) front.rest in
     let closed : closings_of 0 w hs ≡ closings 0 events ++ more =
-    sym (shut-deeds 0 w hs)
+    sym (shut-deeds controller Hub 0 w hs)
     ∙ ap (λ (l : List Deed). shut_in 0 l) front.parts
     ∙ shut-append 0 (deeds events) front.rest
     ∙ ap (λ n. shut_in 0 (deeds events) ++ shut_in n front.rest) (omega (arith, ap length in_front))

@@ -14,9 +14,9 @@ use Rattle.watch_hub.specs.declared.watch.Watch.{Watch}
 use Rattle.watch_hub.specs.Watch.{files_in, hub_in}
 use Rattle.watch_hub.specs.WatchedStory.{none}
 use Rattle.ctl_world.specs.World.{World}
-use Rattle.ctl_drive.specs.declared.drive.Drove.{Drove}
-use Rattle.ctl_drive.specs.declared.drive.Drove.TheVariants as drove
-use Rattle.ctl_drive.specs.declared.sayings.Outlet.TheVariants.{Hub}
+use Rattle.hub_drive.specs.declared.drive.Drove.{Drove}
+use Rattle.hub_drive.specs.declared.drive.Drove.TheVariants as drove
+use Rattle.hub_drive.specs.declared.sayings.Outlet.TheVariants.{Hub}
 use Rattle.ctl_drive.specs.Driven.{Drives}
 use Rattle.ctl_serve.proofs.Serving.{front_of_nothing}
 use Rattle.ctl_recorded.specs.declared.run.RecordedEnd.TheVariants as ends
@@ -66,9 +66,9 @@ module _ {H S : Type 0} (may : H → HubStep → H → Type 0) (hub_faults : H �
   same_count : faults_of hub_faults to ≡ faults_of hub_faults from → hub_faults (recorded.hub_in to) ≡ hub_faults (recorded.hub_in from)
   same_count same = omega (arith, same, begins, faults_rise may hub_faults wrote sink_faults from way to leads)
 
-  module _ (most : ℕ) (w : World) (core : Option World) (out_old out_new err_old err_new : Option (List ℕ)) where
+  module _ (most : ℕ) (w : World) (out_old out_new err_old err_new : Option (List ℕ)) where
     abbrev Did : Drove → Type 0
-    Did how = Drives (Step may hub_faults wrote sink_faults) Hub most w core from to out_old out_new err_old err_new how
+    Did how = Drives (Step may hub_faults wrote sink_faults) Hub most w from to out_old out_new err_old err_new how
 
     broken_fault : (b : Bool) → has_failed to ≡ b → ended_by drove.HubFault b ≢ ends.By drove.HubFault → Did drove.HubFault → hub_faults (recorded.hub_in to) ≡ hub_faults (recorded.hub_in from)
     broken_fault true is other (hs, mid, few, all, last) = last.counts.broken is ∙ faults_stand may hub_faults wrote sink_faults from all.told.steps mid all.told.went_on all.told.leads
@@ -93,37 +93,3 @@ module _ {H S : Type 0} (may : H → HubStep → H → Type 0) (hub_faults : H �
 
 none_written : (old : Option (List ℕ)) → old ≡ appended (appended old []) []
 none_written old = sym (appended-nil (appended old []) ∙ appended-nil old)
-
-pub serves_none : {H F S : Type 0} (may : H → HubStep → H → Type 0) (contents : F → Option Contents) (faults : F → ℕ) (wrote : S → Option (List ℕ)) (watch : Watch H F) (sink : S) (name text : List ℕ) (every most : ℕ) (conf : Configuration) (err : Option (List ℕ))
-    → ServesRecorded may contents faults name text every most conf (hub_in watch) (hub_in watch) (files_in watch) (files_in watch) (wrote sink) (wrote sink) (StandsTo err err (ends.By drove.Memory)) (ends.By drove.Memory)
-serves_none may contents faults wrote watch sink name text every most conf err = record {
-  happened = [];
-  ended = omega arith;
-  served = record {
-    steps = [];
-    leads = start;
-    taken_in = [];
-    lost = [];
-    few = omega arith;
-    gave = refl;
-    texts = [];
-    watches = refl;
-    events = [];
-    put_in = none;
-    all = refl;
-    told = record { rest = []; parts = refl };
-    looks = refl;
-    are_told = λ held is. tt;
-    few_missed = λ held is. omega arith;
-  };
-  recorded = record {
-    records = [];
-    bytes = [];
-    part = [];
-    written = none_written (wrote sink);
-    is = record { spell = refl; follow = tt };
-    tells = refl;
-    cut = cut_none;
-  };
-  said = AppendsFront-none err [];
-}

@@ -16,10 +16,10 @@ use Rattle.recording_hub.specs.RecordingHub as recorded
 use Rattle.recording_hub.specs.RecordingHub.{IsAskedOnce}
 use Rattle.watch_hub.specs.declared.watch.Watch.{Watch}
 use Rattle.watch_hub.specs.Watch.{Does, IsAsked, WatchStep, files_in, hub_in, is_spent, lost, nothing}
-use Rattle.ctl_drive.specs.Driving.{Deed, IsFront, deeds}
-use Rattle.ctl_drive.specs.Driven.{TellsPart, goes_on}
-use Rattle.ctl_drive.proofs.Deeds.{deeds-append}
-use Rattle.ctl_drive.proofs.Telling.{all_of_front}
+use Rattle.hub_drive.specs.Driving.{Deed, IsFront, deeds}
+use Rattle.hub_drive.specs.Driven.{TellsPart, goes_on}
+use Rattle.hub_drive.proofs.Deeds.{deeds-append}
+use Rattle.hub_drive.proofs.Telling.{all_of_front}
 use Rattle.ctl_serve.proofs.Serving.{front_then}
 use Rattle.ctl_recorded.proofs.Beneath.{Step, all_beneath}
 

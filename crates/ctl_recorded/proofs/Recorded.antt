@@ -13,11 +13,13 @@ use Rattle.recording_hub.specs.Recorded.{held}
 use Rattle.recording_hub.specs.RecordedStory.{RecordedStory}
 use Rattle.recording_hub.specs.RecordingHub.{has_failed, sink_in}
 use Rattle.ctl_world.specs.World.{first}
-use Rattle.ctl_drive.specs.declared.sayings.Outlet.TheVariants.{Hub}
-use Rattle.ctl_drive.specs.Driving.{IsFront, deeds, deeds_of}
-use Rattle.ctl_drive.proofs.Deeds.{whole_happened}
+use Rattle.hub_drive.specs.declared.sayings.Outlet.TheVariants.{Hub}
+use Rattle.hub_drive.specs.Driving.{IsFront, deeds}
+use Rattle.ctl_drive.specs.Driving.{deeds_of}
+use Rattle.hub_drive.proofs.Deeds.{whole_closed, whole_happened}
+use Rattle.ctl_drive.specs.Controller.{controller}
 use Rattle.ctl_recorded.specs.RecordedRun.{IsRecording, IsRecordingSoFar}
-use Rattle.ctl_recorded.proofs.Closings.{front_closed, whole_closed}
+use Rattle.ctl_recorded.proofs.Closings.{front_closed}
 
 -- a call that tells nothing
 pub quiet_deeds : (steps : List HubStep) (step : HubStep) → told_by step ≡ [] → deeds (story (steps ++ step ∷ [])) ≡ deeds (story steps)
@@ -25,7 +27,7 @@ quiet_deeds steps step none = ap (λ (l : List Event). deeds l) (story-next step
 
 module _ {H S : Type 0} (may : H → HubStep → H → Type 0) (wrote : S → Option (List ℕ)) (from to : RecordingHub H S) (events : List Event) (r : RecordedStory may wrote from events to) (conf : Configuration) (hs : List Happening) where
   tells_all : deeds events ≡ deeds_of Hub (first conf) hs → turns r.records (closings 0 events) ≡ map held hs
-  tells_all told = r.tells ∙ ap (λ (l : List Happening). map held l) (whole_happened Hub (first conf) hs events told)
+  tells_all told = r.tells ∙ ap (λ (l : List Happening). map held l) (whole_happened controller Hub (first conf) hs events told)
 
   -- where it is whole, and all was told
   pub recording_of : deeds events ≡ deeds_of Hub (first conf) hs → has_failed to ≡ false → IsRecording conf hs (wrote (sink_in from)) (wrote (sink_in to))
@@ -34,7 +36,7 @@ module _ {H S : Type 0} (may : H → HubStep → H → Type 0) (wrote : S → Op
     bytes = r.bytes;
     written = r.written ∙ ap (λ (l : List ℕ). appended (appended (wrote (sink_in from)) r.bytes) l) (r.whole whole) ∙ appended-nil (appended (wrote (sink_in from)) r.bytes);
     is = r.is;
-    tells = ap (λ (l : List Closing). turns r.records l) (sym (whole_closed (first conf) hs events 0 told)) ∙ tells_all told;
+    tells = ap (λ (l : List Closing). turns r.records l) (sym (whole_closed controller Hub (first conf) hs events 0 told)) ∙ tells_all told;
   }
 
   -- where all was told
@@ -45,7 +47,7 @@ module _ {H S : Type 0} (may : H → HubStep → H → Type 0) (wrote : S → Op
     part = r.part;
     written = r.written;
     is = r.is;
-    tells = ap (λ (l : List Closing). turns r.records l) (sym (whole_closed (first conf) hs events 0 told)) ∙ tells_all told;
+    tells = ap (λ (l : List Closing). turns r.records l) (sym (whole_closed controller Hub (first conf) hs events 0 told)) ∙ tells_all told;
     cut = r.cut;
   }
 

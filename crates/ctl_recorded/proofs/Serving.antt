@@ -15,11 +15,12 @@ use Rattle.watch_hub.specs.declared.watch.Watch.{Watch}
 use Rattle.watch_hub.specs.Watch.{IsBegun, files_in, hub_in, last_in, waiting_in, waits_in}
 use Rattle.watch_hub.specs.Watched.{reloads}
 use Rattle.ctl_world.specs.World.{World, first}
-use Rattle.ctl_drive.specs.declared.drive.Drove.{Drove}
-use Rattle.ctl_drive.specs.declared.drive.Drove.TheVariants as drove
-use Rattle.ctl_drive.specs.declared.sayings.Outlet.TheVariants.{Hub}
+use Rattle.hub_drive.specs.declared.drive.Drove.{Drove}
+use Rattle.hub_drive.specs.declared.drive.Drove.TheVariants as drove
+use Rattle.hub_drive.specs.declared.sayings.Outlet.TheVariants.{Hub}
 use Rattle.ctl_drive.specs.Driving.{deeds_of}
-use Rattle.ctl_drive.specs.Driven.{AnswersAll, AnswersFront, Drives, Tells}
+use Rattle.hub_drive.specs.Driven.{Tells}
+use Rattle.ctl_drive.specs.Driven.{AnswersAll, AnswersFront, Drives}
 use Rattle.ctl_serve.specs.Served.{Served, ServedPart, last_call}
 use Rattle.ctl_serve.proofs.Serving.{IsRunning, TellsWatched, TellsWatchedPart, front_then, front_whole, served, served_part}
 use Rattle.ctl_recorded.specs.declared.run.RecordedEnd.{RecordedEnd}
@@ -47,13 +48,13 @@ module _ {H F S : Type 0} (may : H → HubStep → H → Type 0) (contents : F �
   AreRecorded = (from to : Recorded) (steps : List HubStep) → recorded.IsBegun from → Leads R from steps to → RecordedStory W wrote from (story steps) to
 
   module _ (running : IsRunning may contents faults absences) (watched_story : TellsWatched may contents faults absences) (watched_part : TellsWatchedPart may contents faults absences) (are_recorded : AreRecorded)
-      (from to : Recorded) (recording_begun : recorded.IsBegun from) (name text : List ℕ) (every most : ℕ) (begun : IsBegun (watch_in from) name text every) (conf : Configuration) (core : Option World) (out_old out_new err_old err_new : Option (List ℕ)) where
+      (from to : Recorded) (recording_begun : recorded.IsBegun from) (name text : List ℕ) (every most : ℕ) (begun : IsBegun (watch_in from) name text every) (conf : Configuration) (out_old out_new err_old err_new : Option (List ℕ)) where
     abbrev pub Serves : RecordedEnd → Type 0
     Serves end =
         ServesRecorded may contents faults name text every most conf (hub_in (watch_in from)) (hub_in (watch_in to)) (files_in (watch_in from)) (files_in (watch_in to)) (wrote (sink_in from)) (wrote (sink_in to)) (StandsTo err_old err_new end) end
 
     abbrev Answered : (hs : List Happening) (mid : Recorded) → Type 0
-    Answered hs mid = AnswersAll R Hub (first conf) hs core from mid out_old out_new err_old err_new
+    Answered hs mid = AnswersAll R Hub (first conf) hs from mid out_old out_new err_old err_new
 
     -- a last turn that tells nothing behind what was answered
     last_way : (hs : List Happening) (mid : Recorded) (all : Answered hs mid) (step : HubStep) → R mid step to → Leads R from (all.told.steps ++ step ∷ []) to
@@ -127,7 +128,7 @@ module _ {H F S : Type 0} (may : H → HubStep → H → Type 0) (contents : F �
     -- ---- by how driving ended, and whether the recording is broken
 
     abbrev Did : Drove → Type 0
-    Did how = Drives R Hub most (first conf) core from to out_old out_new err_old err_new how
+    Did how = Drives R Hub most (first conf) from to out_old out_new err_old err_new how
 
     done : (is_whole : has_failed to ≡ false) → Did drove.Done → Serves (ends.By drove.Done)
     done is_whole (hs, mid, few, all, last) =

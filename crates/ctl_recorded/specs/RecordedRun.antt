@@ -11,8 +11,8 @@ use Rattle.recording.specs.Turns.{turns}
 use Rattle.recording_hub.specs.Recorded.{held}
 use Rattle.recording_hub.specs.RecordedStory.{IsCut}
 use Rattle.ctl_world.specs.World.{World, first}
-use Rattle.ctl_drive.specs.declared.drive.Drove.{Drove}
-use Rattle.ctl_drive.specs.declared.drive.Drove.TheVariants.{Done, HubFault, Spent, WriteFault, Memory}
+use Rattle.hub_drive.specs.declared.drive.Drove.{Drove}
+use Rattle.hub_drive.specs.declared.drive.Drove.TheVariants.{Done, HubFault, Spent, WriteFault, Memory}
 use Rattle.ctl_drive.specs.Driving.{lines_of}
 use Rattle.ctl_drive.specs.Replay.{closed_in}
 use Rattle.ctl_serve.specs.Served.{Ended, Served, ServedPart}

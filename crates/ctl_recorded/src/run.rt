@@ -4,10 +4,10 @@ ghost use Rattle.watch_hub.specs.Watch.{IsBegun, files_in, hub_in};
 ghost use Rattle.ctl_recorded.specs.RecordedRun.{ServesRecorded, StandsTo, ended_by};
 
 use conf_types::{Conf, Tally};
-use ctl_core::Controller;
-use ctl_drive::drive::drive;
-use ctl_drive::{Drove, Outlet};
+use ctl_drive::Steered;
 use fg_outside::{Files, Hub, Sink};
+use hub_drive::drive::drive;
+use hub_drive::{Drove, Outlet};
 use recording_hub::RecordingHub;
 use recording_hub::laws::{
     a_way_is_recorded, a_whole_recording_counts_the_hubs_faults, the_hub_goes_along,
@@ -45,7 +45,7 @@ fn ended_by(drove: Drove, is_broken: bool) -> RecordedEnd
 /// Does what `ctl_serve::serve` does, and writes to a sink a recording of what happens to the controller: a record
 /// of each happening, whole and before it is given, reloads among them. Where that breaks off, serving ends. Gives
 /// the hub, the files and the sink back.
-pub fn serve_recorded<H: Hub, F: Files, S: Sink, O: Sink, E: Sink, T: Tally>(
+pub fn serve_recorded<H: Hub, F: Files, S: Sink, O: Sink, E: Sink, T: Tally + Drop>(
     alloc: Global,
     conf: Conf,
     watch: Watch<H, F>,
@@ -53,7 +53,7 @@ pub fn serve_recorded<H: Hub, F: Files, S: Sink, O: Sink, E: Sink, T: Tally>(
     most: u64,
     out: &mut O,
     err: &mut E,
-    units: &mut T,
+    units: T,
 ) -> (RecordedEnd, H, F, S)
     // The story is that of the hub with the reloads of the looks between, the hub is told what the controller says of it, and
     // the sink took a recording of it.
@@ -83,21 +83,8 @@ pub fn serve_recorded<H: Hub, F: Files, S: Sink, O: Sink, E: Sink, T: Tally>(
     a_whole_recording_counts_the_hubs_faults::<Watch<H, F>, S>();
     the_hub_goes_along::<Watch<H, F>, S>();
     let mut recorded = RecordingHub::new(alloc, watch, sink);
-    let Ok(mut core) = Controller::new(alloc, conf) else {
-        let (watch, sink) = recorded.into_parts();
-        let (hub, files) = watch.into_parts();
-        return (RecordedEnd::By(Drove::Memory), hub, files, sink);
-    };
-    let drove = drive(
-        alloc,
-        &mut core,
-        &mut recorded,
-        Outlet::Hub,
-        most,
-        out,
-        err,
-        units,
-    );
+    let machine = Steered::new(alloc, conf, units);
+    let drove = drive(alloc, machine, &mut recorded, Outlet::Hub, most, out, err);
     let end = ended_by(drove, recorded.has_failed());
     let (watch_after, sink_after) = recorded.into_parts();
     let (hub_after, files_after) = watch_after.into_parts();

@@ -19,12 +19,14 @@ use Rattle.watch_hub.specs.Watch.{IsBegun, WatchStep, files_in, hub_in, is_spent
 use Rattle.watch_hub.specs.Watched.{looks_from, reloads, watched, watched_from}
 use Rattle.watch_hub.specs.WatchedStory.{PutsIn, WatchedPart, WatchedStory, none}
 use Rattle.ctl_world.specs.World.{World, first}
-use Rattle.ctl_drive.specs.declared.drive.Drove.{Drove}
-use Rattle.ctl_drive.specs.declared.drive.Drove.TheVariants as drove
-use Rattle.ctl_drive.specs.declared.sayings.Outlet.TheVariants.{Hub}
+use Rattle.hub_drive.specs.declared.drive.Drove.{Drove}
+use Rattle.hub_drive.specs.declared.drive.Drove.TheVariants as drove
+use Rattle.hub_drive.specs.declared.sayings.Outlet.TheVariants.{Hub}
 use Rattle.ctl_drive.specs.Driving.{deeds_of}
-use Rattle.ctl_drive.specs.Driven.{AnswersFront, Drives, Tells, goes_on}
-use Rattle.ctl_drive.proofs.Deeds.{whole_happened}
+use Rattle.hub_drive.specs.Driven.{Tells, goes_on}
+use Rattle.ctl_drive.specs.Driven.{AnswersFront, Drives}
+use Rattle.hub_drive.proofs.Deeds.{whole_happened}
+use Rattle.ctl_drive.specs.Controller.{controller}
 use Rattle.ctl_serve.specs.Served.{Served, ServedPart, ServesTo, last_call}
 
 -- ---- fronts of lists
@@ -89,7 +91,7 @@ module _ {H F : Type 0} (may : H → HubStep → H → Type 0) (contents : F →
         let hub_happened : List Happening = happenings told.hub_events in
         let same_happened : hub_happened ≡ happenings (story told.hub.steps) = ap (λ (l : List Event). happenings l) (sym told.hub.is) in
         let all : hs ++ waiting_in mid ≡ watched hub_happened told.texts text every =
-        ap (λ (l : List Happening). l ++ waiting_in mid) (sym (whole_happened Hub w hs (story tells.steps) tells.deeds))
+        ap (λ (l : List Happening). l ++ waiting_in mid) (sym (whole_happened controller Hub w hs (story tells.steps) tells.deeds))
         ∙ told.told
         ∙ ap (λ n. watched_from n (looked_in from) (last_in from) told.texts hub_happened) begun.every
         ∙ ap (λ n. watched_from every n (last_in from) told.texts hub_happened) begun.looked
@@ -162,8 +164,8 @@ module _ {H F : Type 0} (may : H → HubStep → H → Type 0) (contents : F →
         }
 
   -- nothing goes to standard output
-  module _ (from to : Watch H F) (most : ℕ) (w : World) (core : Option World) (out_old out_new err_old err_new : Option (List ℕ)) where
-    pub nothing_out : (how : Drove) → Drives Step Hub most w core from to out_old out_new err_old err_new how → out_new ≡ out_old
+  module _ (from to : Watch H F) (most : ℕ) (w : World) (out_old out_new err_old err_new : Option (List ℕ)) where
+    pub nothing_out : (how : Drove) → Drives Step Hub most w from to out_old out_new err_old err_new how → out_new ≡ out_old
     nothing_out drove.Done (hs, mid, few, all, last) = all.out ∙ appended-nil out_old
     nothing_out drove.HubFault (hs, mid, few, all, last) = all.out ∙ appended-nil out_old
     nothing_out drove.Spent (hs, is, all) = all.out ∙ appended-nil out_old
@@ -171,7 +173,7 @@ module _ {H F : Type 0} (may : H → HubStep → H → Type 0) (contents : F →
     nothing_out drove.Memory (hs, few, front) = front_of_nothing out_old out_new front.out
 
   -- what serving came to, by how it ended
-  module _ (running : IsRunning) (watched_story : TellsWatched) (watched_part : TellsWatchedPart) (from to : Watch H F) (name text : List ℕ) (every most : ℕ) (begun : IsBegun from name text every) (conf : Configuration) (core : Option World) (out_old out_new err_old err_new : Option (List ℕ)) where
+  module _ (running : IsRunning) (watched_story : TellsWatched) (watched_part : TellsWatchedPart) (from to : Watch H F) (name text : List ℕ) (every most : ℕ) (begun : IsBegun from name text every) (conf : Configuration) (out_old out_new err_old err_new : Option (List ℕ)) where
     abbrev Serves : Drove → Type 0
     Serves how = ServesTo may contents faults name text every most conf (hub_in from) (hub_in to) (files_in from) (files_in to) err_old err_new how
 
@@ -179,7 +181,7 @@ module _ {H F : Type 0} (may : H → HubStep → H → Type 0) (contents : F →
     pub idle : (hs : List Happening) (watch : Watch H F) → waits_in watch ≡ false → length hs ≤ most → take most (hs ++ waiting_in watch) ≡ hs
     idle hs watch quiet few = front_whole most hs (waiting_in watch) (ap (λ (b : Bool). reloads b (last_in watch)) quiet) few
 
-    pub serves : (how : Drove) → Drives Step Hub most (first conf) core from to out_old out_new err_old err_new how → Serves how
+    pub serves : (how : Drove) → Drives Step Hub most (first conf) from to out_old out_new err_old err_new how → Serves how
     serves drove.Done (hs, mid, few, all, last) = (
       hs,
       few,
@@ -207,28 +209,3 @@ module _ {H F : Type 0} (may : H → HubStep → H → Type 0) (contents : F →
       front.err,
     )
     serves drove.Memory (hs, few, front) = (hs, few, served_part watched_part from name text every begun (first conf) hs to out_old out_new err_old err_new front, front.err)
-
-  -- the controller wasn't made
-  pub serves_none : (watch : Watch H F) (name text : List ℕ) (every most : ℕ) (conf : Configuration) (err : Option (List ℕ)) → ServesTo may contents faults name text every most conf (hub_in watch) (hub_in watch) (files_in watch) (files_in watch) err err drove.Memory
-  serves_none watch name text every most conf err = (
-    [],
-    omega arith,
-    record {
-      steps = [];
-      leads = start;
-      taken_in = [];
-      lost = [];
-      few = omega arith;
-      gave = refl;
-      texts = [];
-      watches = refl;
-      events = [];
-      put_in = none;
-      all = refl;
-      told = record { rest = []; parts = refl };
-      looks = refl;
-      are_told = λ held is. tt;
-      few_missed = λ held is. omega arith;
-    },
-    AppendsFront-none err [],
-  )

@@ -11,11 +11,12 @@ use Rattle.watch_hub.specs.Texts.{AreTold, missed, refreshed_by}
 use Rattle.watch_hub.specs.Watched.{looks_from, watched}
 use Rattle.watch_hub.specs.WatchedStory.{PutsIn}
 use Rattle.ctl_world.specs.World.{World, first}
-use Rattle.ctl_drive.specs.declared.drive.Drove.{Drove}
-use Rattle.ctl_drive.specs.declared.drive.Drove.TheVariants.{Done, HubFault, Spent, WriteFault, Memory}
-use Rattle.ctl_drive.specs.declared.sayings.Outlet.TheVariants.{Hub}
-use Rattle.ctl_drive.specs.Driving.{IsFront, deeds, deeds_of, lines_of}
-use Rattle.ctl_drive.specs.Driven.{goes_on}
+use Rattle.hub_drive.specs.declared.drive.Drove.{Drove}
+use Rattle.hub_drive.specs.declared.drive.Drove.TheVariants.{Done, HubFault, Spent, WriteFault, Memory}
+use Rattle.hub_drive.specs.declared.sayings.Outlet.TheVariants.{Hub}
+use Rattle.hub_drive.specs.Driving.{IsFront, deeds}
+use Rattle.ctl_drive.specs.Driving.{deeds_of, lines_of}
+use Rattle.hub_drive.specs.Driven.{goes_on}
 
 -- the last call of a hub that ends so: a turn in which it says that it is done, or fails; else none
 abbrev pub last_call : Drove → List HubStep

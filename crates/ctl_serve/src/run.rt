@@ -4,10 +4,10 @@ ghost use Rattle.watch_hub.specs.Watch.{IsBegun, files_in, hub_in};
 ghost use Rattle.ctl_serve.specs.Served.{ServesTo};
 
 use conf_types::{Conf, Tally};
-use ctl_core::Controller;
-use ctl_drive::drive::drive;
-use ctl_drive::{Drove, Outlet};
+use ctl_drive::Steered;
 use fg_outside::{Files, Hub, Sink};
+use hub_drive::drive::drive;
+use hub_drive::{Drove, Outlet};
 use std::alloc::Global;
 use watch_hub::Watch;
 use watch_hub::laws::{
@@ -19,14 +19,14 @@ use watch_hub::laws::{
 /// at most, and gives the hub and the files back. What the controller says is said on the hub's connections, and
 /// those that it closes are closed there; on `err` stand its lines, each before the next turn is taken. On `out`
 /// stands nothing.
-pub fn serve<H: Hub, F: Files, O: Sink, E: Sink, T: Tally>(
+pub fn serve<H: Hub, F: Files, O: Sink, E: Sink, T: Tally + Drop>(
     alloc: Global,
     conf: Conf,
     watch: Watch<H, F>,
     most: u64,
     out: &mut O,
     err: &mut E,
-    units: &mut T,
+    units: T,
 ) -> (Drove, H, F)
     // The story is that of the hub with the reloads of the looks between, and the hub is told what the controller says of it;
     // where memory ran out, a front of that.
@@ -51,20 +51,8 @@ pub fn serve<H: Hub, F: Files, O: Sink, E: Sink, T: Tally>(
     the_counts_of_its_files_stand::<H, F>();
     what_holds_of_its_calls_holds_of_its_hubs::<H, F>();
     let mut watch = watch;
-    let Ok(mut core) = Controller::new(alloc, conf) else {
-        let (hub, files) = watch.into_parts();
-        return (Drove::Memory, hub, files);
-    };
-    let drove = drive(
-        alloc,
-        &mut core,
-        &mut watch,
-        Outlet::Hub,
-        most,
-        out,
-        err,
-        units,
-    );
+    let machine = Steered::new(alloc, conf, units);
+    let drove = drive(alloc, machine, &mut watch, Outlet::Hub, most, out, err);
     let (hub_after, files_after) = watch.into_parts();
     (drove, hub_after, files_after)
 }

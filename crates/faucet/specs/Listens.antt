@@ -1,7 +1,7 @@
 -- Where connections are listened for.
 use Rattle.std.specs.Prelude.{Option, Some, None}
 use Rattle.command_line.specs.declared.meaning.Job.{Job}
-use Rattle.command_line.specs.declared.meaning.Job.TheVariants.{Check, Plan, Replay, Serve}
+use Rattle.command_line.specs.declared.meaning.Job.TheVariants.{Check, Gauge, GaugeServe, Plan, Replay, Serve}
 use Rattle.command_line.specs.declared.values.Listen.{Listen}
 
 -- where a job asks for it, if it does
@@ -11,3 +11,5 @@ listen_in (Some (Check names)) = None
 listen_in (Some (Plan config dp)) = None
 listen_in (Some (Replay config recording)) = None
 listen_in (Some (Serve config events reload_ms listen)) = Some listen
+listen_in (Some (Gauge config recording)) = None
+listen_in (Some (GaugeServe config events listen)) = Some listen

@@ -4,7 +4,7 @@ ghost use Rattle.fg_outside.specs.Counts.{Rose};
 ghost use Rattle.fg_outside.specs.Wrote.{appended, AppendsFront};
 ghost use Rattle.command_line.specs.Meaning.{meaning};
 ghost use Rattle.faucet_top.specs.Answer.{out_of_memory};
-ghost use Rattle.faucet_top.specs.Serving.{GivesAny};
+ghost use Rattle.faucet_top.specs.Any.{GivesAny};
 ghost use Rattle.faucet.specs.Listens.{listen_in};
 
 use command_line::{Job, Listen, read_words};
@@ -19,7 +19,7 @@ pub fn listen_of(alloc: Global, words: &Names) -> Result<Option<Listen>, NoMemor
     ensures { IfOk result (λ listen. listen ≡ listen_in (meaning words.now)) }
 {
     match read_words(alloc, words)? {
-        Some(Job::Serve { listen, .. }) => Ok(Some(listen)),
+        Some(Job::Serve { listen, .. } | Job::GaugeServe { listen, .. }) => Ok(Some(listen)),
         _ => Ok(None),
     }
 }

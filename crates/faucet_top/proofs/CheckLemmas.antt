@@ -1,5 +1,5 @@
 -- What a run of `check` delivers, file by file.
-use Rattle.std.proofs.Common.{◌≡◌, ◌⊎◌, ℕ, ◌-◌, ◌≤◌, inl, inr, List, [], ◌∷◌, map, length, take, drop, get_or, Option, Some, None, Ok, Err, refl, sym, ap, ◌∙◌, subst, arith}
+use Rattle.std.proofs.Common.{◌≡◌, ◌⊎◌, ℕ, ◌-◌, ◌≤◌, inl, inr, List, [], ◌∷◌, map, length, take, drop, get_or, Option, Some, None, Result, Ok, Err, refl, sym, ap, ◌∙◌, subst, arith}
 use Rattle.std.proofs.lemmas.Grind.{common_steps}
 use Rattle.std.specs.List.{AllByRecursion}
 use Rattle.std.specs.Prelude.{IsErrOf}
@@ -10,12 +10,14 @@ use Rattle.fg_outside.proofs.CountLemmas.{Rose-later, Rose-since}
 use Rattle.fg_outside.proofs.SinkLemmas.{appended-append, appended-nil, AppendsFront-none, AppendsFront-first, AppendsFront-second}
 use Rattle.conf_types.specs.Configuration.{Configuration}
 use Rattle.conf_gather.specs.declared.refused.LoadRefused.{LoadRefused}
+use Rattle.conf_gather.specs.Gathered.{Held}
+use Rattle.conf_load.specs.Loaded.{loaded}
 use Rattle.conf_gather.specs.declared.refused.LoadRefused.TheVariants.{Read, Yaml, Conf, IncludeTwice, IncludeDepth, Absent, Memory}
 use Rattle.faucet_top.specs.declared.deliver.Status.{Status}
 use Rattle.faucet_top.specs.declared.deliver.Status.TheVariants as statuses
 use Rattle.faucet_top.specs.Answer.{Answer, Load, refusal, json_line, check_step, check_answer}
 use Rattle.faucet_top.specs.Ends.{Ends, refused_status}
-use Rattle.faucet_top.specs.Given.{Loads, Delivers, Checks, GoesOn}
+use Rattle.faucet_top.specs.Given.{Loads, LoadsBy, Delivers, Checks, GoesOn}
 use Rattle.faucet_top.specs.Status.{number_of_status}
 
 abbrev pub File : Type 0
@@ -23,22 +25,22 @@ File = List ℕ × Load
 
 -- ---- what loading tells
 
-pub memory_loads : (contents : Option Contents) (absence fault : Type 0) (refused name : List ℕ) → Loads contents absence fault refused name (Err Memory)
-memory_loads contents absence fault refused name = record { told = λ held told. tt; absent = λ file is. absurd cc; unread = λ file is. absurd cc; named = λ file is. elim is [ inl none ↦ absurd cc | inr failed ↦ absurd cc ] }
+pub memory_loads : {A : Type 0} (given : Held → List ℕ → Result A LoadRefused) (contents : Option Contents) (absence fault : Type 0) (refused name : List ℕ) → LoadsBy given contents absence fault refused name (Err Memory)
+memory_loads given contents absence fault refused name = record { told = λ held told. tt; absent = λ file is. absurd cc; unread = λ file is. absurd cc; named = λ file is. elim is [ inl none ↦ absurd cc | inr failed ↦ absurd cc ] }
 
 -- the file that a refusal names is the one that was refused
-pub loads_named : (made : Load) (refused : List ℕ) → ((file : List ℕ) → IsErrOf made (Absent file) → refused ≡ file) → ((file : List ℕ) → IsErrOf made (Read file) → refused ≡ file)
+pub loads_named : {A : Type 0} (made : Result A LoadRefused) (refused : List ℕ) → ((file : List ℕ) → IsErrOf made (Absent file) → refused ≡ file) → ((file : List ℕ) → IsErrOf made (Read file) → refused ≡ file)
     → (file : List ℕ) → IsErrOf made (Absent file) ⊎ IsErrOf made (Read file) → refused ≡ file
 loads_named made refused absent unread file (inl is) = absent file is
 loads_named made refused absent unread file (inr is) = unread file is
 
 -- what was counted by a part of a call was counted by the whole
-module _ (contents : Option Contents) (absence fault absence2 fault2 : Type 0) (f : absence → absence2) (g : fault → fault2) where
-  later : (refused name : List ℕ) (made : Load) → Loads contents absence fault refused name made → Loads contents absence2 fault2 refused name made
+module _ {A : Type 0} (given : Held → List ℕ → Result A LoadRefused) (contents : Option Contents) (absence fault absence2 fault2 : Type 0) (f : absence → absence2) (g : fault → fault2) where
+  later : (refused name : List ℕ) (made : Result A LoadRefused) → LoadsBy given contents absence fault refused name made → LoadsBy given contents absence2 fault2 refused name made
   later refused name made loads = record { told = loads.told; absent = λ file is. f (loads.absent file is); unread = λ file is. g (loads.unread file is); named = loads.named }
 
   -- a file that gave a configuration was refused by no read, whichever was refused since
-  pub accepted_later : (refused refused2 name : List ℕ) (conf : Configuration) → Loads contents absence fault refused name (Ok conf) → Loads contents absence2 fault2 refused2 name (Ok conf)
+  pub accepted_later : (refused refused2 name : List ℕ) (conf : A) → LoadsBy given contents absence fault refused name (Ok conf) → LoadsBy given contents absence2 fault2 refused2 name (Ok conf)
   accepted_later refused refused2 name conf loads = record {
     told = loads.told;
     absent = λ file is. f (loads.absent file is);
@@ -46,9 +48,10 @@ module _ (contents : Option Contents) (absence fault absence2 fault2 : Type 0) (
     named = λ file is. elim is [ inl none ↦ absurd cc | inr failed ↦ absurd cc ];
   }
 
+module _ (contents : Option Contents) (absence fault absence2 fault2 : Type 0) (f : absence → absence2) (g : fault → fault2) where
   pub each_later : (refused : List ℕ) (files : List File) → AllByRecursion (λ file. Loads contents absence fault refused file.0 file.1) files → AllByRecursion (λ file. Loads contents absence2 fault2 refused file.0 file.1) files
   each_later refused [] all = tt
-  each_later refused (file ∷ files) all = (later refused file.0 file.1 all.0, each_later refused files all.1)
+  each_later refused (file ∷ files) all = (later loaded contents absence fault absence2 fault2 f g refused file.0 file.1 all.0, each_later refused files all.1)
 
 -- ---- one file
 
@@ -97,7 +100,7 @@ module _ (contents : Option Contents) (a0 a1 a2 f0 f1 f2 : ℕ) (o0 o1 o2 e0 e1 
       ap (λ ns. name ∷ ns) are,
       (
         subst (λ (l : Load). Loads contents (Rose a0 a2) (Rose f0 f2) refused2 name l) (sym is)
-            (accepted_later contents (Rose a0 a1) (Rose f0 f1) (Rose a0 a2) (Rose f0 f2) (λ r. Rose-later a0 a1 a2 r le_b) (λ r. Rose-later f0 f1 f2 r le_g) refused1 refused2 name conf
+            (accepted_later loaded contents (Rose a0 a1) (Rose f0 f1) (Rose a0 a2) (Rose f0 f2) (λ r. Rose-later a0 a1 a2 r le_b) (λ r. Rose-later f0 f1 f2 r le_g) refused1 refused2 name conf
             (subst (λ (l : Load). Loads contents (Rose a0 a1) (Rose f0 f1) refused1 name l) is loads)),
         each_later contents (Rose a1 a2) (Rose f1 f2) (Rose a0 a2) (Rose f0 f2) (λ r. Rose-since a0 a1 a2 le_a r) (λ r. Rose-since f0 f1 f2 le_f r) refused2 files all,
       ),
@@ -114,7 +117,7 @@ module _ (contents : Option Contents) (a0 a1 a2 f0 f1 f2 : ℕ) (o0 o1 o2 e0 e1 
 
   unloaded_loads : (ns : List (List ℕ)) → AllByRecursion (λ (file : File). Loads contents (Rose a0 a1) (Rose f0 f1) refused1 file.0 file.1) (unloaded ns)
   unloaded_loads [] = tt
-  unloaded_loads (n ∷ ns) = (memory_loads contents (Rose a0 a1) (Rose f0 f1) refused1 n, unloaded_loads ns)
+  unloaded_loads (n ∷ ns) = (memory_loads loaded contents (Rose a0 a1) (Rose f0 f1) refused1 n, unloaded_loads ns)
 
   -- a file that ended the run: the others weren't looked at
   pub last_checked : (status : Status) (made : Load) → Loads contents (Rose a0 a1) (Rose f0 f1) refused1 name made → GoesOn name made (Some status) o0 o1 e0 e1 m0 m1 n0 n1

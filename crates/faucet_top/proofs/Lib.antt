@@ -1,4 +1,5 @@
 pub mod CheckLemmas
+pub mod EndLemmas
 pub mod ReadLemmas
 pub mod RefusalLemmas
 pub mod ReplayLemmas
@@ -6,3 +7,4 @@ pub mod ReplyLemmas
 pub mod ServeLemmas
 pub mod ServedLemmas
 pub mod TopLemmas
+pub mod WatchLemmas

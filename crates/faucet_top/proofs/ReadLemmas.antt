@@ -2,8 +2,8 @@
 use Rattle.std.proofs.Common.{◌≡◌, ◌≢◌, ℕ, inl, inr, List, Option, Some, Result, Err, IsErrOf, refl, ap, ◌∙◌, arith}
 use Rattle.conf_gather.specs.declared.refused.LoadRefused.{LoadRefused}
 use Rattle.conf_gather.specs.declared.refused.LoadRefused.TheVariants.{Read}
-use Rattle.ctl_drive.specs.declared.replay.Replayed.{Replayed}
-use Rattle.ctl_drive.specs.declared.replay.Replayed.TheVariants as replayed
+use Rattle.hub_drive.specs.declared.replay.Replayed.{Replayed}
+use Rattle.hub_drive.specs.declared.replay.Replayed.TheVariants as replayed
 use Rattle.faucet_top.specs.declared.deliver.Status.{Status}
 use Rattle.faucet_top.specs.declared.deliver.Status.TheVariants as statuses
 use Rattle.faucet_top.specs.Answer.{plan_answer}

@@ -1,10 +1,11 @@
 -- The status of a refusal.
-use Rattle.std.proofs.Common.{◌≡◌, ℕ, ◌⊎◌, inl, inr, List, Option, Err, refl, sym, arith}
+use Rattle.std.proofs.Common.{◌≡◌, ℕ, ◌⊎◌, inl, inr, List, Option, Result, Err, refl, sym, arith}
 use Rattle.fg_outside.specs.Contents.{Contents}
 use Rattle.conf_gather.specs.declared.refused.LoadRefused.{LoadRefused}
+use Rattle.conf_gather.specs.Gathered.{Held}
 use Rattle.conf_gather.specs.declared.refused.LoadRefused.TheVariants.{Read, Yaml, Conf, IncludeTwice, IncludeDepth, Absent, Memory}
 use Rattle.faucet_top.specs.Answer.{refusal}
-use Rattle.faucet_top.specs.Given.{Loads}
+use Rattle.faucet_top.specs.Given.{LoadsBy}
 
 -- it is none but 2, 3 and 8
 pub refusal_not : (n : ℕ) → (n ≡ 2 → ⊥) → (n ≡ 3 → ⊥) → (n ≡ 8 → ⊥) → (config : List ℕ) (why : LoadRefused) → (refusal config why).status ≡ n → ⊥
@@ -33,9 +34,9 @@ refusal_undone config why = refusal_not 0 (λ e. omega arith) (λ e. omega arith
 pub refusal_unread_record : (config : List ℕ) (why : LoadRefused) → (refusal config why).status ≡ 5 → ⊥
 refusal_unread_record config why = refusal_not 5 (λ e. omega arith) (λ e. omega arith) (λ e. omega arith) config why
 
-module _ (contents : Option Contents) (absence fault : Type 0) (refused : List ℕ) where
+module _ {A : Type 0} (given : Held → List ℕ → Result A LoadRefused) (contents : Option Contents) (absence fault : Type 0) (refused : List ℕ) where
   -- a file is missing, or a read failed, where the status says so
-  pub refusal_unread : (config : List ℕ) (name : List ℕ) (why : LoadRefused) → Loads contents absence fault refused name (Err why) → (refusal config why).status ≡ 3 → absence ⊎ fault
+  pub refusal_unread : (config : List ℕ) (name : List ℕ) (why : LoadRefused) → LoadsBy given contents absence fault refused name (Err why) → (refusal config why).status ≡ 3 → absence ⊎ fault
   refusal_unread config name (Read file) loads s = inr (loads.unread file refl)
   refusal_unread config name (Absent file) loads s = inl (loads.absent file refl)
   refusal_unread config name (Yaml file at) loads s = absurd (omega (arith, s))

@@ -1,5 +1,5 @@
--- From the reply to `replay` to what its status says, and from what a replay wrote to the reply.
-use Rattle.std.proofs.Common.{◌≡◌, ◌≢◌, ℕ, ◌⊎◌, inl, inr, List, [], ◌++◌, Option, Some, None, unwrap_or, Ok, Err, refl, sym, ap, subst, ◌∙◌, arith}
+-- From the reply to a run over a recording to what its status says.
+use Rattle.std.proofs.Common.{◌≡◌, ◌≢◌, ℕ, ◌⊎◌, inl, inr, List, [], ◌++◌, Option, Some, None, unwrap_or, Result, Ok, Err, refl, sym, ap, subst, ◌∙◌, arith}
 use Rattle.std.proofs.lemmas.List.{append-nil}
 use Rattle.fg_outside.specs.Contents.{Contents}
 use Rattle.fg_outside.specs.Wrote.{appended}
@@ -11,12 +11,26 @@ use Rattle.conf_gather.specs.declared.refused.LoadRefused.TheVariants.{Read, Yam
 use Rattle.conf_gather.specs.Gathered.{Held}
 use Rattle.conf_load.specs.Loaded.{loaded}
 use Rattle.law_stories.specs.Right.{IsRight}
-use Rattle.ctl_drive.specs.declared.replay.Replayed.{Replayed}
-use Rattle.ctl_drive.specs.declared.replay.Replayed.TheVariants as replayed
-use Rattle.ctl_drive.specs.Replay.{Replays}
-use Rattle.faucet_top.specs.Answer.{Answer, Load, refusal, last_line}
+use Rattle.recording.specs.declared.record.Record.{Record}
+use Rattle.recording.specs.declared.refused.RecordRefused.{RecordRefused}
+use Rattle.recording.specs.Recording.{Records}
+use Rattle.recording.specs.Refused.{IsRefused}
+use Rattle.recording.specs.Turns.{turns}
+use Rattle.ctl_world.specs.World.{first}
+use Rattle.gauge_load.specs.Loaded.{gauge_of}
+use Rattle.gauge_poll.specs.Monitoring.{Monitor, begun, lines_of as gauge_lines}
+use Rattle.hub_drive.specs.declared.replay.Replayed.{Replayed}
+use Rattle.hub_drive.specs.declared.replay.Replayed.TheVariants as replayed
+use Rattle.hub_drive.specs.declared.sayings.Outlet.{Outlet}
+use Rattle.hub_drive.specs.declared.sayings.Outlet.TheVariants as outlets
+use Rattle.hub_drive.specs.Driving.{closings_of, lines_of, out_of}
+use Rattle.hub_drive.specs.Machine.{Workings}
+use Rattle.hub_drive.specs.Replay.{Replays}
+use Rattle.ctl_drive.specs.Controller.{controller}
+use Rattle.gauge_drive.specs.Gauge.{ended_lines, monitor}
+use Rattle.faucet_top.specs.Answer.{Answer, GaugeLoad, Load, refusal, last_line}
 use Rattle.faucet_top.specs.Ends.{status_after}
-use Rattle.faucet_top.specs.Given.{Loads, GoesByFile, RepliesReplay, StatusFor, IsReplayStatus, IsLoadedStatus, IsReplayed, IsReplayedTo}
+use Rattle.faucet_top.specs.Given.{GaugeLoads, Loads, LoadsBy, GoesByFile, RepliesGauge, RepliesReplay, RepliesRun, StatusFor, IsRunStatus, IsLoadedStatus, IsReplayed, IsReplayedTo, IsWatched, IsWatchedTo}
 use Rattle.faucet_top.specs.Status.{number_of_status}
 use Rattle.faucet_top.proofs.RefusalLemmas.{IsInner, refusal_inner, refusal_undone, refusal_unread_record, refusal_unread}
 
@@ -39,100 +53,151 @@ end_inner replayed.WriteFault other = absurd (other refl)
 end_inner replayed.Memory other = (λ e. omega arith, λ e. omega arith, λ e. omega arith)
 
 module _ (contents : Option Contents) (absence fault : Type 0) where
+  module _ {S : Type 0} (works : Workings S) (outlet : Outlet) (recording : List ℕ) (w : S) where
+    run_inner : (a : Answer) → RepliesRun works outlet contents absence fault recording w a → IsInner a.status
+    run_inner a (end, out, lines, unfailed, replays, by_file, is) = subst (λ (b : Answer). IsInner b.status) (sym is) (end_inner end unfailed)
+
+    end_unread : (o0 o1 e0 e1 : Option (List ℕ)) (end : Replayed) → Replays works outlet contents recording absence fault w o0 o1 e0 e1 end → number_after end ≡ 3 → absence ⊎ fault
+    end_unread o0 o1 e0 e1 (replayed.Read None) replays s = absurd (omega (arith, s))
+    end_unread o0 o1 e0 e1 (replayed.Read (Some refused)) replays s = absurd (omega (arith, s))
+    end_unread o0 o1 e0 e1 replayed.Unread replays s = replays.3
+    end_unread o0 o1 e0 e1 replayed.Spent replays s = absurd (omega (arith, s))
+    end_unread o0 o1 e0 e1 replayed.WriteFault replays s = absurd (omega (arith, s))
+    end_unread o0 o1 e0 e1 replayed.Memory replays s = absurd (omega (arith, s))
+
+    run_unread : (a : Answer) → RepliesRun works outlet contents absence fault recording w a → a.status ≡ 3 → absence ⊎ fault
+    run_unread a (end, out, lines, unfailed, replays, by_file, is) s =
+        end_unread (Some []) (Some out) (Some []) (Some lines) end replays (sym (ap (λ (b : Answer). b.status) is) ∙ s)
+
   pub replay_inner : (config recording : List ℕ) (made : Load) (a : Answer) → RepliesReplay contents absence fault config recording made a → IsInner a.status
   replay_inner config recording (Err why) a is = subst (λ (b : Answer). IsInner b.status) (sym is) (refusal_inner config why)
-  replay_inner config recording (Ok conf) a (end, out, lines, unfailed, replays, by_file, is) = subst (λ (b : Answer). IsInner b.status) (sym is) (end_inner end unfailed)
+  replay_inner config recording (Ok conf) a replies = run_inner controller outlets.Records recording (first conf) a replies
 
-  end_unread : (name : List ℕ) (conf : Configuration) (o0 o1 e0 e1 : Option (List ℕ)) (end : Replayed) → Replays contents name absence fault conf o0 o1 e0 e1 end
-      → number_after end ≡ 3 → absence ⊎ fault
-  end_unread name conf o0 o1 e0 e1 (replayed.Read None) replays s = absurd (omega (arith, s))
-  end_unread name conf o0 o1 e0 e1 (replayed.Read (Some refused)) replays s = absurd (omega (arith, s))
-  end_unread name conf o0 o1 e0 e1 replayed.Unread replays s = replays.3
-  end_unread name conf o0 o1 e0 e1 replayed.Spent replays s = absurd (omega (arith, s))
-  end_unread name conf o0 o1 e0 e1 replayed.WriteFault replays s = absurd (omega (arith, s))
-  end_unread name conf o0 o1 e0 e1 replayed.Memory replays s = absurd (omega (arith, s))
+  pub gauge_inner : (config recording : List ℕ) (made : GaugeLoad) (a : Answer) → RepliesGauge contents absence fault config recording made a → IsInner a.status
+  gauge_inner config recording (Err why) a is = subst (λ (b : Answer). IsInner b.status) (sym is) (refusal_inner config why)
+  gauge_inner config recording (Ok conf) a replies = run_inner monitor outlets.Nowhere recording (begun conf) a replies
 
   -- a file is missing, or a read failed, where the status says so
   pub replay_unread : (refused config recording : List ℕ) (made : Load) (a : Answer) → Loads contents absence fault refused config made → RepliesReplay contents absence fault config recording made a
       → a.status ≡ 3 → absence ⊎ fault
-  replay_unread refused config recording (Err why) a loads is s = refusal_unread contents absence fault refused config config why loads (sym (ap (λ (b : Answer). b.status) is) ∙ s)
-  replay_unread refused config recording (Ok conf) a loads (end, out, lines, unfailed, replays, by_file, is) s =
-      end_unread recording conf (Some []) (Some out) (Some []) (Some lines) end replays (sym (ap (λ (b : Answer). b.status) is) ∙ s)
+  replay_unread refused config recording (Err why) a loads is s = refusal_unread loaded contents absence fault refused config config why loads (sym (ap (λ (b : Answer). b.status) is) ∙ s)
+  replay_unread refused config recording (Ok conf) a loads replies s = run_unread controller outlets.Records recording (first conf) a replies s
+
+  pub gauge_unread : (refused config recording : List ℕ) (made : GaugeLoad) (a : Answer) → GaugeLoads contents absence fault refused config made → RepliesGauge contents absence fault config recording made a
+      → a.status ≡ 3 → absence ⊎ fault
+  gauge_unread refused config recording (Err why) a loads is s = refusal_unread gauge_of contents absence fault refused config config why loads (sym (ap (λ (b : Answer). b.status) is) ∙ s)
+  gauge_unread refused config recording (Ok conf) a loads replies s = run_unread monitor outlets.Nowhere recording (begun conf) a replies s
 
 -- ---- what is replied, where the files are told
 
-module _ (held : Contents) (absence fault : Type 0) (refused : List ℕ) where
-  abbrev Wrote : (name : List ℕ) → Configuration → (out lines : List ℕ) → Replayed → Type 0
-  Wrote name conf out lines end = Replays (Some held) name absence fault conf (Some []) (Some out) (Some []) (Some lines) end
+module _ (held : Contents) (absence fault : Type 0) where
+  module _ {S : Type 0} (works : Workings S) (outlet : Outlet) (name : List ℕ) (w : S) where
+    -- what a run that ends so writes
+    abbrev pub Wrote : (out lines : List ℕ) → Replayed → Type 0
+    Wrote out lines end = Replays works outlet (Some held) name absence fault w (Some []) (Some out) (Some []) (Some lines) end
 
-  end_where_none : (name : List ℕ) (conf : Configuration) (end : Replayed) → GoesByFile (Some held) name fault end → held 0 name ≡ None → StatusFor (number_after end) (IsReplayStatus conf None) fault
-  end_where_none name conf end by_file is = inl (ap number_after (by_file.missing (ap (λ (f : Option (List ℕ)). Some f) is)))
+    end_where_none : (end : Replayed) → GoesByFile (Some held) name fault end → held 0 name ≡ None → StatusFor (number_after end) (IsRunStatus works w None) fault
+    end_where_none end by_file is = inl (ap number_after (by_file.missing (ap (λ (f : Option (List ℕ)). Some f) is)))
 
-  end_where_some : (name : List ℕ) (conf : Configuration) (out lines bytes : List ℕ) (end : Replayed) → end ≢ replayed.WriteFault → Wrote name conf out lines end → GoesByFile (Some held) name fault end
-      → held 0 name ≡ Some bytes → StatusFor (number_after end) (IsReplayStatus conf (Some bytes)) fault
-  end_where_some name conf out lines bytes (replayed.Read refused) unfailed (story, writes, told) by_file is =
-      inl (inl (story, refused, told bytes (ap (λ (f : Option (List ℕ)). Some f) is), refl))
-  end_where_some name conf out lines bytes replayed.Unread unfailed replays by_file is =
-      inr (inr (inr (refl, by_file.there bytes (ap (λ (f : Option (List ℕ)). Some f) is) refl)))
-  end_where_some name conf out lines bytes replayed.Spent unfailed (story, writes, so_far, most) by_file is =
-      let part = so_far bytes (ap (λ (f : Option (List ℕ)). Some f) is) in
-      inl (inr (story, part.0, part.1, part.2, most, refl))
-  end_where_some name conf out lines bytes replayed.WriteFault unfailed replays by_file is = absurd (unfailed refl)
-  end_where_some name conf out lines bytes replayed.Memory unfailed replays by_file is = inr (inr (inl refl))
+    end_where_some : (out lines bytes : List ℕ) (end : Replayed) → end ≢ replayed.WriteFault → Wrote out lines end → GoesByFile (Some held) name fault end
+        → held 0 name ≡ Some bytes → StatusFor (number_after end) (IsRunStatus works w (Some bytes)) fault
+    end_where_some out lines bytes (replayed.Read refused) unfailed (story, writes, told) by_file is =
+        inl (inl (story, refused, told bytes (ap (λ (f : Option (List ℕ)). Some f) is), refl))
+    end_where_some out lines bytes replayed.Unread unfailed replays by_file is =
+        inr (inr (inr (refl, by_file.there bytes (ap (λ (f : Option (List ℕ)). Some f) is) refl)))
+    end_where_some out lines bytes replayed.Spent unfailed (story, writes, so_far, most) by_file is =
+        let part = so_far bytes (ap (λ (f : Option (List ℕ)). Some f) is) in
+        inl (inr (story, part.0, part.1, part.2, most, refl))
+    end_where_some out lines bytes replayed.WriteFault unfailed replays by_file is = absurd (unfailed refl)
+    end_where_some out lines bytes replayed.Memory unfailed replays by_file is = inr (inr (inl refl))
 
-  end_told : (name : List ℕ) (conf : Configuration) (out lines : List ℕ) (end : Replayed) → end ≢ replayed.WriteFault → Wrote name conf out lines end → GoesByFile (Some held) name fault end
-      → (file : Option (List ℕ)) → held 0 name ≡ file → StatusFor (number_after end) (IsReplayStatus conf file) fault
-  end_told name conf out lines end unfailed replays by_file None is = end_where_none name conf end by_file is
-  end_told name conf out lines end unfailed replays by_file (Some bytes) is = end_where_some name conf out lines bytes end unfailed replays by_file is
+    end_told : (out lines : List ℕ) (end : Replayed) → end ≢ replayed.WriteFault → Wrote out lines end → GoesByFile (Some held) name fault end
+        → (file : Option (List ℕ)) → held 0 name ≡ file → StatusFor (number_after end) (IsRunStatus works w file) fault
+    end_told out lines end unfailed replays by_file None is = end_where_none end by_file is
+    end_told out lines end unfailed replays by_file (Some bytes) is = end_where_some out lines bytes end unfailed replays by_file is
 
-  same_refusal : (config : List ℕ) (why : LoadRefused) (IsRun : Configuration → ℕ → Type 0) → loaded (held 0) config ≡ Err why
-      → IsLoadedStatus config (loaded (held 0) config) IsRun (refusal config why).status
-  same_refusal config why IsRun is = subst (λ (l : Load). IsLoadedStatus config l IsRun (refusal config why).status) (sym is) refl
+    run_told : (a : Answer) → RepliesRun works outlet (Some held) absence fault name w a → StatusFor a.status (IsRunStatus works w (held 0 name)) fault
+    run_told a (end, out, lines, unfailed, replays, by_file, is) =
+        subst (λ (b : Answer). StatusFor b.status (IsRunStatus works w (held 0 name)) fault) (sym is) (end_told out lines end unfailed replays by_file (held 0 name) refl)
 
-  -- the refusal that the files give is told; the others end the run
-  pub refusal_told : (config : List ℕ) (why : LoadRefused) (IsRun : Configuration → ℕ → Type 0) → Loads (Some held) absence fault refused config (Err why)
-      → StatusFor (refusal config why).status (IsLoadedStatus config (loaded (held 0) config) IsRun) fault
-  refusal_told config (Read name) IsRun loads = inr (inr (inr (refl, loads.unread name refl)))
-  refusal_told config Memory IsRun loads = inr (inr (inl refl))
-  refusal_told config (Yaml name at) IsRun loads = inl (same_refusal config (Yaml name at) IsRun (loads.told held refl))
-  refusal_told config (Conf at) IsRun loads = inl (same_refusal config (Conf at) IsRun (loads.told held refl))
-  refusal_told config (IncludeTwice name) IsRun loads = inl (same_refusal config (IncludeTwice name) IsRun (loads.told held refl))
-  refusal_told config (IncludeDepth name) IsRun loads = inl (same_refusal config (IncludeDepth name) IsRun (loads.told held refl))
-  refusal_told config (Absent name) IsRun loads = inl (same_refusal config (Absent name) IsRun (loads.told held refl))
+  module _ {A : Type 0} (given : Held → List ℕ → Result A LoadRefused) (refused config : List ℕ) (IsRun : A → ℕ → Type 0) where
+    same_refusal : (why : LoadRefused) → given (held 0) config ≡ Err why → IsLoadedStatus config (given (held 0) config) IsRun (refusal config why).status
+    same_refusal why is = subst (λ (l : Result A LoadRefused). IsLoadedStatus config l IsRun (refusal config why).status) (sym is) refl
 
-  pub replay_told : (config recording : List ℕ) (made : Load) (a : Answer) → Loads (Some held) absence fault refused config made → RepliesReplay (Some held) absence fault config recording made a
-      → StatusFor a.status (IsLoadedStatus config (loaded (held 0) config) (λ conf. IsReplayStatus conf (held 0 recording))) fault
-  replay_told config recording (Err why) a loads is =
-      subst (λ (b : Answer). StatusFor b.status (IsLoadedStatus config (loaded (held 0) config) (λ conf. IsReplayStatus conf (held 0 recording))) fault) (sym is) (refusal_told config why (λ conf. IsReplayStatus conf (held 0 recording)) loads)
-  replay_told config recording (Ok conf) a loads (end, out, lines, unfailed, replays, by_file, is) =
-      subst (λ (l : Load). StatusFor a.status (IsLoadedStatus config l (λ c. IsReplayStatus c (held 0 recording))) fault) (sym (loads.told held refl))
-      (subst (λ (b : Answer). StatusFor b.status (IsReplayStatus conf (held 0 recording)) fault) (sym is)
-      (end_told recording conf out lines end unfailed replays by_file (held 0 recording) refl))
+    -- the refusal that the files give is told; the others end the run
+    pub refusal_told : (why : LoadRefused) → LoadsBy given (Some held) absence fault refused config (Err why)
+        → StatusFor (refusal config why).status (IsLoadedStatus config (given (held 0) config) IsRun) fault
+    refusal_told (Read name) loads = inr (inr (inr (refl, loads.unread name refl)))
+    refusal_told Memory loads = inr (inr (inl refl))
+    refusal_told (Yaml name at) loads = inl (same_refusal (Yaml name at) (loads.told held refl))
+    refusal_told (Conf at) loads = inl (same_refusal (Conf at) (loads.told held refl))
+    refusal_told (IncludeTwice name) loads = inl (same_refusal (IncludeTwice name) (loads.told held refl))
+    refusal_told (IncludeDepth name) loads = inl (same_refusal (IncludeDepth name) (loads.told held refl))
+    refusal_told (Absent name) loads = inl (same_refusal (Absent name) (loads.told held refl))
+
+    -- a status that goes by the configuration that the files give
+    pub accepted_told : (conf : A) (n : ℕ) → LoadsBy given (Some held) absence fault refused config (Ok conf) → StatusFor n (IsRun conf) fault
+        → StatusFor n (IsLoadedStatus config (given (held 0) config) IsRun) fault
+    accepted_told conf n loads one = subst (λ (l : Result A LoadRefused). StatusFor n (IsLoadedStatus config l IsRun) fault) (sym (loads.told held refl)) one
+
+  module _ (refused config recording : List ℕ) (a : Answer) where
+    pub replay_told : (made : Load) → Loads (Some held) absence fault refused config made → RepliesReplay (Some held) absence fault config recording made a
+        → StatusFor a.status (IsLoadedStatus config (loaded (held 0) config) (λ conf. IsRunStatus controller (first conf) (held 0 recording))) fault
+    replay_told (Err why) loads is =
+        subst (λ (b : Answer). StatusFor b.status (IsLoadedStatus config (loaded (held 0) config) (λ conf. IsRunStatus controller (first conf) (held 0 recording))) fault) (sym is)
+        (refusal_told loaded refused config (λ conf. IsRunStatus controller (first conf) (held 0 recording)) why loads)
+    replay_told (Ok conf) loads replies =
+        accepted_told loaded refused config (λ c. IsRunStatus controller (first c) (held 0 recording)) conf a.status loads (run_told controller outlets.Records recording (first conf) a replies)
+
+    pub gauge_told : (made : GaugeLoad) → GaugeLoads (Some held) absence fault refused config made → RepliesGauge (Some held) absence fault config recording made a
+        → StatusFor a.status (IsLoadedStatus config (gauge_of (held 0) config) (λ conf. IsRunStatus monitor (begun conf) (held 0 recording))) fault
+    gauge_told (Err why) loads is =
+        subst (λ (b : Answer). StatusFor b.status (IsLoadedStatus config (gauge_of (held 0) config) (λ conf. IsRunStatus monitor (begun conf) (held 0 recording))) fault) (sym is)
+        (refusal_told gauge_of refused config (λ conf. IsRunStatus monitor (begun conf) (held 0 recording)) why loads)
+    gauge_told (Ok conf) loads replies =
+        accepted_told gauge_of refused config (λ c. IsRunStatus monitor (begun c) (held 0 recording)) conf a.status loads (run_told monitor outlets.Nowhere recording (begun conf) a replies)
 
   -- ---- at status 0, and at status 5
 
-  module _ (valid : (held : Held) (name : List ℕ) (conf : Configuration) → loaded held name ≡ Ok conf → IsValid conf)
-      (right : (conf : Configuration) (story : List Happening) → IsValid conf → IsRight conf story)
-      (config recording : List ℕ) (o0 o1 e0 e1 : Option (List ℕ)) where
-    module _ (conf : Configuration) (out lines : List ℕ) (accepted : loaded (held 0) config ≡ Ok conf) (wrote : o1 ≡ appended o0 out) where
-      end_done : (end : Replayed) → Wrote recording conf out lines end → GoesByFile (Some held) recording fault end → (file : Option (List ℕ)) → held 0 recording ≡ file
-          → number_after end ≡ 0 → e1 ≡ appended e0 (lines ++ last_line recording end) → IsReplayed config recording (held 0) o0 o1 e0 e1
+  module _ {S : Type 0} (works : Workings S) (outlet : Outlet) (recording : List ℕ) (w : S) (o0 o1 e0 e1 : Option (List ℕ)) where
+    -- the recording was taken in whole, and this was written of its story; or up to a refused record
+    pub record RanWhole : Type 0 where
+      pub bytes : List ℕ
+      pub records : List Record
+      pub story : List Happening
+      pub file : held 0 recording ≡ Some bytes
+      pub whole : Records bytes records
+      pub told : story ≡ turns records (closings_of works 0 w story)
+      pub out : o1 ≡ appended o0 (out_of works outlet w story)
+      pub err : e1 ≡ appended e0 (lines_of works w story)
+
+    pub record RanTo : Type 0 where
+      pub bytes : List ℕ
+      pub records : List Record
+      pub refused : RecordRefused
+      pub story : List Happening
+      pub file : held 0 recording ≡ Some bytes
+      pub refuses : IsRefused bytes records refused.number refused.cause
+      pub told : story ≡ turns records (closings_of works 0 w story)
+      pub out : o1 ≡ appended o0 (out_of works outlet w story)
+      pub err : e1 ≡ appended e0 (lines_of works w story ++ last_line recording (replayed.Read (Some refused)))
+
+    module _ (out lines : List ℕ) (wrote : o1 ≡ appended o0 out) where
+      end_done : (end : Replayed) → Wrote works outlet recording w out lines end → GoesByFile (Some held) recording fault end → (file : Option (List ℕ)) → held 0 recording ≡ file
+          → number_after end ≡ 0 → e1 ≡ appended e0 (lines ++ last_line recording end) → RanWhole
       end_done (replayed.Read None) replays by_file None is s said =
           absurd (ends_differ (replayed.Read None) replayed.Unread (λ e. omega arith) (by_file.missing (ap (λ (f : Option (List ℕ)). Some f) is)))
       end_done (replayed.Read None) (story, writes, told) by_file (Some bytes) is s said =
           let tells = told bytes (ap (λ (f : Option (List ℕ)). Some f) is) in
           record {
-            conf = conf;
             bytes = bytes;
             records = tells.records;
             story = story;
-            accepted = accepted;
             file = is;
             whole = tells.whole refl;
             told = tells.told;
             out = wrote ∙ ap (λ (o : Option (List ℕ)). appended o0 (unwrap_or o [])) writes.out;
             err = said ∙ ap (λ (l : List ℕ). appended e0 l) (append-nil lines) ∙ ap (λ (o : Option (List ℕ)). appended e0 (unwrap_or o [])) writes.err;
-            right = λ front is_front. right conf front (valid (held 0) config conf accepted);
           }
       end_done (replayed.Read (Some refused)) replays by_file file is s said = absurd (omega (arith, s))
       end_done replayed.Unread replays by_file file is s said = absurd (omega (arith, s))
@@ -140,42 +205,118 @@ module _ (held : Contents) (absence fault : Type 0) (refused : List ℕ) where
       end_done replayed.WriteFault replays by_file file is s said = absurd (omega (arith, s))
       end_done replayed.Memory replays by_file file is s said = absurd (omega (arith, s))
 
-      end_refused : (end : Replayed) → Wrote recording conf out lines end → GoesByFile (Some held) recording fault end → (file : Option (List ℕ)) → held 0 recording ≡ file
-          → number_after end ≡ 5 → e1 ≡ appended e0 (lines ++ last_line recording end) → IsReplayedTo config recording (held 0) o0 o1 e0 e1
+      end_refused : (end : Replayed) → Wrote works outlet recording w out lines end → GoesByFile (Some held) recording fault end → (file : Option (List ℕ)) → held 0 recording ≡ file
+          → number_after end ≡ 5 → e1 ≡ appended e0 (lines ++ last_line recording end) → RanTo
       end_refused (replayed.Read None) replays by_file file is s said = absurd (omega (arith, s))
       end_refused (replayed.Read (Some refused)) replays by_file None is s said =
           absurd (ends_differ (replayed.Read (Some refused)) replayed.Unread (λ e. omega arith) (by_file.missing (ap (λ (f : Option (List ℕ)). Some f) is)))
       end_refused (replayed.Read (Some refused)) (story, writes, told) by_file (Some bytes) is s said =
           let tells = told bytes (ap (λ (f : Option (List ℕ)). Some f) is) in
           record {
-            conf = conf;
             bytes = bytes;
             records = tells.records;
             refused = refused;
             story = story;
-            accepted = accepted;
             file = is;
             refuses = tells.refuses refused refl;
             told = tells.told;
             out = wrote ∙ ap (λ (o : Option (List ℕ)). appended o0 (unwrap_or o [])) writes.out;
             err = said ∙ ap (λ (o : Option (List ℕ)). appended e0 (unwrap_or o [] ++ last_line recording (replayed.Read (Some refused)))) writes.err;
-            right = λ front is_front. right conf front (valid (held 0) config conf accepted);
           }
       end_refused replayed.Unread replays by_file file is s said = absurd (omega (arith, s))
       end_refused replayed.Spent replays by_file file is s said = absurd (omega (arith, s))
       end_refused replayed.WriteFault replays by_file file is s said = absurd (omega (arith, s))
       end_refused replayed.Memory replays by_file file is s said = absurd (omega (arith, s))
 
-    pub replay_done : (made : Load) (a : Answer) → Loads (Some held) absence fault refused config made → RepliesReplay (Some held) absence fault config recording made a
-        → a.status ≡ 0 → o1 ≡ appended o0 a.out → e1 ≡ appended e0 a.err → IsReplayed config recording (held 0) o0 o1 e0 e1
-    replay_done (Err why) a loads is s wrote said = absurd (refusal_undone config why (sym (ap (λ (b : Answer). b.status) is) ∙ s))
-    replay_done (Ok conf) a loads (end, out, lines, unfailed, replays, by_file, is) s wrote said =
-        end_done conf out lines (loads.told held refl) (wrote ∙ ap (λ (b : Answer). appended o0 b.out) is) end replays by_file (held 0 recording) refl
-        (sym (ap (λ (b : Answer). b.status) is) ∙ s) (said ∙ ap (λ (b : Answer). appended e0 b.err) is)
+    module _ (a : Answer) (wrote : o1 ≡ appended o0 a.out) (said : e1 ≡ appended e0 a.err) where
+      run_done : RepliesRun works outlet (Some held) absence fault recording w a → a.status ≡ 0 → RanWhole
+      run_done (end, out, lines, unfailed, replays, by_file, is) s =
+          end_done out lines (wrote ∙ ap (λ (b : Answer). appended o0 b.out) is) end replays by_file (held 0 recording) refl
+          (sym (ap (λ (b : Answer). b.status) is) ∙ s) (said ∙ ap (λ (b : Answer). appended e0 b.err) is)
 
-    pub replay_refused : (made : Load) (a : Answer) → Loads (Some held) absence fault refused config made → RepliesReplay (Some held) absence fault config recording made a
-        → a.status ≡ 5 → o1 ≡ appended o0 a.out → e1 ≡ appended e0 a.err → IsReplayedTo config recording (held 0) o0 o1 e0 e1
-    replay_refused (Err why) a loads is s wrote said = absurd (refusal_unread_record config why (sym (ap (λ (b : Answer). b.status) is) ∙ s))
-    replay_refused (Ok conf) a loads (end, out, lines, unfailed, replays, by_file, is) s wrote said =
-        end_refused conf out lines (loads.told held refl) (wrote ∙ ap (λ (b : Answer). appended o0 b.out) is) end replays by_file (held 0 recording) refl
-        (sym (ap (λ (b : Answer). b.status) is) ∙ s) (said ∙ ap (λ (b : Answer). appended e0 b.err) is)
+      run_refused : RepliesRun works outlet (Some held) absence fault recording w a → a.status ≡ 5 → RanTo
+      run_refused (end, out, lines, unfailed, replays, by_file, is) s =
+          end_refused out lines (wrote ∙ ap (λ (b : Answer). appended o0 b.out) is) end replays by_file (held 0 recording) refl
+          (sym (ap (λ (b : Answer). b.status) is) ∙ s) (said ∙ ap (λ (b : Answer). appended e0 b.err) is)
+
+  module _ (refused config recording : List ℕ) (o0 o1 e0 e1 : Option (List ℕ)) (a : Answer) (wrote : o1 ≡ appended o0 a.out) (said : e1 ≡ appended e0 a.err) where
+    module _ (valid : (held : Held) (name : List ℕ) (conf : Configuration) → loaded held name ≡ Ok conf → IsValid conf)
+        (right : (conf : Configuration) (story : List Happening) → IsValid conf → IsRight conf story) where
+      pub replay_done : (made : Load) → Loads (Some held) absence fault refused config made → RepliesReplay (Some held) absence fault config recording made a
+          → a.status ≡ 0 → IsReplayed config recording (held 0) o0 o1 e0 e1
+      replay_done (Err why) loads is s = absurd (refusal_undone config why (sym (ap (λ (b : Answer). b.status) is) ∙ s))
+      replay_done (Ok conf) loads replies s =
+          let ran = run_done controller outlets.Records recording (first conf) o0 o1 e0 e1 a wrote said replies s in
+          let accepted = loads.told held refl in
+          record {
+            conf = conf;
+            bytes = ran.bytes;
+            records = ran.records;
+            story = ran.story;
+            accepted = accepted;
+            file = ran.file;
+            whole = ran.whole;
+            told = ran.told;
+            out = ran.out;
+            err = ran.err;
+            right = λ front is_front. right conf front (valid (held 0) config conf accepted);
+          }
+
+      pub replay_refused : (made : Load) → Loads (Some held) absence fault refused config made → RepliesReplay (Some held) absence fault config recording made a
+          → a.status ≡ 5 → IsReplayedTo config recording (held 0) o0 o1 e0 e1
+      replay_refused (Err why) loads is s = absurd (refusal_unread_record config why (sym (ap (λ (b : Answer). b.status) is) ∙ s))
+      replay_refused (Ok conf) loads replies s =
+          let ran = run_refused controller outlets.Records recording (first conf) o0 o1 e0 e1 a wrote said replies s in
+          let accepted = loads.told held refl in
+          record {
+            conf = conf;
+            bytes = ran.bytes;
+            records = ran.records;
+            refused = ran.refused;
+            story = ran.story;
+            accepted = accepted;
+            file = ran.file;
+            refuses = ran.refuses;
+            told = ran.told;
+            out = ran.out;
+            err = ran.err;
+            right = λ front is_front. right conf front (valid (held 0) config conf accepted);
+          }
+
+    module _ (lines_are : (k : Monitor) (story : List Happening) → out_of monitor outlets.Nowhere k story ≡ ended_lines (gauge_lines k story)) where
+      pub gauge_done : (made : GaugeLoad) → GaugeLoads (Some held) absence fault refused config made → RepliesGauge (Some held) absence fault config recording made a
+          → a.status ≡ 0 → IsWatched config recording (held 0) o0 o1 e0 e1
+      gauge_done (Err why) loads is s = absurd (refusal_undone config why (sym (ap (λ (b : Answer). b.status) is) ∙ s))
+      gauge_done (Ok conf) loads replies s =
+          let ran = run_done monitor outlets.Nowhere recording (begun conf) o0 o1 e0 e1 a wrote said replies s in
+          record {
+            conf = conf;
+            bytes = ran.bytes;
+            records = ran.records;
+            story = ran.story;
+            accepted = loads.told held refl;
+            file = ran.file;
+            whole = ran.whole;
+            told = ran.told;
+            out = ran.out ∙ ap (λ (l : List ℕ). appended o0 l) (lines_are (begun conf) ran.story);
+            err = ran.err;
+          }
+
+      pub gauge_refused : (made : GaugeLoad) → GaugeLoads (Some held) absence fault refused config made → RepliesGauge (Some held) absence fault config recording made a
+          → a.status ≡ 5 → IsWatchedTo config recording (held 0) o0 o1 e0 e1
+      gauge_refused (Err why) loads is s = absurd (refusal_unread_record config why (sym (ap (λ (b : Answer). b.status) is) ∙ s))
+      gauge_refused (Ok conf) loads replies s =
+          let ran = run_refused monitor outlets.Nowhere recording (begun conf) o0 o1 e0 e1 a wrote said replies s in
+          record {
+            conf = conf;
+            bytes = ran.bytes;
+            records = ran.records;
+            refused = ran.refused;
+            story = ran.story;
+            accepted = loads.told held refl;
+            file = ran.file;
+            refuses = ran.refuses;
+            told = ran.told;
+            out = ran.out ∙ ap (λ (l : List ℕ). appended o0 l) (lines_are (begun conf) ran.story);
+            err = ran.err;
+          }

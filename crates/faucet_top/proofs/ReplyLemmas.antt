@@ -1,65 +1,71 @@
--- From what a replay wrote to the reply that was given.
+-- From what a run over a recording wrote to the reply that was given.
 use Rattle.std.proofs.Common.{◌≡◌, ◌≢◌, ℕ, ◌≤◌, ◌⊎◌, inl, inr, List, [], ◌++◌, take, Option, Some, None, Ok, Err, refl, sym, ap, subst, ◌∙◌, arith}
 use Rattle.std.proofs.lemmas.List.{append-nil}
 use Rattle.fg_outside.specs.Contents.{Contents}
 use Rattle.fg_outside.specs.Counts.{Rose}
 use Rattle.fg_outside.specs.Wrote.{appended, AppendsFront}
+use Rattle.fg_outside.specs.declared.hub.Happening.{Happening}
 use Rattle.fg_outside.proofs.CountLemmas.{Rose-later, Rose-since}
 use Rattle.fg_outside.proofs.SinkLemmas.{appended-append, appended-nil, AppendsFront-whole, AppendsFront-first, AppendsFront-second}
 use Rattle.conf_types.specs.Configuration.{Configuration}
 use Rattle.conf_gather.specs.declared.refused.LoadRefused.{LoadRefused}
-use Rattle.command_line.specs.declared.meaning.Job.TheVariants.{Replay}
-use Rattle.recording.specs.Written.{written_records}
-use Rattle.ctl_world.specs.World.{World, first}
-use Rattle.ctl_core.specs.Story.{behind as story_behind}
-use Rattle.ctl_drive.specs.declared.replay.Replayed.{Replayed}
-use Rattle.ctl_drive.specs.declared.replay.Replayed.TheVariants as replayed
-use Rattle.ctl_drive.specs.Driving.{lines_of, records_of}
-use Rattle.ctl_drive.specs.declared.sayings.Outlet.TheVariants as outlets
-use Rattle.ctl_drive.specs.Driven.{WholeButLast}
-use Rattle.ctl_drive.specs.Replay.{Replays, WritesFront}
-use Rattle.ctl_drive.proofs.Stories.{fronts_but_last, none_begun}
+use Rattle.conf_load.specs.Loaded.{loaded}
+use Rattle.gauge_conf.specs.declared.gauge.GaugeConf.{GaugeConf}
+use Rattle.gauge_load.specs.Loaded.{gauge_of}
+use Rattle.gauge_poll.specs.Monitoring.{begun}
+use Rattle.command_line.specs.declared.meaning.Job.TheVariants.{Gauge, Replay}
+use Rattle.ctl_world.specs.World.{first}
+use Rattle.hub_drive.specs.declared.replay.Replayed.{Replayed}
+use Rattle.hub_drive.specs.declared.replay.Replayed.TheVariants as replayed
+use Rattle.hub_drive.specs.declared.sayings.Outlet.{Outlet}
+use Rattle.hub_drive.specs.declared.sayings.Outlet.TheVariants as outlets
+use Rattle.hub_drive.specs.Driven.{WholeButLast}
+use Rattle.hub_drive.specs.Driving.{lines_of, out_of}
+use Rattle.hub_drive.specs.Machine.{Workings, behind as run_behind}
+use Rattle.hub_drive.specs.Replay.{Replays, WritesFront}
+use Rattle.hub_drive.proofs.Stories.{fronts_but_last, none_begun}
+use Rattle.ctl_drive.specs.Controller.{controller}
+use Rattle.gauge_drive.specs.Gauge.{monitor}
 use Rattle.ctl_serve.proofs.Serving.{front_of_nothing}
 use Rattle.faucet_top.specs.declared.deliver.Status.{Status}
 use Rattle.faucet_top.specs.declared.deliver.Status.TheVariants as statuses
-use Rattle.faucet_top.specs.Answer.{out_of_memory, refusal, last_line}
+use Rattle.faucet_top.specs.Answer.{Answer, out_of_memory, refusal, last_line}
 use Rattle.faucet_top.specs.Ends.{Ends, status_after}
-use Rattle.faucet_top.specs.Given.{Loads, GoesByFile, BreaksOff, Delivers, Gives}
+use Rattle.faucet_top.specs.Given.{GaugeLoads, Loads, GoesByFile, BreaksOff, Delivers, Gives, RepliesRun}
 use Rattle.faucet_top.specs.Status.{number_of_status}
 use Rattle.faucet_top.proofs.CheckLemmas.{accepted_later}
 use Rattle.faucet_top.proofs.ReplayLemmas.{number_after, ends_differ}
 
 -- ---- what is written on two streams, by what would be on empty ones
 
-AppendsFront-all : (old : Option (List ℕ)) (piece : List ℕ) → AppendsFront old (appended old piece) piece
+pub AppendsFront-all : (old : Option (List ℕ)) (piece : List ℕ) → AppendsFront old (appended old piece) piece
 AppendsFront-all old piece = subst (λ (l : List ℕ). AppendsFront old (appended old piece) l) (append-nil piece) (AppendsFront-whole old piece [])
 
-module _ (contents : Option Contents) (name : List ℕ) (absence fault : Type 0) (conf : Configuration) (o0 o1 e0 e1 : Option (List ℕ)) where
-  -- a replay that ends so writes this on empty streams
-  abbrev Writes : (out lines : List ℕ) → Replayed → Type 0
-  Writes out lines end = Replays contents name absence fault conf (Some []) (Some out) (Some []) (Some lines) end
+module _ {S : Type 0} (works : Workings S) (outlet : Outlet) (w : S) (story : List Happening) where
+  -- the whole answer, on empty streams
+  pub whole_on_empty : WholeButLast works outlet w story (Some []) (Some (out_of works outlet w story)) (Some []) (Some (lines_of works w story))
+  whole_on_empty = none_begun works outlet w story (Some []) (Some (out_of works outlet w story)) (Some []) (Some (lines_of works w story)) refl refl
 
-  abbrev WritesThat : Replayed → Type 0
-  WritesThat end = (out : List ℕ) × (lines : List ℕ) × Writes out lines end × (o1 ≡ appended o0 out) × (e1 ≡ appended e0 lines)
+  -- a front of the answer, as it would be on empty streams
+  pub record OnEmpty (o0 o1 e0 e1 : Option (List ℕ)) : Type 0 where
+    pub out : List ℕ
+    pub lines : List ℕ
+    pub but_last : WholeButLast works outlet w story (Some []) (Some out) (Some []) (Some lines)
+    pub out_front : AppendsFront (Some []) (Some out) (out_of works outlet w story)
+    pub lines_front : AppendsFront (Some []) (Some lines) (lines_of works w story)
+    pub wrote : o1 ≡ appended o0 out
+    pub said : e1 ≡ appended e0 lines
 
-  wrote_that : (end : Replayed) → end ≢ replayed.WriteFault → Replays contents name absence fault conf o0 o1 e0 e1 end → WritesThat end
-  wrote_that (replayed.Read refused) unfailed (story, writes, told) =
-      (written_records (records_of (first conf) story), lines_of (first conf) story, (story, record { out = refl; err = refl }, told), writes.out, writes.err)
-  wrote_that replayed.Unread unfailed (story, writes, so_far, cause) =
-      (written_records (records_of (first conf) story), lines_of (first conf) story, (story, record { out = refl; err = refl }, so_far, cause), writes.out, writes.err)
-  wrote_that replayed.Spent unfailed (story, writes, so_far, most) =
-      (written_records (records_of (first conf) story), lines_of (first conf) story, (story, record { out = refl; err = refl }, so_far, most), writes.out, writes.err)
-  wrote_that replayed.WriteFault unfailed replays = absurd (unfailed refl)
-  wrote_that replayed.Memory unfailed (story, writes, so_far) =
+  pub on_empty : (o0 o1 e0 e1 : Option (List ℕ)) → WholeButLast works outlet w story o0 o1 e0 e1 → OnEmpty o0 o1 e0 e1
+  on_empty o0 o1 e0 e1 part =
       -- the whole of all turns but the last, and of that the front that was written
-      let part = writes.but_last in
       let before = part.before in
-      let v : World = story_behind (first conf) before in
-      let records = written_records (records_of (first conf) before) in
-      let said = lines_of (first conf) before in
-      let more = take part.out.count (written_records (records_of v part.last)) in
-      let more_said = take part.err.count (lines_of v part.last) in
-      let but_last : WholeButLast outlets.Records (first conf) story (Some []) (Some (records ++ more)) (Some []) (Some (said ++ more_said)) = record {
+      let v : S = run_behind works w before in
+      let records = out_of works outlet w before in
+      let said = lines_of works w before in
+      let more = take part.out.count (out_of works outlet v part.last) in
+      let more_said = take part.err.count (lines_of works v part.last) in
+      let but_last : WholeButLast works outlet w story (Some []) (Some (records ++ more)) (Some []) (Some (said ++ more_said)) = record {
         before = before;
         last = part.last;
         parts = part.parts;
@@ -67,26 +73,49 @@ module _ (contents : Option Contents) (name : List ℕ) (absence fault : Type 0)
         out = record { count = part.out.count; within = part.out.within; front = refl };
         err = record { count = part.err.count; within = part.err.within; front = refl };
       } in
-      let fronts = fronts_but_last outlets.Records (first conf) story (Some []) (Some (records ++ more)) (Some []) (Some (said ++ more_said)) but_last in (
-        records ++ more,
-        said ++ more_said,
-        (story, record { out = fronts.0; err = fronts.1; but_last = but_last }, so_far),
-        part.out.front ∙ appended-append o0 records more,
-        part.err.front ∙ appended-append e0 said more_said,
-      )
+      let fronts = fronts_but_last works outlet w story (Some []) (Some (records ++ more)) (Some []) (Some (said ++ more_said)) but_last in
+      record {
+        out = records ++ more;
+        lines = said ++ more_said;
+        but_last = but_last;
+        out_front = fronts.0;
+        lines_front = fronts.1;
+        wrote = part.out.front ∙ appended-append o0 records more;
+        said = part.err.front ∙ appended-append e0 said more_said;
+      }
+
+module _ {S : Type 0} (works : Workings S) (outlet : Outlet) (w : S) (contents : Option Contents) (name : List ℕ) (absence fault : Type 0) (o0 o1 e0 e1 : Option (List ℕ)) where
+  -- a run that ends so writes this on empty streams
+  abbrev Writes : (out lines : List ℕ) → Replayed → Type 0
+  Writes out lines end = Replays works outlet contents name absence fault w (Some []) (Some out) (Some []) (Some lines) end
+
+  abbrev WritesThat : Replayed → Type 0
+  WritesThat end = (out : List ℕ) × (lines : List ℕ) × Writes out lines end × (o1 ≡ appended o0 out) × (e1 ≡ appended e0 lines)
+
+  wrote_that : (end : Replayed) → end ≢ replayed.WriteFault → Replays works outlet contents name absence fault w o0 o1 e0 e1 end → WritesThat end
+  wrote_that (replayed.Read refused) unfailed (story, writes, told) =
+      (out_of works outlet w story, lines_of works w story, (story, record { out = refl; err = refl }, told), writes.out, writes.err)
+  wrote_that replayed.Unread unfailed (story, writes, so_far, cause) =
+      (out_of works outlet w story, lines_of works w story, (story, record { out = refl; err = refl }, so_far, cause), writes.out, writes.err)
+  wrote_that replayed.Spent unfailed (story, writes, so_far, most) =
+      (out_of works outlet w story, lines_of works w story, (story, record { out = refl; err = refl }, so_far, most), writes.out, writes.err)
+  wrote_that replayed.WriteFault unfailed replays = absurd (unfailed refl)
+  wrote_that replayed.Memory unfailed (story, writes, so_far) =
+      let some = on_empty works outlet w story o0 o1 e0 e1 writes.but_last in
+      (some.out, some.lines, (story, record { out = some.out_front; err = some.lines_front; but_last = some.but_last }, so_far), some.wrote, some.said)
 
   abbrev WritesFrontOfThat : Type 0
   WritesFrontOfThat = (out : List ℕ) × (lines : List ℕ) × Writes out lines replayed.Memory × AppendsFront o0 o1 out × AppendsFront e0 e1 lines
 
   -- a write failed: what was written is a front of what there is where memory runs out behind the whole
-  wrote_front : Replays contents name absence fault conf o0 o1 e0 e1 replayed.WriteFault → WritesFrontOfThat
+  wrote_front : Replays works outlet contents name absence fault w o0 o1 e0 e1 replayed.WriteFault → WritesFrontOfThat
   wrote_front (story, writes, so_far) =
-      let out = written_records (records_of (first conf) story) in
-      let lines = lines_of (first conf) story in
-      let whole : WritesFront conf story (Some []) (Some out) (Some []) (Some lines) = record {
+      let out = out_of works outlet w story in
+      let lines = lines_of works w story in
+      let whole : WritesFront works outlet w story (Some []) (Some out) (Some []) (Some lines) = record {
         out = AppendsFront-all (Some []) out;
         err = AppendsFront-all (Some []) lines;
-        but_last = none_begun outlets.Records (first conf) story (Some []) (Some out) (Some []) (Some lines) refl refl;
+        but_last = whole_on_empty works outlet w story;
       } in
       (out, lines, (story, whole, so_far), writes.out, writes.err)
 
@@ -126,8 +155,8 @@ write_fault_or_not replayed.WriteFault = inl refl
 write_fault_or_not replayed.Memory = inr (ends_differ replayed.Memory replayed.WriteFault (λ e. omega arith))
 
 -- what was counted by a part of a call was counted by the whole
-module _ (contents : Option Contents) (name : List ℕ) (conf : Configuration) (o0 o1 e0 e1 : Option (List ℕ)) (a0 a1 a2 f0 f1 f2 : ℕ) (le_a : a0 ≤ a1) (le_f : f0 ≤ f1) where
-  replays_since : (end : Replayed) → Replays contents name (Rose a1 a2) (Rose f1 f2) conf o0 o1 e0 e1 end → Replays contents name (Rose a0 a2) (Rose f0 f2) conf o0 o1 e0 e1 end
+module _ {S : Type 0} (works : Workings S) (outlet : Outlet) (w : S) (contents : Option Contents) (name : List ℕ) (o0 o1 e0 e1 : Option (List ℕ)) (a0 a1 a2 f0 f1 f2 : ℕ) (le_a : a0 ≤ a1) (le_f : f0 ≤ f1) where
+  replays_since : (end : Replayed) → Replays works outlet contents name (Rose a1 a2) (Rose f1 f2) w o0 o1 e0 e1 end → Replays works outlet contents name (Rose a0 a2) (Rose f0 f2) w o0 o1 e0 e1 end
   replays_since (replayed.Read refused) replays = replays
   replays_since replayed.Unread (story, writes, so_far, cause) =
       (story, writes, so_far, elim cause [ inl rose ↦ inl (Rose-since a0 a1 a2 le_a rose) | inr rose ↦ inr (Rose-since f0 f1 f2 le_f rose) ])
@@ -145,55 +174,74 @@ file_at_front contents name fault by_file = record {
   there = λ bytes is ends. absurd (ends_differ replayed.Memory replayed.Unread (λ e. omega arith) ends);
 }
 
-module _ (contents : Option Contents) (a0 a1 a2 f0 f1 f2 : ℕ) (o0 o1 e0 e1 e2 : Option (List ℕ)) (m0 m1 n0 n1 n2 : ℕ) (config recording : List ℕ) (conf : Configuration) (end : Replayed) (ended : Status)
-    (le_a : a0 ≤ a1) (le_b : a1 ≤ a2) (le_f : f0 ≤ f1) (le_g : f1 ≤ f2) (le_n : n1 ≤ n2) (refused1 refused2 : List ℕ)
-    (loads : Loads contents (Rose a0 a1) (Rose f0 f1) refused1 config (Ok conf)) (by_file : GoesByFile contents recording (Rose f1 f2) end)
+module _ {S : Type 0} (works : Workings S) (outlet : Outlet) (w : S) (contents : Option Contents) (a0 a1 a2 f0 f1 f2 : ℕ) (o0 o1 e0 e1 e2 : Option (List ℕ)) (m0 m1 n0 n1 n2 : ℕ) (recording : List ℕ) (end : Replayed) (ended : Status)
+    (le_a : a0 ≤ a1) (le_f : f0 ≤ f1) (le_n : n1 ≤ n2) (by_file : GoesByFile contents recording (Rose f1 f2) end)
     (ends : Ends (status_after end) (last_line recording end) e1 e2 n1 n2 ended) where
-  abbrev Given : Type 0
-  Given = Gives (Some (Replay config recording)) contents (Rose a0 a2) (Rose f0 f2) refused2 (number_of_status ended) o0 o1 e0 e2 m0 m1 n0 n2
+  -- a reply to the run was delivered
+  abbrev RunGiven : Type 0
+  RunGiven = (a : Answer) × RepliesRun works outlet contents (Rose a0 a2) (Rose f0 f2) recording w a × Delivers a (number_of_status ended) o0 o1 e0 e2 m0 m1 n0 n2
 
-  loads_later : Loads contents (Rose a0 a2) (Rose f0 f2) refused2 config (Ok conf)
-  loads_later = accepted_later contents (Rose a0 a1) (Rose f0 f1) (Rose a0 a2) (Rose f0 f2) (λ r. Rose-later a0 a1 a2 r le_b) (λ r. Rose-later f0 f1 f2 r le_g) refused1 refused2 config conf loads
+  since_all : GoesByFile contents recording (Rose f0 f2) end
+  since_all = file_since works outlet w contents recording o0 o1 e0 e1 a0 a1 a2 f0 f1 f2 le_a le_f end by_file
 
-  whole_given : end ≢ replayed.WriteFault → WritesThat contents recording (Rose a0 a2) (Rose f0 f2) conf o0 o1 e0 e1 end → m1 ≡ m0 → n1 ≡ n0 → Given
+  whole_given : end ≢ replayed.WriteFault → WritesThat works outlet w contents recording (Rose a0 a2) (Rose f0 f2) o0 o1 e0 e1 end → m1 ≡ m0 → n1 ≡ n0 → RunGiven
   whole_given unfailed (out, lines, writes, wrote, said) outs errs = (
     record { out = out; err = lines ++ last_line recording end; status = number_after end },
-    inl (Ok conf, loads_later, (end, out, lines, unfailed, writes, file_since contents recording conf o0 o1 e0 e1 a0 a1 a2 f0 f1 f2 le_a le_f end by_file, refl)),
+    (end, out, lines, unfailed, writes, since_all, refl),
     line_behind o0 o1 e0 e1 e2 m0 m1 n0 n1 n2 out lines (last_line recording end) (status_after end) ended wrote said outs errs ends,
   )
 
-  front_given : end ≡ replayed.WriteFault → WritesFrontOfThat contents recording (Rose a0 a2) (Rose f0 f2) conf o0 o1 e0 e1 → Rose m0 m1 ⊎ Rose n0 n1 → Given
+  front_given : end ≡ replayed.WriteFault → WritesFrontOfThat works outlet w contents recording (Rose a0 a2) (Rose f0 f2) o0 o1 e0 e1 → Rose m0 m1 ⊎ Rose n0 n1 → RunGiven
   front_given is (out, lines, writes, front, line_front) rose = (
     record { out = out; err = lines ++ out_of_memory.err; status = 8 },
-    inl (
-      Ok conf,
-      loads_later,
-      (
-        replayed.Memory,
-        out,
-        lines,
-        ends_differ replayed.Memory replayed.WriteFault (λ e. omega arith),
-        writes,
-        file_at_front contents recording (Rose f0 f2) (subst (λ (r : Replayed). GoesByFile contents recording (Rose f0 f2) r) is (file_since contents recording conf o0 o1 e0 e1 a0 a1 a2 f0 f1 f2 le_a le_f end by_file)),
-        refl,
-      ),
+    (
+      replayed.Memory,
+      out,
+      lines,
+      ends_differ replayed.Memory replayed.WriteFault (λ e. omega arith),
+      writes,
+      file_at_front contents recording (Rose f0 f2) (subst (λ (r : Replayed). GoesByFile contents recording (Rose f0 f2) r) is since_all),
+      refl,
     ),
     inr (nothing_behind o0 o1 e0 e1 e2 m0 m1 n0 n1 n2 out lines out_of_memory.err 8 ended front line_front rose le_n
         (subst (λ (r : Replayed). Ends (status_after r) (last_line recording r) e1 e2 n1 n2 ended) is ends)),
   )
 
-  pub replay_given : Replays contents recording (Rose a1 a2) (Rose f1 f2) conf o0 o1 e0 e1 end → (end ≡ replayed.WriteFault → Rose m0 m1 ⊎ Rose n0 n1)
-      → (end ≢ replayed.WriteFault → (m1 ≡ m0) × (n1 ≡ n0)) → Given
-  replay_given replays failed kept =
-      let since = replays_since contents recording conf o0 o1 e0 e1 a0 a1 a2 f0 f1 f2 le_a le_f end replays in
+  pub run_given : Replays works outlet contents recording (Rose a1 a2) (Rose f1 f2) w o0 o1 e0 e1 end → (end ≡ replayed.WriteFault → Rose m0 m1 ⊎ Rose n0 n1)
+      → (end ≢ replayed.WriteFault → (m1 ≡ m0) × (n1 ≡ n0)) → RunGiven
+  run_given replays failed kept =
+      let since = replays_since works outlet w contents recording o0 o1 e0 e1 a0 a1 a2 f0 f1 f2 le_a le_f end replays in
       elim (write_fault_or_not end) [
         | inl is ↦ front_given is
-            (wrote_front contents recording (Rose a0 a2) (Rose f0 f2) conf o0 o1 e0 e1 (subst (λ (r : Replayed). Replays contents recording (Rose a0 a2) (Rose f0 f2) conf o0 o1 e0 e1 r) is since)) (failed is)
-        | inr unfailed ↦ whole_given unfailed (wrote_that contents recording (Rose a0 a2) (Rose f0 f2) conf o0 o1 e0 e1 end unfailed since) (kept unfailed).0 (kept unfailed).1
+            (wrote_front works outlet w contents recording (Rose a0 a2) (Rose f0 f2) o0 o1 e0 e1 (subst (λ (r : Replayed). Replays works outlet contents recording (Rose a0 a2) (Rose f0 f2) w o0 o1 e0 e1 r) is since)) (failed is)
+        | inr unfailed ↦ whole_given unfailed (wrote_that works outlet w contents recording (Rose a0 a2) (Rose f0 f2) o0 o1 e0 e1 end unfailed since) (kept unfailed).0 (kept unfailed).1
       ]
 
-module _ (contents : Option Contents) (absence fault : Type 0) (refused : List ℕ) (o0 o1 e0 e1 : Option (List ℕ)) (m0 m1 n0 n1 : ℕ) where
+-- ---- by what the file gave
+
+module _ (contents : Option Contents) (a0 a1 a2 f0 f1 f2 : ℕ) (le_b : a1 ≤ a2) (le_g : f1 ≤ f2) (refused1 refused2 : List ℕ) (status : ℕ) (o0 o1 e0 e1 : Option (List ℕ)) (m0 m1 n0 n1 : ℕ) (config recording : List ℕ) where
+  pub replay_given : (conf : Configuration) → Loads contents (Rose a0 a1) (Rose f0 f1) refused1 config (Ok conf)
+      → ((a : Answer) × RepliesRun controller outlets.Records contents (Rose a0 a2) (Rose f0 f2) recording (first conf) a × Delivers a status o0 o1 e0 e1 m0 m1 n0 n1)
+      → Gives (Some (Replay config recording)) contents (Rose a0 a2) (Rose f0 f2) refused2 status o0 o1 e0 e1 m0 m1 n0 n1
+  replay_given conf loads (a, replies, delivers) = (
+    a,
+    inl (Ok conf, accepted_later loaded contents (Rose a0 a1) (Rose f0 f1) (Rose a0 a2) (Rose f0 f2) (λ r. Rose-later a0 a1 a2 r le_b) (λ r. Rose-later f0 f1 f2 r le_g) refused1 refused2 config conf loads, replies),
+    delivers,
+  )
+
+  pub gauge_given : (conf : GaugeConf) → GaugeLoads contents (Rose a0 a1) (Rose f0 f1) refused1 config (Ok conf)
+      → ((a : Answer) × RepliesRun monitor outlets.Nowhere contents (Rose a0 a2) (Rose f0 f2) recording (begun conf) a × Delivers a status o0 o1 e0 e1 m0 m1 n0 n1)
+      → Gives (Some (Gauge config recording)) contents (Rose a0 a2) (Rose f0 f2) refused2 status o0 o1 e0 e1 m0 m1 n0 n1
+  gauge_given conf loads (a, replies, delivers) = (
+    a,
+    inl (Ok conf, accepted_later gauge_of contents (Rose a0 a1) (Rose f0 f1) (Rose a0 a2) (Rose f0 f2) (λ r. Rose-later a0 a1 a2 r le_b) (λ r. Rose-later f0 f1 f2 r le_g) refused1 refused2 config conf loads, replies),
+    delivers,
+  )
+
+module _ (contents : Option Contents) (absence fault : Type 0) (refused : List ℕ) (o0 o1 e0 e1 : Option (List ℕ)) (m0 m1 n0 n1 : ℕ) (config recording : List ℕ) (why : LoadRefused) (status : ℕ) (delivers : Delivers (refusal config why) status o0 o1 e0 e1 m0 m1 n0 n1) where
   -- the configuration was refused, and that was the whole reply
-  pub refusal_given : (config recording : List ℕ) (why : LoadRefused) (status : ℕ) → Loads contents absence fault refused config (Err why)
-      → Delivers (refusal config why) status o0 o1 e0 e1 m0 m1 n0 n1 → Gives (Some (Replay config recording)) contents absence fault refused status o0 o1 e0 e1 m0 m1 n0 n1
-  refusal_given config recording why status loads delivers = (refusal config why, inl (Err why, loads, refl), delivers)
+  pub refusal_given : Loads contents absence fault refused config (Err why) → Gives (Some (Replay config recording)) contents absence fault refused status o0 o1 e0 e1 m0 m1 n0 n1
+  refusal_given loads = (refusal config why, inl (Err why, loads, refl), delivers)
+
+  pub gauge_refusal_given : GaugeLoads contents absence fault refused config (Err why) → Gives (Some (Gauge config recording)) contents absence fault refused status o0 o1 e0 e1 m0 m1 n0 n1
+  gauge_refusal_given loads = (refusal config why, inl (Err why, loads, refl), delivers)

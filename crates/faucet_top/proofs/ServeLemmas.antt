@@ -19,8 +19,8 @@ use Rattle.conf_load.specs.Loaded.{checked, checked_with_text, loaded, loaded_wi
 use Rattle.watch_hub.specs.Look.{gathered_text, text_of}
 use Rattle.watch_hub.specs.Texts.{missed, refreshed_by}
 use Rattle.ctl_world.specs.World.{World, first}
-use Rattle.ctl_drive.specs.declared.drive.Drove.{Drove}
-use Rattle.ctl_drive.specs.declared.drive.Drove.TheVariants as drove
+use Rattle.hub_drive.specs.declared.drive.Drove.{Drove}
+use Rattle.hub_drive.specs.declared.drive.Drove.TheVariants as drove
 use Rattle.ctl_drive.specs.Driving.{lines_of}
 use Rattle.ctl_serve.specs.Served.{Served, ServedPart, ServesTo}
 use Rattle.faucet_top.specs.declared.deliver.Status.{Status}

@@ -12,100 +12,46 @@ use Rattle.conf_gather.specs.declared.refused.LoadRefused.{LoadRefused}
 use Rattle.conf_gather.specs.Gathered.{Held}
 use Rattle.conf_load.specs.Loaded.{loaded}
 use Rattle.command_line.specs.declared.meaning.Job.{Job}
-use Rattle.command_line.specs.declared.meaning.Job.TheVariants.{Check, Plan, Replay, Serve}
+use Rattle.command_line.specs.declared.meaning.Job.TheVariants.{Check, Gauge, GaugeServe, Plan, Replay, Serve}
 use Rattle.command_line.specs.declared.values.Listen.{Listen}
 use Rattle.watch_hub.specs.Look.{text_of}
 use Rattle.opening_batch.specs.Opened.{Opens}
 use Rattle.opening_batch.specs.Opening.{opening_of}
 use Rattle.law_stories.specs.Right.{IsRight}
+use Rattle.gauge_conf.specs.declared.gauge.GaugeConf.{GaugeConf}
+use Rattle.gauge_load.specs.Loaded.{gauge_of}
+use Rattle.gauge_poll.specs.Monitoring.{Monitor, lines_of as gauge_lines}
+use Rattle.hub_drive.specs.declared.sayings.Outlet.TheVariants as outlets
+use Rattle.hub_drive.specs.Driving.{out_of}
+use Rattle.gauge_drive.specs.Gauge.{ended_lines, monitor}
 use Rattle.ctl_world.specs.World.{first}
-use Rattle.ctl_drive.specs.declared.drive.Drove.{Drove}
-use Rattle.ctl_drive.specs.declared.drive.Drove.TheVariants as drove
+use Rattle.hub_drive.specs.declared.drive.Drove.{Drove}
+use Rattle.hub_drive.specs.declared.drive.Drove.TheVariants as drove
 use Rattle.ctl_drive.specs.Driving.{lines_of}
 use Rattle.ctl_serve.specs.Served.{Ended, Served}
-use Rattle.faucet_top.specs.Answer.{Answer, Load, out_of_memory, refusal}
+use Rattle.faucet_top.specs.Answer.{Answer, GaugeLoad, Load, out_of_memory, refusal}
 use Rattle.faucet_top.specs.Ends.{status_served}
-use Rattle.faucet_top.specs.Given.{AreAccepted, BreaksOff, Delivers, Gives, IsLoadedStatus, IsOpened, IsReplayed, IsReplayedTo, IsServeStatus, IsStatusOf, Loads, StatusFor}
-use Rattle.faucet_top.specs.Serving.{GivesAny, IsItsEnd, IsLocal, IsServed, RepliesServe, ServesUntil, UnservedAnswer, served_answer}
+use Rattle.faucet_top.specs.Given.{AreAccepted, BreaksOff, Delivers, Gives, IsLoadedStatus, IsOpened, IsReplayed, IsReplayedTo, IsServeStatus, IsStatusOf, IsWatched, IsWatchedTo, Loads, StatusFor}
+use Rattle.faucet_top.specs.Any.{GivesAny}
+use Rattle.faucet_top.specs.Serving.{IsItsEnd, IsLocal, IsServed, RepliesServe, ServesUntil, UnservedAnswer, served_answer}
+use Rattle.faucet_top.specs.Watching.{IsHubWatched}
 use Rattle.faucet_top.specs.Status.{number_of_status}
 use Rattle.faucet_top.proofs.RefusalLemmas.{refusal_inner, refusal_not, refusal_unread}
 use Rattle.faucet_top.proofs.ReplayLemmas.{refusal_told}
+use Rattle.faucet_top.proofs.EndLemmas.{Broke, Whole, delivered_fault, delivered_kept, delivered_status, its_end_not_four, its_end_not_refused, number_served, same_end, served_not, unfailed_not_four}
 use Rattle.faucet_top.proofs.TopLemmas as by
-
-pub some_is : {X : Type 0} {x y : X} → Some x ≡ Some y → x ≡ y
-some_is is = cc
-
--- the number by how serving ended
-abbrev pub number_served : Drove → ℕ
-number_served end = number_of_status (status_served end)
-
-end_with : ℕ → Drove
-end_with n = cond (n == 0) drove.Done (cond (n == 6) drove.HubFault (cond (n == 7) drove.Spent (cond (n == 4) drove.WriteFault drove.Memory)))
-
-end_of : (end : Drove) → end_with (number_served end) ≡ end
-unfolding end_with
-end_of drove.Done = refl
-end_of drove.HubFault = refl
-end_of drove.Spent = refl
-end_of drove.WriteFault = refl
-end_of drove.Memory = refl
-
--- each end has its number
-same_end : (x y : Drove) → number_served x ≡ number_served y → x ≡ y
-same_end x y is = sym (end_of x) ∙ ap end_with is ∙ end_of y
-
--- it is neither 1, 3 nor 5
-served_not : (n : ℕ) → (n ≡ 0 → ⊥) → (n ≡ 6 → ⊥) → (n ≡ 7 → ⊥) → (n ≡ 4 → ⊥) → (n ≡ 8 → ⊥) → (end : Drove) → number_served end ≡ n → ⊥
-served_not n zero six seven four eight drove.Done s = zero (sym s)
-served_not n zero six seven four eight drove.HubFault s = six (sym s)
-served_not n zero six seven four eight drove.Spent s = seven (sym s)
-served_not n zero six seven four eight drove.WriteFault s = four (sym s)
-served_not n zero six seven four eight drove.Memory s = eight (sym s)
-
-unfailed_not_four : (end : Drove) → (end ≡ drove.WriteFault → ⊥) → number_served end ≡ 4 → ⊥
-unfailed_not_four end other s = other (same_end end drove.WriteFault s)
-
-its_end_not_four : (end : Drove) → IsItsEnd end → number_served end ≡ 4 → ⊥
-its_end_not_four drove.Done its s = omega (arith, s)
-its_end_not_four drove.HubFault its s = omega (arith, s)
-its_end_not_four drove.Spent its s = omega (arith, s)
-its_end_not_four drove.WriteFault its s = its
-its_end_not_four drove.Memory its s = its
-
-its_end_not_refused : (n : ℕ) → (n ≡ 2) ⊎ ((n ≡ 3) ⊎ (n ≡ 8)) → (end : Drove) → IsItsEnd end → number_served end ≡ n → ⊥
-its_end_not_refused n is drove.Done its s = elim is [ inl two ↦ omega (arith, s, two) | inr more ↦ elim more [ inl three ↦ omega (arith, s, three) | inr eight ↦ omega (arith, s, eight) ] ]
-its_end_not_refused n is drove.HubFault its s = elim is [ inl two ↦ omega (arith, s, two) | inr more ↦ elim more [ inl three ↦ omega (arith, s, three) | inr eight ↦ omega (arith, s, eight) ] ]
-its_end_not_refused n is drove.Spent its s = elim is [ inl two ↦ omega (arith, s, two) | inr more ↦ elim more [ inl three ↦ omega (arith, s, three) | inr eight ↦ omega (arith, s, eight) ] ]
-its_end_not_refused n is drove.WriteFault its s = its
-its_end_not_refused n is drove.Memory its s = its
-
--- ---- a reply that was delivered
+use Rattle.faucet_top.proofs.WatchLemmas.{watched_fault, watched_kept, watched_meant, watched_right, watched_told, watched_unasked, watched_unread}
 
 module _ (status : ℕ) (o0 o1 e0 e1 : Option (List ℕ)) (m0 m1 n0 n1 : ℕ) where
-  abbrev Whole : Answer → Type 0
-  Whole a = Delivers a status o0 o1 e0 e1 m0 m1 n0 n1
-
-  abbrev Broke : Answer → Type 0
-  Broke a = BreaksOff a status o0 o1 e0 e1 m0 m1 n0 n1
-
-  delivered_status : (a : Answer) → Whole a → (status ≡ a.status) ⊎ (status ≡ 4)
-  delivered_status a whole = elim whole [ inl all ↦ inl all.0 | inr front ↦ inr front.0 ]
-
-  delivered_fault : (a : Answer) → (a.status ≡ 4 → ⊥) → Whole a → status ≡ 4 → Rose m0 m1 ⊎ Rose n0 n1
-  delivered_fault a other whole s = elim whole [ inl all ↦ absurd (other (sym all.0 ∙ s)) | inr front ↦ front.3 ]
-
-  delivered_kept : (a : Answer) → Whole a → (status ≡ 4 → ⊥) → (m1 ≡ m0) × (n1 ≡ n0)
-  delivered_kept a whole other = elim whole [ inl all ↦ (all.3, all.4) | inr front ↦ absurd (other front.0) ]
-
   -- ---- `serve`
 
   module _ {H F : Type 0} (may : H → HubStep → H → Type 0) (contents : F → Option Contents) (faults : F → ℕ) (absence fault : Type 0) (refused config : List ℕ) (reload_ms events : ℕ) (hub0 hub1 : H) (files0 files1 : F) where
     abbrev Until : List ℕ → Configuration → Drove → Type 0
-    Until text conf end = ServesUntil may contents faults config text reload_ms events conf hub0 hub1 files0 files1 Whole Broke end
+    Until text conf end = ServesUntil may contents faults config text reload_ms events conf hub0 hub1 files0 files1 (Whole status o0 o1 e0 e1 m0 m1 n0 n1) (Broke status o0 o1 e0 e1 m0 m1 n0 n1) end
 
     -- a reply was delivered by how it ended, or a write failed
     abbrev Came : Drove → Type 0
-    Came end = ((end ≡ drove.WriteFault → ⊥) × ((lines : List ℕ) × Whole (served_answer lines end))) ⊎ ((a : Answer) × Broke a)
+    Came end = ((end ≡ drove.WriteFault → ⊥) × ((lines : List ℕ) × (Whole status o0 o1 e0 e1 m0 m1 n0 n1) (served_answer lines end))) ⊎ ((a : Answer) × (Broke status o0 o1 e0 e1 m0 m1 n0 n1) a)
 
     came : (text : List ℕ) (conf : Configuration) (end : Drove) → Until text conf end → Came end
     came text conf drove.Done (happened, few, served, whole) = inl (λ is. cc, (lines_of (first conf) happened, whole))
@@ -120,15 +66,15 @@ module _ (status : ℕ) (o0 o1 e0 e1 : Option (List ℕ)) (m0 m1 n0 n1 : ℕ) wh
 
     unserved_unread : (a : Answer) → UnservedAnswer (contents files0) absence fault refused config a → a.status ≡ 3 → absence ⊎ fault
     unserved_unread a (inl memory) s = let eight : a.status ≡ 8 = ap (λ (b : Answer). b.status) memory in absurd (omega (arith, eight, s))
-    unserved_unread a (inr (why, loads, is)) s = refusal_unread (contents files0) absence fault refused config config why loads (sym (ap (λ (b : Answer). b.status) is) ∙ s)
+    unserved_unread a (inr (why, loads, is)) s = refusal_unread loaded (contents files0) absence fault refused config config why loads (sym (ap (λ (b : Answer). b.status) is) ∙ s)
 
-    module _ (replies : RepliesServe may contents faults absence fault refused config reload_ms events hub0 hub1 files0 files1 Whole Broke) where
+    module _ (replies : RepliesServe may contents faults absence fault refused config reload_ms events hub0 hub1 files0 files1 (Whole status o0 o1 e0 e1 m0 m1 n0 n1) (Broke status o0 o1 e0 e1 m0 m1 n0 n1)) where
       pub served_fault : status ≡ 4 → Rose m0 m1 ⊎ Rose n0 n1
       served_fault s =
           elim replies [
-            | inl (a, unserved, whole, hub, files) ↦ delivered_fault a (unserved_status a unserved 4 (λ e. omega (arith, e)) (λ e. omega (arith, e)) (λ e. omega (arith, e))) whole s
+            | inl (a, unserved, whole, hub, files) ↦ delivered_fault status o0 o1 e0 e1 m0 m1 n0 n1 a (unserved_status a unserved 4 (λ e. omega (arith, e)) (λ e. omega (arith, e)) (λ e. omega (arith, e))) whole s
             | inr (conf, text, loads, begins, end, until) ↦ elim (came text conf end until) [
-              | inl (unfailed, some) ↦ delivered_fault (served_answer some.0 end) (unfailed_not_four end unfailed) some.1 s
+              | inl (unfailed, some) ↦ delivered_fault status o0 o1 e0 e1 m0 m1 n0 n1 (served_answer some.0 end) (unfailed_not_four end unfailed) some.1 s
               | inr (a, broke) ↦ broke.3
             ]
           ]
@@ -136,9 +82,9 @@ module _ (status : ℕ) (o0 o1 e0 e1 : Option (List ℕ)) (m0 m1 n0 n1 : ℕ) wh
       pub served_kept : (status ≡ 4 → ⊥) → (m1 ≡ m0) × (n1 ≡ n0)
       served_kept other =
           elim replies [
-            | inl (a, unserved, whole, hub, files) ↦ delivered_kept a whole other
+            | inl (a, unserved, whole, hub, files) ↦ delivered_kept status o0 o1 e0 e1 m0 m1 n0 n1 a whole other
             | inr (conf, text, loads, begins, end, until) ↦ elim (came text conf end until) [
-              | inl (unfailed, some) ↦ delivered_kept (served_answer some.0 end) some.1 other
+              | inl (unfailed, some) ↦ delivered_kept status o0 o1 e0 e1 m0 m1 n0 n1 (served_answer some.0 end) some.1 other
               | inr (a, broke) ↦ absurd (other broke.0)
             ]
           ]
@@ -148,12 +94,12 @@ module _ (status : ℕ) (o0 o1 e0 e1 : Option (List ℕ)) (m0 m1 n0 n1 : ℕ) wh
           → (a : Answer) × UnservedAnswer (contents files0) absence fault refused config a × (a.status ≡ n) × (hub1 ≡ hub0)
       unserved_at n s zero six seven four eight =
           elim replies [
-            | inl (a, unserved, whole, hub, files) ↦ elim (delivered_status a whole) [
+            | inl (a, unserved, whole, hub, files) ↦ elim (delivered_status status o0 o1 e0 e1 m0 m1 n0 n1 a whole) [
               | inl same ↦ (a, unserved, sym same ∙ s, hub)
               | inr is_four ↦ absurd (four (sym s ∙ is_four))
             ]
             | inr (conf, text, loads, begins, end, until) ↦ elim (came text conf end until) [
-              | inl (unfailed, some) ↦ elim (delivered_status (served_answer some.0 end) some.1) [
+              | inl (unfailed, some) ↦ elim (delivered_status status o0 o1 e0 e1 m0 m1 n0 n1 (served_answer some.0 end) some.1) [
                 | inl same ↦ absurd (served_not n zero six seven four eight end (sym same ∙ s))
                 | inr is_four ↦ absurd (four (sym s ∙ is_four))
               ]
@@ -187,7 +133,7 @@ module _ (status : ℕ) (o0 o1 e0 e1 : Option (List ℕ)) (m0 m1 n0 n1 : ℕ) wh
         unserved_told a (inl memory) = inr (inr (inl (ap (λ (b : Answer). b.status) memory)))
         unserved_told a (inr (why, loads, same)) =
             subst (λ (b : Answer). StatusFor b.status IsOurs fault) (sym same)
-            (refusal_told held absence fault refused config why (λ conf. IsServeStatus) (subst (λ (c : Option Contents). Loads c absence fault refused config (Err why)) is loads))
+            (refusal_told held absence fault loaded refused config (λ conf. IsServeStatus) why (subst (λ (c : Option Contents). Loads c absence fault refused config (Err why)) is loads))
 
         ours : (conf : Configuration) → loaded (held 0) config ≡ Ok conf → (n : ℕ) → IsServeStatus n → IsOurs n
         ours conf accepted n one = subst (λ (l : Load). IsLoadedStatus config l (λ c. IsServeStatus) n) (sym accepted) one
@@ -199,8 +145,8 @@ module _ (status : ℕ) (o0 o1 e0 e1 : Option (List ℕ)) (m0 m1 n0 n1 : ℕ) wh
         end_told conf accepted drove.WriteFault = inr (inl refl)
         end_told conf accepted drove.Memory = inr (inr (inl refl))
 
-        by_status : (a : Answer) → Whole a → StatusFor a.status IsOurs fault → StatusFor status IsOurs fault
-        by_status a whole one = elim (delivered_status a whole) [ inl same ↦ subst (λ n. StatusFor n IsOurs fault) (sym same) one | inr four ↦ inr (inl four) ]
+        by_status : (a : Answer) → (Whole status o0 o1 e0 e1 m0 m1 n0 n1) a → StatusFor a.status IsOurs fault → StatusFor status IsOurs fault
+        by_status a whole one = elim (delivered_status status o0 o1 e0 e1 m0 m1 n0 n1 a whole) [ inl same ↦ subst (λ n. StatusFor n IsOurs fault) (sym same) one | inr four ↦ inr (inl four) ]
 
         pub served_told : StatusFor status IsOurs fault
         served_told =
@@ -221,7 +167,7 @@ module _ (status : ℕ) (o0 o1 e0 e1 : Option (List ℕ)) (m0 m1 n0 n1 : ℕ) wh
 
           did : (text : List ℕ) (conf : Configuration) (end : Drove) → loaded (held 0) config ≡ Ok conf → text_of (held 0) config ≡ Some text
               → (happened : List Happening) → Ended events happened end → Served may contents faults config text reload_ms events (first conf) happened end hub0 hub1 files0 files1
-              → Whole (served_answer (lines_of (first conf) happened) end) → (status ≡ 4 → ⊥) → Did end
+              → (Whole status o0 o1 e0 e1 m0 m1 n0 n1) (served_answer (lines_of (first conf) happened) end) → (status ≡ 4 → ⊥) → Did end
           did text conf end accepted begins happened ended served whole other =
               elim whole [
                 | inl all ↦ record {
@@ -250,12 +196,12 @@ module _ (status : ℕ) (o0 o1 e0 e1 : Option (List ℕ)) (m0 m1 n0 n1 : ℕ) wh
           served_right end its s =
               let other : status ≡ 4 → ⊥ = λ four. its_end_not_four end its (sym s ∙ four) in
               elim replies [
-                | inl (a, unserved, whole, hub, files) ↦ absurd (elim (delivered_status a whole) [
+                | inl (a, unserved, whole, hub, files) ↦ absurd (elim (delivered_status status o0 o1 e0 e1 m0 m1 n0 n1 a whole) [
                   | inl same ↦ unserved_status a unserved (number_served end) (λ e. its_end_not_refused 2 (inl refl) end its e) (λ e. its_end_not_refused 3 (inr (inl refl)) end its e) (λ e. its_end_not_refused 8 (inr (inr refl)) end its e) (sym same ∙ s)
                   | inr four ↦ other four
                 ])
                 | inr (conf, text, loads, begins, last, until) ↦ elim (came text conf last until) [
-                  | inl (unfailed, some) ↦ elim (delivered_status (served_answer some.0 last) some.1) [
+                  | inl (unfailed, some) ↦ elim (delivered_status status o0 o1 e0 e1 m0 m1 n0 n1 (served_answer some.0 last) some.1) [
                     | inl same ↦ let one : last ≡ end = same_end last end (sym same ∙ s) in
                         did_until text conf end (loads.told held is) (begins held is) (subst (λ (d : Drove). Until text conf d) one until) its other
                     | inr four ↦ absurd (other four)
@@ -279,19 +225,28 @@ module _ {H F : Type 0} (may : H → HubStep → H → Type 0) (contents : F →
       (config : List ℕ) × (events : ℕ) × (reload_ms : ℕ) × (listen : Listen)
       × (j ≡ Some (Serve config events reload_ms listen)) × Any (Some (Serve config events reload_ms listen))
 
-  either : (j : Option Job) → Any j → (IsLocal j × Ours j) ⊎ Serves j
-  either None gives = inl (λ config events reload_ms listen is. absurd cc, gives)
-  either (Some (Check names)) gives = inl (λ config events reload_ms listen is. absurd cc, gives)
-  either (Some (Plan config dp)) gives = inl (λ c events reload_ms listen is. absurd cc, gives)
-  either (Some (Replay config recording)) gives = inl (λ c events reload_ms listen is. absurd cc, gives)
-  either (Some (Serve config events reload_ms listen)) gives = inr (config, events, reload_ms, listen, refl, gives)
+  abbrev Watches : Option Job → Type 0
+  Watches j =
+      (config : List ℕ) × (events : ℕ) × (listen : Listen)
+      × (j ≡ Some (GaugeServe config events listen)) × Any (Some (GaugeServe config events listen))
+
+  either : (j : Option Job) → Any j → (IsLocal j × Ours j) ⊎ (Serves j ⊎ Watches j)
+  either None gives = inl ((λ config events reload_ms listen is. absurd cc, λ config events listen is. absurd cc), gives)
+  either (Some (Check names)) gives = inl ((λ config events reload_ms listen is. absurd cc, λ config events listen is. absurd cc), gives)
+  either (Some (Plan config dp)) gives = inl ((λ c events reload_ms listen is. absurd cc, λ c events listen is. absurd cc), gives)
+  either (Some (Replay config recording)) gives = inl ((λ c events reload_ms listen is. absurd cc, λ c events listen is. absurd cc), gives)
+  either (Some (Gauge config recording)) gives = inl ((λ c events reload_ms listen is. absurd cc, λ c events listen is. absurd cc), gives)
+  either (Some (Serve config events reload_ms listen)) gives = inr (inl (config, events, reload_ms, listen, refl, gives))
+  either (Some (GaugeServe config events listen)) gives = inr (inr (config, events, listen, refl, gives))
 
   pub local_any : (j : Option Job) → IsLocal j → Ours j → Any j
   local_any None local gives = gives
   local_any (Some (Check names)) local gives = gives
   local_any (Some (Plan config dp)) local gives = gives
   local_any (Some (Replay config recording)) local gives = gives
-  local_any (Some (Serve config events reload_ms listen)) local gives = absurd (local config events reload_ms listen refl)
+  local_any (Some (Gauge config recording)) local gives = gives
+  local_any (Some (Serve config events reload_ms listen)) local gives = absurd (local.0 config events reload_ms listen refl)
+  local_any (Some (GaugeServe config events listen)) local gives = absurd (local.1 config events listen refl)
 
   -- memory ran out before anything was done
   pub any_memory : (j : Option Job) → Delivers out_of_memory status o0 o1 e0 e1 m0 m1 n0 n1 → hub1 ≡ hub0 → contents files1 ≡ contents files0 → Any j
@@ -299,95 +254,136 @@ module _ {H F : Type 0} (may : H → HubStep → H → Type 0) (contents : F →
   any_memory (Some (Check names)) delivers hub files = (out_of_memory, inr refl, delivers)
   any_memory (Some (Plan config dp)) delivers hub files = (out_of_memory, inr refl, delivers)
   any_memory (Some (Replay config recording)) delivers hub files = (out_of_memory, inr refl, delivers)
+  any_memory (Some (Gauge config recording)) delivers hub files = (out_of_memory, inr refl, delivers)
   any_memory (Some (Serve config events reload_ms listen)) delivers hub files = inl (out_of_memory, inl refl, delivers, hub, files)
+  any_memory (Some (GaugeServe config events listen)) delivers hub files = (out_of_memory, inl (inl refl, hub), delivers)
 
   module _ (gives : Any job) where
     pub write_fault : status ≡ 4 → Rose m0 m1 ⊎ Rose n0 n1
     write_fault s =
         elim (either job gives) [
           | inl ours ↦ by.write_fault job (contents files0) absence fault refused status o0 o1 e0 e1 m0 m1 n0 n1 ours.1 s
-          | inr serves ↦ served_fault status o0 o1 e0 e1 m0 m1 n0 n1 may contents faults absence fault refused serves.0 serves.2 serves.1 hub0 hub1 files0 files1 serves.5 s
+          | inr (inl serves) ↦ served_fault status o0 o1 e0 e1 m0 m1 n0 n1 may contents faults absence fault refused serves.0 serves.2 serves.1 hub0 hub1 files0 files1 serves.5 s
+          | inr (inr watches) ↦ watched_fault may (contents files0) absence fault refused watches.0 watches.1 hub0 hub1 status o0 o1 e0 e1 m0 m1 n0 n1 watches.4 s
         ]
 
     pub kept : (status ≡ 4 → ⊥) → (m1 ≡ m0) × (n1 ≡ n0)
     kept other =
         elim (either job gives) [
           | inl ours ↦ by.kept job (contents files0) absence fault refused status o0 o1 e0 e1 m0 m1 n0 n1 ours.1 other
-          | inr serves ↦ served_kept status o0 o1 e0 e1 m0 m1 n0 n1 may contents faults absence fault refused serves.0 serves.2 serves.1 hub0 hub1 files0 files1 serves.5 other
+          | inr (inl serves) ↦ served_kept status o0 o1 e0 e1 m0 m1 n0 n1 may contents faults absence fault refused serves.0 serves.2 serves.1 hub0 hub1 files0 files1 serves.5 other
+          | inr (inr watches) ↦ watched_kept may (contents files0) absence fault refused watches.0 watches.1 hub0 hub1 status o0 o1 e0 e1 m0 m1 n0 n1 watches.4 other
         ]
 
     pub unread_only : status ≡ 3 → absence ⊎ fault
     unread_only s =
         elim (either job gives) [
           | inl ours ↦ by.unread_only job (contents files0) absence fault refused status o0 o1 e0 e1 m0 m1 n0 n1 ours.1 s
-          | inr serves ↦ served_unread status o0 o1 e0 e1 m0 m1 n0 n1 may contents faults absence fault refused serves.0 serves.2 serves.1 hub0 hub1 files0 files1 serves.5 s
+          | inr (inl serves) ↦ served_unread status o0 o1 e0 e1 m0 m1 n0 n1 may contents faults absence fault refused serves.0 serves.2 serves.1 hub0 hub1 files0 files1 serves.5 s
+          | inr (inr watches) ↦ watched_unread may (contents files0) absence fault refused watches.0 watches.1 hub0 hub1 status o0 o1 e0 e1 m0 m1 n0 n1 watches.4 s
         ]
 
     pub unasked : (IsLocal job → hub1 ≡ hub0) → (status ≡ 2) ⊎ (status ≡ 3) → hub1 ≡ hub0
     unasked same s =
         elim (either job gives) [
           | inl ours ↦ same ours.0
-          | inr serves ↦ served_unasked status o0 o1 e0 e1 m0 m1 n0 n1 may contents faults absence fault refused serves.0 serves.2 serves.1 hub0 hub1 files0 files1 serves.5 s
+          | inr (inl serves) ↦ served_unasked status o0 o1 e0 e1 m0 m1 n0 n1 may contents faults absence fault refused serves.0 serves.2 serves.1 hub0 hub1 files0 files1 serves.5 s
+          | inr (inr watches) ↦ watched_unasked may (contents files0) absence fault refused watches.0 watches.1 hub0 hub1 status o0 o1 e0 e1 m0 m1 n0 n1 watches.4 s
         ]
 
     pub usage_only : status ≡ 1 → job ≡ None
     usage_only s =
         elim (either job gives) [
           | inl ours ↦ by.usage_only job (contents files0) absence fault refused status o0 o1 e0 e1 m0 m1 n0 n1 ours.1 s
-          | inr serves ↦ absurd (served_meant status o0 o1 e0 e1 m0 m1 n0 n1 may contents faults absence fault refused serves.0 serves.2 serves.1 hub0 hub1 files0 files1 serves.5 s)
+          | inr (inl serves) ↦ absurd (served_meant status o0 o1 e0 e1 m0 m1 n0 n1 may contents faults absence fault refused serves.0 serves.2 serves.1 hub0 hub1 files0 files1 serves.5 s)
+          | inr (inr watches) ↦ absurd (watched_meant may (contents files0) absence fault refused watches.0 watches.1 hub0 hub1 status o0 o1 e0 e1 m0 m1 n0 n1 watches.4 s)
         ]
 
     -- the reply to a job that needs no hub
     ours_where : IsLocal job → Ours job
-    ours_where local = elim (either job gives) [ inl ours ↦ ours.1 | inr serves ↦ absurd (local serves.0 serves.1 serves.2 serves.3 serves.4) ]
+    ours_where local =
+        elim (either job gives) [
+          | inl ours ↦ ours.1
+          | inr (inl serves) ↦ absurd (local.0 serves.0 serves.1 serves.2 serves.3 serves.4)
+          | inr (inr watches) ↦ absurd (local.1 watches.0 watches.1 watches.2 watches.3)
+        ]
 
     pub no_meaning : job ≡ None → (status ≡ 1) ⊎ ((status ≡ 4) ⊎ (status ≡ 8))
     no_meaning none =
-        by.no_meaning job (contents files0) absence fault refused status o0 o1 e0 e1 m0 m1 n0 n1 (ours_where (λ config events reload_ms listen is. absurd cc)) none
+        by.no_meaning job (contents files0) absence fault refused status o0 o1 e0 e1 m0 m1 n0 n1 (ours_where (λ config events reload_ms listen is. absurd cc, λ config events listen is. absurd cc)) none
 
     pub told : (held : Contents) → contents files0 ≡ Some held → StatusFor status (IsStatusOf job (held 0)) fault
     told held is =
         elim (either job gives) [
           | inl ours ↦ by.told job (contents files0) absence fault refused status o0 o1 e0 e1 m0 m1 n0 n1 ours.1 held is
-          | inr serves ↦ subst (λ (j : Option Job). StatusFor status (IsStatusOf j (held 0)) fault) (sym serves.4)
+          | inr (inl serves) ↦ subst (λ (j : Option Job). StatusFor status (IsStatusOf j (held 0)) fault) (sym serves.4)
               (served_told status o0 o1 e0 e1 m0 m1 n0 n1 may contents faults absence fault refused serves.0 serves.2 serves.1 hub0 hub1 files0 files1 serves.5 held is)
+          | inr (inr watches) ↦ subst (λ (j : Option Job). StatusFor status (IsStatusOf j (held 0)) fault) (sym watches.3)
+              (watched_told may (contents files0) absence fault refused watches.0 watches.1 hub0 hub1 status o0 o1 e0 e1 m0 m1 n0 n1 watches.4 held is)
         ]
 
-    pub completes : (status ≡ 6 → ⊥) → (fault → ⊥) → (Rose m0 m1 → ⊥) → (Rose n0 n1 → ⊥)
-        → (config : List ℕ) (events reload_ms : ℕ) (listen : Listen) (held : Contents) (conf : Configuration) → job ≡ Some (Serve config events reload_ms listen) → contents files0 ≡ Some held → loaded (held 0) config ≡ Ok conf
-        → (status ≡ 0) ⊎ ((status ≡ 7) ⊎ (status ≡ 8))
-    completes no_hub no_read no_out no_err config events reload_ms listen held conf is told_so accepted =
-        elim (subst (λ (l : Load). StatusFor status (IsLoadedStatus config l (λ c. IsServeStatus)) fault) accepted
-        (subst (λ (j : Option Job). StatusFor status (IsStatusOf j (held 0)) fault) is (told held told_so))) [
-          | inl answered ↦ elim answered [ inl zero ↦ inl zero | inr more ↦ elim more [ inl six ↦ absurd (no_hub six) | inr seven ↦ inr (inl seven) ] ]
-          | inr other ↦ elim other [
-            | inl four ↦ absurd (elim (write_fault four) [ inl rose ↦ no_out rose | inr rose ↦ no_err rose ])
-            | inr more ↦ elim more [ inl eight ↦ inr (inr eight) | inr unread ↦ absurd (no_read unread.1) ]
+    -- an end by the hub or the words, where nothing failed and memory didn't run out
+    module _ (no_hub : status ≡ 6 → ⊥) (no_read : fault → ⊥) (no_out : Rose m0 m1 → ⊥) (no_err : Rose n0 n1 → ⊥) where
+      completes_by : StatusFor status IsServeStatus fault → (status ≡ 0) ⊎ ((status ≡ 7) ⊎ (status ≡ 8))
+      completes_by one =
+          elim one [
+            | inl answered ↦ elim answered [ inl zero ↦ inl zero | inr more ↦ elim more [ inl six ↦ absurd (no_hub six) | inr seven ↦ inr (inl seven) ] ]
+            | inr other ↦ elim other [
+              | inl four ↦ absurd (elim (write_fault four) [ inl rose ↦ no_out rose | inr rose ↦ no_err rose ])
+              | inr more ↦ elim more [ inl eight ↦ inr (inr eight) | inr unread ↦ absurd (no_read unread.1) ]
+            ]
           ]
-        ]
+
+      pub completes : (config : List ℕ) (events reload_ms : ℕ) (listen : Listen) (held : Contents) (conf : Configuration) → job ≡ Some (Serve config events reload_ms listen) → contents files0 ≡ Some held → loaded (held 0) config ≡ Ok conf
+          → (status ≡ 0) ⊎ ((status ≡ 7) ⊎ (status ≡ 8))
+      completes config events reload_ms listen held conf is told_so accepted =
+          completes_by (subst (λ (l : Load). StatusFor status (IsLoadedStatus config l (λ c. IsServeStatus)) fault) accepted
+          (subst (λ (j : Option Job). StatusFor status (IsStatusOf j (held 0)) fault) is (told held told_so)))
+
+      pub gauge_completes : (config : List ℕ) (events : ℕ) (listen : Listen) (held : Contents) (conf : GaugeConf) → job ≡ Some (GaugeServe config events listen) → contents files0 ≡ Some held → gauge_of (held 0) config ≡ Ok conf
+          → (status ≡ 0) ⊎ ((status ≡ 7) ⊎ (status ≡ 8))
+      gauge_completes config events listen held conf is told_so accepted =
+          completes_by (subst (λ (l : GaugeLoad). StatusFor status (IsLoadedStatus config l (λ c. IsServeStatus)) fault) accepted
+          (subst (λ (j : Option Job). StatusFor status (IsStatusOf j (held 0)) fault) is (told held told_so)))
 
     pub checked : (names : List (List ℕ)) (held : Contents) → job ≡ Some (Check names) → contents files0 ≡ Some held → status ≡ 0 → AreAccepted names (held 0) o0 o1
     checked names held is told_so s =
-        by.checked job (contents files0) absence fault refused status o0 o1 e0 e1 m0 m1 n0 n1 (ours_where (λ config events reload_ms listen other. absurd cc)) names held is told_so s
+        by.checked job (contents files0) absence fault refused status o0 o1 e0 e1 m0 m1 n0 n1 (ours_where (λ config events reload_ms listen other. absurd cc, λ config events listen other. absurd cc)) names held is told_so s
 
     pub opened : ((held : Held) (name : List ℕ) (conf : Configuration) → loaded held name ≡ Ok conf → IsValid conf)
         → ((conf : Configuration) (dp batch : List ℕ) → IsValid conf → opening_of conf dp ≡ Some batch → Opens conf dp batch)
         → (config dp : List ℕ) (held : Contents) → job ≡ Some (Plan config dp) → contents files0 ≡ Some held → status ≡ 0 → IsOpened config dp (held 0) o0 o1
     opened valid opens config dp held is told_so s =
-        by.opened job (contents files0) absence fault refused status o0 o1 e0 e1 m0 m1 n0 n1 (ours_where (λ c events reload_ms listen other. absurd cc)) valid opens config dp held is told_so s
+        by.opened job (contents files0) absence fault refused status o0 o1 e0 e1 m0 m1 n0 n1 (ours_where (λ c events reload_ms listen other. absurd cc, λ c events listen other. absurd cc)) valid opens config dp held is told_so s
 
     module _ (valid : (held : Held) (name : List ℕ) (conf : Configuration) → loaded held name ≡ Ok conf → IsValid conf)
         (right : (conf : Configuration) (story : List Happening) → IsValid conf → IsRight conf story) where
       pub replayed : (config recording : List ℕ) (held : Contents) → job ≡ Some (Replay config recording) → contents files0 ≡ Some held → status ≡ 0 → IsReplayed config recording (held 0) o0 o1 e0 e1
       replayed config recording held is told_so s =
-          by.replayed job (contents files0) absence fault refused status o0 o1 e0 e1 m0 m1 n0 n1 (ours_where (λ c events reload_ms listen other. absurd cc)) valid right config recording held is told_so s
+          by.replayed job (contents files0) absence fault refused status o0 o1 e0 e1 m0 m1 n0 n1 (ours_where (λ c events reload_ms listen other. absurd cc, λ c events listen other. absurd cc)) valid right config recording held is told_so s
 
       pub refused_record : (config recording : List ℕ) (held : Contents) → job ≡ Some (Replay config recording) → contents files0 ≡ Some held → status ≡ 5 → IsReplayedTo config recording (held 0) o0 o1 e0 e1
       refused_record config recording held is told_so s =
-          by.refused_record job (contents files0) absence fault refused status o0 o1 e0 e1 m0 m1 n0 n1 (ours_where (λ c events reload_ms listen other. absurd cc)) valid right config recording held is told_so s
+          by.refused_record job (contents files0) absence fault refused status o0 o1 e0 e1 m0 m1 n0 n1 (ours_where (λ c events reload_ms listen other. absurd cc, λ c events listen other. absurd cc)) valid right config recording held is told_so s
 
       pub served : (config : List ℕ) (events reload_ms : ℕ) (listen : Listen) (held : Contents) (end : Drove) → job ≡ Some (Serve config events reload_ms listen) → contents files0 ≡ Some held
           → IsItsEnd end → status ≡ number_of_status (status_served end) → IsServed may contents faults config (held 0) reload_ms events end hub0 hub1 files0 files1 o0 o1 e0 e1
       served config events reload_ms listen held end is told_so its s =
           let replies : Any (Some (Serve config events reload_ms listen)) = subst Any is gives in
           served_right status o0 o1 e0 e1 m0 m1 n0 n1 may contents faults absence fault refused config reload_ms events hub0 hub1 files0 files1 replies held told_so valid right end its s
+
+    module _ (recorded : (k : Monitor) (story : List Happening) → out_of monitor outlets.Nowhere k story ≡ ended_lines (gauge_lines k story))
+        (served_lines : (k : Monitor) (story : List Happening) → out_of monitor outlets.Hub k story ≡ ended_lines (gauge_lines k story)) where
+      pub watched : (config recording : List ℕ) (held : Contents) → job ≡ Some (Gauge config recording) → contents files0 ≡ Some held → status ≡ 0 → IsWatched config recording (held 0) o0 o1 e0 e1
+      watched config recording held is told_so s =
+          by.watched job (contents files0) absence fault refused status o0 o1 e0 e1 m0 m1 n0 n1 (ours_where (λ c events reload_ms listen other. absurd cc, λ c events listen other. absurd cc)) recorded config recording held is told_so s
+
+      pub watched_to : (config recording : List ℕ) (held : Contents) → job ≡ Some (Gauge config recording) → contents files0 ≡ Some held → status ≡ 5 → IsWatchedTo config recording (held 0) o0 o1 e0 e1
+      watched_to config recording held is told_so s =
+          by.watched_to job (contents files0) absence fault refused status o0 o1 e0 e1 m0 m1 n0 n1 (ours_where (λ c events reload_ms listen other. absurd cc, λ c events listen other. absurd cc)) recorded config recording held is told_so s
+
+      pub hub_watched : (config : List ℕ) (events : ℕ) (listen : Listen) (held : Contents) (end : Drove) → job ≡ Some (GaugeServe config events listen) → contents files0 ≡ Some held
+          → IsItsEnd end → status ≡ number_of_status (status_served end) → IsHubWatched may config (held 0) events end hub0 hub1 o0 o1 e0 e1
+      hub_watched config events listen held end is told_so its s =
+          let replies : Any (Some (GaugeServe config events listen)) = subst Any is gives in
+          watched_right may (contents files0) absence fault refused config events hub0 hub1 status o0 o1 e0 e1 m0 m1 n0 n1 replies held told_so served_lines end its s

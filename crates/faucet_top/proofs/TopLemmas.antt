@@ -14,18 +14,22 @@ use Rattle.conf_gather.specs.declared.refused.LoadRefused.TheVariants.{Read, Yam
 use Rattle.conf_gather.specs.Gathered.{Held}
 use Rattle.conf_load.specs.Loaded.{loaded}
 use Rattle.command_line.specs.declared.meaning.Job.{Job}
-use Rattle.command_line.specs.declared.meaning.Job.TheVariants.{Check, Plan, Replay, Serve}
+use Rattle.command_line.specs.declared.meaning.Job.TheVariants.{Check, Gauge, GaugeServe, Plan, Replay, Serve}
 use Rattle.opening_batch.specs.Opened.{Opens}
 use Rattle.opening_batch.specs.Opening.{opening_of}
 use Rattle.law_stories.specs.Right.{IsRight}
+use Rattle.gauge_poll.specs.Monitoring.{Monitor, lines_of as gauge_lines}
+use Rattle.hub_drive.specs.declared.sayings.Outlet.TheVariants as outlets
+use Rattle.hub_drive.specs.Driving.{out_of}
+use Rattle.gauge_drive.specs.Gauge.{ended_lines, monitor}
 use Rattle.faucet_top.specs.declared.deliver.Status.{Status}
 use Rattle.faucet_top.specs.declared.deliver.Status.TheVariants as statuses
 use Rattle.faucet_top.specs.Answer.{Answer, Load, usage, out_of_memory, refusal, behind, json_line, check_step, check_answer, planned, plan_answer, job_answer}
 use Rattle.faucet_top.specs.Ends.{Ends}
-use Rattle.faucet_top.specs.Given.{Loads, RepliesJob, Replies, AnswersSoFar, Delivers, Gives, Checks, StatusFor, IsStatusOf, AreAccepted, IsOpened, IsReplayed, IsReplayedTo}
+use Rattle.faucet_top.specs.Given.{Loads, RepliesJob, Replies, AnswersSoFar, Delivers, Gives, Checks, StatusFor, IsStatusOf, AreAccepted, IsOpened, IsReplayed, IsReplayedTo, IsWatched, IsWatchedTo}
 use Rattle.faucet_top.specs.Status.{number_of_status}
 use Rattle.faucet_top.proofs.RefusalLemmas.{IsInner, refusal_inner, refusal_undone, refusal_unread}
-use Rattle.faucet_top.proofs.ReplayLemmas.{replay_inner, replay_unread, replay_told, replay_done, replay_refused}
+use Rattle.faucet_top.proofs.ReplayLemmas.{gauge_done, gauge_inner, gauge_refused, gauge_told, gauge_unread, replay_inner, replay_unread, replay_told, replay_done, replay_refused}
 
 abbrev pub File : Type 0
 File = List ℕ × Load
@@ -49,10 +53,10 @@ module _ (contents : Option Contents) (absence fault : Type 0) (refused : List �
   check_unread : (files : List File) → AllByRecursion LoadsFile files → (check_answer files).status ≡ 3 → absence ⊎ fault
   check_unread [] all s = absurd (omega (arith, s))
   check_unread ((name, Ok conf) ∷ files) all s = check_unread files all.1 s
-  check_unread ((name, Err why) ∷ files) all s = refusal_unread contents absence fault refused name name why all.0 s
+  check_unread ((name, Err why) ∷ files) all s = refusal_unread loaded contents absence fault refused name name why all.0 s
 
   plan_unread : (config dp : List ℕ) (made : Load) → Loads contents absence fault refused config made → (plan_answer config dp (planned dp made)).status ≡ 3 → absence ⊎ fault
-  plan_unread config dp (Err why) loads s = refusal_unread contents absence fault refused config config why loads s
+  plan_unread config dp (Err why) loads s = refusal_unread loaded contents absence fault refused config config why loads s
   plan_unread config dp (Ok conf) loads s = absurd (found (opening_of conf dp) s)
     where
       found : (batch : Option (List ℕ)) → (plan_answer config dp (Ok batch)).status ≡ 3 → ⊥
@@ -74,6 +78,10 @@ module _ (contents : Option Contents) (absence fault : Type 0) (refused : List �
       let inner = replay_inner contents absence fault config recording reply.0 a reply.2 in
       (λ s. absurd (inner.0 s), inner.1, inner.2)
   job_inner (Some (Serve config events reload_ms listen)) a reply = absurd reply
+  job_inner (Some (Gauge config recording)) a reply =
+      let inner = gauge_inner contents absence fault config recording reply.0 a reply.2 in
+      (λ s. absurd (inner.0 s), inner.1, inner.2)
+  job_inner (Some (GaugeServe config events listen)) a reply = absurd reply
 
   job_unread : (job : Option Job) (a : Answer) → RepliesJob job contents absence fault refused a → a.status ≡ 3 → absence ⊎ fault
   job_unread None a is s = let at = ap (λ (b : Answer). b.status) is in absurd (omega (arith, at, s))
@@ -81,6 +89,8 @@ module _ (contents : Option Contents) (absence fault : Type 0) (refused : List �
   job_unread (Some (Plan config dp)) a reply s = plan_unread config dp reply.0 reply.1 (sym (ap (λ (b : Answer). b.status) reply.2) ∙ s)
   job_unread (Some (Replay config recording)) a reply s = replay_unread contents absence fault refused config recording reply.0 a reply.1 reply.2 s
   job_unread (Some (Serve config events reload_ms listen)) a reply s = absurd reply
+  job_unread (Some (Gauge config recording)) a reply s = gauge_unread contents absence fault refused config recording reply.0 a reply.1 reply.2 s
+  job_unread (Some (GaugeServe config events listen)) a reply s = absurd reply
 
 -- ---- what is replied, where the files are told
 
@@ -145,6 +155,8 @@ module _ (held : Contents) (absence fault : Type 0) (refused : List ℕ) where
   job_told (Some (Plan config dp)) a whole is reply = is_whole a (plan_answer config dp (planned dp (given config))) whole is (plan_reply_told config dp a reply)
   job_told (Some (Replay config recording)) a whole is reply = absurd cc
   job_told (Some (Serve config events reload_ms listen)) a whole is reply = absurd reply
+  job_told (Some (Gauge config recording)) a whole is reply = absurd cc
+  job_told (Some (GaugeServe config events listen)) a whole is reply = absurd reply
 
   pub told_replied : (job : Option Job) (a whole : Answer) → job_answer job given ≡ Some whole → Replies job (Some held) absence fault refused a → AnswersSoFar a whole fault
   told_replied job a whole is (inl reply) = job_told job a whole is reply
@@ -159,8 +171,10 @@ module _ (held : Contents) (absence fault : Type 0) (refused : List ℕ) where
   job_status None a is = inl (ap (λ (b : Answer). b.status) is)
   job_status (Some (Check names)) a reply = status_told a (check_answer (map (λ name. (name, given name)) names)) (check_reply_told names a reply)
   job_status (Some (Plan config dp)) a reply = status_told a (plan_answer config dp (planned dp (given config))) (plan_reply_told config dp a reply)
-  job_status (Some (Replay config recording)) a reply = replay_told held absence fault refused config recording reply.0 a reply.1 reply.2
+  job_status (Some (Replay config recording)) a reply = replay_told held absence fault refused config recording a reply.0 reply.1 reply.2
   job_status (Some (Serve config events reload_ms listen)) a reply = absurd reply
+  job_status (Some (Gauge config recording)) a reply = gauge_told held absence fault refused config recording a reply.0 reply.1 reply.2
+  job_status (Some (GaugeServe config events listen)) a reply = absurd reply
 
   reply_status : (job : Option Job) (a : Answer) → Replies job (Some held) absence fault refused a → StatusFor a.status (IsStatusOf job (held 0)) fault
   reply_status job a (inl reply) = job_status job a reply
@@ -308,14 +322,29 @@ module _ (job : Option Job) (contents : Option Contents) (absence fault : Type 0
     replayed config recording held is told s =
         let done = at 0 s (λ e. omega (arith, e)) in
         let reply = done_reply held told done.0 (Some (Replay config recording)) is in
-        replay_done held absence fault refused valid right config recording o0 o1 e0 e1 reply.0 gives.0 reply.1 reply.2 done.0 done.1 done.2
+        replay_done held absence fault refused config recording o0 o1 e0 e1 gives.0 done.1 done.2 valid right reply.0 reply.1 reply.2 done.0
 
     pub refused_record : (config recording : List ℕ) (held : Contents) → job ≡ Some (Replay config recording) → contents ≡ Some held → status ≡ 5
         → IsReplayedTo config recording (held 0) o0 o1 e0 e1
     refused_record config recording held is told s =
         let five = at 5 s (λ e. omega (arith, e)) in
         let reply = job_reply held told 5 five.0 (λ e. omega arith) (Some (Replay config recording)) is in
-        replay_refused held absence fault refused valid right config recording o0 o1 e0 e1 reply.0 gives.0 reply.1 reply.2 five.0 five.1 five.2
+        replay_refused held absence fault refused config recording o0 o1 e0 e1 gives.0 five.1 five.2 valid right reply.0 reply.1 reply.2 five.0
+
+  module _ (lines_are : (k : Monitor) (story : List Happening) → out_of monitor outlets.Nowhere k story ≡ ended_lines (gauge_lines k story)) where
+    pub watched : (config recording : List ℕ) (held : Contents) → job ≡ Some (Gauge config recording) → contents ≡ Some held → status ≡ 0
+        → IsWatched config recording (held 0) o0 o1 e0 e1
+    watched config recording held is told s =
+        let done = at 0 s (λ e. omega (arith, e)) in
+        let reply = done_reply held told done.0 (Some (Gauge config recording)) is in
+        gauge_done held absence fault refused config recording o0 o1 e0 e1 gives.0 done.1 done.2 lines_are reply.0 reply.1 reply.2 done.0
+
+    pub watched_to : (config recording : List ℕ) (held : Contents) → job ≡ Some (Gauge config recording) → contents ≡ Some held → status ≡ 5
+        → IsWatchedTo config recording (held 0) o0 o1 e0 e1
+    watched_to config recording held is told s =
+        let five = at 5 s (λ e. omega (arith, e)) in
+        let reply = job_reply held told 5 five.0 (λ e. omega arith) (Some (Gauge config recording)) is in
+        gauge_refused held absence fault refused config recording o0 o1 e0 e1 gives.0 five.1 five.2 lines_are reply.0 reply.1 reply.2 five.0
 
 -- ---- the reply that was given
 

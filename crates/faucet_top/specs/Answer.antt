@@ -7,14 +7,15 @@ use Rattle.conf_types.specs.Configuration.{Configuration}
 use Rattle.conf_gather.specs.declared.refused.LoadRefused.{LoadRefused}
 use Rattle.conf_gather.specs.declared.refused.LoadRefused.TheVariants.{Read, Yaml, Conf, IncludeTwice, IncludeDepth, Absent, Memory}
 use Rattle.conf_json.specs.Text.{json_text}
+use Rattle.gauge_conf.specs.declared.gauge.GaugeConf.{GaugeConf}
 use Rattle.command_line.specs.declared.meaning.Job.{Job}
-use Rattle.command_line.specs.declared.meaning.Job.TheVariants.{Check, Plan, Replay, Serve}
+use Rattle.command_line.specs.declared.meaning.Job.TheVariants.{Check, Gauge, GaugeServe, Plan, Replay, Serve}
 use Rattle.opening_batch.specs.Opening.{opening_of}
 use Rattle.recording.specs.Kinds.{cause_name}
-use Rattle.ctl_drive.specs.declared.drive.Drove.{Drove}
-use Rattle.ctl_drive.specs.declared.drive.Drove.TheVariants as drove
-use Rattle.ctl_drive.specs.declared.replay.Replayed.{Replayed}
-use Rattle.ctl_drive.specs.declared.replay.Replayed.TheVariants as replayed
+use Rattle.hub_drive.specs.declared.drive.Drove.{Drove}
+use Rattle.hub_drive.specs.declared.drive.Drove.TheVariants as drove
+use Rattle.hub_drive.specs.declared.replay.Replayed.{Replayed}
+use Rattle.hub_drive.specs.declared.replay.Replayed.TheVariants as replayed
 use Rattle.conf_causes.specs.Causes.{conf_cause_text}
 
 pub record Answer : Type 0 where
@@ -56,6 +57,10 @@ refusal config Memory = out_of_memory
 abbrev pub Load : Type 0
 Load = Result Configuration LoadRefused
 
+-- what a file of Gauge's gave
+abbrev pub GaugeLoad : Type 0
+GaugeLoad = Result GaugeConf LoadRefused
+
 abbrev pub nothing : Answer
 nothing = record { out = []; err = []; status = 0 }
 
@@ -90,9 +95,9 @@ plan_answer config dp (Ok (Some batch)) = record { out = batch; err = []; status
 plan_answer config dp (Ok None) = refused_with (config ∷ codes ": dps." ∷ dp ∷ codes ": Unresolved" ∷ [])
 plan_answer config dp (Err why) = refusal config why
 
--- ---- `replay`
+-- ---- `replay` and `gauge`
 
--- the line behind those that the controller wrote, by how the replay ended
+-- the line behind those that were written, by how the run over the recording ended
 abbrev pub last_line : (recording : List ℕ) → Replayed → List ℕ
 last_line recording (replayed.Read None) = []
 last_line recording (replayed.Read (Some refused)) = line (codes "recording: record " ∷ decimal refused.number ∷ codes ": " ∷ cause_name refused.cause ∷ [])
@@ -101,9 +106,9 @@ last_line recording replayed.Spent = line (codes "events spent" ∷ [])
 last_line recording replayed.WriteFault = []
 last_line recording replayed.Memory = out_of_memory.err
 
--- ---- `serve`
+-- ---- `serve` and `gauge-serve`
 
--- the line behind those that the controller wrote, by how serving ended
+-- the line behind those that were written, by how serving ended
 abbrev pub served_line : Drove → List ℕ
 served_line drove.Done = []
 served_line drove.HubFault = line (codes "hub fault" ∷ [])
@@ -113,10 +118,13 @@ served_line drove.Memory = out_of_memory.err
 
 -- ---- the words
 
--- the answer to a job, where files give these configurations; those to `replay` and `serve` are said by relations (Given, Serving)
+-- the answer to a job, where files give these configurations; those to the commands that take in what happens are said by relations
+-- (Given, Serving, Watching)
 abbrev pub job_answer : Option Job → (List ℕ → Load) → Option Answer
 job_answer None load = Some usage
 job_answer (Some (Check files)) load = Some (check_answer (map (λ file. (file, load file)) files))
 job_answer (Some (Plan config dp)) load = Some (plan_answer config dp (planned dp (load config)))
 job_answer (Some (Replay config recording)) load = None
 job_answer (Some (Serve config events reload_ms listen)) load = None
+job_answer (Some (Gauge config recording)) load = None
+job_answer (Some (GaugeServe config events listen)) load = None

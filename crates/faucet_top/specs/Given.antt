@@ -1,17 +1,20 @@
 -- What a call did, whatever the outside did: which answer it gave, and how much of it was written.
-use Rattle.std.specs.Prelude.{◌≡◌, ◌≢◌, ℕ, ◌-◌, ◌^◌, ◌⊎◌, List, [], ◌++◌, length, map, Option, Some, None, Ok, Err, IsErrOf}
+use Rattle.std.specs.Prelude.{◌≡◌, ◌≢◌, ℕ, ◌-◌, ◌^◌, ◌⊎◌, List, [], ◌++◌, length, map, Option, Some, None, Result, Ok, Err, IsErrOf}
 use Rattle.std.specs.List.{AllByRecursion, flat_map}
 use Rattle.fg_outside.specs.Contents.{Contents, Tells}
 use Rattle.fg_outside.specs.Counts.{Rose}
 use Rattle.fg_outside.specs.declared.hub.Happening.{Happening}
 use Rattle.fg_outside.specs.Wrote.{appended, AppendsFront}
 use Rattle.conf_types.specs.Configuration.{Configuration}
+use Rattle.conf_gather.specs.declared.refused.LoadRefused.{LoadRefused}
 use Rattle.conf_gather.specs.declared.refused.LoadRefused.TheVariants.{Read, Absent}
 use Rattle.conf_gather.specs.Gathered.{Held}
 use Rattle.conf_gather.specs.Gives as load
 use Rattle.conf_load.specs.Loaded.{loaded}
+use Rattle.gauge_conf.specs.declared.gauge.GaugeConf.{GaugeConf}
+use Rattle.gauge_load.specs.Loaded.{gauge_of}
 use Rattle.command_line.specs.declared.meaning.Job.{Job}
-use Rattle.command_line.specs.declared.meaning.Job.TheVariants.{Check, Plan, Replay, Serve}
+use Rattle.command_line.specs.declared.meaning.Job.TheVariants.{Check, Gauge, GaugeServe, Plan, Replay, Serve}
 use Rattle.opening_batch.specs.Opened.{Opens}
 use Rattle.recording.specs.declared.record.Record.{Record}
 use Rattle.recording.specs.declared.refused.RecordRefused.{RecordRefused}
@@ -21,25 +24,41 @@ use Rattle.recording.specs.Turns.{Closing, turns}
 use Rattle.recording.specs.Written.{written_records}
 use Rattle.ctl_world.specs.World.{first}
 use Rattle.law_stories.specs.Right.{IsRight}
-use Rattle.ctl_drive.specs.Driving.{IsFront, lines_of, records_of}
-use Rattle.ctl_drive.specs.declared.replay.Replayed.{Replayed}
-use Rattle.ctl_drive.specs.declared.replay.Replayed.TheVariants as replayed
-use Rattle.ctl_drive.specs.Replay.{IsStoryOf, IsStorySoFar, Replays, closed_in}
+use Rattle.gauge_poll.specs.Monitoring.{begun, lines_of as gauge_lines}
+use Rattle.hub_drive.specs.declared.sayings.Outlet.{Outlet}
+use Rattle.hub_drive.specs.declared.sayings.Outlet.TheVariants as outlets
+use Rattle.hub_drive.specs.Driving.{IsFront, closings_of, lines_of as hub_lines}
+use Rattle.hub_drive.specs.Machine.{Workings}
+use Rattle.hub_drive.specs.Replay as runs
+use Rattle.hub_drive.specs.Replay.{IsStoryOf, IsStorySoFar}
+use Rattle.ctl_drive.specs.Controller.{controller}
+use Rattle.ctl_drive.specs.Driving.{lines_of, records_of}
+use Rattle.ctl_drive.specs.Replay.{closed_in}
+use Rattle.gauge_drive.specs.Gauge.{ended_lines, monitor}
+use Rattle.hub_drive.specs.declared.replay.Replayed.{Replayed}
+use Rattle.hub_drive.specs.declared.replay.Replayed.TheVariants as replayed
 use Rattle.faucet_top.specs.declared.deliver.Status.{Status}
-use Rattle.faucet_top.specs.Answer.{Answer, Load, usage, out_of_memory, refusal, json_line, check_step, check_answer, last_line, planned, plan_answer}
+use Rattle.faucet_top.specs.Answer.{Answer, GaugeLoad, Load, usage, out_of_memory, refusal, json_line, check_step, check_answer, last_line, planned, plan_answer}
 use Rattle.faucet_top.specs.Ends.{status_after}
 use Rattle.faucet_top.specs.Status.{number_of_status}
 
 -- ---- which answer
 
--- What loading a file of this name gave: what the files give, where they are told, unless a read failed or
--- memory ran out. A file was missing only where its absence was counted, and a read failed only where a fault was; it is the
+-- What loading a file of this name gave, where files that are held give this: what they give, where they are told, unless a read
+-- failed or memory ran out. A file was missing only where its absence was counted, and a read failed only where a fault was; it is the
 -- file at which a read was last refused.
-pub record Loads (contents : Option Contents) (absence fault : Type 0) (refused : List ℕ) (name : List ℕ) (made : Load) : Type 0 where
-  pub told : (held : Contents) → contents ≡ Some held → load.Gives made (loaded (held 0) name)
+pub record LoadsBy {A : Type 0} (given : Held → List ℕ → Result A LoadRefused) (contents : Option Contents) (absence fault : Type 0) (refused : List ℕ) (name : List ℕ) (made : Result A LoadRefused) : Type 0 where
+  pub told : (held : Contents) → contents ≡ Some held → load.Gives made (given (held 0) name)
   pub absent : (file : List ℕ) → IsErrOf made (Absent file) → absence
   pub unread : (file : List ℕ) → IsErrOf made (Read file) → fault
   pub named : (file : List ℕ) → IsErrOf made (Absent file) ⊎ IsErrOf made (Read file) → refused ≡ file
+
+abbrev pub Loads : Option Contents → (absence fault : Type 0) → (refused : List ℕ) → (name : List ℕ) → Load → Type 0
+Loads contents absence fault refused name made = LoadsBy loaded contents absence fault refused name made
+
+-- the same of Gauge's file
+abbrev pub GaugeLoads : Option Contents → (absence fault : Type 0) → (refused : List ℕ) → (name : List ℕ) → GaugeLoad → Type 0
+GaugeLoads contents absence fault refused name made = LoadsBy gauge_of contents absence fault refused name made
 
 -- files with these names were loaded, and this is what each gave
 abbrev pub EachLoads : Option Contents → (absence fault : Type 0) → (refused : List ℕ) → List (List ℕ) → List (List ℕ × Load) → Type 0
@@ -50,15 +69,23 @@ pub record GoesByFile (contents : Option Contents) (name : List ℕ) (fault : Ty
   pub missing : Tells contents name None → end ≡ replayed.Unread
   pub there : (bytes : List ℕ) → Tells contents name (Some bytes) → end ≡ replayed.Unread → fault
 
--- The reply to `replay` by the configuration that a file gave: what a replay writes on two empty streams, with the line that
--- says how it ended.
-abbrev pub RepliesReplay : Option Contents → (absence fault : Type 0) → (config recording : List ℕ) → Load → Answer → Type 0
-RepliesReplay contents absence fault config recording (Err why) a = a ≡ refusal config why
-RepliesReplay contents absence fault config recording (Ok conf) a =
+-- The reply to a run over a recording: what the run writes on two empty streams, with the line that says how it ended.
+abbrev pub RepliesRun : {S : Type 0} → Workings S → Outlet → Option Contents → (absence fault : Type 0) → (recording : List ℕ) → S → Answer → Type 0
+RepliesRun works outlet contents absence fault recording w a =
     (end : Replayed) × (out : List ℕ) × (lines : List ℕ) × (end ≢ replayed.WriteFault)
-    × Replays contents recording absence fault conf (Some []) (Some out) (Some []) (Some lines) end
+    × runs.Replays works outlet contents recording absence fault w (Some []) (Some out) (Some []) (Some lines) end
     × GoesByFile contents recording fault end
     × (a ≡ record { out = out; err = lines ++ last_line recording end; status = number_of_status (status_after end) })
+
+-- the reply to `replay` by the configuration that a file gave
+abbrev pub RepliesReplay : Option Contents → (absence fault : Type 0) → (config recording : List ℕ) → Load → Answer → Type 0
+RepliesReplay contents absence fault config recording (Err why) a = a ≡ refusal config why
+RepliesReplay contents absence fault config recording (Ok conf) a = RepliesRun controller outlets.Records contents absence fault recording (first conf) a
+
+-- the reply to `gauge` by the configuration that a file gave
+abbrev pub RepliesGauge : Option Contents → (absence fault : Type 0) → (config recording : List ℕ) → GaugeLoad → Answer → Type 0
+RepliesGauge contents absence fault config recording (Err why) a = a ≡ refusal config why
+RepliesGauge contents absence fault config recording (Ok conf) a = RepliesRun monitor outlets.Nowhere contents absence fault recording (begun conf) a
 
 -- the reply to a job that needs no hub, whatever fails: the answer for what the files gave
 abbrev pub RepliesJob : Option Job → Option Contents → (absence fault : Type 0) → (refused : List ℕ) → Answer → Type 0
@@ -67,6 +94,8 @@ RepliesJob (Some (Check names)) contents absence fault refused a = (files : List
 RepliesJob (Some (Plan config dp)) contents absence fault refused a = (made : Load) × Loads contents absence fault refused config made × (a ≡ plan_answer config dp (planned dp made))
 RepliesJob (Some (Replay config recording)) contents absence fault refused a = (made : Load) × Loads contents absence fault refused config made × RepliesReplay contents absence fault config recording made a
 RepliesJob (Some (Serve config events reload_ms listen)) contents absence fault refused a = ⊥
+RepliesJob (Some (Gauge config recording)) contents absence fault refused a = (made : GaugeLoad) × GaugeLoads contents absence fault refused config made × RepliesGauge contents absence fault config recording made a
+RepliesJob (Some (GaugeServe config events listen)) contents absence fault refused a = ⊥
 
 -- the same, or that memory ran out before the job was known or begun
 abbrev pub Replies : Option Job → Option Contents → (absence fault : Type 0) → (refused : List ℕ) → Answer → Type 0
@@ -113,21 +142,21 @@ GoesOn name made (Some status) out_old out_new err_old err_new out_faults_old ou
 
 -- ---- statuses
 
--- the status of `replay` by what the recording's file holds: 3 where there is none, else by how its story ends
-abbrev pub IsReplayStatus : Configuration → (file : Option (List ℕ)) → ℕ → Type 0
-IsReplayStatus conf None n = n ≡ 3
-IsReplayStatus conf (Some bytes) n =
-    ((story : List Happening) × (refused : Option RecordRefused) × IsStoryOf bytes story (closed_in conf story) refused
+-- the status of a run over a recording by what its file holds: 3 where there is none, else by how its story ends
+abbrev pub IsRunStatus : {S : Type 0} → Workings S → S → (file : Option (List ℕ)) → ℕ → Type 0
+IsRunStatus works w None n = n ≡ 3
+IsRunStatus works w (Some bytes) n =
+    ((story : List Happening) × (refused : Option RecordRefused) × IsStoryOf bytes story (closings_of works 0 w story) refused
     × (n ≡ number_of_status (status_after (replayed.Read refused))))
-    ⊎ ((story : List Happening) × (closes : List Closing) × IsFront closes (closed_in conf story) × IsStorySoFar bytes story closes
+    ⊎ ((story : List Happening) × (closes : List Closing) × IsFront closes (closings_of works 0 w story) × IsStorySoFar bytes story closes
     × (length story ≡ 2 ^ 64 - 1) × (n ≡ 7))
 
--- that of `serve`: it goes by the hub and by how many turns there may be
+-- that of `serve` and `gauge-serve`: it goes by the hub and by how many turns there may be
 abbrev pub IsServeStatus : ℕ → Type 0
 IsServeStatus n = (n ≡ 0) ⊎ ((n ≡ 6) ⊎ (n ≡ 7))
 
 -- that of the refusal, or else one that goes by the configuration
-abbrev pub IsLoadedStatus : (config : List ℕ) → Load → (IsRun : Configuration → ℕ → Type 0) → ℕ → Type 0
+abbrev pub IsLoadedStatus : {A : Type 0} → (config : List ℕ) → Result A LoadRefused → (IsRun : A → ℕ → Type 0) → ℕ → Type 0
 IsLoadedStatus config (Err why) IsRun n = n ≡ (refusal config why).status
 IsLoadedStatus config (Ok conf) IsRun n = IsRun conf n
 
@@ -136,8 +165,10 @@ abbrev pub IsStatusOf : Option Job → Held → ℕ → Type 0
 IsStatusOf None held n = n ≡ 1
 IsStatusOf (Some (Check files)) held n = n ≡ (check_answer (map (λ file. (file, loaded held file)) files)).status
 IsStatusOf (Some (Plan config dp)) held n = n ≡ (plan_answer config dp (planned dp (loaded held config))).status
-IsStatusOf (Some (Replay config recording)) held n = IsLoadedStatus config (loaded held config) (λ conf. IsReplayStatus conf (held recording)) n
+IsStatusOf (Some (Replay config recording)) held n = IsLoadedStatus config (loaded held config) (λ conf. IsRunStatus controller (first conf) (held recording)) n
 IsStatusOf (Some (Serve config events reload_ms listen)) held n = IsLoadedStatus config (loaded held config) (λ conf. IsServeStatus) n
+IsStatusOf (Some (Gauge config recording)) held n = IsLoadedStatus config (gauge_of held config) (λ conf. IsRunStatus monitor (begun conf) (held recording)) n
+IsStatusOf (Some (GaugeServe config events listen)) held n = IsLoadedStatus config (gauge_of held config) (λ conf. IsServeStatus) n
 
 -- a status is that of the answer; or a write failed, memory ran out, or a read failed
 abbrev pub StatusFor : (status : ℕ) → (IsAnswered : ℕ → Type 0) → (fault : Type 0) → Type 0
@@ -193,3 +224,32 @@ pub record IsReplayedTo (config recording : List ℕ) (held : Held) (out_old out
   pub out : out_new ≡ appended out_old (written_records (records_of (first conf) story))
   pub err : err_new ≡ appended err_old (lines_of (first conf) story ++ last_line recording (replayed.Read (Some refused)))
   pub right : (front : List Happening) → IsFront front story → IsRight conf front
+
+-- Gauge's configuration is accepted and the recording whole, and what was written are the lines that Gauge gives of the story that the
+-- recording tells, where Gauge closes what it closes, and the lines of closings.
+pub record IsWatched (config recording : List ℕ) (held : Held) (out_old out_new err_old err_new : Option (List ℕ)) : Type 0 where
+  pub conf : GaugeConf
+  pub bytes : List ℕ
+  pub records : List Record
+  pub story : List Happening
+  pub accepted : gauge_of held config ≡ Ok conf
+  pub file : held recording ≡ Some bytes
+  pub whole : Records bytes records
+  pub told : story ≡ turns records (closings_of monitor 0 (begun conf) story)
+  pub out : out_new ≡ appended out_old (ended_lines (gauge_lines (begun conf) story))
+  pub err : err_new ≡ appended err_old (hub_lines monitor (begun conf) story)
+
+-- Gauge's configuration is accepted, and a record of the recording is refused: the same of the records before it, and the line that
+-- says so behind.
+pub record IsWatchedTo (config recording : List ℕ) (held : Held) (out_old out_new err_old err_new : Option (List ℕ)) : Type 0 where
+  pub conf : GaugeConf
+  pub bytes : List ℕ
+  pub records : List Record
+  pub refused : RecordRefused
+  pub story : List Happening
+  pub accepted : gauge_of held config ≡ Ok conf
+  pub file : held recording ≡ Some bytes
+  pub refuses : IsRefused bytes records refused.number refused.cause
+  pub told : story ≡ turns records (closings_of monitor 0 (begun conf) story)
+  pub out : out_new ≡ appended out_old (ended_lines (gauge_lines (begun conf) story))
+  pub err : err_new ≡ appended err_old (hub_lines monitor (begun conf) story ++ last_line recording (replayed.Read (Some refused)))

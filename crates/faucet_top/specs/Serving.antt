@@ -9,23 +9,28 @@ use Rattle.conf_gather.specs.declared.refused.LoadRefused.{LoadRefused}
 use Rattle.conf_gather.specs.Gathered.{Held}
 use Rattle.conf_load.specs.Loaded.{loaded}
 use Rattle.command_line.specs.declared.meaning.Job.{Job}
-use Rattle.command_line.specs.declared.meaning.Job.TheVariants.{Check, Plan, Replay, Serve}
+use Rattle.command_line.specs.declared.meaning.Job.TheVariants.{GaugeServe, Serve}
 use Rattle.command_line.specs.declared.values.Listen.{Listen}
 use Rattle.watch_hub.specs.Look.{text_of}
 use Rattle.ctl_world.specs.World.{first}
 use Rattle.law_stories.specs.Right.{IsRight}
-use Rattle.ctl_drive.specs.declared.drive.Drove.{Drove}
-use Rattle.ctl_drive.specs.declared.drive.Drove.TheVariants as drove
-use Rattle.ctl_drive.specs.Driving.{IsFront, lines_of}
+use Rattle.hub_drive.specs.declared.drive.Drove.{Drove}
+use Rattle.hub_drive.specs.declared.drive.Drove.TheVariants as drove
+use Rattle.hub_drive.specs.Driving.{IsFront}
+use Rattle.ctl_drive.specs.Driving.{lines_of}
 use Rattle.ctl_serve.specs.Served.{Ended, Served, ServedPart}
 use Rattle.faucet_top.specs.Answer.{Answer, out_of_memory, refusal, served_line}
 use Rattle.faucet_top.specs.Ends.{status_served}
-use Rattle.faucet_top.specs.Given.{BreaksOff, Delivers, Gives, Loads}
+use Rattle.faucet_top.specs.Given.{Loads}
 use Rattle.faucet_top.specs.Status.{number_of_status}
 
--- a job that needs no hub
+-- a job that looks at its files once, so any but `serve`
+abbrev pub LooksOnce : Option Job → Type 0
+LooksOnce job = (config : List ℕ) (events reload_ms : ℕ) (listen : Listen) → job ≡ Some (Serve config events reload_ms listen) → ⊥
+
+-- a job that needs no hub, so neither `serve` nor `gauge-serve`
 abbrev pub IsLocal : Option Job → Type 0
-IsLocal job = (config : List ℕ) (events reload_ms : ℕ) (listen : Listen) → job ≡ Some (Serve config events reload_ms listen) → ⊥
+IsLocal job = LooksOnce job × ((config : List ℕ) (events : ℕ) (listen : Listen) → job ≡ Some (GaugeServe config events listen) → ⊥)
 
 -- ---- the reply
 
@@ -72,22 +77,6 @@ RepliesServe may contents faults absence fault refused config reload_ms events h
     ⊎ ((conf : Configuration) × (text : List ℕ) × Loads (contents files_old) absence fault refused config (Ok conf)
     × ((held : Contents) → contents files_old ≡ Some held → text_of (held 0) config ≡ Some text)
     × (end : Drove) × ServesUntil may contents faults config text reload_ms events conf hub_old hub_new files_old files_new delivered broke_off end)
-
--- one reply was delivered, whatever the words ask for
-abbrev pub GivesAny : {H F : Type 0} → (H → HubStep → H → Type 0) → (F → Option Contents) → (F → ℕ) → (absence fault : Type 0) → (refused : List ℕ) → Option Job
-    → (hub_old hub_new : H) → (files_old files_new : F)
-    → (status : ℕ) → (out_old out_new err_old err_new : Option (List ℕ)) → (out_faults_old out_faults_new err_faults_old err_faults_new : ℕ) → Type 0
-GivesAny may contents faults absence fault refused None hub_old hub_new files_old files_new status o0 o1 e0 e1 m0 m1 n0 n1 =
-    Gives None (contents files_old) absence fault refused status o0 o1 e0 e1 m0 m1 n0 n1
-GivesAny may contents faults absence fault refused (Some (Check names)) hub_old hub_new files_old files_new status o0 o1 e0 e1 m0 m1 n0 n1 =
-    Gives (Some (Check names)) (contents files_old) absence fault refused status o0 o1 e0 e1 m0 m1 n0 n1
-GivesAny may contents faults absence fault refused (Some (Plan config dp)) hub_old hub_new files_old files_new status o0 o1 e0 e1 m0 m1 n0 n1 =
-    Gives (Some (Plan config dp)) (contents files_old) absence fault refused status o0 o1 e0 e1 m0 m1 n0 n1
-GivesAny may contents faults absence fault refused (Some (Replay config recording)) hub_old hub_new files_old files_new status o0 o1 e0 e1 m0 m1 n0 n1 =
-    Gives (Some (Replay config recording)) (contents files_old) absence fault refused status o0 o1 e0 e1 m0 m1 n0 n1
-GivesAny may contents faults absence fault refused (Some (Serve config events reload_ms listen)) hub_old hub_new files_old files_new status o0 o1 e0 e1 m0 m1 n0 n1 =
-    RepliesServe may contents faults absence fault refused config reload_ms events hub_old hub_new files_old files_new
-    (λ a. Delivers a status o0 o1 e0 e1 m0 m1 n0 n1) (λ a. BreaksOff a status o0 o1 e0 e1 m0 m1 n0 n1)
 
 -- ---- the command
 

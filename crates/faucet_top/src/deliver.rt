@@ -2,7 +2,7 @@ ghost use Rattle.std.specs.Prelude.{◌≡◌, ◌≤◌, [], ◌∷◌, Result,
 ghost use Rattle.std.specs.Fmt.{decimal};
 ghost use Rattle.fg_outside.specs.Wrote.{line_of};
 ghost use Rattle.conf_gather.specs.declared.refused.LoadRefused.TheVariants.{Yaml, Conf};
-ghost use Rattle.ctl_drive.specs.declared.replay.Replayed.TheVariants.{Read};
+ghost use Rattle.hub_drive.specs.declared.replay.Replayed.TheVariants.{Read};
 ghost use Rattle.faucet_top.specs.Answer.{last_line, refusal, usage, out_of_memory, line, plan_answer, served_line};
 ghost use Rattle.faucet_top.specs.Given.{Delivers};
 ghost use Rattle.faucet_top.specs.Status.{number_of_status};
@@ -11,8 +11,8 @@ ghost use Rattle.faucet_top.specs.Ends.{Ends, refused_status, status_after, stat
 use conf_causes::limit_name;
 use conf_gather::LoadRefused;
 use conf_shape::{ConfCause, ConfFault};
-use ctl_drive::{Drove, Replayed};
 use fg_outside::{Sink, write_all, write_line};
+use hub_drive::{Drove, Replayed};
 use itoa::Buffer;
 use net_base::Bytes;
 use recording::RecordRefused;

@@ -3,6 +3,7 @@
 
 mod check;
 mod deliver;
+mod gauge;
 pub mod laws;
 mod plan;
 mod replay;

@@ -40,6 +40,6 @@ pub fn replay_recording<F: Files, O: Sink, E: Sink>(
     let Ok(name) = recording.copy(alloc) else {
         return (deliver_out_of_memory(err), files);
     };
-    let (replayed, files) = replay(alloc, conf, files, name, out, err, &mut Units::new());
+    let (replayed, files) = replay(alloc, conf, files, name, out, err, Units::new());
     (deliver_replayed(err, recording.as_str(), replayed), files)
 }

@@ -57,6 +57,6 @@ pub fn serve_switches<F: Files, H: Hub, O: Sink, E: Sink>(
         return (deliver_out_of_memory(err), files, hub);
     };
     let watch = Watch::new(alloc, hub, files, name, text, pace.reload_ms);
-    let (drove, hub, files) = serve(alloc, conf, watch, pace.events, out, err, &mut Units::new());
+    let (drove, hub, files) = serve(alloc, conf, watch, pace.events, out, err, Units::new());
     (deliver_served(err, drove), files, hub)
 }

@@ -4,24 +4,30 @@ ghost use Rattle.fg_outside.specs.Contents.{Contents};
 ghost use Rattle.fg_outside.specs.Wrote.{appended, AppendsFront};
 ghost use Rattle.conf_types.specs.Configuration.{Configuration};
 ghost use Rattle.conf_load.specs.Loaded.{loaded};
-ghost use Rattle.command_line.specs.declared.meaning.Job.TheVariants.{Check, Plan, Replay, Serve};
+ghost use Rattle.command_line.specs.declared.meaning.Job.TheVariants.{Check, Gauge, GaugeServe, Plan, Replay, Serve};
 ghost use Rattle.command_line.specs.declared.values.Listen.{Listen};
 ghost use Rattle.command_line.specs.Meaning.{meaning};
 ghost use Rattle.faucet_top.specs.Answer.{out_of_memory};
-ghost use Rattle.faucet_top.specs.Given.{AreAccepted, Gives, IsOpened, IsReplayed, IsReplayedTo, IsStatus, IsStatusOf, StatusFor};
-ghost use Rattle.ctl_drive.specs.declared.drive.Drove.{Drove};
+ghost use Rattle.gauge_conf.specs.declared.gauge.GaugeConf.{GaugeConf};
+ghost use Rattle.gauge_load.specs.Loaded.{gauge_of};
+ghost use Rattle.faucet_top.specs.Any.{GivesAny};
+ghost use Rattle.faucet_top.specs.Given.{AreAccepted, Gives, IsOpened, IsReplayed, IsReplayedTo, IsStatus, IsStatusOf, IsWatched, IsWatchedTo, StatusFor};
+ghost use Rattle.hub_drive.specs.declared.drive.Drove.{Drove};
 ghost use Rattle.faucet_top.specs.Ends.{status_served};
-ghost use Rattle.faucet_top.specs.Serving.{GivesAny, IsItsEnd, IsLocal, IsServed};
+ghost use Rattle.faucet_top.specs.Serving.{IsItsEnd, IsLocal, IsServed, LooksOnce};
+ghost use Rattle.faucet_top.specs.Watching.{IsHubWatched};
 ghost use Rattle.faucet_top.specs.Status.{number_of_status};
 
 use crate::check::check_files;
 use crate::deliver::{Status, deliver_out_of_memory, deliver_plan, deliver_usage};
+use crate::gauge::{watch_recording, watch_switches};
 use crate::plan::make_plan;
 use crate::replay::replay_recording;
 use crate::serve::{Pace, serve_switches};
 use command_line::{Job, read_words};
 use conf_load::laws::a_loaded_configuration_is_valid;
 use fg_outside::{Files, Hub, Sink};
+use gauge_drive::laws::what_is_printed_are_the_lines;
 use law_stories::whatever_happens_is_right;
 use net_base::Names;
 use opening_batch::laws::an_opening_batch_opens_the_datapath;
@@ -61,7 +67,11 @@ fn do_job<F: Files, O: Sink, E: Sink>(
         Job::Replay { config, recording } => {
             replay_recording(alloc, files, config.as_str(), recording, out, err)
         }
+        Job::Gauge { config, recording } => {
+            watch_recording(alloc, config.as_str(), recording, files, out, err)
+        }
         Job::Serve { .. } => unreachable!(),
+        Job::GaugeServe { .. } => unreachable!(),
     }
 }
 
@@ -115,11 +125,11 @@ fn do_any<F: Files, H: Hub, O: Sink, E: Sink>(
         (O.faults out.old) (O.faults out.new) (E.faults err.old) (E.faults err.new) }
 
     ensures statuses { IsStatus result.0 }
-    ensures no_read_fault { IsLocal (Some job.now) → result.0 ≢ 3 → result.0 ≢ 4 → F.faults files < 2 ^ 64 - 1 → F.faults result.1 ≡ F.faults files }
+    ensures no_read_fault { LooksOnce (Some job.now) → result.0 ≢ 3 → result.0 ≢ 4 → F.faults files < 2 ^ 64 - 1 → F.faults result.1 ≡ F.faults files }
     ensures hub_fault { result.0 ≡ 6 → Rose (H.faults hub) (H.faults result.2) }
     ensures no_hub_fault { result.0 ≢ 6 → result.0 ≢ 4 → H.faults result.2 ≡ H.faults hub }
     ensures hub { IsLocal (Some job.now) → result.2 ≡ hub }
-    ensures contents { IsLocal (Some job.now) → F.contents result.1 ≡ F.contents files }
+    ensures contents { LooksOnce (Some job.now) → F.contents result.1 ≡ F.contents files }
     ensures hub_faults { H.faults hub ≤ H.faults result.2 }
     ensures faults { F.faults files ≤ F.faults result.1 }
     ensures absences { F.absences files ≤ F.absences result.1 }
@@ -138,6 +148,12 @@ fn do_any<F: Files, H: Hub, O: Sink, E: Sink>(
                 reload_ms: *reload_ms,
             };
             let (status, files, hub) = serve_switches(alloc, config, pace, files, hub, out, err);
+            (status.number(), files, hub)
+        }
+        Job::GaugeServe { config, events, .. } => {
+            let (mut files, mut hub) = (files, hub);
+            let config = config.as_str();
+            let status = watch_switches(alloc, config, *events, &mut files, &mut hub, out, err);
             (status.number(), files, hub)
         }
         _ => {
@@ -161,11 +177,11 @@ fn answer_words<F: Files, H: Hub, O: Sink, E: Sink>(
         (O.faults out.old) (O.faults out.new) (E.faults err.old) (E.faults err.new) }
 
     ensures statuses { IsStatus result.0 }
-    ensures no_read_fault { IsLocal (meaning words.now) → result.0 ≢ 3 → result.0 ≢ 4 → F.faults files < 2 ^ 64 - 1 → F.faults result.1 ≡ F.faults files }
+    ensures no_read_fault { LooksOnce (meaning words.now) → result.0 ≢ 3 → result.0 ≢ 4 → F.faults files < 2 ^ 64 - 1 → F.faults result.1 ≡ F.faults files }
     ensures hub_fault { result.0 ≡ 6 → Rose (H.faults hub) (H.faults result.2) }
     ensures no_hub_fault { result.0 ≢ 6 → result.0 ≢ 4 → H.faults result.2 ≡ H.faults hub }
     ensures hub { IsLocal (meaning words.now) → result.2 ≡ hub }
-    ensures contents { IsLocal (meaning words.now) → F.contents result.1 ≡ F.contents files }
+    ensures contents { LooksOnce (meaning words.now) → F.contents result.1 ≡ F.contents files }
     ensures hub_faults { H.faults hub ≤ H.faults result.2 }
     ensures faults { F.faults files ≤ F.faults result.1 }
     ensures absences { F.absences files ≤ F.absences result.1 }
@@ -187,11 +203,13 @@ fn answer_words<F: Files, H: Hub, O: Sink, E: Sink>(
 /// runs the controller of CONFIG on what the recording tells, writes on `out` a record for each message that
 /// it says and each connection that it closes, and on `err` its lines. `serve CONFIG --events N --reload-ms M
 /// --listen A:P` runs the controller of CONFIG on the hub, for at most N happenings, looks every M milliseconds at
-/// CONFIG and what it includes, and writes the controller's lines on `err`. Any other words have no meaning. A
-/// refusal is one line on `err`. Statuses: 0 done, so of `serve` where the hub said so; 1 the words have no
-/// meaning; 2 a configuration was read and is refused, or DP isn't one of its datapaths; 3 a file isn't there, or a
-/// read failed, of `serve` before the hub was asked; 4 a write failed; 5 a record of the recording is refused; 6 the
-/// hub failed; 7 N turns were taken, for `replay` 2^64 - 1; 8 out of memory.
+/// CONFIG and what it includes, and writes the controller's lines on `err`. `gauge GAUGE_CONFIG RECORDING` runs the Gauge
+/// of GAUGE_CONFIG on what the recording tells, and writes on `out` the lines of what switches told; `gauge-serve
+/// GAUGE_CONFIG --events N --listen A:P` runs it on the hub, for at most N happenings. Any other words have no meaning. A
+/// refusal is one line on `err`. Statuses: 0 done, so of `serve` and `gauge-serve` where the hub said so; 1 the words
+/// have no meaning; 2 a configuration was read and is refused, or DP isn't one of its datapaths; 3 a file isn't there,
+/// or a read failed, of these two before the hub was asked; 4 a write failed; 5 a record of the recording is refused; 6
+/// the hub failed; 7 N turns were taken, for `replay` and `gauge` 2^64 - 1; 8 out of memory.
 pub fn faucet<F: Files, H: Hub, O: Sink, E: Sink>(
     alloc: Global,
     words: &Names,
@@ -202,14 +220,15 @@ pub fn faucet<F: Files, H: Hub, O: Sink, E: Sink>(
 ) -> (u8, F, H)
     // One reply was given: the answer to the words, for what the files gave, of which it says where they tell it,
     // where a read failed, and where memory ran out. A failed write leaves a front of it, and nothing else is written.
-    // Of `serve` it says what happened at the hub, what that was told, and which texts the looks at the file had.
+    // Of `serve` and `gauge-serve` it says what happened at the hub and what that was told, of `serve` also which texts the looks at
+    // the file had.
     ensures gives { GivesAny H.may F.contents F.faults (Rose (F.absences files) (F.absences result.1)) (Rose (F.faults files) (F.faults result.1)) (F.refused result.1) (meaning words.now)
         hub result.2 files result.1 result.0 (O.wrote out.old) (O.wrote out.new) (E.wrote err.old) (E.wrote err.new)
         (O.faults out.old) (O.faults out.new) (E.faults err.old) (E.faults err.new) }
 
     // Where the files are told, the status is that of the answer, so 2 where a configuration was read and refused,
     // or hasn't the datapath, 5 where a record is refused, 7 only where 2^64 - 1 turns were taken; but for a failed
-    // write, want of memory and a failed read. That of `serve` is then 0, 6 or 7.
+    // write, want of memory and a failed read. That of `serve` and `gauge-serve` is then 0, 6 or 7.
     ensures told { (held : Contents) → F.contents files ≡ Some held
         → StatusFor result.0 (IsStatusOf (meaning words.now) (held 0)) (Rose (F.faults files) (F.faults result.1)) }
 
@@ -222,7 +241,7 @@ pub fn faucet<F: Files, H: Hub, O: Sink, E: Sink>(
     // couldn't be written.
     ensures unread { result.0 ≡ 3 → Rose (F.absences files) (F.absences result.1) ⊎ Rose (F.faults files) (F.faults result.1) }
     ensures unasked { (result.0 ≡ 2) ⊎ (result.0 ≡ 3) → result.2 ≡ hub }
-    ensures no_read_fault { IsLocal (meaning words.now) → result.0 ≢ 3 → result.0 ≢ 4 → F.faults files < 2 ^ 64 - 1 → F.faults result.1 ≡ F.faults files }
+    ensures no_read_fault { LooksOnce (meaning words.now) → result.0 ≢ 3 → result.0 ≢ 4 → F.faults files < 2 ^ 64 - 1 → F.faults result.1 ≡ F.faults files }
 
     // Status 4 only where a write failed, and no other where one did.
     ensures write_fault { result.0 ≡ 4 → Rose (O.faults out.old) (O.faults out.new) ⊎ Rose (E.faults err.old) (E.faults err.new) }
@@ -266,8 +285,27 @@ pub fn faucet<F: Files, H: Hub, O: Sink, E: Sink>(
         → (Rose (O.faults out.old) (O.faults out.new) → ⊥) → (Rose (E.faults err.old) (E.faults err.new) → ⊥)
         → (result.0 ≡ 0) ⊎ ((result.0 ≡ 7) ⊎ (result.0 ≡ 8)) }
 
-    // Files and hub are handed back; but for `serve`, the files hold what they held, and nothing was said to the hub.
-    ensures contents { IsLocal (meaning words.now) → F.contents result.1 ≡ F.contents files }
+    // `gauge`: at status 0 the recording was taken in whole, and what stands on `out` and `err` is exactly what Gauge gives
+    // of its story. At status 5 the same of the records before the refused one.
+    ensures watched { (config recording : List ℕ) (held : Contents) → meaning words.now ≡ Some (Gauge config recording) → F.contents files ≡ Some held
+        → result.0 ≡ 0 → IsWatched config recording (held 0) (O.wrote out.old) (O.wrote out.new) (E.wrote err.old) (E.wrote err.new) }
+    ensures watched_to { (config recording : List ℕ) (held : Contents) → meaning words.now ≡ Some (Gauge config recording) → F.contents files ≡ Some held
+        → result.0 ≡ 5 → IsWatchedTo config recording (held 0) (O.wrote out.old) (O.wrote out.new) (E.wrote err.old) (E.wrote err.new) }
+
+    // `gauge-serve`: where the hub said that it is done (0), where it failed (6) and where N turns were taken, each of which gave a
+    // happening (7), the hub was told what Gauge says of these, and what stands on `out` and `err` is exactly what it gives of them.
+    ensures hub_watched { (config : List ℕ) (events : ℕ) (listen : Listen) (held : Contents) (end : Drove) → meaning words.now ≡ Some (GaugeServe config events listen)
+        → F.contents files ≡ Some held → IsItsEnd end → result.0 ≡ number_of_status (status_served end)
+        → IsHubWatched H.may config (held 0) events end hub result.2 (O.wrote out.old) (O.wrote out.new) (E.wrote err.old) (E.wrote err.new) }
+    ensures gauge_completes { (config : List ℕ) (events : ℕ) (listen : Listen) (held : Contents) (conf : GaugeConf) → meaning words.now ≡ Some (GaugeServe config events listen)
+        → F.contents files ≡ Some held → gauge_of (held 0) config ≡ Ok conf
+        → (Rose (F.faults files) (F.faults result.1) → ⊥) → (Rose (H.faults hub) (H.faults result.2) → ⊥)
+        → (Rose (O.faults out.old) (O.faults out.new) → ⊥) → (Rose (E.faults err.old) (E.faults err.new) → ⊥)
+        → (result.0 ≡ 0) ⊎ ((result.0 ≡ 7) ⊎ (result.0 ≡ 8)) }
+
+    // Files and hub are handed back; but for `serve`, the files hold what they held, and but for `serve` and `gauge-serve`, nothing
+    // was said to the hub.
+    ensures contents { LooksOnce (meaning words.now) → F.contents result.1 ≡ F.contents files }
     ensures faults { F.faults files ≤ F.faults result.1 }
     ensures absences { F.absences files ≤ F.absences result.1 }
     ensures hub { IsLocal (meaning words.now) → result.2 ≡ hub }
@@ -278,6 +316,7 @@ pub fn faucet<F: Files, H: Hub, O: Sink, E: Sink>(
     a_loaded_configuration_is_valid();
     an_opening_batch_opens_the_datapath();
     whatever_happens_is_right();
+    what_is_printed_are_the_lines();
     answer_words(alloc, words, files, hub, out, err)
 }
 

@@ -16,9 +16,10 @@ use Rattle.recording_hub.specs.Recorded.{held}
 use Rattle.recording_hub.specs.RecordedStory.{AreHeld}
 use Rattle.recording_hub.proofs.Telling.{all_held}
 use Rattle.ctl_world.specs.World.{World, first}
-use Rattle.ctl_drive.specs.declared.replay.Replayed.TheVariants.{Read}
-use Rattle.ctl_drive.specs.Driving.{IsFront}
-use Rattle.ctl_drive.specs.Replay.{IsStoryOf, Replays, WritesAll, closed_in}
+use Rattle.hub_drive.specs.declared.replay.Replayed.TheVariants.{Read}
+use Rattle.hub_drive.specs.Driving.{IsFront}
+use Rattle.hub_drive.specs.Replay.{IsStoryOf}
+use Rattle.ctl_drive.specs.Replay.{Replays, WritesAll, closed_in}
 use Rattle.law_recordings.proofs.Closed.{closed}
 use Rattle.law_recordings.proofs.Told.{one_story, tell_on, the_story, told_on, untold}
 use Rattle.ctl_recorded.specs.RecordedRun.{IsRecording, IsRecordingSoFar}

@@ -7,8 +7,9 @@ use Rattle.ctl_world.specs.World.{World}
 use Rattle.ctl_life.specs.declared.saying.Saying.{Saying}
 use Rattle.ctl_life.specs.declared.saying.Saying.TheVariants.{Send, Close, Line}
 use Rattle.ctl_core.specs.Turns.{turn}
-use Rattle.ctl_drive.specs.declared.sayings.Outlet.TheVariants.{Hub}
-use Rattle.ctl_drive.specs.Driving.{Deed, deeds_by, deeds_of, record_by, records_of, said, sayings_of, shut, turn_records}
+use Rattle.hub_drive.specs.declared.sayings.Outlet.TheVariants.{Hub}
+use Rattle.hub_drive.specs.Driving.{Deed, deeds_by, record_by, said, shut}
+use Rattle.ctl_drive.specs.Driving.{deeds_of, records_of, sayings_of, turn_records}
 use Rattle.law_flights.specs.Spoken.{deed_of, deeds_in, spoken}
 
 said_so : (moment : ℕ) (sayings : List Saying) (more : List Deed) → deeds_in (flat_map (record_by moment) sayings) ++ spoken more ≡ spoken (flat_map (deeds_by Hub) sayings ++ more)

@@ -1,7 +1,7 @@
 -- What a controller says, as a hub is told it, and as a replay writes it.
 use Rattle.std.specs.Prelude.{List, [], ◌∷◌, map}
 use Rattle.recording.specs.Written.{WrittenRecord, sent, closed}
-use Rattle.ctl_drive.specs.Driving.{Deed, gave, said, shut}
+use Rattle.hub_drive.specs.Driving.{Deed, gave, said, shut}
 
 -- what a hub was told, without what it gave
 abbrev pub spoken : List Deed → List Deed

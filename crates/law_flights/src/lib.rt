@@ -10,10 +10,12 @@ ghost use Rattle.conf_types.specs.Configuration.{Configuration};
 ghost use Rattle.recording.specs.declared.refused.RecordRefused.{RecordRefused};
 ghost use Rattle.recording_hub.specs.RecordedStory.{AreHeld};
 ghost use Rattle.ctl_world.specs.World.{World};
-ghost use Rattle.ctl_drive.specs.declared.sayings.Outlet.TheVariants.{Hub};
-ghost use Rattle.ctl_drive.specs.declared.replay.Replayed.TheVariants.{Read};
-ghost use Rattle.ctl_drive.specs.Driving.{IsFront, deeds_of, records_of};
-ghost use Rattle.ctl_drive.specs.Replay.{IsStoryOf, Replays, WritesAll, closed_in};
+ghost use Rattle.hub_drive.specs.declared.sayings.Outlet.TheVariants.{Hub};
+ghost use Rattle.hub_drive.specs.declared.replay.Replayed.TheVariants.{Read};
+ghost use Rattle.hub_drive.specs.Driving.{IsFront};
+ghost use Rattle.ctl_drive.specs.Driving.{deeds_of, records_of};
+ghost use Rattle.hub_drive.specs.Replay.{IsStoryOf};
+ghost use Rattle.ctl_drive.specs.Replay.{Replays, WritesAll, closed_in};
 ghost use Rattle.ctl_recorded.specs.RecordedRun.{IsRecording, IsRecordingSoFar};
 ghost use Rattle.law_flights.specs.Spoken.{deeds_in, spoken};
 

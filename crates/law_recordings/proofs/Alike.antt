@@ -10,7 +10,8 @@ use Rattle.ctl_world.specs.World.{World}
 use Rattle.ctl_life.specs.Sayings.{saying_of}
 use Rattle.ctl_core.specs.Story.{behind}
 use Rattle.ctl_core.specs.Turns.{turn, work}
-use Rattle.ctl_drive.specs.Driving.{line_by, lines_of, record_by, records_of}
+use Rattle.hub_drive.specs.Driving.{line_by, record_by}
+use Rattle.ctl_drive.specs.Driving.{lines_of, records_of}
 use Rattle.ctl_drive.proofs.Stories.{behind-push, lines-push}
 use Rattle.law_recordings.specs.Pieces.{known_only}
 use Rattle.law_recordings.proofs.Closed.{closes_by, is_closed, is_closed-push}

@@ -14,7 +14,8 @@ use Rattle.ctl_life.specs.declared.saying.Saying.{Saying}
 use Rattle.ctl_life.specs.Sayings.{saying_of}
 use Rattle.ctl_core.specs.Story.{behind}
 use Rattle.ctl_core.specs.Turns.{turn}
-use Rattle.ctl_drive.specs.Driving.{closings_of, shut_by}
+use Rattle.hub_drive.specs.Driving.{shut_by}
+use Rattle.ctl_drive.specs.Driving.{closings_of}
 
 -- the connections that are closed in what was said, and by the last turn
 abbrev pub closes_in : List Said → (conn : ℕ) → Bool

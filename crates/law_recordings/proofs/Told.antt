@@ -6,7 +6,7 @@ use Rattle.recording.specs.declared.record.Record.{Record}
 use Rattle.recording.specs.Kinds.{is_of_connection}
 use Rattle.recording.specs.Turns.{Closing, Told, clock, is_passed_over, is_shut, own, tell, turns}
 use Rattle.ctl_world.specs.World.{World}
-use Rattle.ctl_drive.specs.Driving.{IsFront}
+use Rattle.hub_drive.specs.Driving.{IsFront}
 use Rattle.law_recordings.proofs.Closed.{closed, is_closed, is_closed-front}
 
 -- a record more, by what was closed in the story before it

@@ -10,7 +10,8 @@ ghost use Rattle.conf_types.specs.Configuration.{Configuration};
 ghost use Rattle.recording.specs.declared.record.Record.{Record};
 ghost use Rattle.recording.specs.Recording.{Records};
 ghost use Rattle.recording.specs.Turns.{turns};
-ghost use Rattle.ctl_drive.specs.Replay.{IsStoryOf, WritesAll, closed_in};
+ghost use Rattle.hub_drive.specs.Replay.{IsStoryOf};
+ghost use Rattle.ctl_drive.specs.Replay.{WritesAll, closed_in};
 ghost use Rattle.law_recordings.specs.Cuts.{SameButCuts, WritesTheSame};
 
 /// Records tell exactly one story that fits what the controller of a configuration closes in it.

@@ -16,10 +16,11 @@ use Rattle.ctl_world.specs.World.{World}
 use Rattle.ctl_life.specs.declared.saying.Saying.{Saying}
 use Rattle.ctl_life.specs.declared.saying.Saying.TheVariants.{Send, Close, Line}
 use Rattle.ctl_core.specs.Turns.{turn}
-use Rattle.ctl_drive.specs.declared.drive.Drove.{Drove}
-use Rattle.ctl_drive.specs.declared.drive.Drove.TheVariants as drove
-use Rattle.ctl_drive.specs.declared.sayings.Outlet.TheVariants.{Hub}
-use Rattle.ctl_drive.specs.Driving.{Deed, gave, said, shut, deeds, deeds_by, deeds_of, sayings_of}
+use Rattle.hub_drive.specs.declared.drive.Drove.{Drove}
+use Rattle.hub_drive.specs.declared.drive.Drove.TheVariants as drove
+use Rattle.hub_drive.specs.declared.sayings.Outlet.TheVariants.{Hub}
+use Rattle.hub_drive.specs.Driving.{Deed, gave, said, shut, deeds, deeds_by}
+use Rattle.ctl_drive.specs.Driving.{deeds_of, sayings_of}
 use Rattle.ctl_serve.specs.Served.{last_call}
 use Rattle.law_serving.specs.Messages.{AllTaken, message_on, messages_on}
 

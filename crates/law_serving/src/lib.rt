@@ -8,7 +8,7 @@ ghost use Rattle.fg_outside.specs.HubStep.{story};
 ghost use Rattle.fg_outside.specs.Wrote.{appended};
 ghost use Rattle.link_hub.specs.Hub.{live_at, IsFresh};
 ghost use Rattle.ctl_world.specs.World.{World};
-ghost use Rattle.ctl_drive.specs.declared.drive.Drove.{Drove};
+ghost use Rattle.hub_drive.specs.declared.drive.Drove.{Drove};
 ghost use Rattle.ctl_serve.specs.Served.{Served};
 ghost use Rattle.law_serving.specs.Messages.{AllTaken, messages_on};
 

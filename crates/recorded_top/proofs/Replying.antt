@@ -9,7 +9,7 @@ use Rattle.fg_outside.proofs.SinkLemmas.{appended-nil, AppendsFront-none}
 use Rattle.conf_types.specs.Configuration.{Configuration}
 use Rattle.command_line.specs.declared.recorded.RecordedServe.{RecordedServe}
 use Rattle.ctl_world.specs.World.{World, first}
-use Rattle.ctl_drive.specs.declared.drive.Drove.TheVariants as drove
+use Rattle.hub_drive.specs.declared.drive.Drove.TheVariants as drove
 use Rattle.ctl_recorded.specs.declared.run.RecordedEnd.{RecordedEnd}
 use Rattle.ctl_recorded.specs.declared.run.RecordedEnd.TheVariants.{By, BrokeOff}
 use Rattle.ctl_recorded.specs.RecordedRun.{ServedTo, ServesRecorded, StandsTo}

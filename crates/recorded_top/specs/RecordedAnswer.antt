@@ -5,8 +5,8 @@ use Rattle.fg_outside.specs.HubStep.{HubStep}
 use Rattle.conf_types.specs.Configuration.{Configuration}
 use Rattle.command_line.specs.declared.recorded.RecordedServe.{RecordedServe}
 use Rattle.watch_hub.specs.Look.{text_of}
-use Rattle.ctl_drive.specs.declared.drive.Drove.TheVariants as drove
-use Rattle.ctl_drive.specs.Driving.{IsFront}
+use Rattle.hub_drive.specs.declared.drive.Drove.TheVariants as drove
+use Rattle.hub_drive.specs.Driving.{IsFront}
 use Rattle.ctl_recorded.specs.declared.run.RecordedEnd.{RecordedEnd}
 use Rattle.ctl_recorded.specs.declared.run.RecordedEnd.TheVariants.{By, BrokeOff}
 use Rattle.ctl_recorded.specs.RecordedRun.{ServesRecorded}

@@ -63,7 +63,7 @@ pub fn serve_and_record<F: Files, H: Hub, S: Sink, O: Sink, E: Sink>(
         job.events,
         out,
         err,
-        &mut Units::new(),
+        Units::new(),
     );
     let status = deliver_recorded(err, job.record_file.as_str(), end);
     (status, files, hub, sink)

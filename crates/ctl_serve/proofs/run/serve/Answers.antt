@@ -1,25 +1,18 @@
 use Rattle.ctl_world.specs.World.{first}
-use Rattle.ctl_drive.specs.declared.sayings.Outlet.TheVariants.{Hub}
-use Rattle.ctl_drive.proofs.Stories.{way_of}
-use Rattle.ctl_serve.proofs.Serving.{Step, nothing_out, serves, serves_none}
+use Rattle.ctl_serve.proofs.Serving.{nothing_out, serves}
 use Rattle.ctl_serve.proofs.run.serve.Goals as goal
-
-pub returns-in_default-clause-serves : goal.returns-in_default-clause-serves
-returns-in_default-clause-serves g c = λ name text every begun.
-    rw (c.into_parts-hub.ensures.hub, c.into_parts-hub.ensures.files)
-    (serves_none g.H.Hub.may g.F.Files.contents g.F.Files.faults g.F.Files.absences c.args.watch name text every c.args.most c.args.conf (g.E.Sink.wrote c.args.err.now))
 
 pub returns-clause-serves : goal.returns-clause-serves
 returns-clause-serves g c = λ name text every begun.
     rw (c.into_parts-hub_after.ensures.hub, c.into_parts-hub_after.ensures.files)
     (serves g.H.Hub.may g.F.Files.contents g.F.Files.faults g.F.Files.absences c.a_watch_is_spent_only_where_it_says_so.ensures c.what_holds_of_its_calls_holds_of_its_hubs.ensures c.a_way_to_want_of_memory_tells_the_watched_story.ensures
-    c.args.watch c.drive-drove.new.hub name text every c.args.most begun c.args.conf c.drive-drove.new.core (g.O.Sink.wrote c.args.out.now) (g.O.Sink.wrote c.drive-drove.new.out) (g.E.Sink.wrote c.args.err.now) (g.E.Sink.wrote c.drive-drove.new.err)
-    c.drive-drove.result (c.drive-drove.ensures.drove (first c.args.conf) c.in-Ok.ensures))
+    c.args.watch c.drive-drove.new.hub name text every c.args.most begun c.args.conf (g.O.Sink.wrote c.args.out.now) (g.O.Sink.wrote c.drive-drove.new.out) (g.E.Sink.wrote c.args.err.now) (g.E.Sink.wrote c.drive-drove.new.err)
+    c.drive-drove.result (c.drive-drove.ensures.drove (first c.args.conf) c.new-machine.ensures))
 
 pub returns-clause-out : goal.returns-clause-out
 returns-clause-out g c =
-    nothing_out g.H.Hub.may g.F.Files.contents g.F.Files.faults g.F.Files.absences c.args.watch c.drive-drove.new.hub c.args.most (first c.args.conf) c.drive-drove.new.core (g.O.Sink.wrote c.args.out.now) (g.O.Sink.wrote c.drive-drove.new.out) (g.E.Sink.wrote c.args.err.now) (g.E.Sink.wrote c.drive-drove.new.err)
-    c.drive-drove.result (c.drive-drove.ensures.drove (first c.args.conf) c.in-Ok.ensures)
+    nothing_out g.H.Hub.may g.F.Files.contents g.F.Files.faults g.F.Files.absences c.args.watch c.drive-drove.new.hub c.args.most (first c.args.conf) (g.O.Sink.wrote c.args.out.now) (g.O.Sink.wrote c.drive-drove.new.out) (g.E.Sink.wrote c.args.err.now) (g.E.Sink.wrote c.drive-drove.new.err)
+    c.drive-drove.result (c.drive-drove.ensures.drove (first c.args.conf) c.new-machine.ensures)
 
 pub returns-clause-hub_fault : goal.returns-clause-hub_fault
 returns-clause-hub_fault g c = λ failed. rw c.into_parts-hub_after.ensures.hub (c.drive-drove.ensures.hub_fault failed)
@@ -32,10 +25,10 @@ returns-clause-hub_faults g c = rw c.into_parts-hub_after.ensures.hub c.drive-dr
 
 pub returns-clause-files_faults : goal.returns-clause-files_faults
 returns-clause-files_faults g c =
-    let way = way_of (Step g.H.Hub.may g.F.Files.contents g.F.Files.faults g.F.Files.absences) Hub c.args.most (first c.args.conf) c.drive-drove.new.core c.args.watch c.drive-drove.new.hub _ _ _ _ c.drive-drove.result (c.drive-drove.ensures.drove (first c.args.conf) c.in-Ok.ensures) in
+    let way = c.drive-drove.ensures.goes in
     rw c.into_parts-hub_after.ensures.files (c.the_counts_of_its_files_stand.ensures.faults c.args.watch c.drive-drove.new.hub way.0 way.1)
 
 pub returns-clause-absences : goal.returns-clause-absences
 returns-clause-absences g c =
-    let way = way_of (Step g.H.Hub.may g.F.Files.contents g.F.Files.faults g.F.Files.absences) Hub c.args.most (first c.args.conf) c.drive-drove.new.core c.args.watch c.drive-drove.new.hub _ _ _ _ c.drive-drove.result (c.drive-drove.ensures.drove (first c.args.conf) c.in-Ok.ensures) in
+    let way = c.drive-drove.ensures.goes in
     rw c.into_parts-hub_after.ensures.files (c.the_counts_of_its_files_stand.ensures.absences c.args.watch c.drive-drove.new.hub way.0 way.1)

@@ -1,3 +1,4 @@
+use Rattle.conf_load.specs.Loaded.{loaded}
 use Rattle.std.proofs.Common.{Some, Ok, Err, ap}
 use Rattle.conf_gather.specs.declared.refused.LoadRefused.TheVariants.{Read, Memory}
 use Rattle.faucet_top.proofs.CheckLemmas.{memory_loads, loads_named, refused, cut}
@@ -15,7 +16,7 @@ returns-in-Err-clause-checked g c = (
 pub returns-in_default-clause-checked : goal.returns-in_default-clause-checked
 returns-in_default-clause-checked g c = (
   Err Memory,
-  memory_loads _ _ _ _ c.args.name.now,
+  memory_loads loaded _ _ _ _ c.args.name.now,
   λ more. refused c.args.name.now (g.O.Sink.wrote c.args.out.now) (g.O.Sink.wrote c.args.out.now) _ _ (g.O.Sink.faults c.args.out.now) (g.O.Sink.faults c.args.out.now) _ _ Memory c.deliver_out_of_memory.result c.deliver_out_of_memory.ensures.ends,
 )
 

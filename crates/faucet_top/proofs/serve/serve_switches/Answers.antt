@@ -1,3 +1,4 @@
+use Rattle.conf_load.specs.Loaded.{loaded as loaded_of}
 use Rattle.std.proofs.Common.{inl, inr, Ok, Err, refl, ap, ◌∙◌}
 use Rattle.fg_outside.proofs.CountLemmas.{Rose-later}
 use Rattle.conf_gather.specs.declared.refused.LoadRefused.TheVariants.{Memory}
@@ -35,7 +36,7 @@ returns-clause-replies g c =
     inr (
       c.in-Ok.loaded.0,
       c.in-Ok.loaded.1,
-      accepted_later (g.F.Files.contents c.args.files) _ _ _ _
+      accepted_later loaded_of (g.F.Files.contents c.args.files) _ _ _ _
           (λ r. Rose-later _ _ _ r (rw c.new-watch.ensures.files at did.absences)) (λ r. Rose-later _ _ _ r (rw c.new-watch.ensures.files at did.files_faults)) _ _ c.args.config.now c.in-Ok.loaded.0
           (loads_accepted (g.F.Files.contents c.args.files) _ _ (g.F.Files.refused c.args.files) c.args.config.now c.in-Ok.loaded loaded),
       λ held is. told_text (held 0) c.args.config.now c.in-Ok.loaded (loaded held is),

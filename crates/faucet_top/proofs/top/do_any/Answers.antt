@@ -2,7 +2,8 @@ use Rattle.std.proofs.Common.{Some, ap, sym, ◌∙◌}
 use Rattle.command_line.specs.declared.meaning.Job.{Job}
 use Rattle.faucet_top.specs.Status.{number_of_status}
 use Rattle.faucet_top.proofs.ReadLemmas.{hub_fault_by_number}
-use Rattle.faucet_top.proofs.ServedLemmas.{local_any, some_is}
+use Rattle.faucet_top.proofs.EndLemmas.{some_is}
+use Rattle.faucet_top.proofs.ServedLemmas.{local_any}
 use Rattle.faucet_top.proofs.top.do_any.Goals as goal
 
 pub returns-in-Serve-clause-gives : goal.returns-in-Serve-clause-gives
@@ -15,7 +16,7 @@ returns-in-Serve-clause-no_read_fault g c = λ local unread written below.
 
 pub returns-in-Serve-clause-hub : goal.returns-in-Serve-clause-hub
 returns-in-Serve-clause-hub g c = λ local.
-    absurd (local _ _ _ _ (ap (λ (j : Job). Some j) c.in-Serve.is))
+    absurd (local.0 _ _ _ _ (ap (λ (j : Job). Some j) c.in-Serve.is))
 
 pub returns-in-Serve-clause-contents : goal.returns-in-Serve-clause-contents
 returns-in-Serve-clause-contents g c = λ local.
@@ -28,10 +29,34 @@ pub returns-in-Serve-clause-no_hub_fault : goal.returns-in-Serve-clause-no_hub_f
 returns-in-Serve-clause-no_hub_fault g c = λ six four.
     c.serve_switches-status.ensures.no_hub_fault (λ is. six (c.number.ensures ∙ ap number_of_status is)) (λ is. four (c.number.ensures ∙ ap number_of_status is))
 
+pub returns-in-GaugeServe-clause-gives : goal.returns-in-GaugeServe-clause-gives
+returns-in-GaugeServe-clause-gives g c =
+    rw (c.in-GaugeServe.is, c.number-in-GaugeServe.ensures) (rw c.as_str-config.ensures at c.watch_switches-status.ensures.replies)
+
+pub returns-in-GaugeServe-clause-hub : goal.returns-in-GaugeServe-clause-hub
+returns-in-GaugeServe-clause-hub g c = λ local.
+    absurd (local.1 _ _ _ (ap (λ (j : Job). Some j) c.in-GaugeServe.is))
+
+pub returns-in-GaugeServe-clause-no_read_fault : goal.returns-in-GaugeServe-clause-no_read_fault
+returns-in-GaugeServe-clause-no_read_fault g c = λ local unread written below.
+    c.watch_switches-status.ensures.no_read_fault (λ is. unread (c.number-in-GaugeServe.ensures ∙ ap number_of_status is)) (λ is. written (c.number-in-GaugeServe.ensures ∙ ap number_of_status is))
+
+pub returns-in-GaugeServe-clause-hub_fault : goal.returns-in-GaugeServe-clause-hub_fault
+returns-in-GaugeServe-clause-hub_fault g c = λ six. c.watch_switches-status.ensures.hub_fault (hub_fault_by_number _ (sym c.number-in-GaugeServe.ensures ∙ six))
+
+pub returns-in-GaugeServe-clause-no_hub_fault : goal.returns-in-GaugeServe-clause-no_hub_fault
+returns-in-GaugeServe-clause-no_hub_fault g c = λ six four.
+    c.watch_switches-status.ensures.no_hub_fault (λ is. six (c.number-in-GaugeServe.ensures ∙ ap number_of_status is)) (λ is. four (c.number-in-GaugeServe.ensures ∙ ap number_of_status is))
+
 pub local-status-requires : goal.local-status-requires
-local-status-requires g c = λ config events reload_ms listen is. c.in_default.not-Serve config events reload_ms listen (some_is is)
+local-status-requires g c = (
+  λ config events reload_ms listen is. c.in_default.not-Serve config events reload_ms listen (some_is is),
+  λ config events listen is. c.in_default.not-GaugeServe config events listen (some_is is),
+)
 
 pub returns-in_default-clause-gives : goal.returns-in_default-clause-gives
 returns-in_default-clause-gives g c =
-    local_any g.H.Hub.may g.F.Files.contents g.F.Files.faults _ _ _ (Some c.args.job.now) c.args.hub c.args.hub c.args.files _ _ _ _ _ _ _ _ _ _ (Some c.args.job.now)
-    (λ config events reload_ms listen is. c.in_default.not-Serve config events reload_ms listen (some_is is)) c.local-status.ensures.gives
+    local_any g.H.Hub.may g.F.Files.contents g.F.Files.faults _ _ _ (Some c.args.job.now) c.args.hub c.args.hub c.args.files _ _ _ _ _ _ _ _ _ _ (Some c.args.job.now) (
+      λ config events reload_ms listen is. c.in_default.not-Serve config events reload_ms listen (some_is is),
+      λ config events listen is. c.in_default.not-GaugeServe config events listen (some_is is),
+    ) c.local-status.ensures.gives

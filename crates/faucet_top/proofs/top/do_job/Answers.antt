@@ -23,4 +23,7 @@ returns-in-Plan-clause-no_read_fault g c = λ unread written below.
     c.make_plan-made.ensures.no_read_fault (no_read_planned _ _ c.make_plan-made.result c.deliver_plan-status.result _ _ _ _ _ _ _ _ c.deliver_plan-status.ensures.answer unread written)
 
 pub unreachable-requires : goal.unreachable-requires
-unreachable-requires g c = c.requires c.in-Serve.config c.in-Serve.events c.in-Serve.reload_ms c.in-Serve.listen (ap (λ (j : Job). Some j) c.in-Serve.is)
+unreachable-requires g c = c.requires.0 c.in-Serve.config c.in-Serve.events c.in-Serve.reload_ms c.in-Serve.listen (ap (λ (j : Job). Some j) c.in-Serve.is)
+
+pub unreachable-requires-in-GaugeServe : goal.unreachable-requires-in-GaugeServe
+unreachable-requires-in-GaugeServe g c = c.requires.1 c.in-GaugeServe.config c.in-GaugeServe.events c.in-GaugeServe.listen (ap (λ (j : Job). Some j) c.in-GaugeServe.is)

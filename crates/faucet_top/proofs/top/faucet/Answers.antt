@@ -42,3 +42,17 @@ pub returns-clause-completes : goal.returns-clause-completes
 returns-clause-completes g c = λ config events reload_ms listen held conf is told_so accepted no_read no_hub no_out no_err.
     by.completes g.H.Hub.may g.F.Files.contents g.F.Files.faults _ _ _ (meaning c.args.words.now) c.args.hub _ c.args.files _ _ _ _ _ _ _ _ _ _ c.answer_words.ensures.gives
     (λ six. no_hub (c.answer_words.ensures.hub_fault six)) no_read no_out no_err config events reload_ms listen held conf is told_so accepted
+
+pub returns-clause-watched : goal.returns-clause-watched
+returns-clause-watched g c = by.watched g.H.Hub.may g.F.Files.contents g.F.Files.faults _ _ _ (meaning c.args.words.now) c.args.hub _ c.args.files _ _ _ _ _ _ _ _ _ _ c.answer_words.ensures.gives c.what_is_printed_are_the_lines.ensures.recorded c.what_is_printed_are_the_lines.ensures.served
+
+pub returns-clause-watched_to : goal.returns-clause-watched_to
+returns-clause-watched_to g c = by.watched_to g.H.Hub.may g.F.Files.contents g.F.Files.faults _ _ _ (meaning c.args.words.now) c.args.hub _ c.args.files _ _ _ _ _ _ _ _ _ _ c.answer_words.ensures.gives c.what_is_printed_are_the_lines.ensures.recorded c.what_is_printed_are_the_lines.ensures.served
+
+pub returns-clause-hub_watched : goal.returns-clause-hub_watched
+returns-clause-hub_watched g c = by.hub_watched g.H.Hub.may g.F.Files.contents g.F.Files.faults _ _ _ (meaning c.args.words.now) c.args.hub _ c.args.files _ _ _ _ _ _ _ _ _ _ c.answer_words.ensures.gives c.what_is_printed_are_the_lines.ensures.recorded c.what_is_printed_are_the_lines.ensures.served
+
+pub returns-clause-gauge_completes : goal.returns-clause-gauge_completes
+returns-clause-gauge_completes g c = λ config events listen held conf is told_so accepted no_read no_hub no_out no_err.
+    by.gauge_completes g.H.Hub.may g.F.Files.contents g.F.Files.faults _ _ _ (meaning c.args.words.now) c.args.hub _ c.args.files _ _ _ _ _ _ _ _ _ _ c.answer_words.ensures.gives
+    (λ six. no_hub (c.answer_words.ensures.hub_fault six)) no_read no_out no_err config events listen held conf is told_so accepted

@@ -1,0 +1,245 @@
+-- From what a run of Gauge on a hub wrote to the reply to `gauge-serve`, and from that to what its status says.
+use Rattle.std.proofs.Common.{◌≡◌, ◌≢◌, ℕ, ◌≤◌, ◌⊎◌, inl, inr, List, [], ◌∷◌, ◌++◌, Option, Some, None, unwrap_or, Result, Ok, Err, refl, sym, ap, subst, ◌∙◌, arith}
+use Rattle.std.proofs.lemmas.List.{append-nil}
+use Rattle.fg_outside.specs.Contents.{Contents}
+use Rattle.fg_outside.specs.Counts.{Rose}
+use Rattle.fg_outside.specs.declared.hub.Happening.{Happening}
+use Rattle.fg_outside.specs.declared.hub.Turn.TheVariants as turns
+use Rattle.fg_outside.specs.HubStep.{HubStep, Leads, next, story, turned}
+use Rattle.fg_outside.specs.Wrote.{appended, AppendsFront}
+use Rattle.conf_gather.specs.declared.refused.LoadRefused.{LoadRefused}
+use Rattle.gauge_conf.specs.declared.gauge.GaugeConf.{GaugeConf}
+use Rattle.gauge_load.specs.Loaded.{gauge_of}
+use Rattle.gauge_poll.specs.Monitoring.{Monitor, begun, lines_of as gauge_lines}
+use Rattle.hub_drive.specs.declared.drive.Drove.{Drove}
+use Rattle.hub_drive.specs.declared.drive.Drove.TheVariants as drove
+use Rattle.hub_drive.specs.declared.sayings.Outlet.TheVariants.{Hub}
+use Rattle.hub_drive.specs.Driven.{AnswersAll, Drives}
+use Rattle.hub_drive.specs.Driving.{lines_of, out_of}
+use Rattle.hub_drive.proofs.Deeds.{whole_happened}
+use Rattle.ctl_serve.specs.Served.{Ended, last_call}
+use Rattle.gauge_drive.specs.Gauge.{ended_lines, monitor}
+use Rattle.faucet_top.specs.declared.deliver.Status.{Status}
+use Rattle.faucet_top.specs.Answer.{Answer, GaugeLoad, out_of_memory, refusal, served_line}
+use Rattle.faucet_top.specs.Ends.{Ends, status_served}
+use Rattle.faucet_top.specs.Given.{Delivers, GaugeLoads, IsLoadedStatus, IsServeStatus, StatusFor}
+use Rattle.faucet_top.specs.Serving.{IsItsEnd}
+use Rattle.faucet_top.specs.Status.{number_of_status}
+use Rattle.faucet_top.specs.Watching.{IsHubWatched, RepliesWatch, UnwatchedAnswer}
+use Rattle.faucet_top.proofs.EndLemmas.{delivered_fault, delivered_kept, delivered_status, its_end_not_four, its_end_not_refused, number_served, same_end, served_not, unfailed_not_four}
+use Rattle.faucet_top.proofs.RefusalLemmas.{refusal_not, refusal_unread}
+use Rattle.faucet_top.proofs.ReplayLemmas.{accepted_told, refusal_told}
+use Rattle.faucet_top.proofs.ReplyLemmas.{AppendsFront-all, line_behind, nothing_behind, on_empty, whole_on_empty}
+
+-- ---- what is written on two streams, by what would be on empty ones
+
+write_fault_or_not : (end : Drove) → (end ≡ drove.WriteFault) ⊎ (end ≢ drove.WriteFault)
+write_fault_or_not drove.Done = inr (λ is. cc)
+write_fault_or_not drove.HubFault = inr (λ is. cc)
+write_fault_or_not drove.Spent = inr (λ is. cc)
+write_fault_or_not drove.WriteFault = inl refl
+write_fault_or_not drove.Memory = inr (λ is. cc)
+
+module _ {H : Type 0} (may : H → HubStep → H → Type 0) (events : ℕ) (conf : GaugeConf) (h0 h1 : H) where
+  -- a run that ends so writes this on empty streams
+  abbrev Does : (out lines : List ℕ) → Drove → Type 0
+  Does out lines end = Drives monitor may Hub events (begun conf) h0 h1 (Some []) (Some out) (Some []) (Some lines) end
+
+  module _ (o0 o1 e0 e1 : Option (List ℕ)) where
+    abbrev DoesThat : Drove → Type 0
+    DoesThat end = (out : List ℕ) × (lines : List ℕ) × Does out lines end × (o1 ≡ appended o0 out) × (e1 ≡ appended e0 lines)
+
+    does_that : (end : Drove) → end ≢ drove.WriteFault → Drives monitor may Hub events (begun conf) h0 h1 o0 o1 e0 e1 end → DoesThat end
+    does_that drove.Done unfailed (hs, mid, few, all, last) =
+        (out_of monitor Hub (begun conf) hs, lines_of monitor (begun conf) hs, (hs, mid, few, record { told = all.told; out = refl; err = refl }, last), all.out, all.err)
+    does_that drove.HubFault unfailed (hs, mid, few, all, last) =
+        (out_of monitor Hub (begun conf) hs, lines_of monitor (begun conf) hs, (hs, mid, few, record { told = all.told; out = refl; err = refl }, last), all.out, all.err)
+    does_that drove.Spent unfailed (hs, is, all) =
+        (out_of monitor Hub (begun conf) hs, lines_of monitor (begun conf) hs, (hs, is, record { told = all.told; out = refl; err = refl }), all.out, all.err)
+    does_that drove.WriteFault unfailed drives = absurd (unfailed refl)
+    does_that drove.Memory unfailed (hs, few, front) =
+        let some = on_empty monitor Hub (begun conf) hs o0 o1 e0 e1 front.but_last in
+        (some.out, some.lines, (hs, few, record { told = front.told; happened = front.happened; out = some.out_front; err = some.lines_front; but_last = some.but_last }), some.wrote, some.said)
+
+    abbrev DoesFrontOfThat : Type 0
+    DoesFrontOfThat = (out : List ℕ) × (lines : List ℕ) × Does out lines drove.Memory × AppendsFront o0 o1 out × AppendsFront e0 e1 lines
+
+    -- a write failed: what was written is a front of what there is where memory runs out behind the whole
+    does_front : Drives monitor may Hub events (begun conf) h0 h1 o0 o1 e0 e1 drove.WriteFault → DoesFrontOfThat
+    does_front (hs, few, front, told) =
+        let out = out_of monitor Hub (begun conf) hs in
+        let lines = lines_of monitor (begun conf) hs in (
+          out,
+          lines,
+          (hs, few, record { told = front.told; happened = front.happened; out = AppendsFront-all (Some []) out; err = AppendsFront-all (Some []) lines; but_last = whole_on_empty monitor Hub (begun conf) hs }),
+          front.out,
+          front.err,
+        )
+
+-- ---- the reply
+
+module _ {H : Type 0} (may : H → HubStep → H → Type 0) (contents : Option Contents) (absence fault : Type 0) (refused config : List ℕ) (events : ℕ) (hub0 hub1 : H) where
+  -- a reply was delivered
+  abbrev WatchGiven : (status : ℕ) → (o0 o1 e0 e1 : Option (List ℕ)) → (m0 m1 n0 n1 : ℕ) → Type 0
+  WatchGiven status o0 o1 e0 e1 m0 m1 n0 n1 =
+      (a : Answer) × RepliesWatch may contents absence fault refused config events hub0 hub1 a × Delivers a status o0 o1 e0 e1 m0 m1 n0 n1
+
+  module _ (o0 o1 e0 e1 e2 : Option (List ℕ)) (m0 m1 n0 n1 n2 : ℕ) (conf : GaugeConf) (end : Drove) (ended : Status) (le_n : n1 ≤ n2)
+      (loads : GaugeLoads contents absence fault refused config (Ok conf)) (ends : Ends (status_served end) (served_line end) e1 e2 n1 n2 ended) where
+    whole_given : end ≢ drove.WriteFault → DoesThat may events conf hub0 hub1 o0 o1 e0 e1 end → m1 ≡ m0 → n1 ≡ n0 → WatchGiven (number_of_status ended) o0 o1 e0 e2 m0 m1 n0 n2
+    whole_given unfailed (out, lines, does, wrote, said) outs errs = (
+      record { out = out; err = lines ++ served_line end; status = number_served end },
+      inr (conf, loads, (end, out, lines, unfailed, does, refl)),
+      line_behind o0 o1 e0 e1 e2 m0 m1 n0 n1 n2 out lines (served_line end) (status_served end) ended wrote said outs errs ends,
+    )
+
+    front_given : end ≡ drove.WriteFault → DoesFrontOfThat may events conf hub0 hub1 o0 o1 e0 e1 → Rose m0 m1 ⊎ Rose n0 n1 → WatchGiven (number_of_status ended) o0 o1 e0 e2 m0 m1 n0 n2
+    front_given is (out, lines, does, front, line_front) rose = (
+      record { out = out; err = lines ++ out_of_memory.err; status = 8 },
+      inr (conf, loads, (drove.Memory, out, lines, (λ same. cc), does, refl)),
+      inr (nothing_behind o0 o1 e0 e1 e2 m0 m1 n0 n1 n2 out lines out_of_memory.err 8 ended front line_front rose le_n
+          (subst (λ (d : Drove). Ends (status_served d) (served_line d) e1 e2 n1 n2 ended) is ends)),
+    )
+
+    pub hub_given : Drives monitor may Hub events (begun conf) hub0 hub1 o0 o1 e0 e1 end → (end ≡ drove.WriteFault → Rose m0 m1 ⊎ Rose n0 n1)
+        → (end ≢ drove.WriteFault → (m1 ≡ m0) × (n1 ≡ n0)) → WatchGiven (number_of_status ended) o0 o1 e0 e2 m0 m1 n0 n2
+    hub_given drives failed kept =
+        elim (write_fault_or_not end) [
+          | inl is ↦ front_given is
+              (does_front may events conf hub0 hub1 o0 o1 e0 e1 (subst (λ (d : Drove). Drives monitor may Hub events (begun conf) hub0 hub1 o0 o1 e0 e1 d) is drives)) (failed is)
+          | inr unfailed ↦ whole_given unfailed (does_that may events conf hub0 hub1 o0 o1 e0 e1 end unfailed drives) (kept unfailed).0 (kept unfailed).1
+        ]
+
+  -- ---- its status
+
+  unwatched_status : (a : Answer) → UnwatchedAnswer contents absence fault refused config a → (n : ℕ) → (n ≡ 2 → ⊥) → (n ≡ 3 → ⊥) → (n ≡ 8 → ⊥) → a.status ≡ n → ⊥
+  unwatched_status a (inl memory) n two three eight s = eight (sym s ∙ ap (λ (b : Answer). b.status) memory)
+  unwatched_status a (inr (why, loads, is)) n two three eight s = refusal_not n two three eight config why (sym (ap (λ (b : Answer). b.status) is) ∙ s)
+
+  unwatched_unread : (a : Answer) → UnwatchedAnswer contents absence fault refused config a → a.status ≡ 3 → absence ⊎ fault
+  unwatched_unread a (inl memory) s = let eight : a.status ≡ 8 = ap (λ (b : Answer). b.status) memory in absurd (omega (arith, eight, s))
+  unwatched_unread a (inr (why, loads, is)) s = refusal_unread gauge_of contents absence fault refused config config why loads (sym (ap (λ (b : Answer). b.status) is) ∙ s)
+
+  module _ (status : ℕ) (o0 o1 e0 e1 : Option (List ℕ)) (m0 m1 n0 n1 : ℕ) (gives : WatchGiven status o0 o1 e0 e1 m0 m1 n0 n1) where
+    never_four : (gives.0).status ≡ 4 → ⊥
+    never_four s =
+        elim gives.1 [
+          | inl (unwatched, same) ↦ unwatched_status gives.0 unwatched 4 (λ e. omega (arith, e)) (λ e. omega (arith, e)) (λ e. omega (arith, e)) s
+          | inr (conf, loads, (end, out, lines, unfailed, does, is)) ↦ unfailed_not_four end unfailed (sym (ap (λ (b : Answer). b.status) is) ∙ s)
+        ]
+
+    pub watched_fault : status ≡ 4 → Rose m0 m1 ⊎ Rose n0 n1
+    watched_fault s = delivered_fault status o0 o1 e0 e1 m0 m1 n0 n1 gives.0 never_four gives.2 s
+
+    pub watched_kept : (status ≡ 4 → ⊥) → (m1 ≡ m0) × (n1 ≡ n0)
+    watched_kept other = delivered_kept status o0 o1 e0 e1 m0 m1 n0 n1 gives.0 gives.2 other
+
+    -- the status of the answer, where it isn't 4
+    answered : (n : ℕ) → status ≡ n → (n ≡ 4 → ⊥) → (gives.0).status ≡ n
+    answered n s four = elim (delivered_status status o0 o1 e0 e1 m0 m1 n0 n1 gives.0 gives.2) [ inl same ↦ sym same ∙ s | inr is_four ↦ absurd (four (sym s ∙ is_four)) ]
+
+    -- at a status that no end of serving has, the hub wasn't asked
+    unwatched_at : (n : ℕ) → status ≡ n → (n ≡ 0 → ⊥) → (n ≡ 6 → ⊥) → (n ≡ 7 → ⊥) → (n ≡ 4 → ⊥) → (n ≡ 8 → ⊥)
+        → UnwatchedAnswer contents absence fault refused config gives.0 × ((gives.0).status ≡ n) × (hub1 ≡ hub0)
+    unwatched_at n s zero six seven four eight =
+        let same = answered n s four in
+        elim gives.1 [
+          | inl (unwatched, hub) ↦ (unwatched, same, hub)
+          | inr (conf, loads, (end, out, lines, unfailed, does, is)) ↦ absurd (served_not n zero six seven four eight end (sym (ap (λ (b : Answer). b.status) is) ∙ same))
+        ]
+
+    pub watched_unread : status ≡ 3 → absence ⊎ fault
+    watched_unread s =
+        let at = unwatched_at 3 s (λ e. omega (arith, e)) (λ e. omega (arith, e)) (λ e. omega (arith, e)) (λ e. omega (arith, e)) (λ e. omega (arith, e)) in
+        unwatched_unread gives.0 at.0 at.1
+
+    pub watched_unasked : (status ≡ 2) ⊎ (status ≡ 3) → hub1 ≡ hub0
+    watched_unasked (inl s) =
+        (unwatched_at 2 s (λ e. omega (arith, e)) (λ e. omega (arith, e)) (λ e. omega (arith, e)) (λ e. omega (arith, e)) (λ e. omega (arith, e))).2
+    watched_unasked (inr s) =
+        (unwatched_at 3 s (λ e. omega (arith, e)) (λ e. omega (arith, e)) (λ e. omega (arith, e)) (λ e. omega (arith, e)) (λ e. omega (arith, e))).2
+
+    pub watched_meant : status ≡ 1 → ⊥
+    watched_meant s =
+        let at = unwatched_at 1 s (λ e. omega (arith, e)) (λ e. omega (arith, e)) (λ e. omega (arith, e)) (λ e. omega (arith, e)) (λ e. omega (arith, e)) in
+        unwatched_status gives.0 at.0 1 (λ e. omega (arith, e)) (λ e. omega (arith, e)) (λ e. omega (arith, e)) at.1
+
+    -- ---- where the files are told
+
+    module _ (held : Contents) (told : contents ≡ Some held) where
+      abbrev IsOurs : ℕ → Type 0
+      IsOurs n = IsLoadedStatus config (gauge_of (held 0) config) (λ conf. IsServeStatus) n
+
+      here : (made : GaugeLoad) → GaugeLoads contents absence fault refused config made → GaugeLoads (Some held) absence fault refused config made
+      here made loads = subst (λ (c : Option Contents). GaugeLoads c absence fault refused config made) told loads
+
+      end_told : (end : Drove) → StatusFor (number_served end) IsServeStatus fault
+      end_told drove.Done = inl (inl refl)
+      end_told drove.HubFault = inl (inr (inl refl))
+      end_told drove.Spent = inl (inr (inr refl))
+      end_told drove.WriteFault = inr (inl refl)
+      end_told drove.Memory = inr (inr (inl refl))
+
+      answer_told : (a : Answer) → RepliesWatch may contents absence fault refused config events hub0 hub1 a → StatusFor a.status IsOurs fault
+      answer_told a (inl (inl memory, hub)) = inr (inr (inl (ap (λ (b : Answer). b.status) memory)))
+      answer_told a (inl (inr (why, loads, is), hub)) =
+          subst (λ (b : Answer). StatusFor b.status IsOurs fault) (sym is)
+          (refusal_told held absence fault gauge_of refused config (λ conf. IsServeStatus) why (here (Err why) loads))
+      answer_told a (inr (conf, loads, (end, out, lines, unfailed, does, is))) =
+          subst (λ (b : Answer). StatusFor b.status IsOurs fault) (sym is)
+          (accepted_told held absence fault gauge_of refused config (λ c. IsServeStatus) conf (number_served end) (here (Ok conf) loads) (end_told end))
+
+      pub watched_told : StatusFor status IsOurs fault
+      watched_told =
+          elim (delivered_status status o0 o1 e0 e1 m0 m1 n0 n1 gives.0 gives.2) [
+            | inl same ↦ subst (λ n. StatusFor n IsOurs fault) (sym same) (answer_told gives.0 gives.1)
+            | inr four ↦ inr (inl four)
+          ]
+
+      -- ---- the command
+
+      module _ (served_lines : (k : Monitor) (story : List Happening) → out_of monitor Hub k story ≡ ended_lines (gauge_lines k story)) where
+        abbrev Did : Drove → Type 0
+        Did end = IsHubWatched may config (held 0) events end hub0 hub1 o0 o1 e0 e1
+
+        -- all that happened was answered whole, up to the hub's last call
+        did : (conf : GaugeConf) → gauge_of (held 0) config ≡ Ok conf → (out lines : List ℕ) → o1 ≡ appended o0 out → (end : Drove) → e1 ≡ appended e0 (lines ++ served_line end)
+            → (hs : List Happening) → Ended events hs end → (mid : H) (all : AnswersAll monitor may Hub (begun conf) hs hub0 mid (Some []) (Some out) (Some []) (Some lines))
+            → Leads may hub0 (all.told.steps ++ last_call end) hub1 → Did end
+        did conf accepted out lines wrote end said hs ended mid all leads = record {
+          conf = conf;
+          happened = hs;
+          accepted = accepted;
+          ended = ended;
+          steps = all.told.steps;
+          went_on = all.told.went_on;
+          leads = leads;
+          gave = whole_happened monitor Hub (begun conf) hs (story all.told.steps) all.told.deeds;
+          told = all.told.deeds;
+          out = wrote ∙ ap (λ (o : Option (List ℕ)). appended o0 (unwrap_or o [])) all.out ∙ ap (λ (l : List ℕ). appended o0 l) (served_lines (begun conf) hs);
+          err = said ∙ ap (λ (o : Option (List ℕ)). appended e0 (unwrap_or o [] ++ served_line end)) all.err;
+        }
+
+        did_by : (conf : GaugeConf) → gauge_of (held 0) config ≡ Ok conf → (out lines : List ℕ) → o1 ≡ appended o0 out → (end : Drove) → e1 ≡ appended e0 (lines ++ served_line end)
+            → IsItsEnd end → Does may events conf hub0 hub1 out lines end → Did end
+        did_by conf accepted out lines wrote drove.Done said its (hs, mid, few, all, last) =
+            did conf accepted out lines wrote drove.Done said hs few mid all (next all.told.steps mid (turned turns.Done) hub1 all.told.leads last)
+        did_by conf accepted out lines wrote drove.HubFault said its (hs, mid, few, all, last) =
+            did conf accepted out lines wrote drove.HubFault said hs few mid all (next all.told.steps mid (turned turns.Failed) hub1 all.told.leads last)
+        did_by conf accepted out lines wrote drove.Spent said its (hs, is, all) =
+            did conf accepted out lines wrote drove.Spent said hs is hub1 all (subst (λ (l : List HubStep). Leads may hub0 l hub1) (sym (append-nil all.told.steps)) all.told.leads)
+        did_by conf accepted out lines wrote drove.WriteFault said its does = absurd its
+        did_by conf accepted out lines wrote drove.Memory said its does = absurd its
+
+        pub watched_right : (end : Drove) → IsItsEnd end → status ≡ number_served end → Did end
+        watched_right end its s =
+            let same = answered (number_served end) s (its_end_not_four end its) in
+            let whole : (o1 ≡ appended o0 (gives.0).out) × (e1 ≡ appended e0 (gives.0).err) = elim gives.2 [ inl all ↦ (all.1, all.2) | inr front ↦ absurd (its_end_not_four end its (sym s ∙ front.0)) ] in
+            elim gives.1 [
+              | inl (unwatched, hub) ↦ absurd (unwatched_status gives.0 unwatched (number_served end) (λ e. its_end_not_refused 2 (inl refl) end its e) (λ e. its_end_not_refused 3 (inr (inl refl)) end its e) (λ e. its_end_not_refused 8 (inr (inr refl)) end its e) same)
+              | inr (conf, loads, (last, out, lines, unfailed, does, is)) ↦
+                  let one : last ≡ end = same_end last end (sym (ap (λ (b : Answer). b.status) is) ∙ same) in
+                  did_by conf ((here (Ok conf) loads).told held refl) out lines (whole.0 ∙ ap (λ (b : Answer). appended o0 b.out) is) end
+                  (whole.1 ∙ ap (λ (b : Answer). appended e0 b.err) is ∙ ap (λ (d : Drove). appended e0 (lines ++ served_line d)) one) its
+                  (subst (λ (d : Drove). Does may events conf hub0 hub1 out lines d) one does)
+            ]

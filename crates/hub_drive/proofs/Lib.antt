@@ -1,0 +1,7 @@
+pub mod Answering
+pub mod Deeds
+pub mod Pieces
+pub mod Replaying
+pub mod Stories
+pub mod Telling
+pub mod Told

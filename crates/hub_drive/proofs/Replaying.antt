@@ -1,0 +1,214 @@
+-- The replay of a recording, from what the hub that reads it gave and was told.
+use Rattle.std.proofs.Common.{◌≡◌, ◌≤◌, ◌<◌, ◌⊎◌, inl, inr, ℕ, ◌+◌, ◌-◌, ◌^◌, min, arith, Bool, true, false, List, [], Option, Some, None, Result, Ok, Err, IfOk, OnOk, OnErr, refl, sym, ap, subst, ◌∙◌}
+use Rattle.std.specs.Result.{result_unwrap_or}
+use Rattle.fg_outside.specs.declared.file_source.FileSource.{FileSource}
+use Rattle.fg_outside.specs.declared.hub.Happening.{Happening}
+use Rattle.fg_outside.specs.declared.hub.Turn.TheVariants.{Done as is_done}
+use Rattle.fg_outside.specs.Contents.{Contents}
+use Rattle.fg_outside.specs.Contents.{Tells as FilesTell}
+use Rattle.fg_outside.specs.Counts.{Rose}
+use Rattle.fg_outside.specs.FileSource.{faults_of, files_of, left_in, missing_of, name_of, KeepsFiles}
+use Rattle.fg_outside.specs.Wrote.{appended}
+use Rattle.fg_outside.specs.HubStep.{HubStep, Leads, happenings, story, turned}
+use Rattle.fg_outside.proofs.SinkLemmas.{appended-nil, AppendsFront-none}
+use Rattle.fg_outside.proofs.CountLemmas.{Rose-since}
+use Rattle.fg_outside.proofs.StepLemmas.{Went-all, KeepsFiles-fault, KeepsFiles-read, KeepsFiles-same, KeepsFiles-then}
+use Rattle.recording.specs.declared.refused.RecordRefused.{RecordRefused}
+use Rattle.recording.specs.declared.script_hub.ScriptHub.{ScriptHub}
+use Rattle.recording.specs.Script.{refusal_in, source_in, ScriptStep, StandsFor}
+use Rattle.recording.specs.Turns.{closings, turns}
+use Rattle.recording.proofs.Whole.{done_told, source_goes, stopped_told}
+use Rattle.hub_drive.specs.declared.drive.Drove.{Drove}
+use Rattle.hub_drive.specs.declared.drive.Drove.TheVariants as drove
+use Rattle.hub_drive.specs.declared.replay.Replayed.TheVariants as replayed
+use Rattle.hub_drive.specs.declared.sayings.Outlet.{Outlet}
+use Rattle.hub_drive.specs.Driving.{Deed, IsFront, closings_of, deeds, deeds_of, out_of}
+use Rattle.hub_drive.specs.Machine.{Workings}
+use Rattle.hub_drive.specs.Driven.{Drives}
+use Rattle.hub_drive.specs.Replay.{IsStoryOf, ReadsSource, Replays, RunsSource, TellsSoFar, replayed_by}
+use Rattle.hub_drive.proofs.Deeds.{front_closed, whole_closed, whole_happened}
+use Rattle.hub_drive.proofs.Stories.{none_begun, out-none}
+use Rattle.hub_drive.proofs.Telling.{IsFront-same}
+
+-- ---- nothing was read
+
+module _ {S : Type 0} (m : Workings S) (outlet : Outlet) (contents : Option Contents) (name : List ℕ) (w : S) where
+  nothing_told : TellsSoFar m contents name w []
+  nothing_told = λ bytes tells. (
+    [],
+    record { rest = []; parts = refl },
+    record { records = []; waits = None; front = []; rest = bytes; parts = refl; spell = refl; follow = tt; told = refl },
+  )
+
+  nothing_out : (out : Option (List ℕ)) → out ≡ appended out (out_of m outlet w [])
+  nothing_out out = sym (ap (λ (l : List ℕ). appended out l) (out-none m outlet w) ∙ appended-nil out)
+
+  pub never_read : (absence fault : Type 0) (out err : Option (List ℕ)) → absence ⊎ fault → Replays m outlet contents name absence fault w out out err err replayed.Unread
+  never_read absence fault out err why = ([], record { out = nothing_out out; err = sym (appended-nil err) }, nothing_told, why)
+
+  pub never_begun : (absence fault : Type 0) (out err : Option (List ℕ)) → Replays m outlet contents name absence fault w out out err err replayed.Memory
+  never_begun absence fault out err = (
+    [],
+    record {
+      out = AppendsFront-none out (out_of m outlet w []);
+      err = AppendsFront-none err [];
+      but_last = none_begun m outlet w [] out out err err (nothing_out out) (sym (appended-nil err));
+    },
+    nothing_told,
+  )
+
+-- a file that isn't there, or isn't read
+pub why_unread : {E : Type 0} (there : Result Bool E) (absence fault : Type 0) → IfOk there (λ b. b ≡ false → absence) → OnErr there fault → result_unwrap_or there false ≡ false → absence ⊎ fault
+why_unread (Ok b) absence fault absent failed h = inl (absent h)
+why_unread (Err e) absence fault absent failed h = inr failed
+
+pub was_there : {E : Type 0} (there : Result Bool E) → IfOk there (λ b. b ≡ false) → result_unwrap_or there false ≡ true → ⊥
+was_there (Ok b) missing h = cc
+was_there (Err e) missing h = cc
+
+pub failed_write : (how : Drove) (refused : Option RecordRefused) → replayed_by how refused ≡ replayed.WriteFault → how ≡ drove.WriteFault
+failed_write drove.Done refused h = cc
+failed_write drove.HubFault refused h = cc
+failed_write drove.Spent refused h = cc
+failed_write drove.WriteFault refused h = refl
+failed_write drove.Memory refused h = cc
+
+pub no_failed_write : (how : Drove) (refused : Option RecordRefused) → (replayed_by how refused ≡ replayed.WriteFault → ⊥) → how ≡ drove.WriteFault → ⊥
+no_failed_write how refused other is = other (ap (λ (d : Drove). replayed_by d refused) is)
+
+pub no_failed_read : (how : Drove) (refused : Option RecordRefused) → (replayed_by how refused ≡ replayed.Unread → ⊥) → how ≡ drove.HubFault → ⊥
+no_failed_read how refused other is = other (ap (λ (d : Drove). replayed_by d refused) is)
+
+-- a file that is there was read
+pub was_read : {E : Type 0} (there : Result Bool E) (kept : Type 0) → OnOk there kept → result_unwrap_or there false ≡ true → kept
+was_read (Ok b) kept read h = read
+was_read (Err e) kept read h = cc
+
+-- counts that together stay, of which none fell, stay each, unless they stand at their last value
+none_rose : (faults old now : ℕ) (missed missed_now : ℕ) → missed ≡ 0 → old ≡ faults → old ≤ now
+    → min (now + missed_now) (2 ^ 64 - 1) ≡ min (old + missed) (2 ^ 64 - 1) → faults < 2 ^ 64 - 1 → now ≡ faults
+none_rose faults old now missed missed_now none so_far grown same below = omega (arith, none, so_far, grown, same, below)
+
+-- ---- what was read
+
+module _ {F : Type 0} (held : F → Option Contents) (faults absences : F → ℕ) where
+  -- the steps of the hub that reads a file
+  abbrev pub MayRead : ScriptHub (FileSource F) → HubStep → ScriptHub (FileSource F) → Type 0
+  MayRead old step new = ScriptStep (left_in held) (KeepsFiles held faults absences) old step new
+
+  -- a hub that begins to read this file
+  abbrev pub BeginsToRead : Option Contents → List ℕ → ScriptHub (FileSource F) → Type 0
+  BeginsToRead contents name hub = (bytes : List ℕ) → FilesTell contents name (Some bytes) → StandsFor (left_in held) (Some bytes) hub [] None []
+
+  -- along any calls its files are kept
+  pub reads_keep : (from to : FileSource F) → ReadsSource (left_in held) (KeepsFiles held faults absences) from to → KeepsFiles held faults absences from to
+  reads_keep from to reads =
+      subst (λ (s : FileSource F). KeepsFiles held faults absences from s) reads.gives
+      (subst (λ (s : FileSource F). KeepsFiles held faults absences s (source_in reads.after)) reads.takes
+      (Went-all (KeepsFiles held faults absences) (KeepsFiles held faults absences) (KeepsFiles-same held faults absences) (KeepsFiles-then held faults absences) (λ (a b : FileSource F) keeps. keeps) (source_in reads.hub) (source_in reads.after)
+      (source_goes (left_in held) (KeepsFiles held faults absences) reads.hub reads.after reads.goes.0 reads.goes.1)))
+
+  -- a fault of the hub is one of its files
+  pub fault_of_files : (files : F) (old new : FileSource F) → missing_of old ≡ 0 → faults files ≤ faults (files_of old) → absences files ≤ absences (files_of old) → KeepsFiles held faults absences old new → Rose (faults_of faults old) (faults_of faults new) → Rose (absences files) (absences (files_of new)) ⊎ Rose (faults files) (faults (files_of new))
+  fault_of_files files old new none faults_so_far absences_so_far keeps rose =
+      elim (KeepsFiles-fault held faults absences old new none keeps rose) [
+        | inl risen ↦ inr (Rose-since (faults files) (faults (files_of old)) (faults (files_of new)) faults_so_far risen)
+        | inr risen ↦ inl (Rose-since (absences files) (absences (files_of old)) (absences (files_of new)) absences_so_far risen)
+      ]
+
+  -- where the faults of the hub stay, those of its files do
+  pub none_of_files : (files : F) (old new : FileSource F) → missing_of old ≡ 0 → faults (files_of old) ≡ faults files → KeepsFiles held faults absences old new → faults_of faults new ≡ faults_of faults old → faults files < 2 ^ 64 - 1 → faults (files_of new) ≡ faults files
+  none_of_files files old new none so_far keeps same below =
+      none_rose (faults files) (faults (files_of old)) (faults (files_of new)) (missing_of old) (missing_of new) none so_far keeps.files_faults same below
+
+  -- where the file is told, a fault is one of reading it
+  pub fault_of_told : (files : F) (old new : FileSource F) (bytes : List ℕ) → missing_of old ≡ 0 → FilesTell (held (files_of old)) (name_of old) (Some bytes) → faults files ≤ faults (files_of old) → KeepsFiles held faults absences old new → Rose (faults_of faults old) (faults_of faults new) → Rose (faults files) (faults (files_of new))
+  fault_of_told files old new bytes none tells so_far keeps rose = Rose-since (faults files) (faults (files_of old)) (faults (files_of new)) so_far (KeepsFiles-read held faults absences old new bytes none tells keeps rose)
+
+module _ {S F : Type 0} (m : Workings S) (outlet : Outlet) (held : F → Option Contents) (faults absences : F → ℕ) where
+  module _ (contents : Option Contents) (name : List ℕ) (w : S) (hub : ScriptHub (FileSource F)) (begins : BeginsToRead held faults absences contents name hub) where
+    so_far : (hs : List Happening) (steps : List HubStep) (to : ScriptHub (FileSource F)) → Leads (MayRead held faults absences) hub steps to → IsFront (deeds (story steps)) (deeds_of m outlet w hs) → happenings (story steps) ≡ hs → TellsSoFar m contents name w hs
+    so_far hs steps to way front happened = λ bytes tells.
+        let told = stopped_told (left_in held) (KeepsFiles held faults absences) bytes hub to steps (begins bytes tells) way in (
+          closings 0 (story steps),
+          front_closed m outlet w hs (story steps) 0 front,
+          record {
+            records = told.records;
+            waits = told.waits;
+            front = told.front;
+            rest = told.rest;
+            parts = told.parts;
+            spell = told.spell;
+            follow = told.follow;
+            told = sym happened ∙ told.gave;
+          },
+        )
+
+    whole_so_far : (hs : List Happening) (steps : List HubStep) (to : ScriptHub (FileSource F)) → Leads (MayRead held faults absences) hub steps to → deeds (story steps) ≡ deeds_of m outlet w hs → TellsSoFar m contents name w hs
+    whole_so_far hs steps to way told =
+        so_far hs steps to way (subst (λ (l : List Deed). IsFront (deeds (story steps)) l) told (IsFront-same (deeds (story steps)))) (whole_happened m outlet w hs (story steps) told)
+
+    whole_story : (hs : List Happening) (steps : List HubStep) (to after : ScriptHub (FileSource F)) → Leads (MayRead held faults absences) hub steps to → deeds (story steps) ≡ deeds_of m outlet w hs → MayRead held faults absences to (turned is_done) after → (bytes : List ℕ) → FilesTell contents name (Some bytes) → IsStoryOf bytes hs (closings_of m 0 w hs) (refusal_in after)
+    whole_story hs steps to after way told done bytes tells =
+        let all = done_told (left_in held) (KeepsFiles held faults absences) bytes hub to after steps (begins bytes tells) way done in
+        record {
+          records = all.records;
+          told =
+              sym (whole_happened m outlet w hs (story steps) told)
+              ∙ all.told
+              ∙ ap (turns all.records) (whole_closed m outlet w hs (story steps) 0 told);
+          whole = all.whole;
+          refuses = all.refuses;
+        }
+
+    -- by how driving ended
+    pub replays : (absence fault : Type 0) (after : ScriptHub (FileSource F)) (out_old out_new err_old err_new : Option (List ℕ)) (refused : Option RecordRefused) → refused ≡ refusal_in after → (how : Drove) → Drives m (MayRead held faults absences) outlet (2 ^ 64 - 1) w hub after out_old out_new err_old err_new how → (how ≡ drove.HubFault → absence ⊎ fault) → Replays m outlet contents name absence fault w out_old out_new err_old err_new (replayed_by how refused)
+    replays absence fault after out_old out_new err_old err_new refused is drove.Done (hs, mid, few, all, done) why = (
+      hs,
+      record { out = all.out; err = all.err },
+      λ bytes tells. subst (λ (r : Option RecordRefused). IsStoryOf bytes hs (closings_of m 0 w hs) r) (sym is) (whole_story hs all.told.steps mid after all.told.leads all.told.deeds done bytes tells),
+    )
+    replays absence fault after out_old out_new err_old err_new refused is drove.HubFault (hs, mid, few, all, failed) why = (
+      hs,
+      record { out = all.out; err = all.err },
+      whole_so_far hs all.told.steps mid all.told.leads all.told.deeds,
+      why refl,
+    )
+    replays absence fault after out_old out_new err_old err_new refused is drove.Spent (hs, most, all) why = (
+      hs,
+      record { out = all.out; err = all.err },
+      whole_so_far hs all.told.steps after all.told.leads all.told.deeds,
+      most,
+    )
+    replays absence fault after out_old out_new err_old err_new refused is drove.WriteFault (hs, few, front, all_told) why = (
+      hs,
+      record { out = front.out; err = front.err; but_last = front.but_last },
+      so_far hs front.told.steps after front.told.leads front.told.front front.happened,
+    )
+    replays absence fault after out_old out_new err_old err_new refused is drove.Memory (hs, few, front) why = (
+      hs,
+      record { out = front.out; err = front.err; but_last = front.but_last },
+      so_far hs front.told.steps after front.told.leads front.told.front front.happened,
+    )
+
+  -- ---- a run over the file
+
+  module _ (contents : Option Contents) (name : List ℕ) (w : S) (from : FileSource F) (out_old out_new err_old err_new : Option (List ℕ)) (how : Drove) (refused : Option RecordRefused)
+      (runs : RunsSource m outlet (left_in held) (KeepsFiles held faults absences) w from out_old out_new err_old err_new how refused) where
+    pub run_replays : ((bytes : List ℕ) → FilesTell contents name (Some bytes) → left_in held from ≡ Some bytes) → (absence fault : Type 0) → (how ≡ drove.HubFault → absence ⊎ fault) → Replays m outlet contents name absence fault w out_old out_new err_old err_new (replayed_by how refused)
+    run_replays left absence fault why =
+        replays contents name w runs.hub
+        (λ bytes tells. subst (λ (l : Option (List ℕ)). StandsFor (left_in held) l runs.hub [] None []) (left bytes tells) runs.begins)
+        absence fault runs.after out_old out_new err_old err_new refused runs.tells how runs.drives why
+
+pub unread_fault : (how : Drove) (refused : Option RecordRefused) → replayed_by how refused ≡ replayed.Unread → how ≡ drove.HubFault
+unread_fault drove.Done refused h = cc
+unread_fault drove.HubFault refused h = refl
+unread_fault drove.Spent refused h = cc
+unread_fault drove.WriteFault refused h = cc
+unread_fault drove.Memory refused h = cc
+
+-- a file that is there, and isn't read
+pub why_not_read : {E : Type 0} (there : Result Bool E) (fault : Type 0) → IfOk there (λ b. b ≡ true) → OnErr there fault → result_unwrap_or there false ≡ false → fault
+why_not_read (Ok b) fault is failed h = cc
+why_not_read (Err e) fault is failed h = failed

@@ -1,0 +1,4 @@
+pub mod Machine
+pub mod Driving
+pub mod Driven
+pub mod Replay

@@ -1,0 +1,15 @@
+//! A machine driven by a hub, turn by turn: what it says goes out, what it closes is closed, and its lines are
+//! written. A run over a recording is such a run.
+#![tactic(auto)]
+
+pub mod drive;
+pub mod laws;
+pub mod machine;
+pub mod replay;
+mod sayings;
+mod turn;
+
+pub use drive::Drove;
+pub use machine::{Machine, Taken};
+pub use replay::Replayed;
+pub use sayings::Outlet;
