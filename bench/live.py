@@ -539,8 +539,9 @@ def whole(program, folder, recorder=None):
     stage.end()
 
 
-if sys.argv[1:] == ["host"]:
-    be_host()
-else:
-    signal.signal(signal.SIGTERM, lambda *_: sys.exit("stopped"))
-    whole(*sys.argv[1:])
+if __name__ == "__main__":
+    if sys.argv[1:] == ["host"]:
+        be_host()
+    else:
+        signal.signal(signal.SIGTERM, lambda *_: sys.exit("stopped"))
+        whole(*sys.argv[1:])
