@@ -1,5 +1,5 @@
 -- Single steps of a hub whose happenings are recorded.
-use Rattle.std.proofs.Common.{◌≡◌, ◌≤◌, ℕ, true, false, List, [], ◌∷◌, Option, refl, sym, ◌∙◌, ap, subst, arith, true≢false}
+use Rattle.std.proofs.Common.{◌≡◌, ◌≤◌, ℕ, Bool, true, false, List, [], ◌∷◌, Option, refl, sym, ◌∙◌, ap, subst, arith, true≢false}
 use Rattle.fg_outside.specs.declared.hub.Said.{Said}
 use Rattle.fg_outside.specs.declared.hub.Said.TheVariants.{Taken, Gone, Memory}
 use Rattle.fg_outside.specs.declared.hub.Turn.TheVariants.{Failed}
@@ -7,7 +7,7 @@ use Rattle.fg_outside.specs.HubStep.{HubStep, turned, said, Leads, start, next}
 use Rattle.recording_hub.specs.declared.recording_hub.RecordingHub.{RecordingHub}
 use Rattle.recording_hub.specs.declared.recorder.Recorder.{Recorder}
 use Rattle.recording_hub.specs.Recorder.{Rests}
-use Rattle.recording_hub.specs.RecordingHub.{hub_in, sink_in, has_failed, faults_of, GoesAlong, Calls, Counts, Does}
+use Rattle.recording_hub.specs.RecordingHub.{hub_in, sink_in, has_failed, is_spent, faults_of, GoesAlong, Counts, Does, RecordingStep}
 
 module _ {H S : Type 0} (may : H → HubStep → H → Type 0) where
   -- the hub isn't called
@@ -21,13 +21,6 @@ module _ {H S : Type 0} (may : H → HubStep → H → Type 0) where
 -- the count doesn't fall
 pub counts_on : {H S : Type 0} (faults : H → ℕ) (old new : RecordingHub H S) (hub : H) → hub_in new ≡ hub → faults (hub_in old) ≤ faults hub → old.failures ≤ new.failures → faults_of faults old ≤ faults_of faults new
 counts_on faults old new hub same more_faults more_failures = omega (arith, more_faults, more_failures, ap (λ h. faults h) same)
-
--- a piece is answered as the hub answers
-pub does_say : {H S : Type 0} (may : H → HubStep → H → Type 0) (wrote : S → Option (List ℕ)) (faults : S → ℕ) (old new : RecordingHub H S) (conn : ℕ) (piece : List ℕ) (answer : Said)
-    → (answer ≡ Memory → ⊥) → Calls may (said conn piece answer) old new → Does may wrote faults old (said conn piece answer) new
-does_say may wrote faults old new conn piece Taken other calls = calls
-does_say may wrote faults old new conn piece Gone other calls = calls
-does_say may wrote faults old new conn piece Memory other calls = absurd (other refl)
 
 -- a call behind which neither the hub's faults nor its own are more
 pub counts_same : {H S : Type 0} (hub_faults : H → ℕ) (faults : S → ℕ) (old new : RecordingHub H S) (step : HubStep) → hub_faults (hub_in new) ≡ hub_faults (hub_in old) → new.failures ≡ old.failures → faults (sink_in old) ≤ faults (sink_in new)
@@ -74,3 +67,19 @@ spent_counts hub_faults faults old new step counts = record {
 
 pub rests_still : {S : Type 0} (wrote : S → Option (List ℕ)) (rec : Recorder S) → Rests wrote rec rec
 rests_still wrote rec = record { bytes = refl; place = refl; broken = refl }
+
+-- a piece is said to a hub that isn't spent
+module _ {H S : Type 0} (may : H → HubStep → H → Type 0) (hub_faults : H → ℕ) (wrote : S → Option (List ℕ)) (faults : S → ℕ) where
+  pub says : (old : RecordingHub H S) (hub : H) (conn : ℕ) (piece : List ℕ) (answer : Said) (spends : Bool) → is_spent old ≡ false → (answer ≡ Memory → spends ≡ true)
+      → may (hub_in old) (said conn piece answer) hub → hub_faults hub ≡ hub_faults (hub_in old) → RecordingStep may hub_faults wrote faults old (said conn piece answer) (record old { hub = hub; spent = spends })
+  says old hub conn piece answer spends runs memory step same = record {
+    does = by answer memory step;
+    along = goes_by may old _ (said conn piece answer) hub refl step;
+    running = λ r. runs;
+    counts = counts_same hub_faults faults old _ (said conn piece answer) same refl (omega arith);
+  }
+    where
+      by : (a : Said) → (a ≡ Memory → spends ≡ true) → may (hub_in old) (said conn piece a) hub → Does may wrote faults old (said conn piece a) (record old { hub = hub; spent = spends })
+      by Taken memory step = record { hub = step; recorder = refl }
+      by Gone memory step = record { hub = step; recorder = refl }
+      by Memory memory step = record { hub = λ r. step; no_hub = λ spent. absurd (true≢false (sym spent ∙ runs)); recorder = refl; spent = memory refl }

@@ -118,11 +118,11 @@ impl<H: Hub, S: Sink> Hub for RecordingHub<H, S> {
             return Turn::Memory;
         }
         match self.next_turn() {
-            Ok(turn) => turn,
             Err(_) => {
                 self.spent = true;
                 Turn::Memory
             }
+            Ok(turn) => turn,
         }
     }
 
@@ -130,13 +130,9 @@ impl<H: Hub, S: Sink> Hub for RecordingHub<H, S> {
         if self.spent {
             return Said::Memory;
         }
-        match self.hub.say(conn, piece) {
-            Said::Memory => {
-                self.spent = true;
-                Said::Memory
-            }
-            answer => answer,
-        }
+        let answer = self.hub.say(conn, piece);
+        self.spent = answer == Said::Memory;
+        answer
     }
 
     fn close(&mut self, conn: u32) {
