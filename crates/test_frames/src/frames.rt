@@ -2,7 +2,7 @@
 
 use conf_types::Conf;
 use neighbour_resolve::{Reply, answer, ask, counted_vid, heard_sender, send_back};
-use net_base::{DpId, NoMemory, PortNo};
+use net_base::{DpId, NoMemory, PortNo, Vid};
 use of_match::Action;
 use pkt_view::{FrameView, view};
 use std::alloc::Global;
@@ -36,17 +36,8 @@ fn answered(
     sent(alloc, reply.as_slice(), actions.as_slice())
 }
 
-/// Whom a frame that came in by a port lets hear.
-fn sender(
-    alloc: Global,
-    conf: &Conf,
-    dp: DpId,
-    port: PortNo,
-    frame: &FrameView<'_>,
-) -> Result<String, NoMemory> {
-    let Some(vid) = counted_vid(conf, dp, port, frame) else {
-        return format!(in alloc; "passed over");
-    };
+/// Whom a frame that counts in a VLAN lets hear.
+fn sender(alloc: Global, conf: &Conf, vid: Vid, frame: &FrameView<'_>) -> Result<String, NoMemory> {
     let mut out = format!(in alloc; "vlan {}", vid.get())?;
     if let Some(sender) = heard_sender(conf, vid, frame) {
         out.push_str(" ")?;
@@ -72,7 +63,10 @@ pub fn seen(
     };
     match view(frame.as_slice()) {
         Some(frame) if name == "answer" => Ok(Some(answered(alloc, conf, dp, port, &frame)?)),
-        Some(frame) => Ok(Some(sender(alloc, conf, dp, port, &frame)?)),
+        Some(frame) => match counted_vid(conf, dp, port, &frame) {
+            Some(vid) => Ok(Some(sender(alloc, conf, vid, &frame)?)),
+            None => Ok(Some(format!(in alloc; "passed over")?)),
+        },
         None => Ok(None),
     }
 }

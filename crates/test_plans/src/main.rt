@@ -85,7 +85,13 @@ fn answer(
         return Ok(None);
     };
     let text = match name {
-        "cold" => plan::cold_start(alloc, &bench.conf, &bench.now, dp, words)?,
+        "cold" => plan::cold_start(
+            alloc,
+            &bench.conf,
+            &bench.now,
+            dp,
+            test_words::number(words),
+        )?,
         "sends" => sent::sent(alloc, &bench.conf, &bench.now, dp, words)?,
         "event" => plan::event(alloc, &bench.conf, &bench.last_now, &bench.now, dp)?,
         "reload" => plan::reload(

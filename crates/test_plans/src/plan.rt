@@ -13,8 +13,7 @@ use of_match::{Entry, Tables};
 use packet_way::Now;
 use state_check::is_valid;
 use std::alloc::Global;
-use std::str::SplitWhitespace;
-use test_words::{number, put_command, put_entry};
+use test_words::{put_command, put_entry};
 use warm_plan::Warm;
 
 /// The answer where a state isn't valid for its configuration.
@@ -40,19 +39,19 @@ fn entries(alloc: Global, tables: &Tables, table: Option<u64>) -> Result<String,
     Ok(out)
 }
 
-/// The entries of a datapath's cold start; only those of a table, where a word more names it.
+/// The entries of a datapath's cold start; only those of a table, where one is named.
 pub fn cold_start(
     alloc: Global,
     conf: &Conf,
     now: &Now,
     dp: DpId,
-    words: &mut SplitWhitespace<'_>,
+    table: Option<u64>,
 ) -> Result<String, NoMemory> {
     if !is_valid(conf, now) {
         return format!(in alloc; "{NO_STATE}");
     }
     let tables = cold(alloc, conf, now, dp, &mut Units::new())?;
-    entries(alloc, &tables, number(words))
+    entries(alloc, &tables, table)
 }
 
 /// What is taken, and how much more there is to take.

@@ -25,11 +25,21 @@ impl Answers for Bench {
             ("records", text) => self.records = bytes_of(alloc, text)?,
             ("turns", text) => {
                 out.push_str(" => ")?;
-                write_turns(&mut out, alloc, self.records.as_slice(), text)?;
+                write_turns(
+                    &mut out,
+                    alloc,
+                    self.records.as_slice(),
+                    &mut text.split_whitespace(),
+                )?;
             }
             ("again", text) => {
                 out.push_str(" => ")?;
-                write_again(&mut out, alloc, self.records.as_slice(), text)?;
+                write_again(
+                    &mut out,
+                    alloc,
+                    self.records.as_slice(),
+                    &mut text.split_whitespace(),
+                )?;
             }
             _ => {}
         }

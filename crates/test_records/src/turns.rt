@@ -6,6 +6,7 @@ use recording::ScriptHub;
 use recording_hub::RecordingHub;
 use std::alloc::Global;
 use std::fmt::Write;
+use std::str::SplitWhitespace;
 
 /// Writes a turn in few words.
 fn write_turn(out: &mut String, turn: &Turn) -> Result<(), NoMemory> {
@@ -62,15 +63,14 @@ fn write_rest(out: &mut String, alloc: Global, hub: ScriptHub<MemSource>) -> Res
     }
 }
 
-/// Writes what becomes of a recording: the text is the number of its bytes, the number of the read that fails,
+/// Writes what becomes of a recording: the words are the number of its bytes, the number of the read that fails,
 /// from 1 on or 0 for none, and then what is asked.
 pub fn write_turns(
     out: &mut String,
     alloc: Global,
     records: &[u8],
-    text: &str,
+    words: &mut SplitWhitespace<'_>,
 ) -> Result<(), NoMemory> {
-    let mut words = text.split_whitespace();
     let len = words.next().unwrap_or("").parse::<usize>().unwrap_or(0);
     let failing = words.next().unwrap_or("").parse::<u64>().unwrap_or(0);
     let bytes = Bytes::from_slice(alloc, &records[..len.min(records.len())])?;
@@ -82,15 +82,14 @@ pub fn write_turns(
     write_rest(out, alloc, hub)
 }
 
-/// Writes what becomes of a recording whose turns are recorded again: the text is how many bytes the sink has room
+/// Writes what becomes of a recording whose turns are recorded again: the words are how many bytes the sink has room
 /// for, and then what is asked; behind stand whether the new recording broke off, and its bytes.
 pub fn write_again(
     out: &mut String,
     alloc: Global,
     records: &[u8],
-    text: &str,
+    words: &mut SplitWhitespace<'_>,
 ) -> Result<(), NoMemory> {
-    let mut words = text.split_whitespace();
     let room = words.next().unwrap_or("").parse::<usize>().unwrap_or(0);
     let source = SureSource::new(Bytes::from_slice(alloc, records)?);
     let sink = SureSink::new(alloc, room)?;
