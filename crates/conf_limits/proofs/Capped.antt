@@ -2,6 +2,7 @@
 use Rattle.std.proofs.Common.{◌≡◌, ℕ, ◌+◌, ◌<◌, Bool, true, false, cond, not, ltb, List, [], ◌∷◌, ◌++◌, take, length, get_or, map, min, refl, sym, ap, subst, ◌∙◌, arith}
 use Rattle.std.specs.Prelude.{sum_by, filter, fold, ◌==◌}
 use Rattle.std.proofs.lemmas.List.Sums.{sum_by-cons, sum_by-append, sum_by_more}
+use Rattle.std.proofs.lemmas.Bool.Decides.{nat_tests}
 use Rattle.std.proofs.lemmas.Bool.{ltb-true, ltb-false, lt-ltb, le-ltb}
 use Rattle.std.specs.List.{flat_map}
 use Rattle.conf_types.specs.declared.acl.Rule.{Rule}
@@ -12,7 +13,7 @@ use Rattle.conf_types.specs.Attached.{rules_of}
 use Rattle.conf_types.specs.Configuration.{Configuration}
 use Rattle.conf_types.specs.Membership.{has_edge_member}
 use Rattle.conf_types.specs.Valid.{attached}
-use Rattle.conf_limits.specs.Sizes.{capped, cost, vlan_cost}
+use Rattle.conf_limits.specs.Sizes.{capped, cost, named_rules, vlan_cost}
 
 min_again : (cap a b : ℕ) → min cap (min cap a + b) ≡ min cap (a + b)
 min_again cap a b = omega arith
@@ -73,6 +74,13 @@ pub sum-joined : {A B : Type 0} (f : B → ℕ) (g : A → List B) (xs : List A)
 sum-joined f g [] = refl
 sum-joined f g (x ∷ xs) =
     sum_by-append f (g x) (flat_map g xs) ∙ ap (λ n. sum_by f (g x) + n) (sum-joined f g xs) ∙ sym (sum_by-cons (λ y. sum_by f (g y)) x xs)
+
+-- ACLs cost what each of them does; no name, nothing
+pub cost-named : (f : Rule → ℕ) (conf : Configuration) (names : List (List ℕ)) → cost (λ rules. sum_by f rules) conf names ≡ sum_by (λ name. sum_by f (named_rules conf name)) names
+cost-named f conf [] = refl
+cost-named f conf (name ∷ names) =
+    let some : (length (name ∷ names) == 0) ≡ false = grind (arith, nat_tests) in
+    subst (λ none. cond (not none) (sum_by f (rules_of conf (name ∷ names))) 0 ≡ sum_by (λ name. sum_by f (named_rules conf name)) (name ∷ names)) (sym some) (sum-joined f (named_rules conf) (name ∷ names))
 
 -- what is attached on a datapath, on its interfaces and for its VLANs
 pub attached-sum : (size : List Rule → ℕ) (conf : Configuration) (d : Dp)

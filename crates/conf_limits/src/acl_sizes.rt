@@ -108,37 +108,7 @@ fn add_outputs(
     Ok(sum)
 }
 
-fn outputs_of(
-    alloc: Global,
-    acls: &AclNames,
-    ports: &PortPlaces,
-    cap: usize,
-    names: &[Text],
-) -> Result<usize, NoMemory>
-    ensures { IfOk result (λ sum. sum ≡ min cap (sum_by (λ name. sum_by (ports_named ports.now.dp.now) (named_rules acls.now name)) names.now)) }
-{
-    let mut sum = 0;
-    for name in names {
-        let named = add_outputs(alloc, ports, cap, named_rules(acls, name))?;
-        sum = add(cap, sum, named);
-    }
-    Ok(sum)
-}
-
-/// How many ports the named ACLs name on a datapath, rule by rule.
-fn outputs_len(
-    alloc: Global,
-    acls: &AclNames,
-    ports: &PortPlaces,
-    cap: usize,
-    names: &[Text],
-) -> Result<usize, NoMemory>
-    ensures { IfOk result (λ sum. sum ≡ min cap (sum_by (ports_named ports.now.dp.now) (rules_of acls.now names.now))) }
-{
-    outputs_of(alloc, acls, ports, cap, names)
-}
-
-/// The same, where they are attached.
+/// How many ports the named ACLs name on a datapath where they are attached, rule by rule.
 fn outputs(
     alloc: Global,
     acls: &AclNames,
@@ -148,10 +118,12 @@ fn outputs(
 ) -> Result<usize, NoMemory>
     ensures { IfOk result (λ sum. sum ≡ min cap (cost (λ rules. sum_by (ports_named ports.now.dp.now) rules) acls.now names.now)) }
 {
-    if names.is_empty() {
-        return Ok(0);
+    let mut sum = 0;
+    for name in names {
+        let named = add_outputs(alloc, ports, cap, named_rules(acls, name))?;
+        sum = add(cap, sum, named);
     }
-    outputs_len(alloc, acls, ports, cap, names)
+    Ok(sum)
 }
 
 fn outputs_for_vlan(
