@@ -1,3 +1,4 @@
+pub mod FilesLemmas
 pub mod GatherLemmas
 pub mod JoinLemmas
 pub mod NameLemmas

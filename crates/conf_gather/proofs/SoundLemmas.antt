@@ -1,8 +1,7 @@
 -- What is gathered is sound, and nests no more lists and maps than a text may.
-use Rattle.std.proofs.Common.{◌≡◌, ℕ, zero, suc, ◌≤◌, ℤ, Bool, true, false, ◌||◌, List, [], ◌∷◌, ◌++◌, Option, Some, None, Result, Ok, Err, refl, sym, ap, subst, ◌∙◌, arith}
+use Rattle.std.proofs.Common.{◌≡◌, ℕ, suc, ◌≤◌, ℤ, Bool, true, false, ◌||◌, List, [], ◌∷◌, ◌++◌, Option, Some, None, Result, Ok, Err, refl, sym, ap, subst, ◌∙◌, arith}
 use Rattle.std.specs.Prelude.{map, codes, is_some, is_none, if◌then◌else◌}
 use Rattle.std.specs.Option.{option_map, option_map_or, option_or}
-use Rattle.std.specs.Str.{bytes_eq}
 use Rattle.std.proofs.lemmas.Bool.{cond-true, cond-false}
 use Rattle.std.proofs.lemmas.Bool.Decides.{Decides-int_eq}
 use Rattle.std.proofs.lemmas.Slice.Eq.{bytes_eq-Decides}
@@ -28,7 +27,6 @@ use Rattle.conf_shape.specs.Sections.{key_text}
 use Rattle.conf_shape.specs.Reads.{entries_in, entries_of}
 use Rattle.conf_shape.specs.declared.refused.ConfCause.TheVariants.{WrongType, Duplicate}
 use Rattle.conf_shape.specs.declared.refused.ConfFault.{ConfFault}
-use Rattle.conf_gather.specs.declared.refused.LoadRefused.{LoadRefused}
 use Rattle.conf_gather.specs.declared.refused.LoadRefused.TheVariants.{Absent}
 use Rattle.conf_gather.specs.declared.include.Include.{Include}
 use Rattle.conf_gather.specs.declared.take.Gathered.{Gathered}

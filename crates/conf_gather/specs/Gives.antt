@@ -1,6 +1,5 @@
 -- What gathering gives, step by step, with the first refusal that is met.
 use Rattle.std.specs.Prelude.{◌≡◌, ℕ, List, Option, Some, Result, Ok, Err}
-use Rattle.fg_outside.specs.Counts.{Rose}
 use Rattle.fg_outside.specs.Contents.{Contents}
 use Rattle.conf_gather.specs.declared.refused.LoadRefused.{LoadRefused}
 use Rattle.conf_gather.specs.declared.refused.LoadRefused.TheVariants.{Read, Yaml, Conf, IncludeTwice, IncludeDepth, Absent, Memory}
@@ -28,22 +27,6 @@ Gives (Err e) given = Fails e given
 -- The answer is what the definition gives for the files that are told, where they are.
 abbrev pub GivesTold : {Y : Type 0} → Option Contents → Result Y LoadRefused → ((List ℕ → Option (List ℕ)) → Result Y LoadRefused) → Type 0
 GivesTold contents answer given = (held : Contents) → contents ≡ Some held → Gives answer (given (held 0))
-
--- what a refusal says of the count of faults: a read failed only where it rose, and else it is as it was
-abbrev pub FaultsTell : LoadRefused → (old new : ℕ) → Type 0
-FaultsTell (Read name) old new = Rose old new
-FaultsTell _ old new = new ≡ old
-
--- what it says of the count of absences: a file that has to be there is missing only where it rose
-abbrev pub AbsencesTell : LoadRefused → (old new : ℕ) → Type 0
-AbsencesTell (Absent name) old new = Rose old new
-AbsencesTell _ old new = Unit {0}
-
--- what it says of the name at which a read last failed or found no file: it is that of the file that wasn't read or wasn't there
-abbrev pub TellsRefused : LoadRefused → (refused : List ℕ) → Type 0
-TellsRefused (Read name) refused = refused ≡ name
-TellsRefused (Absent name) refused = refused ≡ name
-TellsRefused _ refused = Unit {0}
 
 -- a text or a name decides, or memory ran out: no read failed, and no file is missing
 abbrev pub IsWithin : LoadRefused → Type 0

@@ -1,3 +1,4 @@
+pub mod Files
 pub mod Gathered
 pub mod Gives
 pub mod Includes

@@ -1,7 +1,7 @@
-ghost use Rattle.std.specs.Prelude.{◌≡◌, ◌≤◌, ℕ, List, Some, OnOk, IfErr, IsErrOf};
+ghost use Rattle.std.specs.Prelude.{◌≡◌, Some};
 ghost use Rattle.fg_outside.specs.Contents.{Contents};
-ghost use Rattle.fg_outside.specs.Counts.{Rose};
-ghost use Rattle.conf_gather.specs.Gives.{Gives, GivesTold, FaultsTell, AbsencesTell, TellsRefused};
+ghost use Rattle.conf_gather.specs.Files.{ReadsFiles};
+ghost use Rattle.conf_gather.specs.Gives.{Gives, GivesTold};
 ghost use Rattle.conf_gather.specs.Gathered.{held_by, NamesUnread, each, gather, gathered, gathered_by};
 
 use crate::include::{Include, Role, includes_of};
@@ -27,13 +27,7 @@ fn gather_file<F: Files>(
 ) -> Result<Gathered, LoadRefused>
     ensures told { GivesTold (F.contents files.old) result (λ held. gather (held_by held) levels include.now so_far) }
     ensures unread { NamesUnread (F.contents files.old) result (λ finds. gather finds levels include.now so_far) }
-    ensures contents { F.contents files.new ≡ F.contents files.old }
-    ensures faults { IfErr result (λ e. FaultsTell e (F.faults files.old) (F.faults files.new)) }
-    ensures no_fault { OnOk result (F.faults files.new ≡ F.faults files.old) }
-    ensures missing { IfErr result (λ e. AbsencesTell e (F.absences files.old) (F.absences files.new)) }
-    ensures refused { IfErr result (λ e. TellsRefused e (F.refused files.new)) }
-    ensures absences { F.absences files.old ≤ F.absences files.new }
-    ensures counted_faults { F.faults files.old ≤ F.faults files.new }
+    ensures files { ReadsFiles F.contents F.faults F.absences F.refused files.old files.new result }
 {
     if was_reached(include.name.as_str(), so_far.reached.as_slice()) {
         return Err(LoadRefused::IncludeTwice(include.name.copy(alloc)?));
@@ -62,13 +56,7 @@ fn gather_all<F: Files>(
 ) -> Result<Gathered, LoadRefused>
     ensures told { GivesTold (F.contents files.old) result (λ held. each (gather (held_by held) levels) includes.now so_far) }
     ensures unread { NamesUnread (F.contents files.old) result (λ finds. each (gather finds levels) includes.now so_far) }
-    ensures contents { F.contents files.new ≡ F.contents files.old }
-    ensures faults { IfErr result (λ e. FaultsTell e (F.faults files.old) (F.faults files.new)) }
-    ensures no_fault { OnOk result (F.faults files.new ≡ F.faults files.old) }
-    ensures missing { IfErr result (λ e. AbsencesTell e (F.absences files.old) (F.absences files.new)) }
-    ensures refused { IfErr result (λ e. TellsRefused e (F.refused files.new)) }
-    ensures absences { F.absences files.old ≤ F.absences files.new }
-    ensures counted_faults { F.faults files.old ≤ F.faults files.new }
+    ensures files { ReadsFiles F.contents F.faults F.absences F.refused files.old files.new result }
 {
     let mut all = so_far;
     for include in includes {
@@ -89,17 +77,7 @@ fn gather_all<F: Files>(
 pub fn gather<F: Files>(alloc: Global, files: &mut F, name: &str) -> Result<Tree, LoadRefused>
     ensures told { (held : Contents) → F.contents files.old ≡ Some held → Gives result (gathered (held 0) name.now) }
     ensures unread { NamesUnread (F.contents files.old) result (λ finds. gathered_by finds name.now) }
-    ensures read { (file : List ℕ) → IsErrOf result (LoadRefused.Read file)
-        → Rose (F.faults files.old) (F.faults files.new) }
-    ensures no_fault { ((file : List ℕ) → IsErrOf result (LoadRefused.Read file) → ⊥)
-        → F.faults files.new ≡ F.faults files.old }
-    ensures absent { (file : List ℕ) → IsErrOf result (LoadRefused.Absent file)
-        → Rose (F.absences files.old) (F.absences files.new) }
-    ensures unread_file { (file : List ℕ) → IsErrOf result (LoadRefused.Read file) → F.refused files.new ≡ file }
-    ensures absent_file { (file : List ℕ) → IsErrOf result (LoadRefused.Absent file) → F.refused files.new ≡ file }
-    ensures absences { F.absences files.old ≤ F.absences files.new }
-    ensures counted_faults { F.faults files.old ≤ F.faults files.new }
-    ensures contents { F.contents files.new ≡ F.contents files.old }
+    ensures files { ReadsFiles F.contents F.faults F.absences F.refused files.old files.new result }
 {
     let main = Include {
         name: Text::from_str(alloc, name)?,

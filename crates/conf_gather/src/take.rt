@@ -1,10 +1,11 @@
 //! The tree of one file, and what it adds to those gathered before.
 
-ghost use Rattle.std.specs.Prelude.{◌≡◌, ◌≤◌, ℕ, List, false, None, IfOk, OnOk, IfErr, IsErrOf};
+ghost use Rattle.std.specs.Prelude.{◌≡◌, ℕ, List, false, None, IfOk, IfErr, IsErrOf};
 ghost use Rattle.yaml_subset.specs.Reading.{read_of};
 ghost use Rattle.conf_shape.specs.Reads.{entries_of};
 ghost use Rattle.conf_gather.specs.Includes.{is_optional};
-ghost use Rattle.conf_gather.specs.Gives.{Gives, GivesTold, FaultsTell, AbsencesTell, TellsRefused, IsWithin};
+ghost use Rattle.conf_gather.specs.Files.{ReadsFiles};
+ghost use Rattle.conf_gather.specs.Gives.{Gives, GivesTold, IsWithin};
 ghost use Rattle.conf_gather.specs.Gathered.{tree_of, text_tree, unread, fault_at, entries_fault, tree_fault, taken, was_reached};
 
 use crate::include::{Include, Role};
@@ -75,13 +76,7 @@ pub fn read_tree<F: Files>(
     ensures told { GivesTold (F.contents files.old) result (λ held. tree_of include.now (held include.now.name)) }
     ensures needed { is_optional include.now.role ≡ false → IfOk result (λ tree. tree ≡ None → ⊥) }
     ensures named { (file : List ℕ) → IsErrOf result (LoadRefused.Read file) → file ≡ include.now.name }
-    ensures contents { F.contents files.new ≡ F.contents files.old }
-    ensures faults { IfErr result (λ e. FaultsTell e (F.faults files.old) (F.faults files.new)) }
-    ensures no_fault { OnOk result (F.faults files.new ≡ F.faults files.old) }
-    ensures missing { IfErr result (λ e. AbsencesTell e (F.absences files.old) (F.absences files.new)) }
-    ensures refused { IfErr result (λ e. TellsRefused e (F.refused files.new)) }
-    ensures absences { F.absences files.old ≤ F.absences files.new }
-    ensures counted_faults { F.faults files.old ≤ F.faults files.new }
+    ensures files { ReadsFiles F.contents F.faults F.absences F.refused files.old files.new result }
 {
     let copied = include.copy(alloc)?;
     match read_whole(alloc, files, include.name.as_str(), MAX_TEXT + 1) {

@@ -1,8 +1,8 @@
-ghost use Rattle.std.specs.Prelude.{◌≡◌, ◌≤◌, ℕ, List, Some, IfErr, IsErrOf};
+ghost use Rattle.std.specs.Prelude.{◌≡◌, Some, IfErr};
 ghost use Rattle.fg_outside.specs.Contents.{Contents};
-ghost use Rattle.fg_outside.specs.Counts.{Rose};
 ghost use Rattle.yaml_tree.specs.declared.tree.Tree.{Tree};
 ghost use Rattle.conf_check.specs.Accepted.{IsRefused};
+ghost use Rattle.conf_gather.specs.Files.{ReadsFiles};
 ghost use Rattle.conf_gather.specs.Gives.{Fails, Gives, IsWithin};
 ghost use Rattle.conf_gather.specs.Gathered.{NamesUnread};
 ghost use Rattle.conf_load.specs.Loaded.{checked, loaded, loaded_by, loaded_with_text, loaded_with_text_by};
@@ -44,17 +44,7 @@ fn check_tree(alloc: Global, tree: &Tree) -> Result<Conf, LoadRefused>
 pub fn load<F: Files>(alloc: Global, files: &mut F, name: &str) -> Result<Conf, LoadRefused>
     ensures told { (held : Contents) → F.contents files.old ≡ Some held → Gives result (loaded (held 0) name.now) }
     ensures unread { NamesUnread (F.contents files.old) result (λ finds. loaded_by finds name.now) }
-    ensures read { (file : List ℕ) → IsErrOf result (LoadRefused.Read file)
-        → Rose (F.faults files.old) (F.faults files.new) }
-    ensures no_fault { ((file : List ℕ) → IsErrOf result (LoadRefused.Read file) → ⊥)
-        → F.faults files.new ≡ F.faults files.old }
-    ensures absent { (file : List ℕ) → IsErrOf result (LoadRefused.Absent file)
-        → Rose (F.absences files.old) (F.absences files.new) }
-    ensures unread_file { (file : List ℕ) → IsErrOf result (LoadRefused.Read file) → F.refused files.new ≡ file }
-    ensures absent_file { (file : List ℕ) → IsErrOf result (LoadRefused.Absent file) → F.refused files.new ≡ file }
-    ensures absences { F.absences files.old ≤ F.absences files.new }
-    ensures counted_faults { F.faults files.old ≤ F.faults files.new }
-    ensures contents { F.contents files.new ≡ F.contents files.old }
+    ensures files { ReadsFiles F.contents F.faults F.absences F.refused files.old files.new result }
 {
     let tree = gather(alloc, files, name)?;
     check_tree(alloc, &tree)
@@ -68,17 +58,7 @@ pub fn load_with_text<F: Files>(
 ) -> Result<(Conf, Bytes), LoadRefused>
     ensures told { (held : Contents) → F.contents files.old ≡ Some held → Gives result (loaded_with_text (held 0) name.now) }
     ensures unread { NamesUnread (F.contents files.old) result (λ finds. loaded_with_text_by finds name.now) }
-    ensures read { (file : List ℕ) → IsErrOf result (LoadRefused.Read file)
-        → Rose (F.faults files.old) (F.faults files.new) }
-    ensures no_fault { ((file : List ℕ) → IsErrOf result (LoadRefused.Read file) → ⊥)
-        → F.faults files.new ≡ F.faults files.old }
-    ensures absent { (file : List ℕ) → IsErrOf result (LoadRefused.Absent file)
-        → Rose (F.absences files.old) (F.absences files.new) }
-    ensures unread_file { (file : List ℕ) → IsErrOf result (LoadRefused.Read file) → F.refused files.new ≡ file }
-    ensures absent_file { (file : List ℕ) → IsErrOf result (LoadRefused.Absent file) → F.refused files.new ≡ file }
-    ensures absences { F.absences files.old ≤ F.absences files.new }
-    ensures counted_faults { F.faults files.old ≤ F.faults files.new }
-    ensures contents { F.contents files.new ≡ F.contents files.old }
+    ensures files { ReadsFiles F.contents F.faults F.absences F.refused files.old files.new result }
 {
     let tree = gather(alloc, files, name)?;
     let conf = check_tree(alloc, &tree)?;

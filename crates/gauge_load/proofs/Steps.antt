@@ -1,28 +1,16 @@
 -- Gauge's file where each read of a file fails.
 use Rattle.std.proofs.Common.{◌≡◌, ℕ, Bool, true, false, List, Option, Result, Ok, Err, refl, sym, ap, ◌∙◌}
-use Rattle.std.specs.Prelude.{IfErr, IsErrOf}
 use Rattle.std.specs.Str.{bytes_eq}
 use Rattle.std.proofs.lemmas.Slice.Eq.{bytes_eq-Decides}
 use Rattle.std.proofs.lemmas.Bool.{cond-true, cond-false}
 use Rattle.yaml_tree.specs.declared.tree.Tree.{Tree}
 use Rattle.conf_gather.specs.declared.refused.LoadRefused.{LoadRefused}
-use Rattle.conf_gather.specs.declared.refused.LoadRefused.TheVariants.{Read, Yaml, Conf, IncludeTwice, IncludeDepth, Absent, Memory}
-use Rattle.conf_gather.specs.Gives.{◌>>=◌, IsWithin}
+use Rattle.conf_gather.specs.declared.refused.LoadRefused.TheVariants.{Read}
+use Rattle.conf_gather.specs.Gives.{◌>>=◌}
 use Rattle.conf_gather.specs.Gathered.{Held, held_by, unread_at}
 use Rattle.gauge_conf.specs.declared.gauge.GaugeConf.{GaugeConf}
 use Rattle.gauge_conf.specs.declared.raw.RawGauge.{RawGauge}
 use Rattle.gauge_load.specs.Loaded.{written, raw_by, named_by, gauge_by}
-
--- what is refused within is refused for no read
-pub never_unread : {A : Type 0} (made : Result A LoadRefused) (file : List ℕ) → IfErr made IsWithin → IsErrOf made (Read file) → ⊥
-never_unread (Ok x) file within err = cc
-never_unread (Err (Read name)) file within err = within
-never_unread (Err (Yaml name fault)) file within err = cc
-never_unread (Err (Conf fault)) file within err = cc
-never_unread (Err (IncludeTwice name)) file within err = cc
-never_unread (Err (IncludeDepth name)) file within err = cc
-never_unread (Err (Absent name)) file within err = cc
-never_unread (Err Memory) file within err = cc
 
 module _ (file : List ℕ) (held : Held) (name : List ℕ) where
   -- each read of the file itself fails

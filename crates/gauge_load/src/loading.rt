@@ -1,7 +1,7 @@
-ghost use Rattle.std.specs.Prelude.{◌≡◌, ◌≤◌, ℕ, List, Some, Result, IfErr, IsErrOf};
+ghost use Rattle.std.specs.Prelude.{◌≡◌, ℕ, List, Some, Result, IfErr, IsErrOf};
 ghost use Rattle.fg_outside.specs.Contents.{Contents};
-ghost use Rattle.fg_outside.specs.Counts.{Rose};
 ghost use Rattle.conf_shape.specs.declared.refused.ConfFault.{ConfFault};
+ghost use Rattle.conf_gather.specs.Files.{ReadsFiles};
 ghost use Rattle.conf_gather.specs.Gives.{Fails, Gives, GivesTold, IsWithin};
 ghost use Rattle.conf_gather.specs.Gathered.{NamesUnread, held_by};
 ghost use Rattle.gauge_conf.specs.declared.gauge.GaugeConf.{GaugeConf};
@@ -54,17 +54,7 @@ fn resolved(alloc: Global, raw: &RawGauge, conf: Conf) -> Result<GaugeConf, Load
 fn read_raw<F: Files>(alloc: Global, files: &mut F, name: &str) -> Result<RawGauge, LoadRefused>
     ensures told { GivesTold (F.contents files.old) result (λ held. raw_by (held_by held) name.now) }
     ensures named { (file : List ℕ) → IsErrOf result (LoadRefused.Read file) → file ≡ name.now }
-    ensures read { (file : List ℕ) → IsErrOf result (LoadRefused.Read file)
-        → Rose (F.faults files.old) (F.faults files.new) }
-    ensures no_fault { ((file : List ℕ) → IsErrOf result (LoadRefused.Read file) → ⊥)
-        → F.faults files.new ≡ F.faults files.old }
-    ensures absent { (file : List ℕ) → IsErrOf result (LoadRefused.Absent file)
-        → Rose (F.absences files.old) (F.absences files.new) }
-    ensures unread_file { (file : List ℕ) → IsErrOf result (LoadRefused.Read file) → F.refused files.new ≡ file }
-    ensures absent_file { (file : List ℕ) → IsErrOf result (LoadRefused.Absent file) → F.refused files.new ≡ file }
-    ensures absences { F.absences files.old ≤ F.absences files.new }
-    ensures counted_faults { F.faults files.old ≤ F.faults files.new }
-    ensures contents { F.contents files.new ≡ F.contents files.old }
+    ensures files { ReadsFiles F.contents F.faults F.absences F.refused files.old files.new result }
 {
     let main = Include {
         name: Text::from_str(alloc, name)?,
@@ -85,17 +75,7 @@ fn with_named<F: Files>(
 ) -> Result<GaugeConf, LoadRefused>
     ensures told { GivesTold (F.contents files.old) result (λ held. named_by (held_by held) name.now raw.now) }
     ensures unread { NamesUnread (F.contents files.old) result (λ finds. named_by finds name.now raw.now) }
-    ensures read { (file : List ℕ) → IsErrOf result (LoadRefused.Read file)
-        → Rose (F.faults files.old) (F.faults files.new) }
-    ensures no_fault { ((file : List ℕ) → IsErrOf result (LoadRefused.Read file) → ⊥)
-        → F.faults files.new ≡ F.faults files.old }
-    ensures absent { (file : List ℕ) → IsErrOf result (LoadRefused.Absent file)
-        → Rose (F.absences files.old) (F.absences files.new) }
-    ensures unread_file { (file : List ℕ) → IsErrOf result (LoadRefused.Read file) → F.refused files.new ≡ file }
-    ensures absent_file { (file : List ℕ) → IsErrOf result (LoadRefused.Absent file) → F.refused files.new ≡ file }
-    ensures absences { F.absences files.old ≤ F.absences files.new }
-    ensures counted_faults { F.faults files.old ≤ F.faults files.new }
-    ensures contents { F.contents files.new ≡ F.contents files.old }
+    ensures files { ReadsFiles F.contents F.faults F.absences F.refused files.old files.new result }
 {
     let faucet = whole_name(alloc, name, raw.faucet_config.as_str())?;
     let conf = load(alloc, files, faucet.as_str())?;
@@ -116,17 +96,7 @@ pub fn load_gauge<F: Files>(
 ) -> Result<GaugeConf, LoadRefused>
     ensures told { (held : Contents) → F.contents files.old ≡ Some held → Gives result (gauge_of (held 0) name.now) }
     ensures unread { NamesUnread (F.contents files.old) result (λ finds. gauge_by finds name.now) }
-    ensures read { (file : List ℕ) → IsErrOf result (LoadRefused.Read file)
-        → Rose (F.faults files.old) (F.faults files.new) }
-    ensures no_fault { ((file : List ℕ) → IsErrOf result (LoadRefused.Read file) → ⊥)
-        → F.faults files.new ≡ F.faults files.old }
-    ensures absent { (file : List ℕ) → IsErrOf result (LoadRefused.Absent file)
-        → Rose (F.absences files.old) (F.absences files.new) }
-    ensures unread_file { (file : List ℕ) → IsErrOf result (LoadRefused.Read file) → F.refused files.new ≡ file }
-    ensures absent_file { (file : List ℕ) → IsErrOf result (LoadRefused.Absent file) → F.refused files.new ≡ file }
-    ensures absences { F.absences files.old ≤ F.absences files.new }
-    ensures counted_faults { F.faults files.old ≤ F.faults files.new }
-    ensures contents { F.contents files.new ≡ F.contents files.old }
+    ensures files { ReadsFiles F.contents F.faults F.absences F.refused files.old files.new result }
 {
     let raw = read_raw(alloc, files, name)?;
     with_named(alloc, files, name, &raw)

@@ -2,9 +2,10 @@ use Rattle.std.proofs.Common.{◌≡◌, ◌<◌, ◌∙◌, true, false, Ok, Er
 use Rattle.std.proofs.lemmas.Grind.{common_steps}
 use Rattle.yaml_tree.specs.declared.tree.Tree.{Tree}
 use Rattle.conf_shape.specs.Reads.{entries_of}
-use Rattle.conf_gather.specs.Gathered.{held_by, unread_at, tree_of, gather, each}
+use Rattle.conf_gather.specs.Gathered.{held_by, tree_of, gather, each}
 use Rattle.conf_gather.specs.declared.refused.LoadRefused.TheVariants.{Read}
 use Rattle.conf_gather.specs.Includes.{includes_of}
+use Rattle.conf_gather.proofs.FilesLemmas.{read_on}
 use Rattle.conf_gather.proofs.GatherLemmas.{Reached, gather_twice, gather_deep, gather_untold, gather_none, gather_wrong, gather_more, each_fails, each_next, each_end, other_err, gather_unread, gather_below, left_next, left_unread}
 use Rattle.conf_gather.proofs.gathering.+walk.Goals as goal
 
@@ -47,25 +48,23 @@ gather_file-returns-in_ok-includes-in-Some-clause-told g t c = λ held told.
     let read : tree_of c.args.include.now (held 0 c.args.include.now.name) ≡ Ok (Some c.in-Some.tree) = c.in_ok-tree.ensures.told held told ∙ ap (λ (x : Option Tree). Ok x) c.in-Some.is in
     let listed : c.as_slice-in-Some.result.now ≡ includes_of c.args.include.now.name (entries_of c.in-Some.tree) = grind (arith, common_steps) in
     gather_more (held_by (held 0)) c.args.include.now c.args.so_far c.args.levels c.in-Some.tree is some read c.in_ok-so_far-in-Some.so_far c.gather_all.result c.in_ok-so_far-in-Some.ensures.told
-    (rw listed at (c.gather_all.ensures.told held (c.read_tree.ensures.contents ∙ told)))
+    (rw listed at (c.gather_all.ensures.told held (c.read_tree.ensures.files.same_contents ∙ told)))
 
 pub gather_all-returns-in_err-all-clause-told : goal.gather_all-returns-in_err-all-clause-told
 gather_all-returns-in_err-all-clause-told g t c = λ held told.
     let result : c.from_residual.result ≡ Err c.in_err-all.field-0.0 = grind (arith, common_steps) in
     rw result (each_fails (gather (held_by (held 0)) c.args.levels) c.args.includes.now c.loop-include.include-index c.loop-include.all c.include-item.result c.loop-include-test.true c.include-item.is
-    (each (gather (held_by (held 0)) c.args.levels) c.args.includes.now c.args.so_far) c.in_err-all.field-0.0 (c.loop-include.invariant.told held told) (c.in_err-all.ensures.told held (c.loop-include.invariant.contents ∙ told)))
+    (each (gather (held_by (held 0)) c.args.levels) c.args.includes.now c.args.so_far) c.in_err-all.field-0.0 (c.loop-include.invariant.told held told) (c.in_err-all.ensures.told held (c.loop-include.invariant.files.same_contents ∙ told)))
 
 pub gather_all-loop-include-preserved : goal.gather_all-loop-include-preserved
 gather_all-loop-include-preserved g t c = record {
   told = λ held told.
       each_next (gather (held_by (held 0)) c.args.levels) c.args.includes.now c.loop-include.include-index c.loop-include.all c.include-item.result c.loop-include-test.true c.include-item.is
-      (each (gather (held_by (held 0)) c.args.levels) c.args.includes.now c.args.so_far) c.in_ok-all.all (c.loop-include.invariant.told held told) (c.in_ok-all.ensures.told held (c.loop-include.invariant.contents ∙ told));
+      (each (gather (held_by (held 0)) c.args.levels) c.args.includes.now c.args.so_far) c.in_ok-all.all (c.loop-include.invariant.told held told) (c.in_ok-all.ensures.told held (c.loop-include.invariant.files.same_contents ∙ told));
   unread = λ held file told.
       left_next file (held 0) c.args.levels c.loop-include.include-index c.args.includes.now c.args.so_far c.loop-include.all c.in_ok-all.all c.include-item.result c.loop-include-test.true c.include-item.is
-      (c.loop-include.invariant.unread held file told) (c.in_ok-all.ensures.told held (c.loop-include.invariant.contents ∙ told));
-  contents = c.gather_file.ensures.contents ∙ c.loop-include.invariant.contents;
-  faults = c.in_ok-all.ensures.no_fault ∙ c.loop-include.invariant.faults;
-  absences = omega (arith, c.gather_file.ensures.absences, c.loop-include.invariant.absences);
+      (c.loop-include.invariant.unread held file told) (c.in_ok-all.ensures.told held (c.loop-include.invariant.files.same_contents ∙ told));
+  files = read_on c.loop-include.invariant.files c.in_ok-all.ensures.files;
 }
 
 pub gather_all-returns-clause-told : goal.gather_all-returns-clause-told
@@ -87,10 +86,15 @@ gather_file-returns-in_ok-includes-in-Some-clause-unread g t c = λ held file to
     let read : held_by (held 0) c.args.include.now ≡ Ok (Some c.in-Some.tree) = c.in_ok-tree.ensures.told held told ∙ ap (λ (x : Option Tree). Ok x) c.in-Some.is in
     let listed : c.as_slice-in-Some.result.now ≡ includes_of c.args.include.now.name (entries_of c.in-Some.tree) = grind (arith, common_steps) in
     gather_below file (held 0) c.args.levels c.args.include.now c.args.so_far c.in-Some.tree c.in_ok-so_far-in-Some.so_far is some read c.in_ok-so_far-in-Some.ensures.told
-    (rw listed at (c.gather_all.ensures.unread held file (c.read_tree.ensures.contents ∙ told) err))
+    (rw listed at (c.gather_all.ensures.unread held file (c.read_tree.ensures.files.same_contents ∙ told) err))
 
 pub gather_all-returns-in_err-all-clause-unread : goal.gather_all-returns-in_err-all-clause-unread
 gather_all-returns-in_err-all-clause-unread g t c = λ held file told err.
     let result : c.from_residual.result ≡ Err c.in_err-all.field-0.0 = grind (arith, common_steps) in
     left_unread file (held 0) c.args.levels c.loop-include.include-index c.args.includes.now c.args.so_far c.loop-include.all c.include-item.result c.loop-include-test.true c.include-item.is
-    (c.loop-include.invariant.unread held file told) (c.in_err-all.ensures.unread held file (c.loop-include.invariant.contents ∙ told) (rw result at err))
+    (c.loop-include.invariant.unread held file told) (c.in_err-all.ensures.unread held file (c.loop-include.invariant.files.same_contents ∙ told) (rw result at err))
+
+pub gather_all-returns-in_err-all-clause-files : goal.gather_all-returns-in_err-all-clause-files
+gather_all-returns-in_err-all-clause-files g t c =
+    let result : c.from_residual.result ≡ Err c.in_err-all.field-0.0 = grind (arith, common_steps) in
+    rw result (read_on c.loop-include.invariant.files c.in_err-all.ensures.files)

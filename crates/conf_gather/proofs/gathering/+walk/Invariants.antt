@@ -1,5 +1,6 @@
-use Rattle.std.proofs.Common.{◌≡◌, ◌+◌, ◌*◌, ◌≤◌, Some, drop, ℕ, List}
+use Rattle.std.proofs.Common.{◌≡◌, ◌+◌, ◌*◌, Some, Ok, drop, ℕ, List}
 use Rattle.fg_outside.specs.Contents.{Contents}
+use Rattle.conf_gather.specs.Files.{ReadsFiles}
 use Rattle.conf_gather.specs.Gathered.{held_by, each, gather}
 use Rattle.conf_gather.proofs.GatherLemmas.{Left}
 use Rattle.conf_gather.proofs.gathering.+walk.Given as goal
@@ -9,9 +10,7 @@ abbrev pub invariant-gather_all-loop-include : goal.invariant-gather_all-loop-in
 invariant-gather_all-loop-include g l = record {
   told : (held : Contents) → g.F.Files.contents l.initial.files ≡ Some held → each (gather (held_by (held 0)) l.levels) (drop l.include-index l.includes) l.all ≡ each (gather (held_by (held 0)) l.levels) l.includes l.initial.all;
   unread : (held : Contents) (file : List ℕ) → g.F.Files.contents l.initial.files ≡ Some held → Left file (held 0) l.levels l.include-index l.includes l.initial.all l.all;
-  contents : g.F.Files.contents l.files ≡ g.F.Files.contents l.initial.files;
-  faults : g.F.Files.faults l.files ≡ g.F.Files.faults l.initial.files;
-  absences : g.F.Files.absences l.initial.files ≤ g.F.Files.absences l.files;
+  files : ReadsFiles g.F.Files.contents g.F.Files.faults g.F.Files.absences g.F.Files.refused l.initial.files l.files (Ok l.all);
 }
 
 abbrev pub decreases-gather_file : goal.decreases-gather_file

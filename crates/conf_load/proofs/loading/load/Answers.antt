@@ -3,17 +3,18 @@ use Rattle.yaml_tree.specs.declared.tree.Tree.{Tree}
 use Rattle.conf_gather.specs.declared.refused.LoadRefused.{LoadRefused}
 use Rattle.conf_gather.specs.declared.refused.LoadRefused.TheVariants.{Read}
 use Rattle.conf_gather.specs.Gives.{◌>>=◌}
-use Rattle.conf_gather.proofs.GatherLemmas.{other_err}
+use Rattle.conf_gather.proofs.FilesLemmas.{never_unread}
+use Rattle.conf_gather.proofs.GatherLemmas.{fails_first, other_err}
 use Rattle.conf_load.specs.Loaded.{checked}
 use Rattle.std.proofs.lemmas.Grind.{common_steps}
 use Rattle.conf_gather.specs.Gathered.{gathered}
-use Rattle.conf_load.proofs.LoadLemmas.{refused_first, gathered_first, never_unread}
+use Rattle.conf_load.proofs.LoadLemmas.{gathered_first}
 use Rattle.conf_load.proofs.loading.load.Goals as goal
 
 pub returns-in_err-tree-clause-told : goal.returns-in_err-tree-clause-told
 returns-in_err-tree-clause-told g c = λ held told.
     let result : c.from_residual.result ≡ Err c.in_err-tree.field-0.0 = grind (arith, common_steps) in
-    rw result (refused_first checked c.in_err-tree.field-0.0 (gathered (held 0) c.args.name.now) (c.in_err-tree.ensures.told held told))
+    rw result (fails_first c.in_err-tree.field-0.0 (gathered (held 0) c.args.name.now) checked (c.in_err-tree.ensures.told held told))
 
 pub returns-clause-told : goal.returns-clause-told
 returns-clause-told g c = λ held told.

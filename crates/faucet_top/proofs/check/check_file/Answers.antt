@@ -8,7 +8,7 @@ use Rattle.faucet_top.proofs.check.check_file.Goals as goal
 pub returns-in-Err-clause-checked : goal.returns-in-Err-clause-checked
 returns-in-Err-clause-checked g c = (
   Err c.in-Err.why,
-  record { told = rw c.as_str.ensures at c.in-Err.ensures.told; absent = c.in-Err.ensures.absent; unread = c.in-Err.ensures.read; named = loads_named (Err c.in-Err.why) _ c.in-Err.ensures.absent_file c.in-Err.ensures.unread_file },
+  record { told = rw c.as_str.ensures at c.in-Err.ensures.told; absent = c.in-Err.ensures.files.absent; unread = c.in-Err.ensures.files.read; named = loads_named (Err c.in-Err.why) _ c.in-Err.ensures.files.absent_file c.in-Err.ensures.files.unread_file },
   λ more. refused c.args.name.now (g.O.Sink.wrote c.args.out.now) (g.O.Sink.wrote c.args.out.now) _ _ (g.O.Sink.faults c.args.out.now) (g.O.Sink.faults c.args.out.now) _ _ c.in-Err.why c.deliver_refusal.result
       (rw c.as_str-in-Err.ensures at c.deliver_refusal.ensures.ends),
 )
@@ -23,11 +23,11 @@ returns-in_default-clause-checked g c = (
 pub returns-clause-checked : goal.returns-clause-checked
 returns-clause-checked g c = (
   Ok c.in-Ok.conf,
-  record { told = rw c.as_str.ensures at c.in-Ok.ensures.told; absent = c.in-Ok.ensures.absent; unread = c.in-Ok.ensures.read; named = loads_named (Ok c.in-Ok.conf) _ c.in-Ok.ensures.absent_file c.in-Ok.ensures.unread_file },
+  record { told = rw c.as_str.ensures at c.in-Ok.ensures.told; absent = c.in-Ok.ensures.files.absent; unread = c.in-Ok.ensures.files.read; named = loads_named (Ok c.in-Ok.conf) _ c.in-Ok.ensures.files.absent_file c.in-Ok.ensures.files.unread_file },
   λ more. cut c.args.name.now _ _ (g.E.Sink.wrote c.args.err.now) (g.E.Sink.wrote c.args.err.now) _ _ (g.E.Sink.faults c.args.err.now) (g.E.Sink.faults c.args.err.now) c.in-Ok.conf
       (rw (c.as_slice.ensures, c.in-Ok-make_line.ensures) at c.in-Err-write_all.ensures.err) c.in-Err-write_all.ensures.failed more,
 )
 
 pub returns-in-Err-clause-no_read_fault : goal.returns-in-Err-clause-no_read_fault
 returns-in-Err-clause-no_read_fault g c = λ unread written.
-    c.in-Err.ensures.no_fault (λ file is. no_read_refused _ _ _ _ _ c.deliver_refusal.result (λ e. unread (ap Some e)) (λ e. written (ap Some e)) c.in-Err.why c.deliver_refusal.ensures.ends file (refused_by c.in-Err.why (Read file) is))
+    c.in-Err.ensures.files.no_fault (λ file is. no_read_refused _ _ _ _ _ c.deliver_refusal.result (λ e. unread (ap Some e)) (λ e. written (ap Some e)) c.in-Err.why c.deliver_refusal.ensures.ends file (refused_by c.in-Err.why (Read file) is))

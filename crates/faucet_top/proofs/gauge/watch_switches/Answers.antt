@@ -13,7 +13,7 @@ returns-in-Err-clause-replies g c = (
   inl (
     inr (
       c.in-Err.why,
-      record { told = c.in-Err.ensures.told; absent = c.in-Err.ensures.absent; unread = c.in-Err.ensures.read; named = loads_named (Err c.in-Err.why) _ c.in-Err.ensures.absent_file c.in-Err.ensures.unread_file },
+      record { told = c.in-Err.ensures.told; absent = c.in-Err.ensures.files.absent; unread = c.in-Err.ensures.files.read; named = loads_named (Err c.in-Err.why) _ c.in-Err.ensures.files.absent_file c.in-Err.ensures.files.unread_file },
       refl,
     ),
     refl,
@@ -26,12 +26,12 @@ returns-clause-replies g c =
     let did = c.serve-drove.ensures in
     hub_given g.H.Hub.may (g.F.Files.contents c.args.files.now) _ _ _ c.args.config.now c.args.events c.args.hub.now c.serve-drove.new.hub _ _ _ _ _ _ _ _ _ _ c.in-Ok.conf c.serve-drove.result c.deliver_served.result
     c.deliver_served.ensures.faults
-    (record { told = c.in-Ok.ensures.told; absent = c.in-Ok.ensures.absent; unread = c.in-Ok.ensures.read; named = loads_named (Ok c.in-Ok.conf) _ c.in-Ok.ensures.absent_file c.in-Ok.ensures.unread_file })
+    (record { told = c.in-Ok.ensures.told; absent = c.in-Ok.ensures.files.absent; unread = c.in-Ok.ensures.files.read; named = loads_named (Ok c.in-Ok.conf) _ c.in-Ok.ensures.files.absent_file c.in-Ok.ensures.files.unread_file })
     c.deliver_served.ensures.ends did.serves did.write_fault did.no_write_fault
 
 pub returns-in-Err-clause-no_read_fault : goal.returns-in-Err-clause-no_read_fault
 returns-in-Err-clause-no_read_fault g c = λ unread written.
-    c.in-Err.ensures.no_fault (λ file is. no_read_refused _ _ _ _ _ c.deliver_refusal.result unread written c.in-Err.why c.deliver_refusal.ensures.ends file (refused_by c.in-Err.why (Read file) is))
+    c.in-Err.ensures.files.no_fault (λ file is. no_read_refused _ _ _ _ _ c.deliver_refusal.result unread written c.in-Err.why c.deliver_refusal.ensures.ends file (refused_by c.in-Err.why (Read file) is))
 
 pub returns-clause-no_read_fault : goal.returns-clause-no_read_fault
-returns-clause-no_read_fault g c = λ unread written. c.in-Ok.ensures.no_fault (λ file is. absurd cc)
+returns-clause-no_read_fault g c = λ unread written. c.in-Ok.ensures.files.no_fault (λ file is. absurd cc)

@@ -16,7 +16,7 @@ returns-in_err-raw-clause-told g c = λ held told.
 pub returns-clause-told : goal.returns-clause-told
 returns-clause-told g c = λ held told.
     gathered_first (named_by (held_by (held 0)) c.args.name.now) c.with_named.result c.in_ok-raw.raw (raw_by (held_by (held 0)) c.args.name.now) (c.in_ok-raw.ensures.told held told)
-    (c.with_named.ensures.told held (c.read_raw.ensures.contents ∙ told))
+    (c.with_named.ensures.told held (c.read_raw.ensures.files.same_contents ∙ told))
 
 pub returns-in_err-raw-clause-unread : goal.returns-in_err-raw-clause-unread
 returns-in_err-raw-clause-unread g c = λ held file told err.
@@ -25,4 +25,4 @@ returns-in_err-raw-clause-unread g c = λ held file told err.
 
 pub returns-clause-unread : goal.returns-clause-unread
 returns-clause-unread g c = λ held file told err.
-    gauge_below file (held 0) c.args.name.now c.in_ok-raw.raw (c.in_ok-raw.ensures.told held told) (c.with_named.ensures.unread held file (c.read_raw.ensures.contents ∙ told) err)
+    gauge_below file (held 0) c.args.name.now c.in_ok-raw.raw (c.in_ok-raw.ensures.told held told) (c.with_named.ensures.unread held file (c.read_raw.ensures.files.same_contents ∙ told) err)

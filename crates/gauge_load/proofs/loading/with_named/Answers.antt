@@ -6,11 +6,11 @@ use Rattle.conf_gather.specs.declared.refused.LoadRefused.TheVariants.{Read}
 use Rattle.conf_gather.specs.Gives.{◌>>=◌}
 use Rattle.conf_gather.specs.Gathered.{held_by}
 use Rattle.conf_gather.specs.WholeName.{whole_name}
+use Rattle.conf_gather.proofs.FilesLemmas.{never_unread}
 use Rattle.conf_gather.proofs.GatherLemmas.{fails_first, other_err}
 use Rattle.conf_load.specs.Loaded.{loaded_by}
 use Rattle.gauge_load.specs.Loaded.{with_conf}
 use Rattle.conf_load.proofs.LoadLemmas.{gathered_first}
-use Rattle.gauge_load.proofs.Steps.{never_unread}
 use Rattle.gauge_load.proofs.loading.with_named.Goals as goal
 
 pub returns-in_err-conf-clause-told : goal.returns-in_err-conf-clause-told

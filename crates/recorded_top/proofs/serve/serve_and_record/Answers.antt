@@ -13,10 +13,10 @@ returns-in-Err-clause-replies g c =
     let did = rw c.as_str.ensures at c.in-Err.ensures.told in
     inl (
       _,
-      inr (why, loads_refused (g.F.Files.contents c.args.files) _ _ _ c.args.job.now.config why did c.in-Err.ensures.absent c.in-Err.ensures.read c.in-Err.ensures.absent_file c.in-Err.ensures.unread_file, refl),
+      inr (why, loads_refused (g.F.Files.contents c.args.files) _ _ _ c.args.job.now.config why did c.in-Err.ensures.files.absent c.in-Err.ensures.files.read c.in-Err.ensures.files.absent_file c.in-Err.ensures.files.unread_file, refl),
       refused c.args.job.now.config (g.O.Sink.wrote c.args.out.now) (g.O.Sink.wrote c.args.out.now) _ _ (g.O.Sink.faults c.args.out.now) (g.O.Sink.faults c.args.out.now) _ _ why c.deliver_refusal-status.result (rw c.as_str-in-Err.ensures at c.deliver_refusal-status.ensures.ends),
       refl,
-      c.in-Err.ensures.contents,
+      c.in-Err.ensures.files.same_contents,
       refl,
     )
 
@@ -27,7 +27,7 @@ returns-in_default-clause-replies g c =
       inl refl,
       refused c.args.job.now.config (g.O.Sink.wrote c.args.out.now) (g.O.Sink.wrote c.args.out.now) _ _ (g.O.Sink.faults c.args.out.now) (g.O.Sink.faults c.args.out.now) _ _ Memory c.deliver_out_of_memory.result c.deliver_out_of_memory.ensures.ends,
       refl,
-      c.in-Ok.ensures.contents,
+      c.in-Ok.ensures.files.same_contents,
       refl,
     )
 
@@ -45,7 +45,7 @@ returns-clause-replies g c =
       λ held is. told_text (held 0) c.args.job.now.config c.in-Ok.loaded (loaded held is),
       c.serve_recorded-end.result.0,
       recorded_until g.H.Hub.may g.F.Files.contents g.F.Files.faults c.args.job.now.config c.in-Ok.loaded.1 c.args.job.now.reload_ms c.args.job.now.events c.in-Ok.loaded.0 c.args.hub _ c.args.files _ _
-          c.in-Ok.ensures.contents (c.in-Ok.ensures.no_fault (λ file is. absurd cc))
+          c.in-Ok.ensures.files.same_contents (c.in-Ok.ensures.files.no_fault (λ file is. absurd cc))
           c.args.job.now.record_file _ _ _ _ _ _ _ _ _ _ _ _ c.deliver_recorded-status.result c.serve_recorded-end.result.0
           (rw (c.new-watch.ensures.hub, c.new-watch.ensures.files, c.in-Ok-copy.ensures) at (did.serves _ _ _ begun)) did.out (rw c.as_str-2.ensures at c.deliver_recorded-status.ensures.ends) did.write_fault did.no_write_fault c.deliver_recorded-status.ensures.faults,
     )
