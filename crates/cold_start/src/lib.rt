@@ -12,4 +12,4 @@ mod tables;
 mod unit;
 
 pub use tables::cold;
-pub use unit::unit_entries;
+pub use unit::{unit_entries, unit_entries_with};

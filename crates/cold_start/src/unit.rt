@@ -1,6 +1,7 @@
 //! The entries of one unit.
 
-ghost use Rattle.std.specs.Prelude.{◌≡◌, [], IfOk, OnOk};
+ghost use Rattle.std.specs.Prelude.{◌≡◌, [], IfOk, IfSome, OnOk};
+ghost use Rattle.packet_way.specs.Known.{stack_of};
 ghost use Rattle.packet_way.specs.Present.{state_of};
 ghost use Rattle.plan_units.specs.declared.unit.Unit.TheVariants as unit_case;
 ghost use Rattle.plan_units.specs.Units.{entries};
@@ -16,6 +17,7 @@ use of_match::Entries;
 use packet_way::{Now, make_paths};
 use plan_units::Unit;
 use route_compile::fib_entries;
+use stack_paths::Paths;
 use std::alloc::Global;
 
 /// What is there of a unit that isn't the datapath's.
@@ -50,20 +52,25 @@ fn of_vlan<T: Tally>(
     alloc: Global,
     conf: &Conf,
     now: &Now,
+    paths: Option<&Paths>,
     dp: &Dp,
     vid: Vid,
     units: &mut T,
 ) -> Result<Entries, NoMemory>
+    requires { IfSome paths (λ paths. paths.now ≡ stack_of conf.now now.now.ups) }
     ensures entries { IfOk result (λ made. made ≡ entries conf.now (state_of now.now) dp.now (unit_case.Vlan vid)) }
     ensures most { RisesAtMost 3 (T.count units.old) (T.count units.new) }
     ensures least { OnOk result (RisesAtLeast 1 (T.count units.old) (T.count units.new)) }
 {
-    match conf.vlan(vid) {
-        Some(vlan) => {
+    let Some(vlan) = conf.vlan(vid) else {
+        return Ok(no_entries(alloc, units));
+    };
+    match paths {
+        Some(paths) => vlan_entries(alloc, conf, dp, vlan, paths, units),
+        None => {
             let paths = make_paths(alloc, conf, now.ups.as_slice())?;
             vlan_entries(alloc, conf, dp, vlan, &paths, units)
         }
-        None => Ok(no_entries(alloc, units)),
     }
 }
 
@@ -71,21 +78,26 @@ fn of_host<T: Tally>(
     alloc: Global,
     conf: &Conf,
     now: &Now,
+    paths: Option<&Paths>,
     dp: &Dp,
     vid: Vid,
     mac: Mac,
     units: &mut T,
 ) -> Result<Entries, NoMemory>
+    requires { IfSome paths (λ paths. paths.now ≡ stack_of conf.now now.now.ups) }
     ensures entries { IfOk result (λ made. made ≡ entries conf.now (state_of now.now) dp.now (unit_case.Host vid mac)) }
     ensures most { RisesAtMost 3 (T.count units.old) (T.count units.new) }
     ensures least { OnOk result (RisesAtLeast 1 (T.count units.old) (T.count units.new)) }
 {
-    match find_host(conf, now.hosts.as_slice(), dp, vid, mac) {
-        Some(host) => {
+    let Some(host) = find_host(conf, now.hosts.as_slice(), dp, vid, mac) else {
+        return Ok(no_entries(alloc, units));
+    };
+    match paths {
+        Some(paths) => host_entries(alloc, conf, dp, host, now.moment, paths, units),
+        None => {
             let paths = make_paths(alloc, conf, now.ups.as_slice())?;
             host_entries(alloc, conf, dp, host, now.moment, &paths, units)
         }
-        None => Ok(no_entries(alloc, units)),
     }
 }
 
@@ -121,6 +133,25 @@ pub fn unit_entries<T: Tally>(
     ensures most { RisesAtMost 3 (T.count units.old) (T.count units.new) }
     ensures least { OnOk result (RisesAtLeast 1 (T.count units.old) (T.count units.new)) }
 {
+    unit_entries_with(alloc, conf, now, None, dp, unit, units)
+}
+
+/// As `unit_entries`, by these paths of the state's stack, so that they are made once for many units. Where
+/// none are handed in, they are made for a unit that hangs on them: a VLAN or a host.
+pub fn unit_entries_with<T: Tally>(
+    alloc: Global,
+    conf: &Conf,
+    now: &Now,
+    paths: Option<&Paths>,
+    dp: DpId,
+    unit: &Unit,
+    units: &mut T,
+) -> Result<Entries, NoMemory>
+    requires { IfSome paths (λ paths. paths.now ≡ stack_of conf.now now.now.ups) }
+    ensures entries { IfOk result (λ made. made ≡ entries_at conf.now (state_of now.now) dp unit.now) }
+    ensures most { RisesAtMost 3 (T.count units.old) (T.count units.new) }
+    ensures least { OnOk result (RisesAtLeast 1 (T.count units.old) (T.count units.new)) }
+{
     let Some(dp) = conf.dp(dp) else {
         return Ok(no_entries(alloc, units));
     };
@@ -130,8 +161,8 @@ pub fn unit_entries<T: Tally>(
             fixed_entries(alloc, conf, dp)
         }
         Unit::Port(no) => of_port(alloc, conf, now, dp, *no, units),
-        Unit::Vlan(vid) => of_vlan(alloc, conf, now, dp, *vid, units),
-        Unit::Host(vid, mac) => of_host(alloc, conf, now, dp, *vid, *mac, units),
+        Unit::Vlan(vid) => of_vlan(alloc, conf, now, paths, dp, *vid, units),
+        Unit::Host(vid, mac) => of_host(alloc, conf, now, paths, dp, *vid, *mac, units),
         Unit::Route(vid) => of_routes(alloc, conf, now, dp, *vid, units),
     }
 }

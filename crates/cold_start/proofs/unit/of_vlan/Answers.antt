@@ -1,5 +1,5 @@
-use Rattle.std.proofs.Common.{◌≡◌, ◌∙◌, [], List, Option, Some, ap, sym}
-use Rattle.std.specs.Option.{option_copied, option_map_or}
+use Rattle.std.proofs.Common.{◌≡◌, ◌∙◌, [], List, Option, Some, ap}
+use Rattle.std.specs.Option.{option_map_or}
 use Rattle.std.proofs.lemmas.Result.{IfOk-weaker}
 use Rattle.of_match.specs.declared.entry.Entry.{Entry}
 use Rattle.stack_paths.specs.Stack.{Stack}
@@ -11,15 +11,15 @@ use Rattle.plan_units.specs.Units.{of_vlan}
 use Rattle.cold_start.specs.Members.{vlan_by}
 use Rattle.cold_start.proofs.unit.of_vlan.Goals as goal
 
-pub returns-in_ok-paths-in-Some-clause-entries : goal.returns-in_ok-paths-in-Some-clause-entries
-returns-in_ok-paths-in-Some-clause-entries g c =
+pub returns-in_ok-paths-in-None-clause-entries : goal.returns-in_ok-paths-in-None-clause-entries
+returns-in_ok-paths-in-None-clause-entries g c =
     let conf = c.args.conf.now in
     let state = state_of c.args.now.now in
     let d = c.args.dp.now in
     let v = c.in-Some.vlan.now in
-    let paths = c.in_ok-paths-in-Some.paths in
-    let here : Some v ≡ vlan_with conf.vlans c.args.vid = sym (ap option_copied c.in-Some.is) ∙ c.vlan.ensures in
+    let paths = c.in_ok-paths-in-None.paths in
+    let here : Some v ≡ vlan_with conf.vlans c.args.vid = c.in-Some.ensures in
     let same : vlan_by conf d paths v ≡ option_map_or (of_vlan conf state d) (vlan_with conf.vlans c.args.vid) [] =
-    ap (λ (s : Stack). vlan_by conf d s v) (c.in_ok-paths-in-Some.ensures ∙ ap (stack_of conf) c.as_slice.ensures)
+    ap (λ (s : Stack). vlan_by conf d s v) (c.in_ok-paths-in-None.ensures ∙ ap (stack_of conf) c.as_slice.ensures)
     ∙ ap (λ (o : Option Vlan). option_map_or (of_vlan conf state d) o []) here in
-    IfOk-weaker c.vlan_entries.result (λ (made : List Entry). made ≡ vlan_by conf d paths v) (λ (made : List Entry). made ≡ option_map_or (of_vlan conf state d) (vlan_with conf.vlans c.args.vid) []) (λ made is. is ∙ same) c.vlan_entries.ensures.entries
+    IfOk-weaker c.vlan_entries-in-None.result (λ (made : List Entry). made ≡ vlan_by conf d paths v) (λ (made : List Entry). made ≡ option_map_or (of_vlan conf state d) (vlan_with conf.vlans c.args.vid) []) (λ made is. is ∙ same) c.vlan_entries-in-None.ensures.entries
