@@ -26,17 +26,17 @@ unfoldable pub meant_by : RawConf → Configuration
 meant_by raw = resolved (ordered raw)
 
 -- the first rule that is broken
-unfoldable pub fault_of : RawConf → Option ConfFault
-fault_of raw = first_broken (ordered raw) (resolved (ordered raw))
+unfoldable pub broken_rule : RawConf → Option ConfFault
+broken_rule raw = first_broken (ordered raw) (resolved (ordered raw))
 
 -- a fault of the shape comes before a rule that is broken
 unfoldable pub conf_of : Tree → Result Configuration ConfFault
-conf_of t = unless (first_fault t) (unless (fault_of (raw_of t)) (Ok (meant_by (raw_of t))))
+conf_of t = unless (first_fault t) (unless (broken_rule (raw_of t)) (Ok (meant_by (raw_of t))))
 
 -- ---- what a refusal says; want of memory says nothing
 
 abbrev pub BreaksRule : RawConf → ConfRefused → Type 0
-BreaksRule raw (refused.At fault) = fault_of raw ≡ Some fault
+BreaksRule raw (refused.At fault) = broken_rule raw ≡ Some fault
 BreaksRule raw refused.Memory = Unit {0}
 
 abbrev pub IsRefused : Tree → ConfRefused → Type 0

@@ -1,6 +1,6 @@
 ghost use Rattle.std.specs.Prelude.{◌≡◌, None, Ok, IfOk, IfErr, OnOk};
 ghost use Rattle.conf_resolve.specs.InRange.{IsInRange};
-ghost use Rattle.conf_check.specs.Accepted.{unless, meant_by, fault_of, conf_of, BreaksRule, IsRefused};
+ghost use Rattle.conf_check.specs.Accepted.{unless, meant_by, broken_rule, conf_of, BreaksRule, IsRefused};
 
 use crate::rules::find_broken_rule;
 use conf_resolve::{arrange, resolve};
@@ -15,7 +15,7 @@ use yaml_tree::Tree;
 /// What a raw configuration gives: a configuration, or the first rule that is broken.
 fn checked(alloc: Global, raw: &RawConf) -> Result<Result<Conf, ConfFault>, NoMemory>
     requires { IsInRange raw.now }
-    ensures { IfOk result (λ made. made ≡ unless (fault_of raw.now) (Ok (meant_by raw.now))) }
+    ensures { IfOk result (λ made. made ≡ unless (broken_rule raw.now) (Ok (meant_by raw.now))) }
 {
     what_breaks_no_rule_is_valid();
     let ordered = arrange(alloc, raw)?;
@@ -34,7 +34,7 @@ fn checked(alloc: Global, raw: &RawConf) -> Result<Result<Conf, ConfFault>, NoMe
 pub fn check(alloc: Global, raw: &RawConf) -> Result<Conf, ConfRefused>
     requires { IsInRange raw.now }
     ensures accepted { IfOk result (λ conf. conf ≡ meant_by raw.now) }
-    ensures unbroken { OnOk result (fault_of raw.now ≡ None) }
+    ensures unbroken { OnOk result (broken_rule raw.now ≡ None) }
     ensures refused { IfErr result (BreaksRule raw.now) }
 {
     match checked(alloc, raw) {

@@ -5,7 +5,7 @@ use Rattle.std.specs.Str.{bytes_eq}
 use Rattle.std.proofs.lemmas.Slice.Eq.{bytes_eq-Decides}
 use Rattle.std.proofs.lemmas.Bool.{cond-true, cond-false}
 use Rattle.std.proofs.lemmas.List.{drop_all, drop_more}
-use Rattle.fg_outside.specs.Contents.{Contents, Tells, told}
+use Rattle.fg_outside.specs.Contents.{Contents, Tells, told_now}
 use Rattle.fg_outside.specs.declared.files.ReadRefused.{ReadRefused}
 use Rattle.fg_outside.specs.declared.files.ReadRefused.TheVariants as reads
 use Rattle.yaml_tree.specs.declared.tree.Tree.{Tree}
@@ -68,7 +68,7 @@ pub told_text : (contents : Option Contents) (i : Include) (name text : List ℕ
     → ((whole : List ℕ) → Tells contents name (Some whole) → text ≡ take 1048577 whole) → (Tells contents name None → ⊥)
     → Gives r (text_tree i.name (read_of text)) → GivesTold contents r (λ held. tree_of i (held i.name))
 told_text contents i name text r same present missing gives = λ held is.
-    by_file held (held 0 i.name) (λ file e. ap (λ (c : Option Contents). told c name) is ∙ ap (λ (n : List ℕ). Some (held 0 n)) same ∙ ap (λ (f : Option (List ℕ)). Some f) e) refl
+    by_file held (held 0 i.name) (λ file e. ap (λ (c : Option Contents). told_now c name) is ∙ ap (λ (n : List ℕ). Some (held 0 n)) same ∙ ap (λ (f : Option (List ℕ)). Some f) e) refl
   where
     by_file : (held : Contents) (file : Option (List ℕ)) → ((f : Option (List ℕ)) → held 0 i.name ≡ f → Tells contents name f) → held 0 i.name ≡ file → Gives r (tree_of i file)
     by_file held None tells is = absurd (missing (tells None is))
@@ -81,7 +81,7 @@ pub told_unread : (contents : Option Contents) (i : Include) (name : List ℕ) (
     → ((file : Option (List ℕ)) → Tells contents name file → IsErrOf (refused_with why) reads.Absent → file ≡ None)
     → GivesTold contents (unread i why) (λ held. tree_of i (held i.name))
 told_unread contents i name reads.Absent same absent = λ held is.
-    let none : held 0 i.name ≡ None = absent (held 0 i.name) (ap (λ (c : Option Contents). told c name) is ∙ ap (λ (n : List ℕ). Some (held 0 n)) same) refl in
+    let none : held 0 i.name ≡ None = absent (held 0 i.name) (ap (λ (c : Option Contents). told_now c name) is ∙ ap (λ (n : List ℕ). Some (held 0 n)) same) refl in
     rw none (gives_same (unread i reads.Absent))
 told_unread contents i name reads.Failed same absent = λ held is. tt
 told_unread contents i name reads.Memory same absent = λ held is. tt

@@ -26,7 +26,7 @@ use Rattle.conf_shape.specs.declared.kinds.MapKind.TheVariants as kinds
 use Rattle.conf_shape.specs.Keys.{KeyRow, Keys, keys_of}
 use Rattle.conf_shape.specs.Scalars.{within, if_within, is_name, flag_fault, number_fault, text_fault}
 use Rattle.conf_shape.specs.Sections.{key_text, is_key, canonical, row_at, spells, given, number_of, row_kind, text_kind, has_text, named_kind, named_once, as_map, number_or_name, under_key}
-use Rattle.conf_shape.specs.Faults.{Faults, Entry, here, under, value_faults, missing_in, map_faults, may_be_null, tree_step, pair_step, faults_of, entry_of, first, told, first_fault}
+use Rattle.conf_shape.specs.Faults.{Faults, Entry, here, under, value_faults, missing_in, map_faults, may_be_null, tree_step, pair_step, faults_of, entry_of, first, fault_of, first_fault}
 use Rattle.conf_shape.specs.Reads.{value_at, flag_in, number_in, text_in, entries_in, flag_of, text_of, entries_of}
 use Rattle.conf_shape.specs.Reads as reads
 use Rattle.conf_shape.specs.Written.{IsRight, Takes, IsTextAlone}
@@ -184,7 +184,7 @@ module _ (m : MapKind) where
 pub document_right : (t : Tree) → first_fault t ≡ None → IsRight kinds.Top (entries_of t)
 document_right t none = map_right kinds.Top t (by (faults_of t (kinds_of.Map kinds.Top)) none)
   where
-    by : (fs : List Found) → option_map told (first fs) ≡ None → fs ≡ []
+    by : (fs : List Found) → option_map fault_of (first fs) ≡ None → fs ≡ []
     by [] e = refl
     by (f ∷ fs) e = absurd cc
 

@@ -26,11 +26,11 @@ here None = []
 here (Some cause) = record { steps = []; cause = cause } ∷ []
 
 -- behind a key or a place
-abbrev pub behind : List ℕ → Found → Found
-behind step found = record { steps = step ∷ found.steps; cause = found.cause }
+abbrev pub found_under : List ℕ → Found → Found
+found_under step found = record { steps = step ∷ found.steps; cause = found.cause }
 
 abbrev pub under : List ℕ → List Found → List Found
-under step faults = map (behind step) faults
+under step faults = map (found_under step) faults
 
 -- the faults of a value, as one of each kind
 abbrev pub Faults : Type 0
@@ -119,9 +119,9 @@ abbrev pub path_of : List (List ℕ) → List ℕ
 path_of [] = codes "."
 path_of (step ∷ steps) = step ++ dotted steps
 
-abbrev pub told : Found → ConfFault
-told found = record { path = path_of found.steps; cause = found.cause }
+abbrev pub fault_of : Found → ConfFault
+fault_of found = record { path = path_of found.steps; cause = found.cause }
 
 -- the first fault of a document
 abbrev pub first_fault : Tree → Option ConfFault
-first_fault t = option_map told (first (faults_of t (Map Top)))
+first_fault t = option_map fault_of (first (faults_of t (Map Top)))

@@ -3,7 +3,7 @@ ghost use Rattle.std.specs.Fmt.{decimal};
 ghost use Rattle.conf_shape.specs.Scalars.{map_kind};
 ghost use Rattle.conf_shape.specs.Keys.{seen_row};
 ghost use Rattle.conf_shape.specs.Sections.{map_keys};
-ghost use Rattle.conf_shape.specs.Faults.{here, behind, item_faults, missing, missing_row, missing_in, map_faults, may_be_null, null_faults, faults_of, entries_of, first, dotted, path_of, told, first_fault};
+ghost use Rattle.conf_shape.specs.Faults.{here, found_under, item_faults, missing, missing_row, missing_in, map_faults, may_be_null, null_faults, faults_of, entries_of, first, dotted, path_of, fault_of, first_fault};
 
 use crate::keys::{key_text, lacks, number_of, under_key};
 use crate::kinds::{Kind, MapKind};
@@ -34,8 +34,8 @@ fn here(alloc: Global, cause: Option<ConfCause>) -> Option<Found>
     }
 }
 
-fn behind(step: Text, mut found: Found) -> Result<Found, NoMemory>
-    ensures { IfOk result (λ made. made ≡ behind step found) }
+fn found_under(step: Text, mut found: Found) -> Result<Found, NoMemory>
+    ensures { IfOk result (λ made. made ≡ found_under step found) }
 {
     found.steps.insert(0, step)?;
     Ok(found)
@@ -64,7 +64,7 @@ fn missing_row(alloc: Global, key: &str) -> Result<Found, NoMemory>
         steps: Names::new(alloc),
         cause: ConfCause::Missing,
     };
-    behind(step, found)
+    found_under(step, found)
 }
 
 fn missing(
@@ -145,17 +145,17 @@ fn entries_fault(alloc: Global, map: MapKind, pairs: &[Pair]) -> Result<Option<F
             Err(cause) => here(alloc, Some(cause)),
         };
         if let Some(found) = found {
-            return Ok(Some(behind(key_text(alloc, &pair.key)?, found)?));
+            return Ok(Some(found_under(key_text(alloc, &pair.key)?, found)?));
         }
     }
     missing_in(alloc, map, pairs)
 }
 
 fn behind_place(alloc: Global, place: usize, found: Found) -> Result<Found, NoMemory>
-    ensures { IfOk result (λ made. made ≡ behind (decimal place) found) }
+    ensures { IfOk result (λ made. made ≡ found_under (decimal place) found) }
 {
     let digits = place.to_string(alloc)?;
-    behind(Text::from_str(alloc, digits.as_str())?, found)
+    found_under(Text::from_str(alloc, digits.as_str())?, found)
 }
 
 fn append_dotted(path: &mut Text, steps: &[Text]) -> Result<(), NoMemory>

@@ -15,7 +15,7 @@ use Rattle.neighbour_resolve.specs.declared.asks.Outgoing.{Outgoing}
 use Rattle.neighbour_resolve.specs.declared.neighbour.Due.{Due}
 use Rattle.neighbour_resolve.specs.declared.neighbour.Due.TheVariants.{Ask, Gone}
 use Rattle.neighbour_resolve.specs.Asks.{AskOn, asks, in_order}
-use Rattle.neighbour_resolve.specs.Due.{said}
+use Rattle.neighbour_resolve.specs.Due.{due_said}
 use Rattle.switch_session.specs.declared.closing.Closing.{Closing}
 use Rattle.switch_session.specs.declared.closing.Closing.TheVariants.{BadFrame, Replaced, Silent, UnknownDp, WrongVersion}
 use Rattle.switch_session.specs.declared.quiet.Quiet.{Quiet}
@@ -164,7 +164,7 @@ module _ (K : World → Type 0) (single : Steps K) where
     due_kept : (most : ℕ) (w : World) → K w → K (ask_due most w)
     due_kept zero w kept = kept
     due_kept (suc most) w kept =
-        with_any K (λ due. ask_due most (say_due due (take_due w))) (said w.conf w.moment.0 w.neighbours.neighbours) w
+        with_any K (λ due. ask_due most (say_due due (take_due w))) (due_said w.conf w.moment.0 w.neighbours.neighbours) w
         (λ due. due_kept most (say_due due (take_due w)) (due_said_kept due (take_due w) (takes w kept))) kept
 
     pub asks_kept : (w : World) → K w → K (ask_all w)

@@ -5,11 +5,11 @@ use Rattle.std.proofs.lemmas.Bool.{cases_Bool}
 use Rattle.conf_types.specs.declared.state.NeighRec.{NeighRec}
 use Rattle.conf_types.specs.Configuration.{Configuration}
 use Rattle.neighbour_resolve.specs.declared.neighbour.Due.{Due}
-use Rattle.neighbour_resolve.specs.Due.{after_due, is_due, said, said_of}
+use Rattle.neighbour_resolve.specs.Due.{after_due, is_due, due_said, said_of}
 use Rattle.ctl_world.specs.World.{World}
 use Rattle.ctl_settle.specs.Settling.{ask_due, say_due, take_due}
 
-none_after : (conf : Configuration) (moment : ℕ) (neighbours : List NeighRec) → said conf moment neighbours ≡ None → after_due conf moment neighbours ≡ neighbours
+none_after : (conf : Configuration) (moment : ℕ) (neighbours : List NeighRec) → due_said conf moment neighbours ≡ None → after_due conf moment neighbours ≡ neighbours
 none_after conf moment [] none = refl
 none_after conf moment (n ∷ more) none =
     elim (cases_Bool (is_due moment n)) [
@@ -18,13 +18,13 @@ none_after conf moment (n ∷ more) none =
     ]
 
 module _ (most i : ℕ) (w : World) (within : i < most) where
-  one_more : ask_due (most - i) w ≡ option_map_or (λ due. ask_due (most - (i + 1)) (say_due due (take_due w))) (said w.conf w.moment.0 w.neighbours.neighbours) w
+  one_more : ask_due (most - i) w ≡ option_map_or (λ due. ask_due (most - (i + 1)) (say_due due (take_due w))) (due_said w.conf w.moment.0 w.neighbours.neighbours) w
   one_more = let e : most - i ≡ suc (most - (i + 1)) = omega arith in ap (λ (k : ℕ). ask_due k w) e
 
-  pub due_some : (due : Due) → said w.conf w.moment.0 w.neighbours.neighbours ≡ Some due → ask_due (most - i) w ≡ ask_due (most - (i + 1)) (say_due due (take_due w))
+  pub due_some : (due : Due) → due_said w.conf w.moment.0 w.neighbours.neighbours ≡ Some due → ask_due (most - i) w ≡ ask_due (most - (i + 1)) (say_due due (take_due w))
   due_some due some = one_more ∙ ap (λ o. option_map_or (λ due. ask_due (most - (i + 1)) (say_due due (take_due w))) o w) some
 
-  pub due_none : said w.conf w.moment.0 w.neighbours.neighbours ≡ None → ask_due (most - i) w ≡ take_due w
+  pub due_none : due_said w.conf w.moment.0 w.neighbours.neighbours ≡ None → ask_due (most - i) w ≡ take_due w
   due_none none =
       one_more ∙ ap (λ o. option_map_or (λ due. ask_due (most - (i + 1)) (say_due due (take_due w))) o w) none
       ∙ ap (λ (ns : List NeighRec). record w { neighbours = record w.neighbours { neighbours = ns } }) (sym (none_after w.conf w.moment.0 w.neighbours.neighbours none))

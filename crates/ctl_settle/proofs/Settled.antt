@@ -19,7 +19,7 @@ use Rattle.plan_difference.specs.Difference.{difference}
 use Rattle.neighbour_resolve.specs.declared.neighbour.Due.{Due}
 use Rattle.neighbour_resolve.specs.declared.neighbour.Due.TheVariants.{Ask, Gone}
 use Rattle.neighbour_resolve.specs.Asks.{AskOn, asks, in_order}
-use Rattle.neighbour_resolve.specs.Due.{after_due, first_due, is_due, said, said_of}
+use Rattle.neighbour_resolve.specs.Due.{after_due, first_due, is_due, due_said, said_of}
 use Rattle.ctl_world.specs.declared.conns.Conn.{Conn}
 use Rattle.ctl_world.specs.Alike.{Face, IsAlike, face}
 use Rattle.ctl_world.specs.Connections.{conn_of}
@@ -33,7 +33,7 @@ use Rattle.ctl_settle.proofs.Waiting.{Case, batch_case, settled_done, settled_or
 
 -- ---- what rests settles as it is
 
-none_asked : (most : ℕ) (w : World) → said w.conf w.moment.0 w.neighbours.neighbours ≡ None → ask_due most w ≡ w
+none_asked : (most : ℕ) (w : World) → due_said w.conf w.moment.0 w.neighbours.neighbours ≡ None → ask_due most w ≡ w
 none_asked zero w none = refl
 none_asked (suc most) w none = ap (λ o. option_map_or (λ due. ask_due most (say_due due (take_due w))) o w) none
 
@@ -111,10 +111,10 @@ due_says (Gone group vid ip) w = says_nothing w
 -- ---- once all that are due are asked none is due
 
 abbrev said_in : World → Option Due
-said_in w = said w.conf w.moment.0 w.neighbours.neighbours
+said_in w = due_said w.conf w.moment.0 w.neighbours.neighbours
 
 said_kept : (w v : World) → OnlySays w v → said_in v ≡ said_in w
-said_kept w v only = λ i. said (only.conf i) (only.moment i).0 (only.neighbours i).neighbours
+said_kept w v only = λ i. due_said (only.conf i) (only.moment i).0 (only.neighbours i).neighbours
 
 abbrev dues : World → ℕ
 dues w = count_by (is_due w.moment.0) w.neighbours.neighbours
@@ -177,7 +177,7 @@ module _ (v w : World) (alike : IsAlike v w) where
 
   pub rest_alike : IsAtRest w → IsAtRest v
   rest_alike rests = record {
-    asks = (λ i. said (alike.conf i) (alike.moment i).0 (alike.neighbours i).neighbours) ∙ rests.asks;
+    asks = (λ i. due_said (alike.conf i) (alike.moment i).0 (alike.neighbours i).neighbours) ∙ rests.asks;
     batches = λ dp runs c some. by dp (ap (λ (ids : List DpId). is_running ids dp) (sym (same_running v w alike)) ∙ runs) c some (conn_of w.conns dp) refl;
   }
     where

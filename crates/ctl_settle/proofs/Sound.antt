@@ -13,7 +13,7 @@ use Rattle.flow_messages.specs.Messages.{command_message}
 use Rattle.neighbour_resolve.specs.declared.neighbour.Due.{Due}
 use Rattle.neighbour_resolve.specs.declared.neighbour.Due.TheVariants.{Ask, Gone}
 use Rattle.neighbour_resolve.specs.Asks.{AskOn, asks}
-use Rattle.neighbour_resolve.specs.Due.{after_due, said}
+use Rattle.neighbour_resolve.specs.Due.{after_due, due_said}
 use Rattle.ctl_world.specs.declared.conns.Conn.{Conn}
 use Rattle.ctl_world.specs.Connections.{change, conn_of, with_sent}
 use Rattle.ctl_world.specs.Saying.{ask, packet_out, say}
@@ -45,7 +45,7 @@ module _ (say_kept : (number : ℕ) (m : Message) (w : World) → IsSound w → 
     due_sound : (most : ℕ) (w : World) → IsSound w → IsSound (ask_due most w)
     due_sound zero w sound = sound
     due_sound (suc most) w sound =
-        elim (said w.conf w.moment.0 w.neighbours.neighbours) as (λ o. IsSound (option_map_or (λ due. ask_due most (say_due due (take_due w))) o w)) [
+        elim (due_said w.conf w.moment.0 w.neighbours.neighbours) as (λ o. IsSound (option_map_or (λ due. ask_due most (say_due due (take_due w))) o w)) [
           | Some due ↦ due_sound most (say_due due (take_due w)) (due_said_sound due (take_due w) (taken_sound w sound))
           | None ↦ sound
         ]

@@ -16,7 +16,7 @@ use Rattle.plan_difference.specs.Difference.{difference}
 use Rattle.neighbour_resolve.specs.declared.neighbour.Due.{Due}
 use Rattle.neighbour_resolve.specs.declared.neighbour.Due.TheVariants.{Ask, Gone}
 use Rattle.neighbour_resolve.specs.Asks.{AskOn, asks, in_order}
-use Rattle.neighbour_resolve.specs.Due.{said}
+use Rattle.neighbour_resolve.specs.Due.{due_said}
 use Rattle.ctl_world.specs.declared.conns.Conn.{Conn}
 use Rattle.ctl_world.specs.Connections.{conn_of, with_said}
 use Rattle.ctl_world.specs.Saying.{packet_out, say}
@@ -52,7 +52,7 @@ due_said_ordered (Gone group vid ip) w ordered = ordered
 due_ordered : (most : ℕ) (w : World) → AreOrdered w → AreOrdered (ask_due most w)
 due_ordered zero w ordered = ordered
 due_ordered (suc most) w ordered =
-    elim (said w.conf w.moment.0 w.neighbours.neighbours) as (λ o. AreOrdered (option_map_or (λ due. ask_due most (say_due due (take_due w))) o w)) [
+    elim (due_said w.conf w.moment.0 w.neighbours.neighbours) as (λ o. AreOrdered (option_map_or (λ due. ask_due most (say_due due (take_due w))) o w)) [
       | Some due ↦ due_ordered most (say_due due (take_due w)) (due_said_ordered due (take_due w) ordered)
       | None ↦ ordered
     ]

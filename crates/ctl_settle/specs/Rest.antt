@@ -8,7 +8,7 @@ use Rattle.conf_types.specs.declared.state.NeighRec.{NeighRec}
 use Rattle.conf_types.specs.Configuration.{Configuration}
 use Rattle.conf_types.specs.Lists.{EachBefore}
 use Rattle.conf_types.specs.State.{forgotten_at, is_fresh, is_permanent, is_running, is_to_forget, stale_at}
-use Rattle.neighbour_resolve.specs.Due.{never, said}
+use Rattle.neighbour_resolve.specs.Due.{never, due_said}
 use Rattle.ctl_world.specs.declared.conns.Conn.{Conn}
 use Rattle.ctl_world.specs.Connections.{conn_of}
 use Rattle.ctl_world.specs.World.{World, running}
@@ -16,7 +16,7 @@ use Rattle.ctl_settle.specs.Settling.{wanted}
 
 -- no neighbour is due, and each running datapath has a barrier outstanding or the entries that it is to have
 pub record IsAtRest (w : World) : Type 0 where
-  pub asks : said w.conf w.moment.0 w.neighbours.neighbours ≡ None
+  pub asks : due_said w.conf w.moment.0 w.neighbours.neighbours ≡ None
   pub batches : (dp : DpId) → is_running (running w) dp ≡ true → (c : Conn) → conn_of w.conns dp ≡ Some c
       → (is_some c.session.state.awaited ≡ true) ⊎ (c.sent ≡ wanted w dp)
 

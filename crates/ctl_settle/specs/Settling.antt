@@ -14,7 +14,7 @@ use Rattle.flow_messages.specs.Messages.{command_message}
 use Rattle.neighbour_resolve.specs.declared.neighbour.Due.{Due}
 use Rattle.neighbour_resolve.specs.declared.neighbour.Due.TheVariants.{Ask, Gone}
 use Rattle.neighbour_resolve.specs.Asks.{AskOn, ask as ask_frame, asks, in_order}
-use Rattle.neighbour_resolve.specs.Due.{said, after_due}
+use Rattle.neighbour_resolve.specs.Due.{due_said, after_due}
 use Rattle.ctl_world.specs.declared.conns.Conn.{Conn}
 use Rattle.ctl_world.specs.Connections.{change, conn_of, with_sent}
 use Rattle.ctl_world.specs.Saying.{ask, packet_out, say}
@@ -50,7 +50,7 @@ take_due w = record w { neighbours = record w.neighbours { neighbours = after_du
 -- as long as a neighbour is due, so many at most
 abbrev pub ask_due : (most : ℕ) → World → World
 ask_due zero w = w
-ask_due (suc most) w = option_map_or (λ due. ask_due most (say_due due (take_due w))) (said w.conf w.moment.0 w.neighbours.neighbours) w
+ask_due (suc most) w = option_map_or (λ due. ask_due most (say_due due (take_due w))) (due_said w.conf w.moment.0 w.neighbours.neighbours) w
 
 -- no neighbour is due twice at a moment
 abbrev pub ask_all : World → World

@@ -1,7 +1,7 @@
 -- The frames at the front of the bytes that came on a connection (OpenFlow 1.3, 7.1): each begins with a header of 8
 -- bytes, which tells the length of the whole.
 use Rattle.std.specs.Prelude.{ℕ, nat_lt, Bool, true, false, if◌then◌else◌, List, length, take, drop}
-use Rattle.switch_session.specs.Frames.{told}
+use Rattle.switch_session.specs.Frames.{told_length}
 use Rattle.ctl_world.specs.declared.conns.Conn.{Conn}
 use Rattle.ctl_world.specs.declared.frames.Front.{Front}
 use Rattle.ctl_world.specs.declared.frames.Front.TheVariants.{Part, Frame, Bad}
@@ -10,9 +10,9 @@ use Rattle.ctl_world.specs.declared.frames.Front.TheVariants.{Part, Frame, Bad}
 abbrev pub front : List ℕ → Front
 front bytes =
     if nat_lt (length bytes) 8 then Part
-    else if nat_lt (told bytes) 8 then Bad
-    else if nat_lt (length bytes) (told bytes) then Part
-    else Frame (take (told bytes) bytes)
+    else if nat_lt (told_length bytes) 8 then Bad
+    else if nat_lt (length bytes) (told_length bytes) then Part
+    else Frame (take (told_length bytes) bytes)
 
 abbrev pub is_frame : Front → Bool
 is_frame Part = false
@@ -20,9 +20,9 @@ is_frame (Frame frame) = true
 is_frame Bad = false
 
 -- what is behind the frame at the front; all where there is none
-abbrev pub behind : List ℕ → List ℕ
-behind bytes = if is_frame (front bytes) then drop (told bytes) bytes else bytes
+abbrev pub behind_frame : List ℕ → List ℕ
+behind_frame bytes = if is_frame (front bytes) then drop (told_length bytes) bytes else bytes
 
 -- what stands at the front was taken
 abbrev pub with_read : Conn → Conn
-with_read c = record c { session = record c.session { unread = behind c.session.unread } }
+with_read c = record c { session = record c.session { unread = behind_frame c.session.unread } }

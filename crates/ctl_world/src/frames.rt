@@ -1,7 +1,7 @@
 ghost use Rattle.std.specs.Prelude.{◌≡◌, [], length, IfOk, OnOk};
 ghost use Rattle.std.specs.Option.{option_map_or};
 ghost use Rattle.ctl_world.specs.Connections.{change, conn_with};
-ghost use Rattle.ctl_world.specs.Frames.{behind, front, with_read};
+ghost use Rattle.ctl_world.specs.Frames.{behind_frame, front, with_read};
 
 use crate::conns::{Conns, place};
 use net_base::{Bytes, NoMemory};
@@ -22,7 +22,7 @@ pub enum Front {
 /// Takes what stands at the front of the bytes that a session has not read yet.
 fn take_front(alloc: Global, session: &mut Session) -> Result<Front, NoMemory>
     ensures front { IfOk result (λ made. made ≡ front session.old.unread) }
-    ensures rest { OnOk result (session.new ≡ record session.old { unread = behind session.old.unread }) }
+    ensures rest { OnOk result (session.new ≡ record session.old { unread = behind_frame session.old.unread }) }
 {
     match session.next() {
         Got::NotYet => Ok(Front::Part),

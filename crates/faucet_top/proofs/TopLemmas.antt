@@ -24,7 +24,7 @@ use Rattle.hub_drive.specs.Driving.{out_of}
 use Rattle.gauge_drive.specs.Gauge.{ended_lines, monitor}
 use Rattle.faucet_top.specs.declared.deliver.Status.{Status}
 use Rattle.faucet_top.specs.declared.deliver.Status.TheVariants as statuses
-use Rattle.faucet_top.specs.Answer.{Answer, Load, usage, out_of_memory, refusal, behind, json_line, check_step, check_answer, planned, plan_answer, job_answer}
+use Rattle.faucet_top.specs.Answer.{Answer, Load, usage, out_of_memory, refusal, behind_bytes, json_line, check_step, check_answer, planned, plan_answer, job_answer}
 use Rattle.faucet_top.specs.Ends.{Ends}
 use Rattle.faucet_top.specs.Given.{Loads, RepliesJob, Replies, AnswersSoFar, Delivers, Gives, Checks, StatusFor, IsStatusOf, AreAccepted, IsOpened, IsReplayed, IsReplayedTo, IsWatched, IsWatchedTo}
 use Rattle.faucet_top.specs.Status.{number_of_status}
@@ -118,14 +118,14 @@ module _ (held : Contents) (absence fault : Type 0) (refused : List ℕ) where
   refused_told config name (IncludeDepth file) loads whole by = inl (sym (ap whole (loads.told held refl) ∙ by (IncludeDepth file)))
   refused_told config name (Absent file) loads whole by = inl (sym (ap whole (loads.told held refl) ∙ by (Absent file)))
 
-  behind_told : (bytes : List ℕ) (a b : Answer) → AnswersSoFar a b fault → AnswersSoFar (behind bytes a) (behind bytes b) fault
-  behind_told bytes a b (inl is) = inl (ap (behind bytes) is)
+  behind_told : (bytes : List ℕ) (a b : Answer) → AnswersSoFar a b fault → AnswersSoFar (behind_bytes bytes a) (behind_bytes bytes b) fault
+  behind_told bytes a b (inl is) = inl (ap (behind_bytes bytes) is)
   behind_told bytes a b (inr ends) = inr (ends.0, ap (λ more. bytes ++ more) ends.1 ∙ sym (append_assoc bytes a.out ends.0), ends.2)
 
   check_told : (files : List File) → AllByRecursion IsLoaded files → AnswersSoFar (check_answer files) (check_answer (named files)) fault
   check_told [] all = inl refl
   check_told ((name, Ok conf) ∷ files) all =
-      subst (λ (l : Load). AnswersSoFar (behind (json_line conf) (check_answer files)) (check_step name l (check_answer (named files))) fault)
+      subst (λ (l : Load). AnswersSoFar (behind_bytes (json_line conf) (check_answer files)) (check_step name l (check_answer (named files))) fault)
       (sym ((all.0).told held refl))
       (behind_told (json_line conf) (check_answer files) (check_answer (named files)) (check_told files all.1))
   check_told ((name, Err why) ∷ files) all = refused_told name name why all.0 (λ l. check_step name l (check_answer (named files))) (λ e. refl)

@@ -65,8 +65,8 @@ abbrev pub nothing : Answer
 nothing = record { out = []; err = []; status = 0 }
 
 -- an answer behind these bytes
-abbrev pub behind : List ℕ → Answer → Answer
-behind bytes a = record { out = bytes ++ a.out; err = a.err; status = a.status }
+abbrev pub behind_bytes : List ℕ → Answer → Answer
+behind_bytes bytes a = record { out = bytes ++ a.out; err = a.err; status = a.status }
 
 -- an accepted configuration's line
 abbrev pub json_line : Configuration → List ℕ
@@ -74,7 +74,7 @@ json_line conf = json_text conf ++ 10 ∷ []
 
 -- a file's line and what follows, or the refusal, which ends the run
 abbrev pub check_step : (name : List ℕ) → Load → Answer → Answer
-check_step name (Ok conf) more = behind (json_line conf) more
+check_step name (Ok conf) more = behind_bytes (json_line conf) more
 check_step name (Err why) more = refusal name why
 
 -- the answer to `check`, of each file's name and what it gave, in order

@@ -1,7 +1,7 @@
 -- What calls in turn make of a source.
 use Rattle.std.proofs.Common.{◌≡◌, ◌≢◌, ◌⊎◌, ◌==◌, ℕ, zero, suc, ◌+◌, ◌-◌, ◌^◌, ◌≤◌, Bool, true, false, List, Option, Some, refl, sym, ◌∙◌, subst, inl, inr, arith, min, eqb-true, eq-eqb, true≢false}
 use Rattle.fg_outside.specs.declared.file_source.FileSource.{FileSource}
-use Rattle.fg_outside.specs.Contents.{Contents, Tells, told}
+use Rattle.fg_outside.specs.Contents.{Contents, Tells, told_now}
 use Rattle.fg_outside.specs.Counts.{Rose}
 use Rattle.fg_outside.specs.FileSource.{files_of, name_of, missing_of, faults_of, KeepsFiles}
 use Rattle.fg_outside.specs.Steps.{Went, stay, on}
@@ -51,8 +51,8 @@ module _ {F : Type 0} (contents : F → Option Contents) (faults absences : F �
     files_absences = omega (arith, first.files_absences, second.files_absences);
     missing = rose_in_turn (missing_of a) (missing_of b) (missing_of c) _ _ _ first.files_absences second.files_absences first.missing second.missing;
     here = λ file tells.
-        second.here file (subst (λ (cs : Option Contents). told cs (name_of b) ≡ Some (Some file)) (sym first.same_contents)
-        (subst (λ (name : List ℕ). told (contents (files_of a)) name ≡ Some (Some file)) (sym first.same_name) tells))
+        second.here file (subst (λ (cs : Option Contents). told_now cs (name_of b) ≡ Some (Some file)) (sym first.same_contents)
+        (subst (λ (name : List ℕ). told_now (contents (files_of a)) name ≡ Some (Some file)) (sym first.same_name) tells))
         ∙ first.here file tells;
   }
 

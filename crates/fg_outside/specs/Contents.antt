@@ -11,13 +11,13 @@ refreshed None = None
 refreshed (Some held) = Some (λ later. held (later + 1))
 
 -- what is told of a name now: nothing, or the file, or that there is none
-abbrev pub told : Option Contents → List ℕ → Option (Option (List ℕ))
-told None name = None
-told (Some held) name = Some (held 0 name)
+abbrev pub told_now : Option Contents → List ℕ → Option (Option (List ℕ))
+told_now None name = None
+told_now (Some held) name = Some (held 0 name)
 
 -- the files tell what this name has now: this file, or none
 abbrev pub Tells : Option Contents → List ℕ → Option (List ℕ) → Type 0
-Tells contents name file = told contents name ≡ Some file
+Tells contents name file = told_now contents name ≡ Some file
 
 -- a read of a file from a place put its next n bytes at the front of a buffer
 pub record ReadsAt (file : List ℕ) (from : ℕ) (buf : List ℕ) (n : ℕ) : Type 0 where

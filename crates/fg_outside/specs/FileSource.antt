@@ -1,7 +1,7 @@
 -- What callers see of a file that is read as a source.
 use Rattle.std.specs.Prelude.{◌≡◌, ◌≢◌, ℕ, ◌+◌, ◌-◌, ◌^◌, ◌≤◌, List, ◌++◌, take, drop, min, Option, Some, None}
 use Rattle.fg_outside.specs.declared.file_source.FileSource.{FileSource}
-use Rattle.fg_outside.specs.Contents.{Contents, Tells, told}
+use Rattle.fg_outside.specs.Contents.{Contents, Tells, told_now}
 use Rattle.fg_outside.specs.Counts.{Rose}
 
 -- the files that it reads from
@@ -24,7 +24,7 @@ left_of ahead place (Some (Some file)) = Some (ahead ++ drop place file)
 
 -- what it has left, where its file is told and is there
 abbrev pub left_in : {F : Type 0} → (F → Option Contents) → FileSource F → Option (List ℕ)
-left_in contents source = left_of (take (source.end - source.start) (drop source.start source.ahead)) source.place (told (contents source.files) source.name)
+left_in contents source = left_of (take (source.end - source.start) (drop source.start source.ahead)) source.place (told_now (contents source.files) source.name)
 
 -- how often a read failed: those of the files, and those that found no file, as a counter that stays at its last value
 abbrev pub faults_of : {F : Type 0} → (F → ℕ) → FileSource F → ℕ

@@ -21,7 +21,7 @@ use Rattle.conf_shape.specs.declared.kinds.MapKind.{MapKind}
 use Rattle.conf_shape.specs.declared.kinds.MapKind.TheVariants as maps
 use Rattle.conf_shape.specs.Scalars.{flag_cause, number_cause, text_cause, item_kind, map_kind}
 use Rattle.conf_shape.specs.Sections.{key_text, is_key, under_key}
-use Rattle.conf_shape.specs.Faults.{Faults, Entry, here, under, item_faults, list_faults, value_faults, missing_in, map_faults, in_map, may_be_null, null_faults, tree_step, pair_step, faults_of, entry_of, first, told, first_fault}
+use Rattle.conf_shape.specs.Faults.{Faults, Entry, here, under, item_faults, list_faults, value_faults, missing_in, map_faults, in_map, may_be_null, null_faults, tree_step, pair_step, faults_of, entry_of, first, fault_of, first_fault}
 use Rattle.conf_shape.specs.Reads.{value_at, items_in, entries_in, items_of, entries_of}
 use Rattle.conf_shape.specs.Written.{IsRight, Takes}
 use Rattle.conf_shape.proofs.FaultLaws.{entry_pair}
@@ -88,7 +88,7 @@ map_right m t h = by (out-Tree t) (fine (kind_of.Map m) t h)
 pub document_fine : (t : Tree) → first_fault t ≡ None → faults_of t (kind_of.Map maps.Top) ≡ []
 document_fine t none = by (faults_of t (kind_of.Map maps.Top)) none
   where
-    by : (fs : List Found) → option_map told (first fs) ≡ None → fs ≡ []
+    by : (fs : List Found) → option_map fault_of (first fs) ≡ None → fs ≡ []
     by [] e = refl
     by (f ∷ fs) e = absurd cc
 

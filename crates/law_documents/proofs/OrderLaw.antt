@@ -10,13 +10,13 @@ use Rattle.conf_shape.specs.declared.kinds.Kind.TheVariants.{Map}
 use Rattle.conf_shape.specs.declared.kinds.MapKind.TheVariants.{Top}
 use Rattle.conf_shape.specs.declared.raw.RawConf.{RawConf}
 use Rattle.conf_shape.specs.declared.refused.ConfFault.{ConfFault}
-use Rattle.conf_shape.specs.Faults.{first, told, first_fault}
+use Rattle.conf_shape.specs.Faults.{first, fault_of, first_fault}
 use Rattle.conf_shape.specs.Raw.{raw_of}
 use Rattle.conf_resolve.specs.declared.ordered.OrderedConf.{OrderedConf}
 use Rattle.conf_resolve.specs.InOrder.{ordered}
 use Rattle.conf_resolve.specs.Resolved.{resolved}
 use Rattle.conf_rules.specs.Rules.{first_broken}
-use Rattle.conf_check.specs.Accepted.{unless, meant_by, fault_of, conf_of}
+use Rattle.conf_check.specs.Accepted.{unless, meant_by, broken_rule, conf_of}
 use Rattle.law_checks.proofs.Right.{document_fine}
 use Rattle.law_documents.specs.Gives.{Gives}
 use Rattle.law_documents.specs.SameButOrder.{SameButOrder}
@@ -29,12 +29,12 @@ use Rattle.law_documents.proofs.Raw.{raw_same}
 
 record IsAccepted (t : Tree) (conf : Configuration) : Type 0 where
   shape : first_fault t ≡ None
-  rules : fault_of (raw_of t) ≡ None
+  rules : broken_rule (raw_of t) ≡ None
   meant : meant_by (raw_of t) ≡ conf
 
 of_conf : (t : Tree) (conf : Configuration) → conf_of t ≡ Ok conf → IsAccepted t conf
 unfolding conf_of
-of_conf t conf is = let m = by (first_fault t) (fault_of (raw_of t)) is in record { shape = m.0; rules = m.1; meant = m.2 }
+of_conf t conf is = let m = by (first_fault t) (broken_rule (raw_of t)) is in record { shape = m.0; rules = m.1; meant = m.2 }
   where
     by : (shape rule : Option ConfFault) → unless shape (unless rule (Ok (meant_by (raw_of t)))) ≡ Ok conf → (shape ≡ None) × (rule ≡ None) × (meant_by (raw_of t) ≡ conf)
     by None None is = (refl, refl, cc)
@@ -44,7 +44,7 @@ of_conf t conf is = let m = by (first_fault t) (fault_of (raw_of t)) is in recor
 into_conf : (t : Tree) (conf : Configuration) → IsAccepted t conf → conf_of t ≡ Ok conf
 unfolding conf_of
 into_conf t conf a =
-    ap (λ shape. unless shape (unless (fault_of (raw_of t)) (Ok (meant_by (raw_of t))))) a.shape
+    ap (λ shape. unless shape (unless (broken_rule (raw_of t)) (Ok (meant_by (raw_of t))))) a.shape
     ∙ ap (λ rule. unless rule (Ok (meant_by (raw_of t)))) a.rules
     ∙ ap (λ (c : Configuration). Ok c) a.meant
 
@@ -58,8 +58,8 @@ meant_same : (a b : RawConf) → ordered a ≡ ordered b → meant_by a ≡ mean
 unfolding meant_by
 meant_same a b is = ap resolved is
 
-rules_same : (a b : RawConf) → ordered a ≡ ordered b → fault_of a ≡ fault_of b
-unfolding fault_of
+rules_same : (a b : RawConf) → ordered a ≡ ordered b → broken_rule a ≡ broken_rule b
+unfolding broken_rule
 rules_same a b is = ap (λ (o : OrderedConf). first_broken o (resolved o)) is
 
 -- ---- the law
@@ -74,7 +74,7 @@ one_way valid t u conf same is =
     let rises = valid_rises (raw_of t) (meant_valid (raw_of t) (subst IsValid (sym a.meant) (valid t conf is))) in
     let order = ordered_equal (raw_of t) (raw_of u) (raw_same t u right same) rises in
     into_conf u conf (record {
-      shape = ap (λ fs. option_map told (first fs)) (fine_same t u same (Map Top) right);
+      shape = ap (λ fs. option_map fault_of (first fs)) (fine_same t u same (Map Top) right);
       rules = sym (rules_same (raw_of t) (raw_of u) order) ∙ a.rules;
       meant = sym (meant_same (raw_of t) (raw_of u) order) ∙ a.meant;
     })

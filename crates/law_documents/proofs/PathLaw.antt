@@ -19,7 +19,7 @@ use Rattle.conf_rules.specs.Places.{first}
 use Rattle.conf_rules.specs.Ports.{wrong_acl_ports, lacking_rules, wrong_mirrors, wrong_stacks}
 use Rattle.conf_rules.specs.Routing.{overlapping_vips, shared_vlans, wrong_routes, repeated_routes}
 use Rattle.conf_rules.specs.Rules.{name_faults, port_faults, routing_faults, faults}
-use Rattle.conf_check.specs.Accepted.{unless, meant_by, fault_of, conf_of}
+use Rattle.conf_check.specs.Accepted.{unless, meant_by, broken_rule, conf_of}
 use Rattle.law_checks.proofs.Says.{document_says}
 use Rattle.law_checks.proofs.Members.{all_joined}
 use Rattle.law_documents.specs.Forms.{IsWritten, IsScalar, IsSection, IsOwn, NamesVlan, NamesPort, NamesPorts, NamesNoVlan, NamesNoAcl, SpellsNetwork, SpellsRoute}
@@ -100,8 +100,8 @@ module _ (t : Tree) where
         (joined (port_faults o conf) _ (ports_told p)
         (joined (routing_faults o conf) (passed_limits o conf) (routing_told r) (of_limits (passed_limits o conf) l)))
 
-pub law : (t : Tree) (fault : ConfFault) → first_fault t ≡ None → fault_of (raw_of t) ≡ Some fault → PathLeads t IsWritten fault ⊎ IsOfNumbers t fault
-unfolding fault_of
+pub law : (t : Tree) (fault : ConfFault) → first_fault t ≡ None → broken_rule (raw_of t) ≡ Some fault → PathLeads t IsWritten fault ⊎ IsOfNumbers t fault
+unfolding broken_rule
 law t fault none is =
     first_is (IsTold t) (faults (ordered (raw_of t)) (resolved (ordered (raw_of t)))) fault
     (all_told t (ordered (raw_of t)) (resolved (ordered (raw_of t))) (names_law t none) (ports_law t none) (routing_law t none) (limits_law t none)) is
@@ -123,10 +123,10 @@ pub refusal_leads : (t : Tree) (fault : ConfFault) → conf_of t ≡ Err fault �
 unfolding conf_of
 refusal_leads t fault is = by (first_fault t) refl is
   where
-    checked : first_fault t ≡ None → (o : Option ConfFault) → fault_of (raw_of t) ≡ o → unless o (Ok (meant_by (raw_of t))) ≡ Err fault → LeadsIn t fault
+    checked : first_fault t ≡ None → (o : Option ConfFault) → broken_rule (raw_of t) ≡ o → unless o (Ok (meant_by (raw_of t))) ≡ Err fault → LeadsIn t fault
     checked right None broken e = absurd cc
     checked right (Some f) broken e = let same : f ≡ fault = cc in of_rule t fault (law t fault right (broken ∙ ap Some same))
 
-    by : (o : Option ConfFault) → first_fault t ≡ o → unless o (unless (fault_of (raw_of t)) (Ok (meant_by (raw_of t)))) ≡ Err fault → LeadsIn t fault
-    by None right e = checked right (fault_of (raw_of t)) refl e
+    by : (o : Option ConfFault) → first_fault t ≡ o → unless o (unless (broken_rule (raw_of t)) (Ok (meant_by (raw_of t)))) ≡ Err fault → LeadsIn t fault
+    by None right e = checked right (broken_rule (raw_of t)) refl e
     by (Some f) wrong e = let same : f ≡ fault = cc in of_shape t fault (shape_leads t fault (wrong ∙ ap Some same))

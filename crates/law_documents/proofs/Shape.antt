@@ -21,7 +21,7 @@ use Rattle.conf_shape.specs.declared.kinds.MapKind.TheVariants as maps
 use Rattle.conf_shape.specs.declared.refused.ConfCause.{ConfCause}
 use Rattle.conf_shape.specs.declared.refused.ConfCause.TheVariants.{Missing, WrongType}
 use Rattle.conf_shape.specs.declared.refused.ConfFault.{ConfFault}
-use Rattle.conf_shape.specs.Faults.{Faults, Entry, here, behind, under, item_faults, list_faults, missing_row, missing, missing_in, value_faults, map_faults, in_map, may_be_null, null_faults, tree_step, pair_step, faults_of, entry_of, first, told, first_fault}
+use Rattle.conf_shape.specs.Faults.{Faults, Entry, here, found_under, under, item_faults, list_faults, missing_row, missing, missing_in, value_faults, map_faults, in_map, may_be_null, null_faults, tree_step, pair_step, faults_of, entry_of, first, fault_of, first_fault}
 use Rattle.conf_shape.specs.Keys.{KeyRow, keys_of}
 use Rattle.conf_shape.specs.Reads.{value_at, entries_in}
 use Rattle.conf_shape.specs.Scalars.{flag_cause, number_cause, text_cause, item_kind, map_kind}
@@ -53,9 +53,9 @@ here_leads t None = tt
 here_leads t (Some cause) = (inl (t, refl), tt)
 
 module _ (t : Tree) (step : List ℕ) (u : Tree) (below : IsBelow (out-Tree t) step u) where
-  behind_leads : (f : Found) → FoundLeads u f → FoundLeads t (behind step f)
+  behind_leads : (f : Found) → FoundLeads u f → FoundLeads t (found_under step f)
   behind_leads f (inl l) = inl (l.0, (u, below, l.1))
-  behind_leads f (inr m) = inr (record { steps = step ∷ m.steps; key = m.key; is = ap (behind step) m.is; at = m.at; leads = (u, below, m.leads); lacks = m.lacks })
+  behind_leads f (inr m) = inr (record { steps = step ∷ m.steps; key = m.key; is = ap (found_under step) m.is; at = m.at; leads = (u, below, m.leads); lacks = m.lacks })
 
   under_lead : (fs : List Found) → AllLead u fs → AllLead t (under step fs)
   under_lead [] all = tt
@@ -210,13 +210,13 @@ all_lead (suc k) t le = tree_leads t (below_by k (all_lead k) (out-Tree t) (omeg
 
 -- ---- the fault that is told
 
-told_leads : (t : Tree) (f : Found) → FoundLeads t f → PathLeads t IsWritten (told f) ⊎ IsOfMissing t (told f)
+told_leads : (t : Tree) (f : Found) → FoundLeads t f → PathLeads t IsWritten (fault_of f) ⊎ IsOfMissing t (fault_of f)
 told_leads t f (inl l) = inl (f.steps, refl, l.0, l.1, tt)
-told_leads t f (inr m) = inr (m.steps, m.key, ap told m.is, m.at, m.leads, m.lacks)
+told_leads t f (inr m) = inr (m.steps, m.key, ap fault_of m.is, m.at, m.leads, m.lacks)
 
 pub shape_leads : (t : Tree) (fault : ConfFault) → first_fault t ≡ Some fault → PathLeads t IsWritten fault ⊎ IsOfMissing t fault
 shape_leads t fault is = by (faults_of t (kind_of.Map maps.Top)) (all_lead (levels t) t (omega arith) (kind_of.Map maps.Top)) is
   where
-    by : (fs : List Found) → AllLead t fs → option_map told (first fs) ≡ Some fault → PathLeads t IsWritten fault ⊎ IsOfMissing t fault
+    by : (fs : List Found) → AllLead t fs → option_map fault_of (first fs) ≡ Some fault → PathLeads t IsWritten fault ⊎ IsOfMissing t fault
     by [] all e = absurd (none-some fault e)
-    by (f ∷ fs) all e = subst (λ fault. PathLeads t IsWritten fault ⊎ IsOfMissing t fault) (same_Some (told f) fault e) (told_leads t f all.0)
+    by (f ∷ fs) all e = subst (λ fault. PathLeads t IsWritten fault ⊎ IsOfMissing t fault) (same_Some (fault_of f) fault e) (told_leads t f all.0)

@@ -7,7 +7,7 @@ ghost use Rattle.conf_shape.specs.Faults.{first_fault};
 ghost use Rattle.conf_shape.specs.Raw.{raw_of};
 ghost use Rattle.conf_resolve.specs.InOrder.{ordered};
 ghost use Rattle.conf_resolve.specs.Resolved.{resolved};
-ghost use Rattle.conf_check.specs.Accepted.{fault_of, conf_of};
+ghost use Rattle.conf_check.specs.Accepted.{broken_rule, conf_of};
 ghost use Rattle.law_documents.specs.Forms.{IsWritten};
 ghost use Rattle.law_documents.specs.Leads.{PathLeads};
 ghost use Rattle.law_documents.specs.Rules.{NamePathsLead, PortPathsLead, RoutingPathsLead, LimitPathsLead, IsOfNumbers};
@@ -38,7 +38,7 @@ pub fn the_paths_of_limits_lead_to_parts()
 /// The path of the rule that is told leads to a value that is written in the document, but for too many VLANs
 /// of which none is written: there it is `vlans`.
 pub fn the_path_of_a_broken_rule_leads_to_what_is_written()
-    ensures { (t : Tree) (fault : ConfFault) → first_fault t ≡ None → fault_of (raw_of t) ≡ Some fault → PathLeads t IsWritten fault ⊎ IsOfNumbers t fault }
+    ensures { (t : Tree) (fault : ConfFault) → first_fault t ≡ None → broken_rule (raw_of t) ≡ Some fault → PathLeads t IsWritten fault ⊎ IsOfNumbers t fault }
 {}
 
 /// The path of a fault of the shape leads to a value that is written, or, where a key is missing, to the map

@@ -5,7 +5,7 @@ use Rattle.ctl_world.specs.declared.conns.Conn.{Conn}
 use Rattle.ctl_world.specs.declared.frames.Front.{Front}
 use Rattle.ctl_world.specs.declared.frames.Front.TheVariants.{Part}
 use Rattle.ctl_world.specs.Connections.{conn_with}
-use Rattle.ctl_world.specs.Frames.{behind, front, is_frame, with_read}
+use Rattle.ctl_world.specs.Frames.{behind_frame, front, is_frame, with_read}
 use Rattle.ctl_world.specs.World.{World}
 use Rattle.ctl_life.specs.Life.{has_frame, read, unread}
 use Rattle.ctl_core.specs.Hearing.{hear_frames, hear_front, hear_next}
@@ -48,10 +48,10 @@ front_unread f number w =
     ap (unread number) done ∙ unread_touched t (hear_front f number w) in
     rw e (held_length (unread number w) (conn_with (hear_front f number w).conns number))
 
-read_unread : (number : ℕ) (w : World) → unread number (read number w) ≡ behind (unread number w)
+read_unread : (number : ℕ) (w : World) → unread number (read number w) ≡ behind_frame (unread number w)
 read_unread number w =
     ap (λ (o : Option Conn). option_map_or bytes_of o []) (changed_own with_read (λ c. refl) number w.conns)
-    ∙ elim (conn_with w.conns number) as (λ o. option_map_or bytes_of (option_map with_read o) [] ≡ behind (option_map_or bytes_of o [])) [ Some c ↦ refl | None ↦ refl ]
+    ∙ elim (conn_with w.conns number) as (λ o. option_map_or bytes_of (option_map with_read o) [] ≡ behind_frame (option_map_or bytes_of o [])) [ Some c ↦ refl | None ↦ refl ]
 
 -- ---- enough frames
 

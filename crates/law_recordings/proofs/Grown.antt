@@ -8,7 +8,7 @@ use Rattle.ctl_world.specs.declared.frames.Front.TheVariants.{Bad}
 use Rattle.ctl_world.specs.declared.said.Said.TheVariants as said
 use Rattle.ctl_world.specs.Connections.{conn_with}
 use Rattle.ctl_world.specs.Ends.{end_line, forget_lost}
-use Rattle.ctl_world.specs.Frames.{behind, front, with_read}
+use Rattle.ctl_world.specs.Frames.{behind_frame, front, with_read}
 use Rattle.ctl_world.specs.Saying.{add_said}
 use Rattle.ctl_world.specs.World.{World}
 use Rattle.ctl_settle.specs.Settling.{settle}
@@ -47,7 +47,7 @@ closed_unread number w =
     ap (unread number) (sym (closed_same number (λ m. m) (λ b. b) (λ l. []) w)) ∙ unread_touched (holding number []) v ∙ nothing_held (conn_with v.conns number)
 
 bad_next : (number : ℕ) (w : World) → IsBad (unread number w) → hear_next number w ≡ hear_front Bad number w
-bad_next number w is = ap (λ f. hear_front f number (read number w)) (bad_front (unread number w) is) ∙ closing_same number (λ m. m) (λ b. b) behind w
+bad_next number w is = ap (λ f. hear_front f number (read number w)) (bad_front (unread number w) is) ∙ closing_same number (λ m. m) (λ b. b) behind_frame w
 
 closed_heard : (most number : ℕ) (w : World) → hear_frames most number (hear_front Bad number w) ≡ hear_front Bad number w
 closed_heard most number w = none_heard most number (hear_front Bad number w) (ap front (closed_unread number w))
@@ -76,7 +76,7 @@ module _ (number : ℕ) (heard : Moment → Moment) (echoed : Bool → Bool) (wa
       let swaps : (c : Conn) → conn_with w.conns number ≡ Some c → with_read (touch t c) ≡ touch t (with_read c) = λ c some.
       let here : IsWhole (bytes_of c) = subst (λ (o : Option Conn). IsWhole (option_map_or bytes_of o [])) some is in
       ap (λ (l : List ℕ). record c { session = record c.session { heard = heard c.session.heard; echoed = echoed c.session.echoed; unread = l } })
-      (ap behind (grows (bytes_of c)) ∙ behind_more (bytes_of c) rest here ∙ sym (grows (behind (bytes_of c)))) in
+      (ap behind_frame (grows (bytes_of c)) ∙ behind_more (bytes_of c) rest here ∙ sym (grows (behind_frame (bytes_of c)))) in
       ap (λ (conns : List Conn). record w { conns = conns })
       (change_twice with_read (touch t) (λ c. refl) number w.conns ∙ change_same (λ c. with_read (touch t c)) (λ c. touch t (with_read c)) number w.conns swaps
       ∙ sym (change_twice (touch t) with_read (λ c. refl) number w.conns))

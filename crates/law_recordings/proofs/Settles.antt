@@ -10,7 +10,7 @@ use Rattle.flow_messages.specs.Messages.{command_message}
 use Rattle.neighbour_resolve.specs.declared.neighbour.Due.{Due}
 use Rattle.neighbour_resolve.specs.declared.neighbour.Due.TheVariants.{Ask, Gone}
 use Rattle.neighbour_resolve.specs.Asks.{AskOn, asks, in_order}
-use Rattle.neighbour_resolve.specs.Due.{said}
+use Rattle.neighbour_resolve.specs.Due.{due_said}
 use Rattle.ctl_world.specs.declared.conns.Conn.{Conn}
 use Rattle.ctl_world.specs.Connections.{conn_of, with_sent}
 use Rattle.ctl_world.specs.Saying.{ask, packet_out, say}
@@ -42,7 +42,7 @@ module _ (t : Touch) where
   due_keeps : (most : ℕ) → Keeps t (ask_due most)
   due_keeps zero w = itself t w
   due_keeps (suc most) w =
-      any t w (said w.conf w.moment.0 w.neighbours.neighbours) (λ due. ask_due most (say_due due (take_due (touched t w)))) (λ due. ask_due most (say_due due (take_due w)))
+      any t w (due_said w.conf w.moment.0 w.neighbours.neighbours) (λ due. ask_due most (say_due due (take_due (touched t w)))) (λ due. ask_due most (say_due due (take_due w)))
       (λ due. both t (say_due due) (ask_due most) (say_due_keeps due) (due_keeps most) (take_due w))
 
   ask_all_keeps : Keeps t ask_all

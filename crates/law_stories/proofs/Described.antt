@@ -26,7 +26,7 @@ use Rattle.flow_messages.specs.Messages.{command_message}
 use Rattle.neighbour_resolve.specs.declared.neighbour.Due.{Due}
 use Rattle.neighbour_resolve.specs.declared.neighbour.Due.TheVariants.{Ask, Gone}
 use Rattle.neighbour_resolve.specs.Asks.{AskOn, asks, in_order}
-use Rattle.neighbour_resolve.specs.Due.{after_due, asked, asked_on, is_due, is_gateway, most_tries, next, said}
+use Rattle.neighbour_resolve.specs.Due.{after_due, asked, asked_on, is_due, is_gateway, most_tries, next, due_said}
 use Rattle.ctl_world.specs.declared.conns.Conn.{Conn}
 use Rattle.ctl_world.specs.declared.said.Said.{Said}
 use Rattle.ctl_world.specs.Connections.{conn_of, conn_with, has_number, with_sent}
@@ -75,7 +75,7 @@ due_said_six (Gone group vid ip) w is = is
 due_six : (most : ℕ) (w : World) → IsAddressed w → IsAddressed (ask_due most w)
 due_six zero w is = is
 due_six (suc most) w is =
-    elim (said w.conf w.moment.0 w.neighbours.neighbours) as (λ o. IsAddressed (option_map_or (λ due. ask_due most (say_due due (take_due w))) o w)) [
+    elim (due_said w.conf w.moment.0 w.neighbours.neighbours) as (λ o. IsAddressed (option_map_or (λ due. ask_due most (say_due due (take_due w))) o w)) [
       | Some due ↦ due_six most (say_due due (take_due w)) (due_said_six due (take_due w) (is.0, left_six w.conf w.moment.0 w.neighbours.neighbours is.1, is.2))
       | None ↦ is
     ]

@@ -13,7 +13,7 @@ use Rattle.switch_session.specs.declared.state.Stage.{Stage}
 use Rattle.switch_session.specs.declared.state.Stage.TheVariants.{Greeting, Features, Ports, Wiping, Running, Shut}
 use Rattle.switch_session.specs.declared.state.Step.{Step}
 use Rattle.switch_session.specs.declared.state.Step.TheVariants as steps
-use Rattle.switch_session.specs.Stages.{State, answered, awaits, changed_port, closed, described, leads, passed, speaks, told as told_port}
+use Rattle.switch_session.specs.Stages.{State, answered, awaits, changed_port, closed, described, leads, passed, speaks, with_port_told as told_port}
 use Rattle.switch_session.specs.Told.{forget, takes, tell, tell_all, told_of}
 use Rattle.flow_messages.specs.Commands.{barrier, command, nothing}
 use Rattle.flow_messages.specs.Messages.{delete_all}

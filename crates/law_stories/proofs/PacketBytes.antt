@@ -16,10 +16,10 @@ use Rattle.of13_codec.specs.declared.refused.WireRefused.TheVariants as refusals
 use Rattle.of13_codec.specs.Decoding.{at_least, body_at, decoded, error_at, exactly, features_at, flow_mod_at, flow_mod_of, has_more, hello_at, hello_step, is_version, packet_in_at, packet_in_rest, packet_out_at, packet_out_with, port_status_at, ports_at, ports_stats_at, reply_at, request_at, short, with_xid}
 use Rattle.pkt_view.specs.Frame.{has_type, is_tag_type, parts, parts_with, type_place}
 use Rattle.pkt_view.specs.Numbers.{number_at}
-use Rattle.switch_session.specs.Frames.{told}
+use Rattle.switch_session.specs.Frames.{told_length}
 use Rattle.ctl_world.specs.declared.frames.Front.{Front}
 use Rattle.ctl_world.specs.declared.frames.Front.TheVariants.{Part, Frame, Bad}
-use Rattle.ctl_world.specs.Frames.{behind, front, is_frame}
+use Rattle.ctl_world.specs.Frames.{behind_frame, front, is_frame}
 use Rattle.ctl_life.specs.Life.{says, says_by}
 
 abbrev pub AreBytes : List ℕ → Type 0
@@ -158,14 +158,14 @@ AreIn Part = Unit {0}
 AreIn (Frame f) = AreBytes f
 AreIn Bad = Unit {0}
 
-front_in : (bytes : List ℕ) → AreBytes bytes → (a b c : Bool) → AreIn (if a then Part else if b then Bad else if c then Part else Frame (take (told bytes) bytes))
+front_in : (bytes : List ℕ) → AreBytes bytes → (a b c : Bool) → AreIn (if a then Part else if b then Bad else if c then Part else Frame (take (told_length bytes) bytes))
 front_in bytes all true b c = tt
 front_in bytes all false true c = tt
 front_in bytes all false false true = tt
-front_in bytes all false false false = bytes_taken (told bytes) bytes all
+front_in bytes all false false false = bytes_taken (told_length bytes) bytes all
 
 pub front_bytes : (bytes frame : List ℕ) → AreBytes bytes → front bytes ≡ Frame frame → AreBytes frame
-front_bytes bytes frame all is = subst AreIn is (front_in bytes all (nat_lt (length bytes) 8) (nat_lt (told bytes) 8) (nat_lt (length bytes) (told bytes)))
+front_bytes bytes frame all is = subst AreIn is (front_in bytes all (nat_lt (length bytes) 8) (nat_lt (told_length bytes) 8) (nat_lt (length bytes) (told_length bytes)))
 
-pub behind_bytes : (bytes : List ℕ) → AreBytes bytes → AreBytes (behind bytes)
-behind_bytes bytes all = elim (is_frame (front bytes)) as (λ b. AreBytes (if b then drop (told bytes) bytes else bytes)) [ true ↦ bytes_left (told bytes) bytes all | false ↦ all ]
+pub behind_bytes : (bytes : List ℕ) → AreBytes bytes → AreBytes (behind_frame bytes)
+behind_bytes bytes all = elim (is_frame (front bytes)) as (λ b. AreBytes (if b then drop (told_length bytes) bytes else bytes)) [ true ↦ bytes_left (told_length bytes) bytes all | false ↦ all ]

@@ -13,7 +13,7 @@ use Rattle.plan_difference.specs.Difference.{difference}
 use Rattle.neighbour_resolve.specs.declared.neighbour.Due.{Due}
 use Rattle.neighbour_resolve.specs.declared.neighbour.Due.TheVariants.{Ask, Gone}
 use Rattle.neighbour_resolve.specs.Asks.{AskOn, asks, in_order}
-use Rattle.neighbour_resolve.specs.Due.{said}
+use Rattle.neighbour_resolve.specs.Due.{due_said}
 use Rattle.switch_session.specs.declared.state.Stage.{Stage}
 use Rattle.switch_session.specs.declared.state.Stage.TheVariants.{Greeting, Features, Ports, Wiping, Running, Shut}
 use Rattle.ctl_world.specs.declared.conns.Conn.{Conn}
@@ -111,7 +111,7 @@ due_said_alike (Gone group vid ip) w ordered = record { ordered = ordered; numbe
 due_alike : (most : ℕ) (w : World) → AreOrdered w.conns → IsAlike w (ask_due most w)
 due_alike zero w ordered = record { ordered = ordered; numbers = λ dp. refl }
 due_alike (suc most) w ordered =
-    elim (said w.conf w.moment.0 w.neighbours.neighbours) as (λ o. IsAlike w (option_map_or (λ due. ask_due most (say_due due (take_due w))) o w)) [
+    elim (due_said w.conf w.moment.0 w.neighbours.neighbours) as (λ o. IsAlike w (option_map_or (λ due. ask_due most (say_due due (take_due w))) o w)) [
       | Some due ↦
           let first = due_said_alike due (take_due w) ordered in
           let rest = due_alike most (say_due due (take_due w)) first.ordered in

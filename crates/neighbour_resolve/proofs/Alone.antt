@@ -11,7 +11,7 @@ use Rattle.conf_types.specs.Configuration.{Configuration}
 use Rattle.conf_types.specs.Lists.{EachBefore}
 use Rattle.neighbour_resolve.specs.declared.neighbour.Due.{Due}
 use Rattle.neighbour_resolve.specs.declared.neighbour.Due.TheVariants.{Ask, Gone}
-use Rattle.neighbour_resolve.specs.Due.{after_due, asked, asked_on, is_due, is_gateway, last_wait, most_tries, next, said, said_of, wait_after}
+use Rattle.neighbour_resolve.specs.Due.{after_due, asked, asked_on, is_due, is_gateway, last_wait, most_tries, next, due_said, said_of, wait_after}
 use Rattle.neighbour_resolve.specs.Runs.{Settles, is_about}
 use Rattle.neighbour_resolve.specs.Table.{is_same}
 use Rattle.neighbour_resolve.proofs.Keys.{AreApart, due_some, same_back, same_on, same_true, some_keys}
@@ -217,7 +217,7 @@ module _ (conf : Configuration) (moment : ℕ) where
         let about : is_about n first ≡ false = ap (is_about n) (sym is) ∙ about_said d ∙ other in
         (ap (λ b. cond b (first ∷ filter (is_about n) more) (filter (is_about n) more)) about ∙ rest.0 ∙ ap (here conf moment) found, rest.1 ∙ ap (then_is conf moment) found, rest.2)
 
-    settled_step : (before : List NeighRec) (first : Due) (more : List Due) (after : List NeighRec) → EachBefore AreApart before → (o : Option NeighRec) → find (is_due moment) before ≡ o → said conf moment before ≡ Some first
+    settled_step : (before : List NeighRec) (first : Due) (more : List Due) (after : List NeighRec) → EachBefore AreApart before → (o : Option NeighRec) → find (is_due moment) before ≡ o → due_said conf moment before ≡ Some first
         → IsOne (after_due conf moment before) more after → IsOne before (first ∷ more) after
     settled_step before first more after apart None none says rest = let e : None ≡ Some first = sym (ap (option_map (said_of conf moment)) none) ∙ says in absurd (cc)
     settled_step before first more after apart (Some d) some says rest =

@@ -7,7 +7,7 @@ use Rattle.std.proofs.lemmas.List.Sums.{fails_before_first, passes_at_first}
 use Rattle.conf_types.specs.declared.state.NeighRec.{NeighRec}
 use Rattle.conf_types.specs.Configuration.{Configuration}
 use Rattle.neighbour_resolve.specs.declared.neighbour.Due.TheVariants.{Ask, Gone}
-use Rattle.neighbour_resolve.specs.Due.{after_due, is_due, next, said, said_of}
+use Rattle.neighbour_resolve.specs.Due.{after_due, is_due, next, due_said, said_of}
 
 -- the test passes at this place and at none before it
 record IsFirst (test : NeighRec → Bool) (ns : List NeighRec) (i : ℕ) (n : NeighRec) : Type 0 where
@@ -83,13 +83,13 @@ module _ (conf : Configuration) (moment : ℕ) where
   -- ---- as the code finds it
 
   module _ (ns : List NeighRec) (i : ℕ) (n : NeighRec) (is : Some i ≡ position (is_due moment) ns) (within : i < length ns) (at : n ≡ get_or ns i n) where
-    said_at : said conf moment ns ≡ Some (said_of conf moment n)
+    said_at : due_said conf moment ns ≡ Some (said_of conf moment n)
     said_at = ap (option_map (said_of conf moment)) (found_at (is_due moment) ns i n (is_first (is_due moment) ns i n is within) ∙ ap Some (sym at))
 
-    pub said_ask : (m : NeighRec) → Some m ≡ next conf moment n → Some (Ask n.group n.vid n.ip) ≡ said conf moment ns
+    pub said_ask : (m : NeighRec) → Some m ≡ next conf moment n → Some (Ask n.group n.vid n.ip) ≡ due_said conf moment ns
     said_ask m asked = ap (λ o. Some (if is_some o then Ask n.group n.vid n.ip else Gone n.group n.vid n.ip)) asked ∙ sym said_at
 
-    pub said_gone : None ≡ next conf moment n → Some (Gone n.group n.vid n.ip) ≡ said conf moment ns
+    pub said_gone : None ≡ next conf moment n → Some (Gone n.group n.vid n.ip) ≡ due_said conf moment ns
     said_gone gone = ap (λ o. Some (if is_some o then Ask n.group n.vid n.ip else Gone n.group n.vid n.ip)) gone ∙ sym said_at
 
     pub changed : (m : NeighRec) → Some m ≡ next conf moment n → set ns i m ≡ after_due conf moment ns

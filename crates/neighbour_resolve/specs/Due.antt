@@ -62,8 +62,8 @@ abbrev pub said_of : Configuration → (moment : ℕ) → NeighRec → Due
 said_of conf moment n = if is_some (next conf moment n) then Ask n.group n.vid n.ip else Gone n.group n.vid n.ip
 
 -- what is said of the first one that is due, and the list behind it
-abbrev pub said : Configuration → (moment : ℕ) → List NeighRec → Option Due
-said conf moment neighbours = option_map (said_of conf moment) (first_due moment neighbours)
+abbrev pub due_said : Configuration → (moment : ℕ) → List NeighRec → Option Due
+due_said conf moment neighbours = option_map (said_of conf moment) (first_due moment neighbours)
 
 abbrev pub after_due : Configuration → (moment : ℕ) → List NeighRec → List NeighRec
 after_due conf moment [] = []

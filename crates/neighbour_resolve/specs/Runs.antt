@@ -7,13 +7,13 @@ use Rattle.conf_types.specs.Lists.{EachBefore}
 use Rattle.conf_types.specs.State.{IsSameNeighbour}
 use Rattle.neighbour_resolve.specs.declared.neighbour.Due.{Due}
 use Rattle.neighbour_resolve.specs.declared.neighbour.Due.TheVariants.{Ask, Gone}
-use Rattle.neighbour_resolve.specs.Due.{after_due, never, said}
+use Rattle.neighbour_resolve.specs.Due.{after_due, never, due_said}
 use Rattle.neighbour_resolve.specs.Table.{is_same}
 
 -- at a moment these are the answers, one call after the other, and then there is none
 abbrev pub Settles : Configuration → (moment : ℕ) → (before : List NeighRec) → List Due → (after : List NeighRec) → Type 0
-Settles conf moment before [] after = (said conf moment before ≡ None) × (after ≡ before)
-Settles conf moment before (first ∷ more) after = (said conf moment before ≡ Some first) × Settles conf moment (after_due conf moment before) more after
+Settles conf moment before [] after = (due_said conf moment before ≡ None) × (after ≡ before)
+Settles conf moment before (first ∷ more) after = (due_said conf moment before ≡ Some first) × Settles conf moment (after_due conf moment before) more after
 
 -- others may be wanted, heard or let go, but not this neighbour; no two have one key
 pub record LeavesAlone (n : NeighRec) (before after : List NeighRec) : Type 0 where

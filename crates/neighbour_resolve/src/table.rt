@@ -1,7 +1,7 @@
 ghost use Rattle.std.specs.Prelude.{◌≡◌, ◌≤◌, ◌<◌, true, false, [], length, position, IfOk, IfSome, vec_capacity};
 ghost use Rattle.conf_types.specs.Lists.{EachBefore};
 ghost use Rattle.conf_types.specs.State.{IsSameNeighbour};
-ghost use Rattle.neighbour_resolve.specs.Due.{after_due, is_due, said};
+ghost use Rattle.neighbour_resolve.specs.Due.{after_due, is_due, due_said};
 ghost use Rattle.neighbour_resolve.specs.Kept.{kept};
 ghost use Rattle.neighbour_resolve.specs.Table.{after_told, outcome, gives_way, is_known, neighbours_after, off_group, replaced, resolved, stays, unresolved};
 
@@ -87,7 +87,7 @@ fn due_place(neighbours: &[NeighRec], now: Moment) -> Option<usize>
 
 /// Changes the first neighbour that is due, or takes it out.
 fn take_due(neighbours: &mut Vec<NeighRec>, conf: &Conf, now: Moment) -> Option<Due>
-    ensures said { result ≡ said conf.now now.0 neighbours.old.items }
+    ensures said { result ≡ due_said conf.now now.0 neighbours.old.items }
     ensures list { neighbours.new.items ≡ after_due conf.now now.0 neighbours.old.items }
     ensures capacity { vec_capacity neighbours.new ≡ vec_capacity neighbours.old }
 {
@@ -189,7 +189,7 @@ impl Neighbours {
     /// After ten tries a neighbour is taken out, but for the gateway of a route of its VLAN: that is
     /// resolved no more, and is asked every 64 seconds.
     pub fn due(&mut self, conf: &Conf, now: Moment) -> Option<Due>
-        ensures said { result ≡ said conf.now now.0 self.old.neighbours }
+        ensures said { result ≡ due_said conf.now now.0 self.old.neighbours }
         ensures list { self.new ≡ record self.old { neighbours = after_due conf.now now.0 self.old.neighbours } }
     {
         take_due(&mut self.neighbours, conf, now)

@@ -9,10 +9,10 @@ use Rattle.of_wire.specs.Numbers.{number_in}
 use Rattle.switch_session.specs.declared.stream.Frame.{Frame as Lent}
 use Rattle.switch_session.specs.declared.stream.Got.{Got}
 use Rattle.switch_session.specs.declared.stream.Got.TheVariants.{NotYet, Frame, Bad}
-use Rattle.switch_session.specs.Frames.{told, IsFrame, IsBegun, IsBad, HasNoFrame, Splits, Cuts, Calls, none, feed, next}
+use Rattle.switch_session.specs.Frames.{told_length, IsFrame, IsBegun, IsBad, HasNoFrame, Splits, Cuts, Calls, none, feed, next}
 
 -- what stands behind a header doesn't change the length that it tells
-pub told-append : (a b : List ℕ) → 8 ≤ length a → told (a ++ b) ≡ told a
+pub told-append : (a b : List ℕ) → 8 ≤ length a → told_length (a ++ b) ≡ told_length a
 unfolding number_in
 told-append a b h =
     let two : 2 ≤ length a = omega arith in
@@ -24,18 +24,18 @@ told-append a b h =
     cc
 
 -- a frame at the front, of the length that the header tells
-pub front_frame : (bytes : List ℕ) (len : ℕ) → 8 ≤ len → len ≤ length bytes → told bytes ≡ len → IsFrame (take len bytes)
+pub front_frame : (bytes : List ℕ) (len : ℕ) → 8 ≤ len → len ≤ length bytes → told_length bytes ≡ len → IsFrame (take len bytes)
 front_frame bytes len least most is =
     let here : length (take len bytes) ≡ len = length-take-le len bytes most in
     let header : 8 ≤ length (take len bytes) = omega arith in
     record {
       header = header;
-      whole = sym (told-append (take len bytes) (drop len bytes) header) ∙ ap told (take-append-drop len bytes) ∙ is ∙ sym here;
+      whole = sym (told-append (take len bytes) (drop len bytes) header) ∙ ap told_length (take-append-drop len bytes) ∙ is ∙ sym here;
     }
 
 -- a frame of that length lies behind what was read, and what is unread then lies behind it; a and b are reads of the items
 pub taken_at : (items a b now : List ℕ) (start len : ℕ) → a ≡ items → b ≡ items → drop start items ≡ now
-    → let unread = take (length a - start) (drop start a) in 8 ≤ len → len ≤ length unread → told unread ≡ len
+    → let unread = take (length a - start) (drop start a) in 8 ≤ len → len ≤ length unread → told_length unread ≡ len
     → IsFrame (take (start + len - start) (drop start b)) × (now ≡ take (start + len - start) (drop start b) ++ drop (start + len) items)
 taken_at items a b now start len p q is least most tells =
     let all : take (length a - start) (drop start a) ≡ drop start a = ap (λ n. take n (drop start a)) (sym (length-drop start a)) ∙ take-length (drop start a) in
@@ -44,16 +44,16 @@ taken_at items a b now start len p q is least most tells =
     let here : drop start b ≡ now = ap (drop start) q ∙ is in
     let cut : take len (drop start b) ++ drop len (drop start b) ≡ drop start b = take-append-drop len (drop start b) in
     let behind : drop len (drop start b) ≡ drop (start + len) items = drop-drop len start b ∙ ap (drop (start + len)) q in
-    rw n (front_frame (drop start b) len least (subst (λ l. len ≤ length l) unread most) (sym (ap told unread) ∙ tells), cc)
+    rw n (front_frame (drop start b) len least (subst (λ l. len ≤ length l) unread most) (sym (ap told_length unread) ∙ tells), cc)
 
 -- ---- One split of a stream
 
-front_told : (frame rest : List ℕ) → IsFrame frame → told (frame ++ rest) ≡ length frame
+front_told : (frame rest : List ℕ) → IsFrame frame → told_length (frame ++ rest) ≡ length frame
 front_told frame rest is = told-append frame rest is.header ∙ is.whole
 
 same_front : (f g a b : List ℕ) → IsFrame f → IsFrame g → f ++ a ≡ g ++ b → (f ≡ g) × (a ≡ b)
 same_front f g a b p q e =
-    let long : length f ≡ length g = sym (front_told f a p) ∙ ap told e ∙ front_told g b q in (
+    let long : length f ≡ length g = sym (front_told f a p) ∙ ap told_length e ∙ front_told g b q in (
       sym (take-append_seam f a) ∙ ap (take (length f)) e ∙ ap (λ n. take n (g ++ b)) long ∙ take-append_seam g b,
       sym (drop-append_seam f a) ∙ ap (drop (length f)) e ∙ ap (λ n. drop n (g ++ b)) long ∙ drop-append_seam g b,
     )
@@ -95,14 +95,14 @@ calls_split pieces frames rest c ended =
 pub begun_none : (bytes : List ℕ) → IsBegun bytes → HasNoFrame bytes
 begun_none bytes begun frame rest is e =
     let long : length frame ≤ length bytes = omega (arith, ap length e, length-append frame rest) in
-    let here : told bytes ≡ length frame = ap told e ∙ front_told frame rest is in
+    let here : told_length bytes ≡ length frame = ap told_length e ∙ front_told frame rest is in
     let least : 8 ≤ length frame = is.header in
     let more = begun (omega arith) in
     omega (arith, more.1)
 
 pub bad_none : (bytes : List ℕ) → IsBad bytes → HasNoFrame bytes
 bad_none bytes bad frame rest is e =
-    let here : told bytes ≡ length frame = ap told e ∙ front_told frame rest is in
+    let here : told_length bytes ≡ length frame = ap told_length e ∙ front_told frame rest is in
     let least : 8 ≤ length frame = is.header in
     omega (arith, bad.small)
 

@@ -8,22 +8,22 @@ use Rattle.switch_session.specs.declared.stream.Cut.{Cut}
 use Rattle.switch_session.specs.declared.stream.Cut.TheVariants.{NotYet as Nothing, Whole, Bad as Wrong}
 
 -- the length that the header at the front tells
-abbrev pub told : List ℕ → ℕ
-told bytes = number_in 2 2 bytes
+abbrev pub told_length : List ℕ → ℕ
+told_length bytes = number_in 2 2 bytes
 
 -- a header, and as many bytes as it tells
 pub record IsFrame (bytes : List ℕ) : Type 0 where
   pub header : 8 ≤ length bytes
-  pub whole : told bytes ≡ length bytes
+  pub whole : told_length bytes ≡ length bytes
 
 -- less than a frame: once the header is there, it tells of more bytes than came
 abbrev pub IsBegun : List ℕ → Type 0
-IsBegun bytes = 8 ≤ length bytes → (8 ≤ told bytes) × (length bytes < told bytes)
+IsBegun bytes = 8 ≤ length bytes → (8 ≤ told_length bytes) × (length bytes < told_length bytes)
 
 -- a header that tells fewer bytes than it has itself
 pub record IsBad (bytes : List ℕ) : Type 0 where
   pub header : 8 ≤ length bytes
-  pub small : told bytes < 8
+  pub small : told_length bytes < 8
 
 -- what the answer says of the unread bytes before and after
 abbrev pub Cuts : Got → (before after : List ℕ) → Type 0
@@ -39,7 +39,7 @@ OnNotYet Bad P = Unit {0}
 -- what stands at the front of the bytes
 abbrev pub IsCut : Cut → List ℕ → Type 0
 IsCut Nothing bytes = IsBegun bytes × (length bytes < 65535)
-IsCut (Whole len) bytes = (8 ≤ len) × (len ≤ length bytes) × (told bytes ≡ len)
+IsCut (Whole len) bytes = (8 ≤ len) × (len ≤ length bytes) × (told_length bytes ≡ len)
 IsCut Wrong bytes = IsBad bytes
 
 -- ---- Whole streams

@@ -60,14 +60,14 @@ abbrev pub answered : State → Step → State × Step
 answered s step = (record s { stage = Running; awaited = None }, step)
 
 -- a port that is there is told; a new one is passed over where as many as may be are told
-abbrev pub told : State → PortTold → State × Step
-told s port = (record s { ports = tell s.ports port }, if takes s.ports port.no then PortChanged port.no else Nothing)
+abbrev pub with_port_told : State → PortTold → State × Step
+with_port_told s port = (record s { ports = tell s.ports port }, if takes s.ports port.no then PortChanged port.no else Nothing)
 
 -- PORT_STATUS (7.4.3): reason 1, DELETE, takes the port out, any other tells it; what is no port is passed over
 abbrev pub changed_port : State → (reason : ℕ) → Option PortTold → State × Step
 changed_port s reason None = passed s
 changed_port s reason (Some port) =
-    if reason == 1 then (record s { ports = forget s.ports port.no }, PortChanged port.no) else told s port
+    if reason == 1 then (record s { ports = forget s.ports port.no }, PortChanged port.no) else with_port_told s port
 
 abbrev pub changed : State → (reason : ℕ) → PortDesc → State × Step
 changed s reason port = changed_port s reason (told_of port)

@@ -1,6 +1,6 @@
 ghost use Rattle.std.specs.Prelude.{◌≡◌, [], IfOk, OnErr};
 ghost use Rattle.switch_session.specs.declared.state.Stage.TheVariants.{Greeting, Features, Ports, Wiping, Running, Shut};
-ghost use Rattle.switch_session.specs.Stages.{speaks, awaits, closed, greeted, told, changed, described, awaited, heard, leads};
+ghost use Rattle.switch_session.specs.Stages.{speaks, awaits, closed, greeted, with_port_told, changed, described, awaited, heard, leads};
 
 use crate::closing::Closing;
 use crate::ports::{PortTold, PortsTold, told_of};
@@ -128,7 +128,7 @@ impl State {
 
     /// A port that is there.
     fn tell_port(&mut self, port: PortTold) -> Result<Step, NoMemory>
-        ensures ok { IfOk result (λ step. (self.new, step) ≡ told self.old port) }
+        ensures ok { IfOk result (λ step. (self.new, step) ≡ with_port_told self.old port) }
         ensures err { OnErr result (self.new ≡ self.old) }
     {
         let no = port.no;

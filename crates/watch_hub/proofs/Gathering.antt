@@ -1,7 +1,7 @@
 -- What a look finds, by what gathering and reading give.
 use Rattle.std.proofs.Common.{◌≡◌, ◌≤◌, ◌⊎◌, inl, inr, ℕ, List, [], Option, Some, None, Result, Ok, Err, refl, sym, ap, ◌∙◌, subst, arith}
 use Rattle.std.specs.Prelude.{unwrap_or, IfSome, IfNone, IfOk, OnSome}
-use Rattle.fg_outside.specs.Contents.{Contents, Tells, told}
+use Rattle.fg_outside.specs.Contents.{Contents, Tells, told_now}
 use Rattle.fg_outside.specs.Counts.{Rose}
 use Rattle.yaml_tree.specs.declared.tree.Tree.{Tree}
 use Rattle.yaml_subset.specs.Printed.{printed}
@@ -110,7 +110,7 @@ module _ (contents : Option Contents) (name : List ℕ) (fault absence : Type 0)
   }
     where
       tells : (held : Contents) (file : Option (List ℕ)) → contents ≡ Some held → held 0 name ≡ file → Tells contents name file
-      tells held file is at = ap (λ (c : Option Contents). told c name) is ∙ ap (λ (f : Option (List ℕ)). Some f) at
+      tells held file is at = ap (λ (c : Option Contents). told_now c name) is ∙ ap (λ (f : Option (List ℕ)). Some f) at
 
       given : (held : Contents) → contents ≡ Some held → gathered (held 0) name ≡ Err e
       given held is = refusal_given e (gathered (held 0) name) refuses (fails held is)
@@ -158,7 +158,7 @@ finds_refused contents mid before name fault absence later_fault later_absence b
     (none_by text (λ (s : later_fault ⊎ later_absence). by_either s) none)
   where
     there : (file : Option (List ℕ)) → Tells contents name file → Tells mid name file
-    there file tells = ap (λ (c : Option Contents). told c name) (sym same) ∙ tells
+    there file tells = ap (λ (c : Option Contents). told_now c name) (sym same) ∙ tells
 
     by_either : later_fault ⊎ later_absence → fault ⊎ absence
     by_either (inl f) = inl (by_fault f)

@@ -16,7 +16,7 @@ use Rattle.yaml_subset.specs.Characters.{at_gap}
 use Rattle.yaml_subset.specs.Entries.{has_key}
 use Rattle.yaml_subset.specs.Flow.{with_entry}
 use Rattle.yaml_subset.specs.Blocks.{list_frame, map_frame, levels_in, behind_dash, behind_colon, content, is_marker, by_state, step}
-use Rattle.yaml_subset.specs.Printed.{Piece, behind, scalar_or_lines, item_lines, pair_lines, key_scalar, piece_of, pair_piece}
+use Rattle.yaml_subset.specs.Printed.{Piece, behind_mark, scalar_or_lines, item_lines, pair_lines, key_scalar, piece_of, pair_piece}
 use Rattle.yaml_subset.specs.Levels.{most, levels, pair_levels}
 use Rattle.yaml_subset.specs.ReadBack.{is_sound, entry_sound, all_sound, entries_sound}
 use Rattle.yaml_subset.proofs.BlockLaws.{content_value, content_item}
@@ -41,11 +41,11 @@ pub record BlockLeads (t : Tree) : Type 0 where
       → Leads s ((piece_of t).lines indent ++ back) r
   pub utf8 : (indent : List ℕ) → all_spaces indent ≡ true → IsUtf8 ((piece_of t).lines indent)
 
-inline_text : (t : Tree) (text head indent back : List ℕ) → (piece_of t).inline ≡ Some text → (head ++ behind (piece_of t) indent) ++ back ≡ (head ++ 32 ∷ text) ++ 10 ∷ back
+inline_text : (t : Tree) (text head indent back : List ℕ) → (piece_of t).inline ≡ Some text → (head ++ behind_mark (piece_of t) indent) ++ back ≡ (head ++ 32 ∷ text) ++ 10 ∷ back
 inline_text t text head indent back e =
     ap (λ o. (head ++ scalar_or_lines o ((piece_of t).lines (indent ++ codes "  "))) ++ back) e ∙ simp append_assoc
 
-block_text : (t : Tree) (head indent back : List ℕ) → (piece_of t).inline ≡ None → (head ++ behind (piece_of t) indent) ++ back ≡ head ++ 10 ∷ ((piece_of t).lines (indent ++ codes "  ") ++ back)
+block_text : (t : Tree) (head indent back : List ℕ) → (piece_of t).inline ≡ None → (head ++ behind_mark (piece_of t) indent) ++ back ≡ head ++ 10 ∷ ((piece_of t).lines (indent ++ codes "  ") ++ back)
 block_text t head indent back e =
     ap (λ o. (head ++ scalar_or_lines o ((piece_of t).lines (indent ++ codes "  "))) ++ back) e ∙ simp append_assoc
 
@@ -56,7 +56,7 @@ behind_leads : (t : Tree) → Shape t → ((piece_of t).inline ≡ None → Bloc
     → step s head ≡ Ok (Blocks (f ∷ fs) None)
     → ((text : List ℕ) → IsInline text t → step s (head ++ 32 ∷ text) ≡ Ok (Blocks (f ∷ fs) (Some t)))
     → ((gs : List Frame) (w : Tree) → Pends (suc (length indent)) gs w (f ∷ fs) t → Leads (Blocks gs (Some w)) back r)
-    → Leads s ((head ++ behind (piece_of t) indent) ++ back) r
+    → Leads s ((head ++ behind_mark (piece_of t) indent) ++ back) r
 behind_leads t (inl i) block s f fs head indent back r e sp rows d none some more =
     subst (λ l. Leads s l r) (sym (inline_text t i.text head indent back i.is))
     (row_leads s (Blocks (f ∷ fs) (Some t)) (head ++ 32 ∷ i.text) back r (all_append is_row_byte head (32 ∷ i.text) rows i.inline.rows)
@@ -75,7 +75,7 @@ item_leads : (t : Tree) → Shape t → ((piece_of t).inline ≡ None → BlockL
     → f.indent ≡ length indent → all_spaces indent ≡ true → length (f ∷ fs) + levels t ≤ 32
     → ((rest : List ℕ) → at_gap rest ≡ true → is_marker 45 (45 ∷ rest) ≡ false → step s (indent ++ 45 ∷ rest) ≡ behind_dash (content n Item) (f ∷ fs) (length indent) (45 ∷ rest))
     → ((gs : List Frame) (w : Tree) → Pends (suc (length indent)) gs w (f ∷ fs) t → Leads (Blocks gs (Some w)) back r)
-    → Leads s (((indent ++ 45 ∷ []) ++ behind (piece_of t) indent) ++ back) r
+    → Leads s (((indent ++ 45 ∷ []) ++ behind_mark (piece_of t) indent) ++ back) r
 item_leads t sh block n s f fs indent back r e sp d dash more =
     behind_leads t sh block s f fs (indent ++ 45 ∷ []) indent back r e sp (all_append is_row_byte indent (45 ∷ []) (indent_rows indent sp) refl) d
     (dash [] refl refl ∙ dash_none (content n Item) (f ∷ fs) (length indent))
@@ -86,7 +86,7 @@ item_leads t sh block n s f fs indent back r e sp d dash more =
 abbrev pub Below : ℕ → Type 0
 Below n = (t : Tree) → levels t < n → is_sound t ≡ true → (piece_of t).inline ≡ None → BlockLeads t
 
-item_text : (indent : List ℕ) (p : Piece) (more back : List ℕ) → ((indent ++ 45 ∷ behind p indent) ++ more) ++ back ≡ ((indent ++ 45 ∷ []) ++ behind p indent) ++ (more ++ back)
+item_text : (indent : List ℕ) (p : Piece) (more back : List ℕ) → ((indent ++ 45 ∷ behind_mark p indent) ++ more) ++ back ≡ ((indent ++ 45 ∷ []) ++ behind_mark p indent) ++ (more ++ back)
 item_text indent p more back = simp append_assoc
 
 -- the items behind the first ones
@@ -144,7 +144,7 @@ pair_leads : (t : Tree) → Shape t → ((piece_of t).inline ≡ None → BlockL
     → f.indent ≡ length indent → all_spaces indent ≡ true → length (f ∷ fs) + levels t ≤ 32
     → ((rest : List ℕ) → at_gap rest ≡ true → step s (indent ++ (text ++ 58 ∷ rest)) ≡ behind_colon (f ∷ fs) rest)
     → ((gs : List Frame) (w : Tree) → Pends (suc (length indent)) gs w (f ∷ fs) t → Leads (Blocks gs (Some w)) back r)
-    → Leads s (((indent ++ (text ++ 58 ∷ [])) ++ behind (piece_of t) indent) ++ back) r
+    → Leads s (((indent ++ (text ++ 58 ∷ [])) ++ behind_mark (piece_of t) indent) ++ back) r
 pair_leads t sh block text key k s f fs indent back r e sp d colon more =
     behind_leads t sh block s f fs (indent ++ (text ++ 58 ∷ [])) indent back r e sp
     (all_append is_row_byte indent (text ++ 58 ∷ []) (indent_rows indent sp) (all_append is_row_byte text (58 ∷ []) k.scalar.rows refl)) d
@@ -153,9 +153,9 @@ pair_leads t sh block text key k s f fs indent back r e sp d colon more =
     more
 
 pair_text : (indent : List ℕ) (p : Pair) (more back : List ℕ)
-    → ((indent ++ ((pair_piece p).0 ++ 58 ∷ behind (pair_piece p).1 indent)) ++ more) ++ back ≡ ((indent ++ (key_scalar p.key ++ 58 ∷ [])) ++ behind (piece_of p.value) indent) ++ (more ++ back)
+    → ((indent ++ ((pair_piece p).0 ++ 58 ∷ behind_mark (pair_piece p).1 indent)) ++ more) ++ back ≡ ((indent ++ (key_scalar p.key ++ 58 ∷ [])) ++ behind_mark (piece_of p.value) indent) ++ (more ++ back)
 pair_text indent p more back =
-    ap (λ (q : List ℕ × Piece). ((indent ++ (q.0 ++ 58 ∷ behind q.1 indent)) ++ more) ++ back) (piece_pair p) ∙ simp append_assoc
+    ap (λ (q : List ℕ × Piece). ((indent ++ (q.0 ++ 58 ∷ behind_mark q.1 indent)) ++ more) ++ back) (piece_pair p) ∙ simp append_assoc
 
 -- the entries behind the first ones
 pairs_lead : (n : ℕ) → Below n → (ps : List Pair) (before : List Pair) (key : Key) (v : Tree)

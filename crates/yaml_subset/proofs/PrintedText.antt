@@ -13,7 +13,7 @@ use Rattle.yaml_tree.specs.declared.tree.Pair.{Pair}
 use Rattle.yaml_subset.specs.Blocks.{close_all, content, is_marker, step}
 use Rattle.yaml_subset.specs.Grammar.{Reads}
 use Rattle.yaml_subset.specs.Reading.{read_of}
-use Rattle.yaml_subset.specs.Printed.{Piece, behind, scalar_or_lines, item_lines, pair_lines, key_scalar, piece_of, pair_piece, document, printed}
+use Rattle.yaml_subset.specs.Printed.{Piece, behind_mark, scalar_or_lines, item_lines, pair_lines, key_scalar, piece_of, pair_piece, document, printed}
 use Rattle.yaml_subset.specs.Levels.{most, levels, pair_levels}
 use Rattle.yaml_subset.specs.ReadBack.{is_sound, entry_sound, all_sound, entries_sound, IsSpelled}
 use Rattle.yaml_subset.proofs.GrammarLines.{text_split}
@@ -35,7 +35,7 @@ indent_utf8 indent h = utf8_from indent (all_weaker is_space is_ascii_byte space
 byte_utf8 : (b : ℕ) (bs : List ℕ) → is_ascii_byte b ≡ true → IsUtf8 bs → IsUtf8 (b ∷ bs)
 byte_utf8 b bs h u = IsUtf8-append (b ∷ []) bs (utf8_from (b ∷ []) (rw h refl)) u
 
-behind_utf8 : (t : Tree) → Shape t → ((piece_of t).inline ≡ None → BlockLeads t) → (indent : List ℕ) → all_spaces indent ≡ true → IsUtf8 (behind (piece_of t) indent)
+behind_utf8 : (t : Tree) → Shape t → ((piece_of t).inline ≡ None → BlockLeads t) → (indent : List ℕ) → all_spaces indent ≡ true → IsUtf8 (behind_mark (piece_of t) indent)
 behind_utf8 t (inl i) block indent sp =
     subst (λ o. IsUtf8 (scalar_or_lines o ((piece_of t).lines (indent ++ codes "  ")))) (sym i.is)
     (byte_utf8 32 (i.text ++ 10 ∷ []) refl (IsUtf8-append i.text (10 ∷ []) i.inline.utf8 (utf8_from (10 ∷ []) refl)))
@@ -47,9 +47,9 @@ items_utf8 : (n : ℕ) → Below n → (ts : List Tree) → all_sound (map is_so
 items_utf8 n below [] sound m indent sp = IsUtf8-nil
 items_utf8 n below (t ∷ ts) sound m indent sp =
     let parts = and_parts (is_sound t) (all_sound (map is_sound ts)) sound in
-    IsUtf8-append (indent ++ 45 ∷ behind (piece_of t) indent) (item_lines indent (map piece_of ts))
-    (IsUtf8-append indent (45 ∷ behind (piece_of t) indent) (indent_utf8 indent sp)
-    (byte_utf8 45 (behind (piece_of t) indent) refl (behind_utf8 t (shape t parts.0) (below t (omega arith) parts.0) indent sp)))
+    IsUtf8-append (indent ++ 45 ∷ behind_mark (piece_of t) indent) (item_lines indent (map piece_of ts))
+    (IsUtf8-append indent (45 ∷ behind_mark (piece_of t) indent) (indent_utf8 indent sp)
+    (byte_utf8 45 (behind_mark (piece_of t) indent) refl (behind_utf8 t (shape t parts.0) (below t (omega arith) parts.0) indent sp)))
     (items_utf8 n below ts parts.1 (omega arith) indent sp)
 
 pairs_utf8 : (n : ℕ) → Below n → (ps : List Pair) (before : List Key) → entries_sound before (map entry_sound ps) ≡ true → most (map pair_levels ps) < n
@@ -59,11 +59,11 @@ pairs_utf8 n below (q ∷ qs) before sound m indent sp =
     let e = sound_entries before q qs sound in
     let l = levels_pair q in
     let i = key_is q.key e.key in
-    subst (λ (p : List ℕ × Piece). IsUtf8 ((indent ++ (p.0 ++ 58 ∷ behind p.1 indent)) ++ pair_lines indent (map pair_piece qs))) (sym (piece_pair q))
-    (IsUtf8-append (indent ++ (key_scalar q.key ++ 58 ∷ behind (piece_of q.value) indent)) (pair_lines indent (map pair_piece qs))
-    (IsUtf8-append indent (key_scalar q.key ++ 58 ∷ behind (piece_of q.value) indent) (indent_utf8 indent sp)
-    (IsUtf8-append (key_scalar q.key) (58 ∷ behind (piece_of q.value) indent) i.scalar.utf8
-    (byte_utf8 58 (behind (piece_of q.value) indent) refl (behind_utf8 q.value (shape q.value e.value) (below q.value (omega arith) e.value) indent sp))))
+    subst (λ (p : List ℕ × Piece). IsUtf8 ((indent ++ (p.0 ++ 58 ∷ behind_mark p.1 indent)) ++ pair_lines indent (map pair_piece qs))) (sym (piece_pair q))
+    (IsUtf8-append (indent ++ (key_scalar q.key ++ 58 ∷ behind_mark (piece_of q.value) indent)) (pair_lines indent (map pair_piece qs))
+    (IsUtf8-append indent (key_scalar q.key ++ 58 ∷ behind_mark (piece_of q.value) indent) (indent_utf8 indent sp)
+    (IsUtf8-append (key_scalar q.key) (58 ∷ behind_mark (piece_of q.value) indent) i.scalar.utf8
+    (byte_utf8 58 (behind_mark (piece_of q.value) indent) refl (behind_utf8 q.value (shape q.value e.value) (below q.value (omega arith) e.value) indent sp))))
     (pairs_utf8 n below qs (before ++ q.key ∷ []) e.more (omega arith) indent sp))
 
 -- a list or a map, where those of fewer levels are read

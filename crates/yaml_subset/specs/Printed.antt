@@ -65,16 +65,16 @@ scalar_or_lines (Some scalar) lines = 32 ∷ (scalar ++ 10 ∷ [])
 scalar_or_lines None lines = 10 ∷ lines
 
 -- what stands behind a colon or a hyphen of a block at this indent
-abbrev pub behind : Piece → List ℕ → List ℕ
-behind piece indent = scalar_or_lines piece.inline (piece.lines (indent ++ codes "  "))
+abbrev pub behind_mark : Piece → List ℕ → List ℕ
+behind_mark piece indent = scalar_or_lines piece.inline (piece.lines (indent ++ codes "  "))
 
 abbrev pub item_lines : List ℕ → List Piece → List ℕ
 item_lines indent [] = []
-item_lines indent (piece ∷ pieces) = (indent ++ 45 ∷ behind piece indent) ++ item_lines indent pieces
+item_lines indent (piece ∷ pieces) = (indent ++ 45 ∷ behind_mark piece indent) ++ item_lines indent pieces
 
 abbrev pub pair_lines : List ℕ → List (List ℕ × Piece) → List ℕ
 pair_lines indent [] = []
-pair_lines indent (pair ∷ pairs) = (indent ++ (pair.0 ++ 58 ∷ behind pair.1 indent)) ++ pair_lines indent pairs
+pair_lines indent (pair ∷ pairs) = (indent ++ (pair.0 ++ 58 ∷ behind_mark pair.1 indent)) ++ pair_lines indent pairs
 
 abbrev pub list_piece : List Piece → Piece
 list_piece [] = on_line (codes "[]")

@@ -3,7 +3,7 @@ ghost use Rattle.std.specs.Char.{digit_char};
 ghost use Rattle.std.specs.Str.{bytes_eq};
 ghost use Rattle.std.specs.List.{list_all};
 ghost use Rattle.std.specs.Fmt.{signed_decimal};
-ghost use Rattle.yaml_subset.specs.Printed.{escaped, all_escaped, is_plain_byte, begins_with_letter, is_word_of_its_own, is_bool_word, stays_plain, text_scalar, key_scalar, scalar_or_lines, behind, item_lines, pair_lines, piece_of, pair_piece, printed};
+ghost use Rattle.yaml_subset.specs.Printed.{escaped, all_escaped, is_plain_byte, begins_with_letter, is_word_of_its_own, is_bool_word, stays_plain, text_scalar, key_scalar, scalar_or_lines, behind_mark, item_lines, pair_lines, piece_of, pair_piece, printed};
 ghost use Rattle.yaml_subset.specs.ReadBack.{IsSpelled};
 ghost use Rattle.yaml_subset.specs.Grammar.{Reads};
 
@@ -170,7 +170,7 @@ fn deeper(alloc: Global, indent: &[u8]) -> Result<Bytes, NoMemory>
 /// Prints what stands behind the colon or the hyphen of a tree in a block at this indent.
 #[cycle(lines)]
 fn print_behind(alloc: Global, out: &mut Bytes, tree: &Tree, indent: &[u8]) -> Result<(), NoMemory>
-    ensures { OnOk result (out.new ≡ out.old ++ behind (piece_of tree.now) indent.now) }
+    ensures { OnOk result (out.new ≡ out.old ++ behind_mark (piece_of tree.now) indent.now) }
 {
     match scalar_of(alloc, tree)? {
         Some(scalar) => {

@@ -1,5 +1,5 @@
 use Rattle.std.proofs.Common.{ℕ, ◌-◌, List, take, drop, sym, ◌∙◌, ap, arith, length-take}
-use Rattle.fg_outside.specs.Contents.{told}
+use Rattle.fg_outside.specs.Contents.{told_now}
 use Rattle.fg_outside.specs.Left.{prepended}
 use Rattle.fg_outside.specs.FileSource.{left_of}
 use Rattle.fg_outside.proofs.SourceLemmas.{left_of-take, part_behind}
@@ -8,7 +8,7 @@ use Rattle.fg_outside.proofs.file_source.FileSource.take_ahead.Goals as goal
 pub returns-clause-took : goal.returns-clause-took
 returns-clause-took g c =
     let source = c.args.self.now in
-    let is_told = told (g.F.Files.contents source.files) source.name in
+    let is_told = told_now (g.F.Files.contents source.files) source.name in
     let n = c.copy_front-count.result in
     let ahead = take (source.end - source.start) (drop source.start source.ahead) in
     left_of-take ahead source.place is_told n
