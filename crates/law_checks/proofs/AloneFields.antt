@@ -19,7 +19,7 @@ use Rattle.conf_shape.specs.Keys.{keys_of}
 use Rattle.conf_shape.specs.Sections.{key_text}
 use Rattle.conf_shape.specs.Scalars.{asked_scalar}
 use Rattle.conf_shape.specs.Values.{tag_bit, spelled_at, raw_field_or, ahead}
-use Rattle.law_checks.specs.Fields.{AsksNumber, AsksMac, AsksMaskedMac, AsksAddress, AsksPrefix, AsksBy, Asks, FieldSays, FieldsSay}
+use Rattle.law_checks.specs.Fields.{AsksNumber, AsksMac, AsksMaskedMac, AsksAddress, AsksPrefix, AsksBy, Asks, FieldSays, FieldsSay, other_spellings}
 use Rattle.law_checks.proofs.Alone.{IsOne, number_one, text_one}
 
 -- ---- Ethernet addresses
@@ -133,7 +133,7 @@ asked_one id = asked_by_one (asked_scalar id) id
 
 pub fields_one : (ks : List (List ℕ × FieldId)) → IsOne (FieldsSay ks)
 fields_one [] pairs a b h k = h ∙ sym k
-fields_one (q ∷ ks) pairs a b h k = by (spelled_at (keys_of Rule).spellings q.0 pairs) h k (fields_one ks pairs)
+fields_one (q ∷ ks) pairs a b h k = by (spelled_at other_spellings q.0 pairs) h k (fields_one ks pairs)
   where
     by : (o : Option Pair) → MatchOption o (FieldsSay ks pairs a) (λ p. FieldSays q.1 p (FieldsSay ks pairs) a) → MatchOption o (FieldsSay ks pairs b) (λ p. FieldSays q.1 p (FieldsSay ks pairs) b)
         → ((a b : List RawField) → FieldsSay ks pairs a → FieldsSay ks pairs b → a ≡ b) → a ≡ b

@@ -1,5 +1,5 @@
 -- Of a document, no two raw configurations say what is written: part by part, the least first.
-use Rattle.std.proofs.Common.{◌≡◌, ℕ, false, List, [], ◌∷◌, Option, Some, None, refl, sym, ◌∙◌, subst}
+use Rattle.std.proofs.Common.{◌≡◌, ℕ, true, false, List, [], ◌∷◌, Option, Some, None, refl, sym, ◌∙◌, subst}
 use Rattle.std.specs.Prelude.{codes, IsSomeAnd, MatchOption}
 use Rattle.net_base.specs.declared.address.Mac.{Mac}
 use Rattle.yaml_tree.specs.declared.tree.Key.{Key}
@@ -10,14 +10,14 @@ use Rattle.conf_shape.specs.declared.kinds.MapKind.TheVariants as maps
 use Rattle.conf_shape.specs.declared.raw.OneOrList.TheVariants as several
 use Rattle.conf_shape.specs.declared.raw.RawConf.{RawConf}
 use Rattle.conf_shape.specs.declared.raw.RawRule.{RawRule}
-use Rattle.conf_shape.specs.Keys.{match_keys}
 use Rattle.conf_shape.specs.Raw.{port_flag_keys, port_flags_by, drop_flag_keys, drop_flags_by}
 use Rattle.conf_shape.specs.Reads.{value_at, default_of, default_number, default_text}
 use Rattle.law_checks.specs.Values.{IsNumber, IsText, IsPermission, IsLabelOf, IsVlanOf, IsPortOf, IsMac, IsAddress, IsNetwork, Each, IsList, IsOneOrList, IsMap, AreMaps, Given, Needed}
+use Rattle.law_checks.specs.Fields.{asked_fields}
 use Rattle.law_checks.specs.Says.{NumberSays, NamesSay, AclNamesSay, PortFlagsSay, StackEndSays, PortSays, DropFlagsSay, PrioritySays, DpSays, RouteSays, RouteItemSays, VlanSays, OutputSays, ActionsSay, RuleSays, RuleItemSays, AclSays, RouterSays, TopSays, Says}
 use Rattle.law_checks.proofs.Alone.{IsOne, number_one, text_one, permission_one, label_one, vlan_one, port_one, mac_one, address_one, network_one, each_one, list_one, several_one, entries_one, map_one, maps_one, port_no_list, map_no_list, given_one, needed_one, some_one, numbered_one}
 use Rattle.law_checks.proofs.AloneFields.{fields_one}
-use Rattle.law_checks.proofs.Flags.{port_fields, drop_fields, flag_alone, flags_one}
+use Rattle.law_checks.proofs.Flags.{flag_alone}
 
 -- ---- keys
 
@@ -25,8 +25,8 @@ module _ (pairs : List Pair) (name : List ℕ) where
   same : {A : Type 0} (P : Tree → A → Type 0) → IsOne P → (default a b : A) → Given name pairs (a ≡ default) (λ t. P t a) → Given name pairs (b ≡ default) (λ t. P t b) → a ≡ b
   same P one default a b h k = given_one P one (value_at name pairs) default default a b refl h k
 
-  same_number : (m : MapKind) (a b : ℕ) → NumberSays m name pairs a → NumberSays m name pairs b → a ≡ b
-  same_number m a b h k = same IsNumber number_one (default_number (default_of m name)) a b h k
+  same_number : (default a b : ℕ) → NumberSays name default pairs a → NumberSays name default pairs b → a ≡ b
+  same_number default a b h k = same IsNumber number_one default a b h k
 
   same_needed : {A : Type 0} (P : Tree → A → Type 0) → IsOne P → (a b : A) → Needed name pairs (λ t. P t a) → Needed name pairs (λ t. P t b) → a ≡ b
   same_needed P one a b h k = needed_one P one (value_at name pairs) a b h k
@@ -48,7 +48,14 @@ acl_names_one pairs a b h k =
 -- ---- interfaces and datapaths
 
 port_flags_one : IsOne PortFlagsSay
-port_flags_one = flags_one port_flag_keys port_flags_by port_fields (maps.Interface None)
+port_flags_one pairs a b h k =
+    let enabled = flag_alone (codes "enabled") true pairs a.enabled b.enabled h.enabled k.enabled in
+    let unicast = flag_alone (codes "unicast_flood") true pairs a.unicast_flood b.unicast_flood h.unicast_flood k.unicast_flood in
+    let opstatus = flag_alone (codes "opstatus_reconf") true pairs a.opstatus_reconf b.opstatus_reconf h.opstatus_reconf k.opstatus_reconf in
+    let output = flag_alone (codes "output_only") false pairs a.output_only b.output_only h.output_only k.output_only in
+    let hairpin = flag_alone (codes "hairpin") false pairs a.hairpin b.hairpin h.hairpin k.hairpin in
+    let permanent = flag_alone (codes "permanent_learn") false pairs a.permanent_learn b.permanent_learn h.permanent_learn k.permanent_learn in
+    λ i. record { enabled = enabled i; unicast_flood = unicast i; opstatus_reconf = opstatus i; output_only = output i; hairpin = hairpin i; permanent_learn = permanent i }
 
 stack_end_one : IsOne StackEndSays
 stack_end_one pairs a b h k =
@@ -65,13 +72,18 @@ port_says_one key pairs a b h k =
     let native = same pairs (codes "native_vlan") (λ t native. IsSomeAnd native (IsVlanOf (out-Tree t))) (some_one (λ t. IsVlanOf (out-Tree t)) vlan_one) None a.native b.native h.native k.native in
     let tagged = same pairs (codes "tagged_vlans") (IsList (λ item. IsVlanOf (out-Tree item))) (list_one (λ item. IsVlanOf (out-Tree item)) vlan_one) [] a.tagged b.tagged h.tagged k.tagged in
     let acls = acl_names_one pairs a.acls b.acls h.acls k.acls in
-    let hosts = same_number pairs (codes "max_hosts") (maps.Interface None) a.max_hosts b.max_hosts h.max_hosts k.max_hosts in
+    let hosts = same_number pairs (codes "max_hosts") 255 a.max_hosts b.max_hosts h.max_hosts k.max_hosts in
     let mirror = same pairs (codes "mirror") (IsOneOrList (λ item. IsPortOf (out-Tree item))) (several_one (λ item. IsPortOf (out-Tree item)) port_one port_no_list) (several.List []) a.mirror b.mirror h.mirror k.mirror in
     let stack = same pairs (codes "stack") (λ t end. IsSomeAnd end (IsMap StackEndSays t)) (some_one (IsMap StackEndSays) (map_one StackEndSays stack_end_one)) None a.stack b.stack h.stack k.stack in
     λ i. record { names = names i; has_number = has i; no = no_is i; flags = flags i; native = native i; tagged = tagged i; acls = acls i; max_hosts = hosts i; mirror = mirror i; stack = stack i }
 
 drops_one : IsOne DropFlagsSay
-drops_one = flags_one drop_flag_keys drop_flags_by drop_fields maps.Datapath
+drops_one pairs a b h k =
+    let spoofed = flag_alone (codes "drop_spoofed_faucet_mac") true pairs a.spoofed b.spoofed h.spoofed k.spoofed in
+    let broadcast = flag_alone (codes "drop_broadcast_source_address") true pairs a.broadcast b.broadcast h.broadcast k.broadcast in
+    let bpdu = flag_alone (codes "drop_bpdu") true pairs a.bpdu b.bpdu h.bpdu k.bpdu in
+    let lldp = flag_alone (codes "drop_lldp") true pairs a.lldp b.lldp h.lldp k.lldp in
+    λ i. record { spoofed = spoofed i; broadcast = broadcast i; bpdu = bpdu i; lldp = lldp i }
 
 priority_one : IsOne PrioritySays
 priority_one pairs a b h k = same pairs (codes "priority") (λ t priority. IsSomeAnd priority (IsNumber t)) (some_one IsNumber number_one) None a b h k
@@ -80,9 +92,9 @@ dp_says_one : (key : Key) → IsOne (DpSays key)
 dp_says_one key pairs a b h k =
     let names = names_one key pairs a.names b.names h.names k.names in
     let id = same_needed pairs (codes "dp_id") IsNumber number_one a.id.0 b.id.0 h.id k.id in
-    let hardware = same pairs (codes "hardware") IsText text_one (default_text [] (default_of maps.Datapath (codes "hardware"))) a.hardware b.hardware h.hardware k.hardware in
-    let timeout = same_number pairs (codes "timeout") maps.Datapath a.timeout b.timeout h.timeout k.timeout in
-    let arp = same_number pairs (codes "arp_neighbor_timeout") maps.Datapath a.arp_timeout b.arp_timeout h.arp_timeout k.arp_timeout in
+    let hardware = same pairs (codes "hardware") IsText text_one (codes "Open vSwitch") a.hardware b.hardware h.hardware k.hardware in
+    let timeout = same_number pairs (codes "timeout") 300 a.timeout b.timeout h.timeout k.timeout in
+    let arp = same_number pairs (codes "arp_neighbor_timeout") 30 a.arp_timeout b.arp_timeout h.arp_timeout k.arp_timeout in
     let priority = same pairs (codes "stack") (IsMap PrioritySays) (map_one PrioritySays priority_one) None a.stack_priority b.stack_priority h.stack_priority k.stack_priority in
     let drops = drops_one pairs a.drops b.drops h.drops k.drops in
     let ports = same_needed pairs (codes "interfaces") (IsMap (AreMaps PortSays)) (map_one (AreMaps PortSays) (maps_one PortSays port_says_one)) a.ports b.ports h.ports k.ports in
@@ -116,8 +128,8 @@ vlan_says_one key pairs a b h k =
     let mac = mac_same pairs (0x0e ∷ 0 ∷ 0 ∷ 0 ∷ 0 ∷ 1 ∷ []) a.mac b.mac h.mac k.mac in
     let vips = same pairs (codes "faucet_vips") (IsList IsNetwork) (list_one IsNetwork network_one) [] a.vips b.vips h.vips k.vips in
     let routes = same pairs (codes "routes") (IsList (IsMap RouteItemSays)) (list_one (IsMap RouteItemSays) (map_one RouteItemSays route_item_one)) [] a.routes b.routes h.routes k.routes in
-    let hosts = same_number pairs (codes "max_hosts") (maps.Vlan None) a.max_hosts b.max_hosts h.max_hosts k.max_hosts in
-    let flood = flag_alone (maps.Vlan None) (codes "unicast_flood") pairs a.unicast_flood b.unicast_flood h.unicast_flood k.unicast_flood in
+    let hosts = same_number pairs (codes "max_hosts") 255 a.max_hosts b.max_hosts h.max_hosts k.max_hosts in
+    let flood = flag_alone (codes "unicast_flood") true pairs a.unicast_flood b.unicast_flood h.unicast_flood k.unicast_flood in
     λ i. record { names = names i; has_vid = has i; vid = vid i; acls = acls i; mac = mac i; vips = vips i; routes = routes i; max_hosts = hosts i; unicast_flood = flood i }
 
 -- ---- ACLs and routers
@@ -140,7 +152,7 @@ rule_one pairs a b h k = by (value_at (codes "actions") pairs) h.actions k.actio
   where
     by : (o : Option Tree) → IsSomeAnd o (λ t. IsMap ActionsSay t a) → IsSomeAnd o (λ t. IsMap ActionsSay t b) → a ≡ b
     by None h k = absurd h
-    by (Some t) x y = actions_one x.0 a b (fields_one match_keys pairs a.fields b.fields h.fields k.fields) x.2 (subst (λ pairs. ActionsSay pairs b) (sym (entries_one (out-Tree t) x.0 y.0 x.1 y.1)) y.2)
+    by (Some t) x y = actions_one x.0 a b (fields_one asked_fields pairs a.fields b.fields h.fields k.fields) x.2 (subst (λ pairs. ActionsSay pairs b) (sym (entries_one (out-Tree t) x.0 y.0 x.1 y.1)) y.2)
 
 rule_item_one : IsOne RuleItemSays
 rule_item_one pairs a b h k = same_needed pairs (codes "rule") (IsMap RuleSays) (map_one RuleSays rule_one) a b h k

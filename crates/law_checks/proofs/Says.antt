@@ -1,5 +1,5 @@
 -- A raw configuration says what its document says, part by part, the least first.
-use Rattle.std.proofs.Common.{◌≡◌, ℕ, ◌-◌, ◌^◌, ◌≤◌, Bool, false, List, [], ◌∷◌, Option, Some, None, Ok, refl, sym, subst, arith}
+use Rattle.std.proofs.Common.{◌≡◌, ℕ, ◌-◌, ◌^◌, ◌≤◌, Bool, true, false, List, [], ◌∷◌, Option, Some, None, Ok, refl, sym, subst, arith}
 use Rattle.std.specs.Prelude.{map, codes, IfSome, IsSomeAnd, MatchOption, unwrap_or, option_and_then}
 use Rattle.std.specs.Option.{option_map, option_map_or}
 use Rattle.net_base.specs.AddressReading.{spelled_mac, pair_at, next_at}
@@ -32,13 +32,13 @@ use Rattle.conf_shape.specs.Values.{mac_of, net_of, ip_of}
 use Rattle.conf_shape.specs.Written.{IsRight, Takes, IsTextAlone}
 use Rattle.law_checks.specs.Values as says
 use Rattle.law_checks.specs.Values.{IsNumber, IsText, IsPermission, IsLabelOf, IsVlanOf, IsPortOf, IsMac, IsAddress, IsNetwork, Each, IsList, IsOneOrList, IsMap, AreMaps, Needed, IsNumbered}
-use Rattle.law_checks.specs.Says.{FlagSays, NumberSays, TextSays, NamesSay, AclNamesSay, PortFlagsSay, StackEndSays, PortSays, DropFlagsSay, PrioritySays, DpSays, RouteSays, RouteItemSays, VlanSays, OutputSays, ActionsSay, RuleSays, RuleItemSays, AclSays, RouterSays, TopSays, Says}
+use Rattle.law_checks.specs.Says.{FlagSays, NumberSays, NamesSay, AclNamesSay, PortFlagsSay, StackEndSays, PortSays, DropFlagsSay, PrioritySays, DpSays, RouteSays, RouteItemSays, VlanSays, OutputSays, ActionsSay, RuleSays, RuleItemSays, AclSays, RouterSays, TopSays, Says}
 use Rattle.law_checks.proofs.Right.{document_fine, each_right, value_right}
 use Rattle.law_checks.proofs.Values.{named_right}
 use Rattle.law_checks.proofs.KeyRanges.{port_takes, vlan_takes, once_right}
 use Rattle.law_checks.proofs.Asked.{fields_say}
 use Rattle.law_checks.proofs.Bounds.{least_of, most_of, ranged, HasRange, HasDefault, dp_id_range, priority_range, timeout_default, arp_timeout_default, port_hosts_default, vlan_hosts_default}
-use Rattle.law_checks.proofs.Flags.{port_fields, drop_fields, ports_take, flag_says, flags_say}
+use Rattle.law_checks.proofs.Flags.{flag_says}
 use Rattle.law_checks.proofs.Stands.{stands, is_there, needed_there, number_stands, option_number_stands, text_stands, permission_stands, label_stands, vlan_stands, port_stands, mac_stands, vip_stands, destination_stands, gateway_stands, each_map, list_stands, map_stands, ports_stand, maps_stand, IsRightBy, numbered_stands, numbered_found}
 
 -- ---- keys
@@ -49,7 +49,7 @@ needed : {A : Type 0} (m : MapKind) (name : List ℕ) (kind : Kind) → row_at n
 needed m name kind at takes P read some pairs right = is_there P kind read some (value_at name pairs) (needed_there m (row name kind Always Nothing) at refl pairs right) (value_right m name kind takes pairs right)
 
 module _ (m : MapKind) (name : List ℕ) (pairs : List Pair) where
-  number_says : HasDefault m name → IfSome (value_at name pairs) (λ t. faults_of t (One (ranged m name)) ≡ []) → NumberSays m name pairs (number_at m name pairs)
+  number_says : HasDefault m name → IfSome (value_at name pairs) (λ t. faults_of t (One (ranged m name)) ≡ []) → NumberSays name (default_number (default_of m name)) pairs (number_at m name pairs)
   number_says is h =
       let default = default_number (default_of m name) in
       let small : most_of m name ≤ 2 ^ 32 - 1 = omega (arith, is.range.small) in
@@ -107,14 +107,26 @@ module _ (number : Option ℕ) (pairs : List Pair) (right : IsRight (maps.Interf
   port_takes_one : (name : List ℕ) (s : Scalar) → Takes (maps.Interface None) name (One s) → ((n : ℕ) → Takes (maps.Interface (Some n)) name (One s)) → IfSome (value_at name pairs) (λ t. faults_of t (One s) ≡ [])
   port_takes_one name s none some = port_takes number name (One s) none some pairs right
 
+  port_flag : (name : List ℕ) → Takes (maps.Interface None) name (One Flag) → ((n : ℕ) → Takes (maps.Interface (Some n)) name (One Flag)) → FlagSays name (default_flag (default_of (maps.Interface None) name)) pairs (flag_at (maps.Interface None) name pairs)
+  port_flag name none some = flag_says (maps.Interface None) name pairs (port_takes_one name Flag none some)
+
   port_flags_say : PortFlagsSay pairs (port_flags pairs)
-  port_flags_say = flags_say port_flag_keys port_flags_by port_fields (maps.Interface number) (maps.Interface None) (ports_take number) pairs right
+  unfolding default_of
+  port_flags_say = record {
+    enabled = port_flag (codes "enabled") refl (λ n. refl);
+    unicast_flood = port_flag (codes "unicast_flood") refl (λ n. refl);
+    opstatus_reconf = port_flag (codes "opstatus_reconf") refl (λ n. refl);
+    output_only = port_flag (codes "output_only") refl (λ n. refl);
+    hairpin = port_flag (codes "hairpin") refl (λ n. refl);
+    permanent_learn = port_flag (codes "permanent_learn") refl (λ n. refl);
+  }
 
   port_names_say : (key : Key) → NamesSay key pairs (names_by (maps.Interface None) (key_text key) pairs)
   unfolding default_of
   port_names_say key = names_say (maps.Interface None) key pairs (λ own. refl) (λ own. refl) (port_takes_one (codes "name") Name refl (λ n. refl)) (port_takes_one (codes "description") Name refl (λ n. refl))
 
-  port_hosts_say : NumberSays (maps.Interface None) (codes "max_hosts") pairs (number_at (maps.Interface None) (codes "max_hosts") pairs)
+  port_hosts_say : NumberSays (codes "max_hosts") 255 pairs (number_at (maps.Interface None) (codes "max_hosts") pairs)
+  unfolding default_of
   port_hosts_say = number_says (maps.Interface None) (codes "max_hosts") pairs port_hosts_default (port_takes_one (codes "max_hosts") (ranged (maps.Interface None) (codes "max_hosts")) refl (λ n. refl))
 
 port_number_right : (number : Option ℕ) (pairs : List Pair) → IsRight (maps.Interface number) pairs → IsRightBy 1 MOST_PORT_NO number (value_at (codes "number") pairs)
@@ -153,20 +165,31 @@ module _ (pairs : List Pair) (right : IsRight maps.Datapath pairs) where
   dp_takes : (name : List ℕ) (s : Scalar) → Takes maps.Datapath name (One s) → IfSome (value_at name pairs) (λ t. faults_of t (One s) ≡ [])
   dp_takes name s takes = value_right maps.Datapath name (One s) takes pairs right
 
+  drop_flag : (name : List ℕ) → Takes maps.Datapath name (One Flag) → FlagSays name (default_flag (default_of maps.Datapath name)) pairs (flag_at maps.Datapath name pairs)
+  drop_flag name takes = flag_says maps.Datapath name pairs (dp_takes name Flag takes)
+
   drops_say : DropFlagsSay pairs (drop_flags pairs)
-  drops_say = flags_say drop_flag_keys drop_flags_by drop_fields maps.Datapath maps.Datapath refl pairs right
+  unfolding default_of
+  drops_say = record {
+    spoofed = drop_flag (codes "drop_spoofed_faucet_mac") refl;
+    broadcast = drop_flag (codes "drop_broadcast_source_address") refl;
+    bpdu = drop_flag (codes "drop_bpdu") refl;
+    lldp = drop_flag (codes "drop_lldp") refl;
+  }
 
   dp_names_say : (key : Key) → NamesSay key pairs (names_by maps.Datapath (key_text key) pairs)
   unfolding default_of
   dp_names_say key = names_say maps.Datapath key pairs (λ own. refl) (λ own. refl) (dp_takes (codes "name") Name refl) (dp_takes (codes "description") Name refl)
 
-  dp_hardware : TextSays maps.Datapath (codes "hardware") pairs (text_at maps.Datapath (codes "hardware") [] pairs)
+  dp_hardware : says.Given (codes "hardware") pairs (text_at maps.Datapath (codes "hardware") [] pairs ≡ codes "Open vSwitch") (λ t. IsText t (text_at maps.Datapath (codes "hardware") [] pairs))
+  unfolding default_of
   dp_hardware = text_says maps.Datapath (codes "hardware") pairs Words [] (default_text [] (default_of maps.Datapath (codes "hardware"))) (record { no_flag = refl; no_number = λ n. refl }) refl (dp_takes (codes "hardware") Words refl)
 
-  dp_number_says : (name : List ℕ) → HasDefault maps.Datapath name → NumberSays maps.Datapath name pairs (number_at maps.Datapath name pairs)
+  dp_number_says : (name : List ℕ) → HasDefault maps.Datapath name → NumberSays name (default_number (default_of maps.Datapath name)) pairs (number_at maps.Datapath name pairs)
   dp_number_says name is = number_says maps.Datapath name pairs is (dp_takes name (ranged maps.Datapath name) is.range.takes)
 
 dp_says : (key : Key) (pairs : List Pair) → IsRight maps.Datapath pairs → DpSays key pairs (datapath_with key pairs)
+unfolding default_of
 dp_says key pairs right = record {
   names = dp_names_say pairs right key;
   id = number_needed maps.Datapath (codes "dp_id") pairs 64 dp_id_range refl right;
@@ -218,10 +241,12 @@ module _ (number : Option ℕ) (pairs : List Pair) (right : IsRight (maps.Vlan n
   unfolding default_of
   vlan_names_say key = names_say (maps.Vlan None) key pairs (λ own. refl) (λ own. refl) (vlan_takes_one (codes "name") Name refl (λ n. refl)) (vlan_takes_one (codes "description") Name refl (λ n. refl))
 
-  vlan_hosts_say : NumberSays (maps.Vlan None) (codes "max_hosts") pairs (number_at (maps.Vlan None) (codes "max_hosts") pairs)
+  vlan_hosts_say : NumberSays (codes "max_hosts") 255 pairs (number_at (maps.Vlan None) (codes "max_hosts") pairs)
+  unfolding default_of
   vlan_hosts_say = number_says (maps.Vlan None) (codes "max_hosts") pairs vlan_hosts_default (vlan_takes_one (codes "max_hosts") (ranged (maps.Vlan None) (codes "max_hosts")) refl (λ n. refl))
 
-  vlan_flood_says : FlagSays (maps.Vlan None) (codes "unicast_flood") pairs (flag_at (maps.Vlan None) (codes "unicast_flood") pairs)
+  vlan_flood_says : FlagSays (codes "unicast_flood") true pairs (flag_at (maps.Vlan None) (codes "unicast_flood") pairs)
+  unfolding default_of
   vlan_flood_says = flag_says (maps.Vlan None) (codes "unicast_flood") pairs (vlan_takes_one (codes "unicast_flood") Flag refl (λ n. refl))
 
   vlan_mac_says : says.Given (codes "faucet_mac") pairs ((mac_at pairs).0 ≡ 0x0e ∷ 0 ∷ 0 ∷ 0 ∷ 0 ∷ 1 ∷ []) (λ t. IsMac t (mac_at pairs))

@@ -1,16 +1,15 @@
 -- What the fields of a rule say of its match keys.
-use Rattle.std.specs.Prelude.{◌≡◌, ℕ, ◌+◌, ◌^◌, ◌<◌, ◌≤◌, ◌==◌, ◌⊎◌, if◌then◌else◌, List, [], ◌∷◌, ◌++◌, Option, Some, None, MatchOption}
+use Rattle.std.specs.Prelude.{◌≡◌, ℕ, ◌+◌, ◌^◌, ◌<◌, ◌≤◌, ◌==◌, ◌⊎◌, if◌then◌else◌, List, [], ◌∷◌, ◌++◌, codes, Option, Some, None, MatchOption}
 use Rattle.net_base.specs.declared.field.Field.{Field}
 use Rattle.net_base.specs.declared.field.FieldId.{FieldId}
+use Rattle.net_base.specs.declared.field.FieldId.TheVariants.{EthDst, EthSrc, EthType, VlanVid, VlanPcp, IpProto, Ipv4Src, Ipv4Dst, TcpSrc, TcpDst, UdpSrc, UdpDst, Icmpv4Type, Icmpv4Code, ArpOp, ArpSpa, ArpTpa}
 use Rattle.net_base.specs.Address.{SpellsMac, mac_value, ip4_text, net4_text}
 use Rattle.net_base.specs.Field.{exact, prefix}
 use Rattle.yaml_tree.specs.declared.tree.Pair.{Pair}
 use Rattle.yaml_tree.specs.declared.tree.Tree.{Tree}
-use Rattle.conf_shape.specs.declared.kinds.MapKind.TheVariants.{Rule}
 use Rattle.conf_shape.specs.declared.kinds.Scalar.{Scalar}
 use Rattle.conf_shape.specs.declared.kinds.Scalar.TheVariants.{MaskedMac, Prefix}
 use Rattle.conf_shape.specs.declared.raw.RawField.{RawField}
-use Rattle.conf_shape.specs.Keys.{keys_of}
 use Rattle.conf_shape.specs.Sections.{key_text}
 use Rattle.conf_shape.specs.Scalars.{asked_scalar}
 use Rattle.conf_shape.specs.Values.{tag_bit, spelled_at, raw_field_or, ahead}
@@ -66,6 +65,41 @@ Asks id t asked = AsksBy (asked_scalar id) id t asked
 
 -- ---- the fields
 
+-- the match keys with their fields, in the order of the reference
+abbrev pub asked_fields : List (List ℕ × FieldId)
+asked_fields =
+    (codes "eth_src", EthSrc) ∷
+    (codes "eth_dst", EthDst) ∷
+    (codes "eth_type", EthType) ∷
+    (codes "vlan_vid", VlanVid) ∷
+    (codes "vlan_pcp", VlanPcp) ∷
+    (codes "ip_proto", IpProto) ∷
+    (codes "ipv4_src", Ipv4Src) ∷
+    (codes "ipv4_dst", Ipv4Dst) ∷
+    (codes "tcp_src", TcpSrc) ∷
+    (codes "tcp_dst", TcpDst) ∷
+    (codes "udp_src", UdpSrc) ∷
+    (codes "udp_dst", UdpDst) ∷
+    (codes "icmpv4_type", Icmpv4Type) ∷
+    (codes "icmpv4_code", Icmpv4Code) ∷
+    (codes "arp_op", ArpOp) ∷
+    (codes "arp_spa", ArpSpa) ∷
+    (codes "arp_tpa", ArpTpa) ∷
+    []
+
+-- what eight of them may be spelled as too
+abbrev pub other_spellings : List (List ℕ × List ℕ)
+other_spellings =
+    (codes "dl_src", codes "eth_src") ∷
+    (codes "dl_dst", codes "eth_dst") ∷
+    (codes "dl_type", codes "eth_type") ∷
+    (codes "dl_vlan", codes "vlan_vid") ∷
+    (codes "dl_vlan_pcp", codes "vlan_pcp") ∷
+    (codes "nw_proto", codes "ip_proto") ∷
+    (codes "nw_src", codes "ipv4_src") ∷
+    (codes "nw_dst", codes "ipv4_dst") ∷
+    []
+
 -- what the first key says, where it is written in any of its spellings: the field that its value asks for
 -- stands in front, under the key as it is spelled
 abbrev pub FieldSays : FieldId → Pair → (List RawField → Type 0) → List RawField → Type 0
@@ -74,4 +108,4 @@ FieldSays id p others fields = (asked : Option Field) × Asks id p.value asked �
 -- key by key; a key that isn't written has no field
 abbrev pub FieldsSay : List (List ℕ × FieldId) → List Pair → List RawField → Type 0
 FieldsSay [] pairs fields = fields ≡ []
-FieldsSay (k ∷ ks) pairs fields = MatchOption (spelled_at (keys_of Rule).spellings k.0 pairs) (FieldsSay ks pairs fields) (λ p. FieldSays k.1 p (FieldsSay ks pairs) fields)
+FieldsSay (k ∷ ks) pairs fields = MatchOption (spelled_at other_spellings k.0 pairs) (FieldsSay ks pairs fields) (λ p. FieldSays k.1 p (FieldsSay ks pairs) fields)

@@ -1,13 +1,10 @@
 -- What a raw configuration says of the document that it was read from: each value that is written and has an
 -- effect, and where a key isn't written its default.
-use Rattle.std.specs.Prelude.{◌≡◌, ℕ, Bool, false, is_some, List, [], ◌∷◌, codes, Option, None, IsSomeAnd}
-use Rattle.std.specs.List.{AllByRecursion}
+use Rattle.std.specs.Prelude.{◌≡◌, ℕ, Bool, true, false, is_some, List, [], ◌∷◌, codes, Option, None, IsSomeAnd}
 use Rattle.conf_types.specs.declared.vlan.Route.{Route}
 use Rattle.yaml_tree.specs.declared.tree.Key.{Key}
 use Rattle.yaml_tree.specs.declared.tree.Pair.{Pair}
 use Rattle.yaml_tree.specs.declared.tree.Tree.{Tree, out-Tree}
-use Rattle.conf_shape.specs.declared.kinds.MapKind.{MapKind}
-use Rattle.conf_shape.specs.declared.kinds.MapKind.TheVariants as maps
 use Rattle.conf_shape.specs.declared.raw.DropFlags.{DropFlags}
 use Rattle.conf_shape.specs.declared.raw.OneOrList.TheVariants as several
 use Rattle.conf_shape.specs.declared.raw.PortFlags.{PortFlags}
@@ -22,11 +19,9 @@ use Rattle.conf_shape.specs.declared.raw.RawRouter.{RawRouter}
 use Rattle.conf_shape.specs.declared.raw.RawRule.{RawRule}
 use Rattle.conf_shape.specs.declared.raw.RawStackEnd.{RawStackEnd}
 use Rattle.conf_shape.specs.declared.raw.RawVlan.{RawVlan}
-use Rattle.conf_shape.specs.Keys.{match_keys}
-use Rattle.conf_shape.specs.Raw.{port_flag_keys, drop_flag_keys}
-use Rattle.conf_shape.specs.Reads.{value_at, default_of, default_flag, default_number, default_text}
+use Rattle.conf_shape.specs.Reads.{value_at}
 use Rattle.conf_shape.specs.Sections.{key_text}
-use Rattle.law_checks.specs.Fields.{FieldsSay}
+use Rattle.law_checks.specs.Fields.{asked_fields, FieldsSay}
 use Rattle.law_checks.specs.Values.{IsFlag, IsNumber, IsText, IsPermission, IsLabelOf, IsVlanOf, IsPortOf, IsMac, IsAddress, IsNetwork, Each, IsList, IsOneOrList, IsMap, AreMaps, Given, Needed, IsNumbered}
 
 pub record NamesSay (key : Key) (pairs : List Pair) (names : RawNames) : Type 0 where
@@ -39,25 +34,23 @@ pub record AclNamesSay (pairs : List Pair) (acls : RawAclNames) : Type 0 where
   pub one : Given (codes "acl_in") pairs (acls.one ≡ None) (λ t. IsSomeAnd acls.one (IsLabelOf (out-Tree t)))
   pub list : Given (codes "acls_in") pairs (acls.list ≡ None) (λ t. IsSomeAnd acls.list (IsList (λ item. IsLabelOf (out-Tree item)) t))
 
--- ---- flags, numbers and texts, with the defaults that the tables have for a kind of map
+-- ---- flags and numbers: the key, and what stands where it isn't written
 
-abbrev pub FlagSays : MapKind → List ℕ → List Pair → Bool → Type 0
-FlagSays m name pairs flag = Given name pairs (flag ≡ default_flag (default_of m name)) (λ t. IsFlag t flag)
+abbrev pub FlagSays : List ℕ → (default : Bool) → List Pair → Bool → Type 0
+FlagSays name default pairs flag = Given name pairs (flag ≡ default) (λ t. IsFlag t flag)
 
--- each of these flags
-abbrev pub FlagsSay : {R : Type 0} → MapKind → List (List ℕ × (R → Bool)) → List Pair → R → Type 0
-FlagsSay {R} m keys pairs flags = AllByRecursion (λ (k : List ℕ × (R → Bool)). FlagSays m k.0 pairs (k.1 flags)) keys
-
-abbrev pub NumberSays : MapKind → List ℕ → List Pair → ℕ → Type 0
-NumberSays m name pairs number = Given name pairs (number ≡ default_number (default_of m name)) (λ t. IsNumber t number)
-
-abbrev pub TextSays : MapKind → List ℕ → List Pair → List ℕ → Type 0
-TextSays m name pairs text = Given name pairs (text ≡ default_text [] (default_of m name)) (λ t. IsText t text)
+abbrev pub NumberSays : List ℕ → (default : ℕ) → List Pair → ℕ → Type 0
+NumberSays name default pairs number = Given name pairs (number ≡ default) (λ t. IsNumber t number)
 
 -- ---- datapaths and interfaces
 
-abbrev pub PortFlagsSay : List Pair → PortFlags → Type 0
-PortFlagsSay pairs flags = FlagsSay (maps.Interface None) port_flag_keys pairs flags
+pub record PortFlagsSay (pairs : List Pair) (flags : PortFlags) : Type 0 where
+  pub enabled : FlagSays (codes "enabled") true pairs flags.enabled
+  pub unicast_flood : FlagSays (codes "unicast_flood") true pairs flags.unicast_flood
+  pub opstatus_reconf : FlagSays (codes "opstatus_reconf") true pairs flags.opstatus_reconf
+  pub output_only : FlagSays (codes "output_only") false pairs flags.output_only
+  pub hairpin : FlagSays (codes "hairpin") false pairs flags.hairpin
+  pub permanent_learn : FlagSays (codes "permanent_learn") false pairs flags.permanent_learn
 
 pub record StackEndSays (pairs : List Pair) (end : RawStackEnd) : Type 0 where
   pub dp : Needed (codes "dp") pairs (λ t. IsText t end.dp)
@@ -71,12 +64,15 @@ pub record PortSays (key : Key) (pairs : List Pair) (port : RawPort) : Type 0 wh
   pub native : Given (codes "native_vlan") pairs (port.native ≡ None) (λ t. IsSomeAnd port.native (IsVlanOf (out-Tree t)))
   pub tagged : Given (codes "tagged_vlans") pairs (port.tagged ≡ []) (λ t. IsList (λ item. IsVlanOf (out-Tree item)) t port.tagged)
   pub acls : AclNamesSay pairs port.acls
-  pub max_hosts : NumberSays (maps.Interface None) (codes "max_hosts") pairs port.max_hosts
+  pub max_hosts : NumberSays (codes "max_hosts") 255 pairs port.max_hosts
   pub mirror : Given (codes "mirror") pairs (port.mirror ≡ several.List []) (λ t. IsOneOrList (λ item. IsPortOf (out-Tree item)) t port.mirror)
   pub stack : Given (codes "stack") pairs (port.stack ≡ None) (λ t. IsSomeAnd port.stack (IsMap StackEndSays t))
 
-abbrev pub DropFlagsSay : List Pair → DropFlags → Type 0
-DropFlagsSay pairs drops = FlagsSay maps.Datapath drop_flag_keys pairs drops
+pub record DropFlagsSay (pairs : List Pair) (drops : DropFlags) : Type 0 where
+  pub spoofed : FlagSays (codes "drop_spoofed_faucet_mac") true pairs drops.spoofed
+  pub broadcast : FlagSays (codes "drop_broadcast_source_address") true pairs drops.broadcast
+  pub bpdu : FlagSays (codes "drop_bpdu") true pairs drops.bpdu
+  pub lldp : FlagSays (codes "drop_lldp") true pairs drops.lldp
 
 -- the priority in the stack, where `stack` of a datapath gives it
 abbrev pub PrioritySays : List Pair → Option ℕ → Type 0
@@ -85,9 +81,9 @@ PrioritySays pairs priority = Given (codes "priority") pairs (priority ≡ None)
 pub record DpSays (key : Key) (pairs : List Pair) (dp : RawDp) : Type 0 where
   pub names : NamesSay key pairs dp.names
   pub id : Needed (codes "dp_id") pairs (λ t. IsNumber t dp.id.0)
-  pub hardware : TextSays maps.Datapath (codes "hardware") pairs dp.hardware
-  pub timeout : NumberSays maps.Datapath (codes "timeout") pairs dp.timeout
-  pub arp_timeout : NumberSays maps.Datapath (codes "arp_neighbor_timeout") pairs dp.arp_timeout
+  pub hardware : Given (codes "hardware") pairs (dp.hardware ≡ codes "Open vSwitch") (λ t. IsText t dp.hardware)
+  pub timeout : NumberSays (codes "timeout") 300 pairs dp.timeout
+  pub arp_timeout : NumberSays (codes "arp_neighbor_timeout") 30 pairs dp.arp_timeout
   pub stack_priority : Given (codes "stack") pairs (dp.stack_priority ≡ None) (λ t. IsMap PrioritySays t dp.stack_priority)
   pub drops : DropFlagsSay pairs dp.drops
   pub ports : Needed (codes "interfaces") pairs (λ t. IsMap (AreMaps PortSays) t dp.ports)
@@ -111,8 +107,8 @@ pub record VlanSays (key : Key) (pairs : List Pair) (vlan : RawVlan) : Type 0 wh
   pub mac : Given (codes "faucet_mac") pairs (vlan.mac.0 ≡ 0x0e ∷ 0 ∷ 0 ∷ 0 ∷ 0 ∷ 1 ∷ []) (λ t. IsMac t vlan.mac)
   pub vips : Given (codes "faucet_vips") pairs (vlan.vips ≡ []) (λ t. IsList IsNetwork t vlan.vips)
   pub routes : Given (codes "routes") pairs (vlan.routes ≡ []) (λ t. IsList (IsMap RouteItemSays) t vlan.routes)
-  pub max_hosts : NumberSays (maps.Vlan None) (codes "max_hosts") pairs vlan.max_hosts
-  pub unicast_flood : FlagSays (maps.Vlan None) (codes "unicast_flood") pairs vlan.unicast_flood
+  pub max_hosts : NumberSays (codes "max_hosts") 255 pairs vlan.max_hosts
+  pub unicast_flood : FlagSays (codes "unicast_flood") true pairs vlan.unicast_flood
 
 -- ---- ACLs and routers
 
@@ -126,7 +122,7 @@ pub record ActionsSay (pairs : List Pair) (rule : RawRule) : Type 0 where
   pub output : Given (codes "output") pairs (rule.output ≡ several.List []) (λ t. IsOneOrList (IsMap OutputSays) t rule.output)
 
 pub record RuleSays (pairs : List Pair) (rule : RawRule) : Type 0 where
-  pub fields : FieldsSay match_keys pairs rule.fields
+  pub fields : FieldsSay asked_fields pairs rule.fields
   pub actions : Needed (codes "actions") pairs (λ t. IsMap ActionsSay t rule)
 
 -- an item of an ACL
