@@ -74,7 +74,7 @@ what_is_written words parts is differ = rw (again is, differ) refl
 
 -- ---- from the parts
 
-bound : {A B : Type 0} (o : Option A) (f : A → Option B) (y : B) → (o >>= f) ≡ Some y → (x : A) × (o ≡ Some x) × (f x ≡ Some y)
+pub bound : {A B : Type 0} (o : Option A) (f : A → Option B) (y : B) → (o >>= f) ≡ Some y → (x : A) × (o ≡ Some x) × (f x ≡ Some y)
 bound None f y e = absurd (grind arith)
 bound (Some x) f y e = (x, refl, e)
 

@@ -1,3 +1,5 @@
 pub mod Words
 pub mod Grammar
 pub mod Numerals
+pub mod Once
+pub mod Asked

@@ -26,15 +26,15 @@ pub plain_text : (text : List ℕ) → is_numeral text ≡ true → without_lead
 plain_text [] is = absurd cc
 plain_text (d ∷ ds) is = without_leading_plus_none (d ∷ ds) (λ plus. let no : false ≡ true = rw plus at is in absurd cc)
 
-all_digits : (text : List ℕ) → is_numeral text ≡ true → list_all is_ascii_digit text ≡ true
+pub all_digits : (text : List ℕ) → is_numeral text ≡ true → list_all is_ascii_digit text ≡ true
 all_digits [] is = absurd cc
 all_digits (d ∷ ds) is = grind (arith, common_steps)
 
-is_there : (text : List ℕ) → is_numeral text ≡ true → 0 < length text
+pub is_there : (text : List ℕ) → is_numeral text ≡ true → 0 < length text
 is_there [] is = absurd cc
 is_there (d ∷ ds) is = omega arith
 
-own : IsNumeralModel (λ ds. list_all is_ascii_digit ds ≡ true) (digits_value 10)
+pub own : IsNumeralModel (λ ds. list_all is_ascii_digit ds ≡ true) (digits_value 10)
 own = numerals_by_value (λ ds. list_all is_ascii_digit ds ≡ true) (search rules)
 
 -- digits that aren't read spell a number that passes 64 bits

@@ -4,3 +4,4 @@ pub mod Written
 pub mod Values
 pub mod Meaning
 pub mod Recorded
+pub mod Asked
