@@ -1,18 +1,20 @@
 -- Words have a meaning exactly where they ask for it by what is written.
-use Rattle.std.proofs.Common.{◌≡◌, ◌≢◌, ◌⊎◌, inl, inr, ◌<◌, ◌≤◌, ◌^◌, ◌==◌, ℕ, Bool, true, false, cond, List, [], ◌∷◌, length, get_or, Option, Some, None, refl, sym, ap, ◌∙◌, subst, arith, decimal, codes, All, Contains, Decides, bytes_eq}
-use Rattle.std.specs.Prelude.{if◌then◌else◌, nat_le, unwrap_or}
+use Rattle.std.proofs.Common.{◌≡◌, ◌≢◌, ◌⊎◌, inl, inr, ◌<◌, ◌≤◌, ◌^◌, ◌==◌, ◌/◌, ◌%◌, ◌++◌, ℕ, Bool, true, false, cond, List, [], ◌∷◌, length, get_or, Option, Some, None, refl, sym, ap, ◌∙◌, subst, arith, append_assoc, decimal, codes, All, Contains, Decides, bytes_eq}
+use Rattle.std.specs.Prelude.{if◌then◌else◌, nat_le, nat_lt, unwrap_or}
 use Rattle.std.specs.Char.{is_ascii_digit}
-use Rattle.std.specs.List.{list_any, list_all}
+use Rattle.std.specs.List.{AllByRecursion, list_any, list_all, before_first, after_first}
 use Rattle.std.specs.Option.{option_map}
 use Rattle.std.specs.Str.Parse.{digits_value}
-use Rattle.std.proofs.lemmas.Bool.{true≢false, and_parts, leb-true, le-leb}
+use Rattle.std.proofs.lemmas.Bool.{true≢false, and_parts, leb-true, le-leb, ltb-true, cond_both}
 use Rattle.std.proofs.lemmas.Bool.Decides.{Decides-by_and, Decides-by_or, Decides-like}
 use Rattle.std.proofs.lemmas.Fmt.{digits_decimal, digits_value-decimal, decimal-digits_value, first_decimal, decimal_nonempty}
 use Rattle.std.proofs.lemmas.Grind.{common_steps}
 use Rattle.std.proofs.lemmas.List.{get_or_default}
 use Rattle.std.proofs.lemmas.Option.{none-some, same_Some, cond_some}
 use Rattle.std.proofs.lemmas.Slice.Eq.{bytes_eq-Decides}
-use Rattle.net_base.specs.AddressReading.{◌>>=◌}
+use Rattle.net_base.specs.Address.{decimal as byte_digits, ip4_text}
+use Rattle.net_base.specs.AddressReading.{◌>>=◌, ip4_of}
+use Rattle.net_base.proofs.Addresses.{ip4_again, ip4_ok}
 use Rattle.command_line.specs.declared.meaning.Command.{Command}
 use Rattle.command_line.specs.declared.meaning.Command.TheVariants as commands
 use Rattle.command_line.specs.declared.meaning.Job.{Job}
@@ -22,15 +24,21 @@ use Rattle.command_line.specs.declared.parts.CommandOption.{CommandOption}
 use Rattle.command_line.specs.declared.parts.Parts.{Parts}
 use Rattle.command_line.specs.declared.recorded.RecordedServe.{RecordedServe}
 use Rattle.command_line.specs.declared.values.Listen.{Listen}
-use Rattle.command_line.specs.Asked.{StandOnce, AreWritten, StandsBehind, StandsOrIs, Spells, SaysEvents, SaysReload, SaysListen, SayHowToServe, AskFor, Check, Plan, Replay, Serve, Gauge, GaugeServe, AskToRecord}
+use Rattle.command_line.specs.Asked.{StandOnce, AreWritten, StandsBehind, StandsOrIs, Spells, SpellsListen, SaysEvents, SaysReload, SaysListen, SayHowToServe, AskFor, Check, Plan, Replay, Serve, Gauge, GaugeServe, AskToRecord}
 use Rattle.command_line.specs.Meaning.{command_of, options_of, are_taken, one_of, two_of, events_of, listen_or, serve_options, job_of, meaning}
 use Rattle.command_line.specs.Parts.{parts_of}
 use Rattle.command_line.specs.Recorded.{recorded_options, are_recorded_options, recorded_serve, recorded_meaning}
-use Rattle.command_line.specs.Values.{is_numeral, number_in, listen_of, value_of}
+use Rattle.command_line.specs.Values.{is_numeral, number_in, is_colon, address_and_port, listen_of, value_of}
 use Rattle.command_line.specs.Written.{Written}
 use Rattle.command_line.proofs.Grammar.{bound, what_is_parted, what_is_written}
+use Rattle.command_line.proofs.Marks.{before_mark, after_mark, has_mark, split_mark}
 use Rattle.command_line.proofs.Numerals.{own, all_digits, is_there}
 use Rattle.command_line.proofs.Once.{same_text, once, distinct, stands, none_stands, found}
+
+-- what a test lets through
+tested : {A : Type 0} (b : Bool) (o : Option A) (x : A) → cond b o None ≡ Some x → (b ≡ true) × (o ≡ Some x)
+tested true o x e = (refl, e)
+tested false o x e = absurd (none-some x e)
 
 -- ---- numbers
 
@@ -65,6 +73,52 @@ read_again least most n some small low high =
 
 pub read : (least most : ℕ) (text : List ℕ) (n : ℕ) → 0 < least → most < 2 ^ 64 → Spells least most text n → number_in least most text ≡ Some n
 read least most text n some small is = ap (number_in least most) is.digits ∙ read_again least most n some small is.at_least is.at_most
+
+-- ---- addresses with ports
+
+no_colon_number : (n : ℕ) → n < 256 → AllByRecursion (λ c. c ≢ 58) (byte_digits n)
+no_colon_number n small =
+    cond_both (nat_lt n 10) _ _ (AllByRecursion (λ c. c ≢ 58)) (λ is. let below = ltb-true n 10 is in ((λ e. omega (arith, below, e)), tt))
+    (λ no. cond_both (nat_lt n 100) _ _ (AllByRecursion (λ c. c ≢ 58)) (λ is. let below = ltb-true n 100 is in ((λ e. omega (arith, below, e)), ((λ e. omega (arith, e)), tt)))
+    (λ no. ((λ e. omega (arith, small, e)), ((λ e. omega (arith, e)), ((λ e. omega (arith, e)), tt)))))
+
+all_append : (P : ℕ → Type 0) (xs ys : List ℕ) → AllByRecursion P xs → AllByRecursion P ys → AllByRecursion P (xs ++ ys)
+all_append P [] ys first second = second
+all_append P (x ∷ xs) ys first second = (first.0, all_append P xs ys first.1 second)
+
+no_colon : (ip : ℕ) → ip < 2 ^ 32 → AllByRecursion (λ c. c ≢ 58) (ip4_text ip)
+no_colon ip small =
+    all_append _ (byte_digits (ip / 2 ^ 24)) _ (no_colon_number (ip / 2 ^ 24) (omega (arith, small))) (
+      (λ e. omega (arith, e)),
+      all_append _ (byte_digits (ip / 2 ^ 16 % 256)) _ (no_colon_number (ip / 2 ^ 16 % 256) (omega arith)) (
+        (λ e. omega (arith, e)),
+        all_append _ (byte_digits (ip / 2 ^ 8 % 256)) _ (no_colon_number (ip / 2 ^ 8 % 256) (omega arith)) ((λ e. omega (arith, e)), no_colon_number (ip % 256) (omega arith)),
+      ),
+    )
+
+listen_spelled : (text : List ℕ) (listen : Listen) → listen_of text ≡ Some listen → SpellsListen text listen
+listen_spelled text listen e =
+    let cut = tested (list_any is_colon text) (address_and_port (before_first is_colon text) (after_first is_colon text)) listen e in
+    let address = bound (ip4_of (before_first is_colon text)) _ listen cut.1 in
+    let port = bound (number_in 1 65535 (after_first is_colon text)) _ listen address.2 in
+    let is = ip4_ok (before_first is_colon text) address.0 address.1 in
+    let digits = spelled 1 65535 (after_first is_colon text) port.0 (omega arith) port.1 in
+    subst (SpellsListen text) (same_Some _ _ port.2) (record {
+      written = split_mark 58 text cut.0 ∙ ap (λ front. front ++ 58 ∷ after_first is_colon text) is.0 ∙ ap (λ back. ip4_text address.0 ++ 58 ∷ back) digits.digits
+          ∙ sym (append_assoc (ip4_text address.0) (codes ":") (decimal port.0));
+      address = is.1;
+      port_at_least = digits.at_least;
+      port_at_most = digits.at_most;
+    })
+
+cut_again : (front back : List ℕ) → AllByRecursion (λ c. c ≢ 58) front → listen_of (front ++ 58 ∷ back) ≡ address_and_port front back
+cut_again front back all = rw (has_mark 58 front back, before_mark 58 front back all, after_mark 58 front back all) refl
+
+listen_again : (text : List ℕ) (listen : Listen) → SpellsListen text listen → listen_of text ≡ Some listen
+listen_again text listen is =
+    let digits : Spells 1 65535 (decimal listen.port) listen.port = record { digits = refl; at_least = is.port_at_least; at_most = is.port_at_most } in
+    ap listen_of (is.written ∙ append_assoc (ip4_text listen.ip.0) (codes ":") (decimal listen.port)) ∙ cut_again (ip4_text listen.ip.0) (decimal listen.port) (no_colon listen.ip.0 is.address)
+    ∙ rw (ip4_again listen.ip.0 is.address, read 1 65535 (decimal listen.port) listen.port (omega arith) (omega arith) digits) refl
 
 -- ---- which options are taken
 
@@ -127,10 +181,11 @@ reload_read options reload_ms all (text, at, is) =
     ap (number_in 100 3600000) (by_default options (codes "reload-ms") (codes "1000") text all at) ∙ read 100 3600000 text reload_ms (omega arith) (omega arith) is
 
 listen_said : (default : List ℕ) (options : List CommandOption) (listen : Listen) → listen_or default options ≡ Some listen → SaysListen default options listen
-listen_said default options listen e = (unwrap_or (value_of (codes "listen") options) default, or_default options (codes "listen") default, e)
+listen_said default options listen e =
+    (unwrap_or (value_of (codes "listen") options) default, or_default options (codes "listen") default, listen_spelled (unwrap_or (value_of (codes "listen") options) default) listen e)
 
 listen_read : (default : List ℕ) (options : List CommandOption) (listen : Listen) → StandOnce options → SaysListen default options listen → listen_or default options ≡ Some listen
-listen_read default options listen all (text, at, is) = ap listen_of (by_default options (codes "listen") default text all at) ∙ is
+listen_read default options listen all (text, at, is) = ap listen_of (by_default options (codes "listen") default text all at) ∙ listen_again text listen is
 
 serve_said : (options : List CommandOption) (said : ServeOptions) → serve_options options ≡ Some said → SayHowToServe options said
 serve_said options said e =
@@ -174,10 +229,6 @@ parts_from words test f job e =
     let parts = bound (parts_of words) _ job e in
     let both = tested (test parts.0.options) (f parts.0) job parts.2 in
     (parts.0, parts.1, both.0, both.1)
-  where
-    tested : {A : Type 0} (b : Bool) (o : Option A) (x : A) → cond b o None ≡ Some x → (b ≡ true) × (o ≡ Some x)
-    tested true o x e = (refl, e)
-    tested false o x e = absurd (none-some x e)
 
 -- what a command asks for, by the words behind it
 abbrev pub asked_of : Command → List (List ℕ) → Option Job
@@ -346,10 +397,6 @@ asked_to_record words job e =
       how = serve_said parts.0.options said.0 said.1;
       file = stands (codes "record") file.0 parts.0.options file.1;
     })
-  where
-    tested : {A : Type 0} (b : Bool) (o : Option A) (x : A) → cond b o None ≡ Some x → (b ≡ true) × (o ≡ Some x)
-    tested true o x e = (refl, e)
-    tested false o x e = absurd (none-some x e)
 
 pub meant_to_record : (words : List (List ℕ)) (job : RecordedServe) → AskToRecord words job → recorded_meaning words ≡ Some job
 unfolding recorded_meaning

@@ -1,17 +1,16 @@
 -- Words have the parts that are written by them, and no others.
-use Rattle.std.proofs.Common.{◌≡◌, ◌≢◌, ◌==◌, ◌++◌, ◌∙◌, ℕ, Bool, true, false, cond, List, [], ◌∷◌, length, add_comm, add-one, append_assoc, ◌⊎◌, inl, inr, Option, Some, None, refl, sym, ap, subst, arith}
+use Rattle.std.proofs.Common.{◌≡◌, ◌≢◌, ◌==◌, ◌++◌, ◌∙◌, ℕ, Bool, true, false, cond, List, [], ◌∷◌, length, append_assoc, inl, inr, Option, Some, None, refl, sym, ap, subst, arith}
 use Rattle.std.specs.Prelude.{IsTrue, codes}
 use Rattle.std.specs.List.{AllByRecursion, list_any, position_or_len, before_first, after_first}
 use Rattle.std.proofs.lemmas.Option.{cond_some, none-some, same_Some}
-use Rattle.std.proofs.Math.Bool.{or-true}
 use Rattle.std.proofs.lemmas.Bool.{true≢false}
-use Rattle.std.proofs.lemmas.Bool.Decides.{eqb_tells}
 use Rattle.std.proofs.lemmas.Grind.{common_steps}
 use Rattle.net_base.specs.AddressReading.{◌>>=◌}
 use Rattle.command_line.specs.declared.parts.CommandOption.{CommandOption}
 use Rattle.command_line.specs.declared.parts.Parts.{Parts}
 use Rattle.command_line.specs.Parts.{is_plain, behind_dash, is_equals, name_and_value, option_in, with_plain, with_option, parted, have_distinct_names, parts_of}
 use Rattle.command_line.specs.Written.{IsPlainWord, IsName, Written, End, PlainWord, Apart, Joined}
+use Rattle.command_line.proofs.Marks.{past_before, before_mark, after_mark, has_mark, by_mark, split_mark}
 use Rattle.command_line.proofs.Words.{name_alone, parted_plain, parted_wrong, parted_joined, parted_apart, parted_cut}
 
 -- ---- from what is written
@@ -24,27 +23,6 @@ lacks_sign : (name : List ℕ) → AllByRecursion (λ c. c ≢ 61) name → posi
 lacks_sign [] all = refl
 lacks_sign (b ∷ bs) all = let rest = lacks_sign bs all.1 in let first = all.0 in grind (arith, common_steps, rest, first)
 
-past_before : (b : ℕ) (bs : List ℕ) → (b == 61) ≡ false → before_first is_equals (b ∷ bs) ≡ b ∷ before_first is_equals bs
-past_before b bs other = rw (other, add_comm 1 (position_or_len is_equals bs), add-one) refl
-
-past_after : (b : ℕ) (bs : List ℕ) → (b == 61) ≡ false → after_first is_equals (b ∷ bs) ≡ after_first is_equals bs
-past_after b bs other = rw (other, add_comm 1 (position_or_len is_equals bs), add-one, add-one) refl
-
-is_other : (b : ℕ) → b ≢ 61 → (b == 61) ≡ false
-is_other b other = grind (arith, common_steps)
-
-before_sign : (name value : List ℕ) → AllByRecursion (λ c. c ≢ 61) name → before_first is_equals (name ++ 61 ∷ value) ≡ name
-before_sign [] value all = refl
-before_sign (b ∷ bs) value all = past_before b (bs ++ 61 ∷ value) (is_other b all.0) ∙ ap (λ rest. b ∷ rest) (before_sign bs value all.1)
-
-after_sign : (name value : List ℕ) → AllByRecursion (λ c. c ≢ 61) name → after_first is_equals (name ++ 61 ∷ value) ≡ value
-after_sign [] value all = refl
-after_sign (b ∷ bs) value all = past_after b (bs ++ 61 ∷ value) (is_other b all.0) ∙ after_sign bs value all.1
-
-has_sign : (name value : List ℕ) → list_any is_equals (name ++ 61 ∷ value) ≡ true
-has_sign [] value = refl
-has_sign (b ∷ bs) value = rw (has_sign bs value) (or-true (b == 61))
-
 some_of : (b : ℕ) (bs : List ℕ) → false ≡ (length (b ∷ bs) == 0)
 some_of b bs = grind (arith, common_steps)
 
@@ -53,7 +31,7 @@ apart_is [] is = absurd is
 apart_is (b ∷ bs) is = name_alone (b ∷ bs) (lacks_sign (b ∷ bs) is) (some_of b bs)
 
 name_and : (b : ℕ) (bs value : List ℕ) → AllByRecursion (λ c. c ≢ 61) (b ∷ bs) → name_and_value (b ∷ bs ++ 61 ∷ value) ≡ Some (b ∷ bs, Some value)
-name_and b bs value is = rw (before_sign (b ∷ bs) value is, after_sign (b ∷ bs) value is, has_sign (b ∷ bs) value, ← some_of b bs) refl
+name_and b bs value is = rw (before_mark 61 (b ∷ bs) value is, after_mark 61 (b ∷ bs) value is, has_mark 61 (b ∷ bs) value, ← some_of b bs) refl
 
 joined_is : (name value : List ℕ) → IsName name → option_in (codes "--" ++ name ++ codes "=" ++ value) ≡ Some (name, Some value)
 joined_is [] value is = absurd is
@@ -82,25 +60,15 @@ behind_is : (word text : List ℕ) → behind_dash word ≡ Some text → word �
 behind_is [] text e = absurd (grind arith)
 behind_is (b ∷ bs) text e = let parts = cond_some (b == 45) bs text e in grind (arith, common_steps, parts)
 
-by_sign : (b : ℕ) → ((b == 61) ≡ true × (b ≡ 61)) ⊎ ((b == 61) ≡ false × (b ≢ 61))
-by_sign b = eqb_tells b 61
-
 is_name : (text : List ℕ) → AllByRecursion (λ c. c ≢ 61) (before_first is_equals text)
 is_name [] = tt
-is_name (b ∷ bs) = elim (by_sign b) [ inl h ↦ rw h.0 tt | inr h ↦ rw (past_before b bs h.0) (h.1, is_name bs) ]
-
-split_sign : (text : List ℕ) → list_any is_equals text ≡ true → text ≡ before_first is_equals text ++ 61 ∷ after_first is_equals text
-split_sign [] e = absurd (grind arith)
-split_sign (b ∷ bs) e = elim (by_sign b) [
-  | inl h ↦ rw h.0 (ap (λ c. c ∷ bs) h.1)
-  | inr h ↦ rw (past_before b bs h.0, past_after b bs h.0) (ap (λ rest. b ∷ rest) (split_sign bs (rw h.0 at e)))
-]
+is_name (b ∷ bs) = elim (by_mark 61 b) [ inl h ↦ rw h.0 tt | inr h ↦ rw (past_before 61 b bs h.0) (h.1, is_name bs) ]
 
 no_sign : (text : List ℕ) → list_any is_equals text ≡ false → before_first is_equals text ≡ text
 no_sign [] e = refl
-no_sign (b ∷ bs) e = elim (by_sign b) [
+no_sign (b ∷ bs) e = elim (by_mark 61 b) [
   | inl h ↦ absurd (true≢false (rw h.0 at e))
-  | inr h ↦ rw (past_before b bs h.0) (ap (λ rest. b ∷ rest) (no_sign bs (rw h.0 at e)))
+  | inr h ↦ rw (past_before 61 b bs h.0) (ap (λ rest. b ∷ rest) (no_sign bs (rw h.0 at e)))
 ]
 
 guarded : {A : Type 0} (b : Bool) (x y : A) → cond b None (Some x) ≡ Some y → (b ≡ false) × (x ≡ y)
@@ -127,7 +95,7 @@ with_value text name value e =
     let found = guarded _ _ _ e in
     let front : before_first is_equals text ≡ name = ap (λ (o : List ℕ × Option (List ℕ)). o.0) found.1 in
     let back = cond_some _ (after_first is_equals text) value (ap (λ (o : List ℕ × Option (List ℕ)). o.1) found.1) in
-    (subst IsName front (name_of _ found.0 (is_name text)), split_sign text back.0 ∙ ap (λ n. n ++ 61 ∷ after_first is_equals text) front ∙ ap (λ v. name ++ 61 ∷ v) back.1)
+    (subst IsName front (name_of _ found.0 (is_name text)), split_mark 61 text back.0 ∙ ap (λ n. n ++ 61 ∷ after_first is_equals text) front ∙ ap (λ v. name ++ 61 ∷ v) back.1)
 
 two_dashes : (word : List ℕ) (o : List ℕ × Option (List ℕ)) → option_in word ≡ Some o → (text : List ℕ) × (word ≡ 45 ∷ 45 ∷ text) × (name_and_value text ≡ Some o)
 two_dashes word o e =

@@ -1,4 +1,5 @@
 pub mod Words
+pub mod Marks
 pub mod Grammar
 pub mod Numerals
 pub mod Once

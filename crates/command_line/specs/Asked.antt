@@ -1,12 +1,12 @@
 -- What words ask for, with no reader in mind: by what stands behind the name of each option.
-use Rattle.std.specs.Prelude.{◌≡◌, ◌≢◌, ◌⊎◌, ◌≤◌, ℕ, List, [], ◌∷◌, Some, codes, decimal, All, AllPairs, Contains}
+use Rattle.std.specs.Prelude.{◌≡◌, ◌≢◌, ◌⊎◌, ◌^◌, ◌<◌, ◌≤◌, ◌++◌, ℕ, List, [], ◌∷◌, codes, decimal, All, AllPairs, Contains}
+use Rattle.net_base.specs.Address.{ip4_text}
 use Rattle.command_line.specs.declared.meaning.Job.{Job}
 use Rattle.command_line.specs.declared.meaning.Job.TheVariants as jobs
 use Rattle.command_line.specs.declared.meaning.ServeOptions.{ServeOptions}
 use Rattle.command_line.specs.declared.parts.CommandOption.{CommandOption}
 use Rattle.command_line.specs.declared.recorded.RecordedServe.{RecordedServe}
 use Rattle.command_line.specs.declared.values.Listen.{Listen}
-use Rattle.command_line.specs.Values.{listen_of}
 use Rattle.command_line.specs.Written.{Written}
 
 -- ---- options
@@ -37,6 +37,13 @@ pub record Spells (least most : ℕ) (text : List ℕ) (number : ℕ) : Type 0 w
   pub at_least : least ≤ number
   pub at_most : number ≤ most
 
+-- `A:P`: an IPv4 address in dotted decimal (RFC 1123, 2.1), and a port from 1 to 65,535
+pub record SpellsListen (text : List ℕ) (listen : Listen) : Type 0 where
+  pub written : text ≡ ip4_text listen.ip.0 ++ codes ":" ++ decimal listen.port
+  pub address : listen.ip.0 < 2 ^ 32
+  pub port_at_least : 1 ≤ listen.port
+  pub port_at_most : listen.port ≤ 65535
+
 -- how many events are taken at most, which has to be said
 abbrev pub SaysEvents : List CommandOption → ℕ → Type 0
 SaysEvents options events = (text : List ℕ) × StandsBehind options (codes "events") text × Spells 1 1000000000 text events
@@ -47,7 +54,7 @@ SaysReload options reload_ms = (text : List ℕ) × StandsOrIs options (codes "r
 
 -- where connections are listened for, or else here
 abbrev pub SaysListen : (default : List ℕ) → List CommandOption → Listen → Type 0
-SaysListen default options listen = (text : List ℕ) × StandsOrIs options (codes "listen") default text × (listen_of text ≡ Some listen)
+SaysListen default options listen = (text : List ℕ) × StandsOrIs options (codes "listen") default text × SpellsListen text listen
 
 pub record SayHowToServe (options : List CommandOption) (said : ServeOptions) : Type 0 where
   pub events : SaysEvents options said.events
