@@ -1,0 +1,9 @@
+pub mod Values
+pub mod Members
+pub mod Alike
+pub mod Parts
+pub mod Shown
+pub mod Ports
+pub mod Datapaths
+pub mod Vlans
+pub mod Whole
