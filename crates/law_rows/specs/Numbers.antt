@@ -1,0 +1,32 @@
+-- The numbers of fields (OpenFlow 1.3, 7.2.3.7), and a packet that has them all apart.
+use Rattle.std.specs.Prelude.{◌≡◌, ℕ, true, [], ◌∷◌}
+use Rattle.net_base.specs.declared.address.Mac.{Mac}
+use Rattle.net_base.specs.declared.field.FieldId.{FieldId}
+use Rattle.net_base.specs.FieldId.{number_of, byte_len_of}
+use Rattle.of_match.specs.declared.packet.L4.{L4}
+use Rattle.of_match.specs.declared.packet.Packet.{Packet}
+use Rattle.of_match.specs.declared.packet.Tag.{Tag}
+use Rattle.of_match.specs.declared.packet.Upper.{Upper}
+use Rattle.of_match.specs.declared.packet.Upper.TheVariants as upper
+
+-- the field has this number, and its value takes so many bytes
+abbrev pub HasNumber : FieldId → ℕ → ℕ → Type 0
+HasNumber id number bytes = (number_of id ≡ number) × (byte_len_of id ≡ bytes)
+
+abbrev pub mac : ℕ → Mac
+mac n = record { 0 = 2 ∷ 0 ∷ 0 ∷ 0 ∷ 0 ∷ n ∷ [] }
+
+-- from station 1 to station 2, with priority 5 in VLAN 100
+abbrev pub tagged : Tag → ℕ → Upper → Packet
+tagged tag eth_type upper = record { dst = mac 2; src = mac 1; tags = tag ∷ []; eth_type = eth_type; upper = upper; rest = [] }
+
+abbrev pub in_vlan : Tag
+in_vlan = record { tpid = 0x8100; pcp = 5; dei = true; vid = 100 }
+
+-- IPv4 from 10.0.0.1 to 10.0.0.2
+abbrev pub ipv4 : ℕ → L4 → Packet
+ipv4 proto l4 = tagged in_vlan 0x0800 (upper.V4 (record { 0 = 0x0a000001 }) (record { 0 = 0x0a000002 }) proto 64 l4)
+
+-- an ARP reply of 10.0.0.1 for 10.0.0.2
+abbrev pub arp : Packet
+arp = tagged in_vlan 0x0806 (upper.Arp 2 (record { 0 = 0x0a000001 }) (record { 0 = 0x0a000002 }))

@@ -1,0 +1,54 @@
+//! Numbers that are worked out by hand, against the definitions alone. The functions do nothing: their
+//! contracts say which numbers there are.
+
+ghost use Rattle.std.specs.Prelude.{◌≡◌, ◌+◌, ℕ, Some, None, [], ◌∷◌};
+ghost use Rattle.net_base.specs.declared.field.FieldId.TheVariants.{InPort, EthDst, EthSrc, EthType, VlanVid, VlanPcp, IpProto, Ipv4Src, Ipv4Dst, TcpSrc, TcpDst, UdpSrc, UdpDst, Icmpv4Type, Icmpv4Code, ArpOp, ArpSpa, ArpTpa};
+ghost use Rattle.of_match.specs.declared.packet.L4.TheVariants as l4;
+ghost use Rattle.of_match.specs.declared.packet.Tag.{Tag};
+ghost use Rattle.of_match.specs.Hit.{value_of, vid_value};
+ghost use Rattle.plan_base.specs.Fields.{vid_field, untagged};
+ghost use Rattle.law_rows.specs.Numbers.{HasNumber, ipv4, arp};
+
+/// Each field has the number that the standard gives it, and as many bytes (OpenFlow 1.3, 7.2.3.7,
+/// `oxm_ofb_match_fields` and table 12).
+pub fn fields_have_the_numbers_of_the_standard()
+    ensures port { HasNumber InPort 0 4 }
+    ensures ethernet { HasNumber EthDst 3 6 × HasNumber EthSrc 4 6 × HasNumber EthType 5 2 }
+    ensures vlan { HasNumber VlanVid 6 2 × HasNumber VlanPcp 7 1 }
+    ensures ipv4 { HasNumber IpProto 10 1 × HasNumber Ipv4Src 11 4 × HasNumber Ipv4Dst 12 4 }
+    ensures tcp { HasNumber TcpSrc 13 2 × HasNumber TcpDst 14 2 }
+    ensures udp { HasNumber UdpSrc 15 2 × HasNumber UdpDst 16 2 }
+    ensures icmp { HasNumber Icmpv4Type 19 1 × HasNumber Icmpv4Code 20 1 }
+    ensures arp { HasNumber ArpOp 21 2 × HasNumber ArpSpa 22 4 × HasNumber ArpTpa 23 4 }
+{}
+
+/// What a packet has of each field: by port 7, from 02:00:00:00:00:01 to 02:00:00:00:00:02, with
+/// priority 5 in VLAN 100, from 10.0.0.1 to 10.0.0.2 (OpenFlow 1.3, 7.2.3.7, table 12).
+pub fn fields_of_packets()
+    ensures port { value_of InPort 7 arp ≡ Some 7 }
+    ensures destination { value_of EthDst 7 arp ≡ Some 0x020000000002 }
+    ensures source { value_of EthSrc 7 arp ≡ Some 0x020000000001 }
+    ensures eth_type { value_of EthType 7 arp ≡ Some 0x0806 }
+    ensures vlan { value_of VlanVid 7 arp ≡ Some 0x1064 }
+    ensures priority { value_of VlanPcp 7 arp ≡ Some 5 }
+    ensures operation { value_of ArpOp 7 arp ≡ Some 2 }
+    ensures sender { value_of ArpSpa 7 arp ≡ Some 0x0a000001 }
+    ensures target { value_of ArpTpa 7 arp ≡ Some 0x0a000002 }
+    ensures protocol { value_of IpProto 7 (ipv4 6 (l4.Tcp 80 81)) ≡ Some 6 }
+    ensures ipv4_source { value_of Ipv4Src 7 (ipv4 6 (l4.Tcp 80 81)) ≡ Some 0x0a000001 }
+    ensures ipv4_destination { value_of Ipv4Dst 7 (ipv4 6 (l4.Tcp 80 81)) ≡ Some 0x0a000002 }
+    ensures tcp { (value_of TcpSrc 7 (ipv4 6 (l4.Tcp 80 81)) ≡ Some 80) × (value_of TcpDst 7 (ipv4 6 (l4.Tcp 80 81)) ≡ Some 81) }
+    ensures udp { (value_of UdpSrc 7 (ipv4 17 (l4.Udp 53 54)) ≡ Some 53) × (value_of UdpDst 7 (ipv4 17 (l4.Udp 53 54)) ≡ Some 54) }
+    ensures icmp { (value_of Icmpv4Type 7 (ipv4 1 (l4.Icmp 8 0)) ≡ Some 8) × (value_of Icmpv4Code 7 (ipv4 1 (l4.Icmp 8 0)) ≡ Some 0) }
+    ensures no_ports { (value_of TcpSrc 7 (ipv4 17 (l4.Udp 53 54)) ≡ None) × (value_of UdpSrc 7 (ipv4 6 (l4.Tcp 80 81)) ≡ None) }
+{}
+
+/// The bit 0x1000 says that a tag is there: a field asks for it with the VLAN's identifier, all 16 bits
+/// counting, and one that asks for no tag asks for 0 (OpenFlow 1.3, 7.2.3.7, OFPVID_PRESENT and
+/// OFPVID_NONE); so have packets.
+pub fn the_tag_bit_is_that_of_the_standard()
+    ensures tagged { (vid : ℕ) → vid_field vid ≡ record { id = VlanVid; value = 0x1000 + vid; mask = 0xffff } }
+    ensures no_tag { untagged ≡ record { id = VlanVid; value = 0; mask = 0xffff } }
+    ensures packet { (tag : Tag) → vid_value (tag ∷ []) ≡ 0x1000 + tag.vid }
+    ensures packet_without { vid_value [] ≡ 0 }
+{}
