@@ -1,4 +1,6 @@
-//! What the rules of a configuration say, each by itself: which field each match key gives. Proofs alone.
+//! What the rules of a configuration say, each by itself: which field each match key gives, and what each limit
+//! counts. Proofs alone.
 #![tactic(auto)]
 
 pub mod keys;
+pub mod limits;
