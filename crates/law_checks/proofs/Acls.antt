@@ -66,7 +66,7 @@ is_known : (o : Option Acl) → is_none o ≡ false → IsTrue (is_some o)
 is_known None is = absurd (true≢false is)
 is_known (Some acl) is = refl
 
-acls_exist : (conf : Configuration) (site : List (List ℕ)) (acls : RawAclNames) → unknown_at conf site acls ≡ [] → AclsExist conf (acl_names acls)
+pub acls_exist : (conf : Configuration) (site : List (List ℕ)) (acls : RawAclNames) → unknown_at conf site acls ≡ [] → AclsExist conf (acl_names acls)
 acls_exist conf site acls none = all_by (λ name. IsTrue (is_some (acl_named conf.acls name))) (acl_names acls) (λ name i.
     let m = acl_place site acls name i in
     is_known (acl_named conf.acls name) (passes _ _ _ (none_at (unknown_acl conf) (acls_at site acls) (flat_map-append (unknown_acl conf) (one_at site acls) (list_at site acls) ∙ none) (m.0, name) m.1)))
@@ -117,7 +117,7 @@ targets_values site r =
     ∙ ap (λ l. to_list r.mirror ++ l) (outputs_values (outputs_at (site, r)) ∙ ap (flat_map ports_of) (values_of (under (actions_site site) (codes "output")) r.output))
 
 -- a port that is found, and is no end of a stack link
-right_target : (name : PortRef) (d : Dp) → to_list (wrong_target name d) ≡ [] → IsSomeAnd (port_named d name) (λ p. p.stack ≡ None)
+pub right_target : (name : PortRef) (d : Dp) → to_list (wrong_target name d) ≡ [] → IsSomeAnd (port_named d name) (λ p. p.stack ≡ None)
 right_target name d = by (port_named d name)
   where
     free : (o : Option StackEnd) → to_list (if is_some o then Some (Conflict 8) else None) ≡ [] → o ≡ None
@@ -128,11 +128,11 @@ right_target name d = by (port_named d name)
     by None is = absurd (cc)
     by (Some p) is = free p.stack is
 
-at_true : {A : Type 0} (b : Bool) (xs : List A) → b ≡ true → (if b then xs else []) ≡ [] → xs ≡ []
+pub at_true : {A : Type 0} (b : Bool) (xs : List A) → b ≡ true → (if b then xs else []) ≡ [] → xs ≡ []
 at_true true xs is none = none
 at_true false xs is none = absurd (true≢false (sym is))
 
-is_in_by : (names : List (List ℕ)) (name other : List ℕ) → IsIn names name → name ≡ other → is_in other names ≡ true
+pub is_in_by : (names : List (List ℕ)) (name other : List ℕ) → IsIn names name → name ≡ other → is_in other names ≡ true
 is_in_by names name other i same = any_by (λ n. is_same n other) names name i (same_itself name other same)
 
 module _ (raw : RawConf) (range : IsInRange raw) where

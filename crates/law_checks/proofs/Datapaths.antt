@@ -41,7 +41,7 @@ named_as_list p = by p.native
     by (Some vid) = refl
 
 -- what one names is the number of some name of it
-of_option : {A B : Type 0} (f : A → Option B) (o : Option A) (y : B) → IsIn (to_list (option_and_then f o)) y → (x : A) × IsIn (to_list o) x × (f x ≡ Some y)
+pub of_option : {A B : Type 0} (f : A → Option B) (o : Option A) (y : B) → IsIn (to_list (option_and_then f o)) y → (x : A) × IsIn (to_list o) x × (f x ≡ Some y)
 of_option f None y i = absurd i
 of_option {A = A} {B = B} f (Some x) y i = by (f x) refl i
   where

@@ -46,14 +46,14 @@ asked_before before fs id = by (prerequisites_of id)
     by [] is = refl
     by (p ∷ asked) is = let m = some_of (meets_one (p ∷ asked)) (in_order before fs) is in any_by (meets_one (p ∷ asked)) fs m.0 (of_order before fs m.0 m.1) m.2
 
-no_wrong_target : (name : PortRef) (d : Dp) → IsSomeAnd (port_named d name) (λ p. p.stack ≡ None) → to_list (wrong_target name d) ≡ []
+pub no_wrong_target : (name : PortRef) (d : Dp) → IsSomeAnd (port_named d name) (λ p. p.stack ≡ None) → to_list (wrong_target name d) ≡ []
 no_wrong_target name d = by (port_named d name)
   where
     by : (o : Option Port) → IsSomeAnd o (λ p. p.stack ≡ None) → to_list (option_map_or (λ p. if is_some p.stack then Some (Conflict 8) else None) o (Some Unresolved)) ≡ []
     by None is = absurd is
     by (Some p) is = ap (λ (o : Option StackEnd). to_list (if is_some o then Some (Conflict 8) else None)) is
 
-if_true : {A : Type 0} (b : Bool) (xs : List A) → (b ≡ true → xs ≡ []) → (if b then xs else []) ≡ []
+pub if_true : {A : Type 0} (b : Bool) (xs : List A) → (b ≡ true → xs ≡ []) → (if b then xs else []) ≡ []
 if_true true xs h = h refl
 if_true false xs h = refl
 

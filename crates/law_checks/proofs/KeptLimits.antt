@@ -29,7 +29,7 @@ use Rattle.law_checks.proofs.KeptLinks.{at, all_interfaces}
 use Rattle.law_checks.proofs.Members.{IsIn, of_all, in_front, behind, in_mapped, of_mapped, some_of}
 
 -- what passes a test stays
-into_filtered : {A : Type 0} (t : A → Bool) (xs : List A) (x : A) → IsIn xs x → t x ≡ true → IsIn (filter t xs) x
+pub into_filtered : {A : Type 0} (t : A → Bool) (xs : List A) (x : A) → IsIn xs x → t x ≡ true → IsIn (filter t xs) x
 into_filtered t [] x i is = absurd i
 into_filtered {A = A} t (y ∷ xs) x i is = by (t y) refl (λ j. into_filtered t xs x j is) i
   where

@@ -28,21 +28,21 @@ use Rattle.law_checks.proofs.Once.{into_once}
 
 -- ---- small facts
 
-not_nil : {A : Type 0} (xs : List A) (x : A) → IsIn xs x → xs ≡ [] → ⊥
+pub not_nil : {A : Type 0} (xs : List A) (x : A) → IsIn xs x → xs ≡ [] → ⊥
 not_nil xs x i is = subst (λ l. IsIn l x) is i
 
-nil_length : {A : Type 0} (xs : List A) → xs ≡ [] → (length xs == 0) ≡ true
+pub nil_length : {A : Type 0} (xs : List A) → xs ≡ [] → (length xs == 0) ≡ true
 nil_length xs is = ap (λ l. length l == 0) is
 
-edge_there : (o : Option Port) → IsSomeAnd o (λ q. IsTrue (is_edge q)) → option_map_or is_edge o false ≡ true
+pub edge_there : (o : Option Port) → IsSomeAnd o (λ q. IsTrue (is_edge q)) → option_map_or is_edge o false ≡ true
 edge_there None is = absurd is
 edge_there (Some q) is = is
 
-some_port : (o : Option Port) → IsSomeAnd o (λ q. IsTrue (is_edge q)) → (q : Port) × (o ≡ Some q) × (is_edge q ≡ true)
+pub some_port : (o : Option Port) → IsSomeAnd o (λ q. IsTrue (is_edge q)) → (q : Port) × (o ≡ Some q) × (is_edge q ≡ true)
 some_port None is = absurd is
 some_port (Some q) is = (q, refl, is)
 
-some_number : (o : Option ℕ) → IsTrue (is_some o) → (n : ℕ) × (o ≡ Some n)
+pub some_number : (o : Option ℕ) → IsTrue (is_some o) → (n : ℕ) × (o ≡ Some n)
 some_number None is = absurd (true≢false (sym is))
 some_number (Some n) is = (n, refl)
 

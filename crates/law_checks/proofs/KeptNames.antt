@@ -36,13 +36,13 @@ pub before_not_same : (a b : List ℕ) → IsTextBefore a b → is_same a b ≡ 
 before_not_same a b is = ap is_eq is
 
 -- the native VLAN's number is in front
-native_number : (o : OrderedConf) (native : Option VlanRef) (a : VlanRef) (m : ℕ) → IsIn (to_list native) a → vid_of o.vlans a ≡ Some m → IsIn (to_list (option_and_then (vid_of o.vlans) native)) m
+pub native_number : (o : OrderedConf) (native : Option VlanRef) (a : VlanRef) (m : ℕ) → IsIn (to_list native) a → vid_of o.vlans a ≡ Some m → IsIn (to_list (option_and_then (vid_of o.vlans) native)) m
 native_number o None a m i is = absurd i
 native_number o (Some name) a m (inl e) is = subst (λ (r : Option ℕ). IsIn (to_list r) m) (sym (ap (vid_of o.vlans) e ∙ is)) (inl refl)
 native_number o (Some name) a m (inr i) is = absurd i
 
 -- no two numbers of the names are one
-differ : (o : OrderedConf) (a b : VlanRef) → ((m n : ℕ) → vid_of o.vlans a ≡ Some m → vid_of o.vlans b ≡ Some n → m ≡ n → ⊥) → is_same_vlan o a b ≡ false
+pub differ : (o : OrderedConf) (a b : VlanRef) → ((m n : ℕ) → vid_of o.vlans a ≡ Some m → vid_of o.vlans b ≡ Some n → m ≡ n → ⊥) → is_same_vlan o a b ≡ false
 differ o a b h = by (vid_of o.vlans a) (vid_of o.vlans b) h
   where
     by : (p q : Option ℕ) → ((m n : ℕ) → p ≡ Some m → q ≡ Some n → m ≡ n → ⊥) → option_map_or (λ m. option_map_or (λ n. m == n) q false) p false ≡ false
@@ -50,7 +50,7 @@ differ o a b h = by (vid_of o.vlans a) (vid_of o.vlans b) h
     by (Some m) None h = refl
     by (Some m) (Some n) h = ne_eqb m n (h m n refl refl)
 
-known : (o : Option Acl) → IsTrue (is_some o) → is_none o ≡ false
+pub known : (o : Option Acl) → IsTrue (is_some o) → is_none o ≡ false
 known None is = absurd (true≢false (sym is))
 known (Some acl) is = refl
 
@@ -60,7 +60,7 @@ no_more (y ∷ xs) x (inl e) = inl e
 no_more (y ∷ xs) x (inr i) = inr (no_more xs x i)
 
 -- each name at a place counts, where there is one way to name them
-acl_value : (site : List (List ℕ)) (acls : RawAclNames) → are_both acls ≡ false → (item : List (List ℕ) × List ℕ) → IsIn (acls_at site acls) item → IsIn (acl_names acls) item.1
+pub acl_value : (site : List (List ℕ)) (acls : RawAclNames) → are_both acls ≡ false → (item : List (List ℕ) × List ℕ) → IsIn (acls_at site acls) item → IsIn (acl_names acls) item.1
 acl_value site acls single item i = by acls.one acls.list single i
   where
     by : (one : Option (List ℕ)) (list : Option (List (List ℕ))) → are_both (record { one = one; list = list }) ≡ false → IsIn (acls_at site (record { one = one; list = list })) item → IsIn (acl_names (record { one = one; list = list })) item.1

@@ -39,7 +39,7 @@ no_overlap a b r = false_from_ne_true (overlap a b) (λ is. by (nat_le a.len b.l
     by true is = r b.ip.0 (eqb-true (prefix_bits a b.ip.0) (prefix_bits a a.ip.0) is) refl
     by false is = r a.ip.0 refl (eqb-true (prefix_bits b a.ip.0) (prefix_bits b b.ip.0) is)
 
-not_inside : (a b : Net4) → (LiesIn a b → ⊥) → lies_in a b ≡ false
+pub not_inside : (a b : Net4) → (LiesIn a b → ⊥) → lies_in a b ≡ false
 not_inside a b r = false_from_ne_true (lies_in a b) (λ is.
     let parts = and_parts (nat_le b.len a.len) (is_held b a.ip.0) is in
     r (record { longer = leb-true b.len a.len parts.0; inside = eqb-true (prefix_bits b a.ip.0) (prefix_bits b b.ip.0) parts.1 }))
@@ -49,7 +49,7 @@ other_route r s other = false_from_ne_true (is_same_route r s) (λ is.
     let parts = and_parts (r.dst.ip.0 == s.dst.ip.0) (r.dst.len == s.dst.len) is in
     other (record { ip = eqb-true r.dst.ip.0 s.dst.ip.0 parts.0; len = eqb-true r.dst.len s.dst.len parts.1 }))
 
-number_of : (o : Option ℕ) (n : ℕ) → IsIn (to_list o) n → o ≡ Some n
+pub number_of : (o : Option ℕ) (n : ℕ) → IsIn (to_list o) n → o ≡ Some n
 number_of None n i = absurd i
 number_of (Some m) n (inl e) = ap Some e
 number_of (Some m) n (inr i) = absurd i

@@ -28,32 +28,32 @@ use Rattle.law_checks.proofs.Unbroken.{BreaksNone}
 
 -- ---- small facts
 
-empty : {A : Type 0} (xs : List A) → (length xs == 0) ≡ true → xs ≡ []
+pub empty : {A : Type 0} (xs : List A) → (length xs == 0) ≡ true → xs ≡ []
 empty xs is = no_length xs (eqb-true (length xs) 0 is)
 
-not_empty : {A : Type 0} (xs : List A) → (xs ≡ [] → ⊥) → not (length xs == 0) ≡ true
+pub not_empty : {A : Type 0} (xs : List A) → (xs ≡ [] → ⊥) → not (length xs == 0) ≡ true
 not_empty [] some = absurd (some refl)
 not_empty (x ∷ xs) some = not_from_false (length (x ∷ xs) == 0) (ne_eqb (length (x ∷ xs)) 0 (λ e. absurd (omega arith)))
 
-is_none : {A : Type 0} (o : Option A) → is_some o ≡ false → o ≡ None
+pub is_none : {A : Type 0} (o : Option A) → is_some o ≡ false → o ≡ None
 is_none None is = refl
 is_none (Some x) is = absurd (true≢false is)
 
-some_edge : (o : Option Port) → option_map_or is_edge o false ≡ true → IsSomeAnd o (λ q. IsTrue (is_edge q))
+pub some_edge : (o : Option Port) → option_map_or is_edge o false ≡ true → IsSomeAnd o (λ q. IsTrue (is_edge q))
 some_edge None is = absurd (true≢false (sym is))
 some_edge (Some q) is = is
 
 -- ---- mirrors
 
 module _ (i : Interface) (none : wrong_mirror i ≡ []) where
-  mirrored_right : (name : PortRef) → IsIn (items_of i.raw.mirror) name → (n : ℕ) × (number_named i.raw_dp name ≡ Some n) × (is_mirrorable i.dp i.port n ≡ true)
+  pub mirrored_right : (name : PortRef) → IsIn (items_of i.raw.mirror) name → (n : ℕ) × (number_named i.raw_dp name ≡ Some n) × (is_mirrorable i.dp i.port n ≡ true)
   mirrored_right name c = let m = none_of_values (wrong_mirrored i) (items_at (mirror_site i) i.raw.mirror) (items_of i.raw.mirror) (values_of (mirror_site i) i.raw.mirror) (none_left (flat_map (wrong_mirrored i) (items_at (mirror_site i) i.raw.mirror)) _ none) name c in by m.0 (number_named i.raw_dp name) refl m.1
     where
       by : (site : List (List ℕ)) (o : Option ℕ) → number_named i.raw_dp name ≡ o → fault_of (option_map_or (λ number. if is_mirrorable i.dp i.port number then None else Some (Conflict 10)) o (Some Unresolved)) site ≡ [] → (n : ℕ) × (number_named i.raw_dp name ≡ Some n) × (is_mirrorable i.dp i.port n ≡ true)
       by site None is e = absurd (cc)
       by site (Some n) is e = (n, is, no_cause (is_mirrorable i.dp i.port n) (Conflict 10) site e)
 
-  unused : not (length i.port.mirror == 0) ≡ true → is_used i.port ≡ false
+  pub unused : not (length i.port.mirror == 0) ≡ true → is_used i.port ≡ false
   unused some = second_fails (not (length i.port.mirror == 0)) (is_used i.port) some (passes _ (Conflict 10) (mirror_site i) (none_right (flat_map (wrong_mirrored i) (items_at (mirror_site i) i.raw.mirror)) _ none))
 
 module _ (raw : RawConf) (range : IsInRange raw) where

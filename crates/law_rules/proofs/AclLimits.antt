@@ -1,7 +1,7 @@
 -- The limits on entries and outputs of ACLs, attachment by attachment.
 use Rattle.std.specs.Prelude.{◌≡◌, ℕ, ◌+◌, ◌<◌, ◌==◌, not, Bool, true, false, cond, List, [], ◌∷◌, ◌++◌, length, map, filter, Some, Contains, sum_by, slice_get}
 use Rattle.std.specs.List.{AllByRecursion, list_any}
-use Rattle.std.proofs.Common.{refl, sym, ap, ◌∙◌, subst, arith, inl, inr, true≢false, ne_eqb}
+use Rattle.std.proofs.Common.{refl, sym, ap, ◌∙◌, subst, arith, inl, inr, true≢false}
 use Rattle.std.proofs.lemmas.List.Sums.{sum_by-cons}
 use Rattle.conf_types.specs.declared.acl.Rule.{Rule}
 use Rattle.conf_types.specs.declared.datapath.Dp.{Dp}
@@ -12,10 +12,12 @@ use Rattle.conf_types.specs.Configuration.{Configuration}
 use Rattle.conf_types.specs.Lists.{EachBefore}
 use Rattle.conf_types.specs.Membership.{is_edge_member, has_edge_member}
 use Rattle.conf_types.specs.Valid.{ports_named, attached}
+use Rattle.law_checks.proofs.KeptLimits.{into_filtered}
+use Rattle.law_checks.proofs.Links.{not_empty}
+use Rattle.law_checks.proofs.Members.{IsIn, of_all, all_by, some_of, any_by, in_front, behind, of_joined, in_mapped, of_mapped, of_filtered, before_mapped, before_joined}
 use Rattle.law_rules.specs.Counted.{IsNumberOf}
 use Rattle.law_rules.specs.Limits.{AreTold, Attachment, OnPort, OnVlan, IsAttached, IsAclEntry, NamesPort, IsAclOutput}
 use Rattle.law_rules.proofs.Counts.{contains, is_in, as_number, same_number, number_passing, number_of_pairs, number_below, number_at_places}
-use Rattle.law_rules.proofs.Members.{IsIn, of_all, all_by, some_of, any_by, in_front, behind, of_joined, in_mapped, of_mapped, of_filtered, before_mapped, before_joined}
 use Rattle.law_rules.proofs.PortLimits.{ports_differ}
 
 -- ---- lists
@@ -40,16 +42,6 @@ pub sum_mapped : {A B : Type 0} (f : B → ℕ) (g : A → B) (xs : List A) → 
 sum_mapped f g [] = refl
 sum_mapped f g (x ∷ xs) = sum_by-cons f (g x) (map g xs) ∙ ap (λ n. f (g x) + n) (sum_mapped f g xs) ∙ sym (sum_by-cons (λ y. f (g y)) x xs)
 
-in_filtered : {A : Type 0} (t : A → Bool) (xs : List A) (x : A) → IsIn xs x → t x ≡ true → IsIn (filter t xs) x
-in_filtered t [] x i is = absurd i
-in_filtered {A = A} t (y ∷ ys) x i is = by (t y) refl (λ j. in_filtered t ys x j is) i
-  where
-    by : (b : Bool) → t y ≡ b → (IsIn ys x → IsIn (filter t ys) x) → IsIn (y ∷ ys) x → IsIn (cond b (y ∷ filter t ys) (filter t ys)) x
-    by true is_true more (inl e) = inl e
-    by true is_true more (inr j) = inr (more j)
-    by false is_false more (inl e) = absurd (true≢false (sym is ∙ ap t (sym e) ∙ is_false))
-    by false is_false more (inr j) = more j
-
 before_filtered : {A : Type 0} (R : A → A → Type 0) (t : A → Bool) (xs : List A) → EachBefore R xs → EachBefore R (filter t xs)
 before_filtered R t [] r = tt
 before_filtered {A = A} R t (x ∷ xs) r = by (t x) (before_filtered R t xs r.1)
@@ -61,10 +53,6 @@ before_filtered {A = A} R t (x ∷ xs) r = by (t x) (before_filtered R t xs r.1)
 is_some_list : {A : Type 0} (xs : List A) → not (length xs == 0) ≡ true → xs ≡ [] → ⊥
 is_some_list [] is e = true≢false (sym is)
 is_some_list (x ∷ xs) is e = absurd cc
-
-some_list : {A : Type 0} (xs : List A) → (xs ≡ [] → ⊥) → not (length xs == 0) ≡ true
-some_list [] some = absurd (some refl)
-some_list (x ∷ xs) some = ap not (ne_eqb (length (x ∷ xs)) 0 (λ e. omega (arith, e)))
 
 -- ---- attachments, each with its names
 
@@ -151,11 +139,11 @@ module _ (conf : Configuration) (told : AreTold conf) (d : Dp) (c : Contains con
   unfolding on_port on_vlan with_members names has_names places kept
   of_attached (OnPort n) acls (p, i, number, is, some) =
       let pair : on_port p ≡ (OnPort n, acls) = ap (λ n. (OnPort n, p.acls)) number ∙ ap (λ l. (OnPort n, l)) is in
-      in_filtered has_names places (OnPort n, acls) (in_front (map on_port d.ports) (map on_vlan with_members) (OnPort n, acls) (subst (IsIn (map on_port d.ports)) pair (in_mapped on_port d.ports p (is_in d.ports p i)))) (some_list acls some)
+      into_filtered has_names places (OnPort n, acls) (in_front (map on_port d.ports) (map on_vlan with_members) (OnPort n, acls) (subst (IsIn (map on_port d.ports)) pair (in_mapped on_port d.ports p (is_in d.ports p i)))) (not_empty acls some)
   of_attached (OnVlan n) acls (v, i, number, is, some, (q, j, edge)) =
       let pair : on_vlan v ≡ (OnVlan n, acls) = ap (λ n. (OnVlan n, v.acls)) number ∙ ap (λ l. (OnVlan n, l)) is in
       let has : has_edge_member d v.vid ≡ true = any_by (λ q. is_edge_member q v.vid) d.ports q (is_in d.ports q j) (ap (is_edge_member q) number ∙ edge) in
-      in_filtered has_names places (OnVlan n, acls) (behind (map on_port d.ports) (map on_vlan with_members) (OnVlan n, acls) (subst (IsIn (map on_vlan with_members)) pair (in_mapped on_vlan with_members v (in_filtered (λ v. has_edge_member d v.vid) conf.vlans v (is_in conf.vlans v i) has)))) (some_list acls some)
+      into_filtered has_names places (OnVlan n, acls) (behind (map on_port d.ports) (map on_vlan with_members) (OnVlan n, acls) (subst (IsIn (map on_vlan with_members)) pair (in_mapped on_vlan with_members v (into_filtered (λ v. has_edge_member d v.vid) conf.vlans v (is_in conf.vlans v i) has)))) (not_empty acls some)
 
   -- ---- the two counts
 

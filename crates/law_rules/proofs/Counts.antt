@@ -6,8 +6,8 @@ use Rattle.std.proofs.lemmas.Bool.{eqb-false}
 use Rattle.std.proofs.lemmas.List.Sums.{sum_by-cons}
 use Rattle.std.proofs.lemmas.Option.{same_Some, none-some}
 use Rattle.conf_types.specs.Lists.{EachBefore, AreDistinct}
+use Rattle.law_checks.proofs.Members.{IsIn, of_all, all_by, in_front, behind, of_joined, in_mapped, of_mapped, before_mapped, before_joined, before_by}
 use Rattle.law_rules.specs.Counted.{IsNumberOf}
-use Rattle.law_rules.proofs.Members.{IsIn, of_all, all_by, in_front, behind, of_joined, in_mapped, of_mapped, before_mapped, before_joined, before_by}
 
 -- ---- the two words for a member
 

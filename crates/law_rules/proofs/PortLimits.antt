@@ -14,10 +14,10 @@ use Rattle.conf_types.specs.Configuration.{Configuration, port_with, port_at, vl
 use Rattle.conf_types.specs.Lists.{EachBefore, AreDistinct}
 use Rattle.conf_types.specs.Membership.{is_edge, is_stack, is_native_in, is_tagged_in, is_edge_member, member_of, member, is_mirror_of, is_mirrored}
 use Rattle.conf_types.specs.Valid.{is_special, members_at}
+use Rattle.law_checks.proofs.Members.{IsIn, of_all, all_by, found, finds, two_of, some_of, any_by, among, is_one_of}
 use Rattle.law_rules.specs.Counted.{IsNumberOf}
 use Rattle.law_rules.specs.Limits.{AreTold, IsDpId, IsVid, IsPortOf, Mirrors, IsSpecial, IsMember}
 use Rattle.law_rules.proofs.Counts.{contains, is_in, by_list, same_number, number_of_keys, number_passing, number_of_pairs}
-use Rattle.law_rules.proofs.Members.{IsIn, of_all, all_by, found, finds, two_of, some_of, any_by, among, is_one_of}
 
 -- ---- what is found by its number
 

@@ -5,22 +5,23 @@ use Rattle.std.proofs.Common.{refl, sym, ap, ◌∙◌, subst, arith, inl, inr, 
 use Rattle.std.proofs.lemmas.Option.{same_Some, none-some}
 use Rattle.std.proofs.lemmas.List.Concat.{length-flat_map}
 use Rattle.std.proofs.lemmas.List.Sums.{sum_by-cons}
-use Rattle.net_base.specs.declared.net4.Net4.{Net4}
 use Rattle.net_base.specs.declared.numbers.DpId.{DpId}
 use Rattle.conf_types.specs.declared.datapath.Dp.{Dp}
 use Rattle.conf_types.specs.declared.vlan.Route.{Route}
-use Rattle.conf_types.specs.declared.vlan.Router.{Router}
 use Rattle.conf_types.specs.declared.vlan.Vlan.{Vlan}
 use Rattle.conf_types.specs.Configuration.{Configuration, vlan_with}
 use Rattle.conf_types.specs.Groups.{IsDp, Walk, IsJoined, IsGroup, group_of}
 use Rattle.conf_types.specs.Lists.{EachBefore, AreDistinct, is_among, different}
-use Rattle.conf_types.specs.Routing.{router_with, routing_set, vips_of, vips_in, routes_of, routes_in}
+use Rattle.conf_types.specs.Routing.{routing_set, vips_of, vips_in, routes_of, routes_in}
 use Rattle.conf_types.specs.Valid.{route_items, group_count}
 use Rattle.conf_types.proofs.Reached.{same_id, group_is}
+use Rattle.law_checks.proofs.KeptLinks.{nil_length}
+use Rattle.law_checks.proofs.Links.{empty}
+use Rattle.law_checks.proofs.Members.{IsIn, all_by, in_mapped, of_mapped, among, is_one_of, before_by}
+use Rattle.law_checks.proofs.Sets.{set_of}
 use Rattle.law_rules.specs.Counted.{IsNumberOf}
 use Rattle.law_rules.specs.Limits.{AreTold, IsRoute, IsGateway, Item, VipAt, RouteAt, IsItemOf, IsRouteItem}
 use Rattle.law_rules.proofs.Counts.{contains, is_in, by_list, as_number, same_number, no_number, number_of_both, number_passing, number_of_pairs, number_of_products, number_below, number_mapped}
-use Rattle.law_rules.proofs.Members.{IsIn, of_all, all_by, found, in_mapped, of_mapped, among, is_one_of, before_by}
 use Rattle.law_rules.proofs.PortLimits.{find_one, found_one}
 
 -- ---- different numbers
@@ -162,13 +163,6 @@ module _ (conf : Configuration) (told : AreTold conf) where
           (λ item p. subst (λ u. IsItemOf u item) (same_Some p.0 w (sym (is_with p.0 p.1 p.2) ∙ is)) p.3)
           (items_of_vlan w)
 
-  set_once : (vid : ℕ) → AreDistinct (routing_set conf vid)
-  set_once vid = by (router_with conf.routers vid) refl
-    where
-      by : (o : Option Router) → router_with conf.routers vid ≡ o → AreDistinct (option_map_or (λ router. router.vlans) o (vid ∷ []))
-      by None is = (tt, tt)
-      by (Some r) is = of_all (λ (r : Router). AreDistinct r.vlans) conf.routers told.routers r (found (λ (r : Router). is_among r.vlans vid) conf.routers r is).0
-
   items_of_set : (vids : List ℕ) → AreDistinct vids → IsNumberOf (λ (pair : ℕ × Item). Contains vids pair.0 × ItemAt pair.0 pair.1) (length (vips_in conf vids) + length (routes_in conf vids))
   items_of_set vids once =
       as_number P (length (vips_in conf vids) + length (routes_in conf vids)) (sum_by (λ vid. length (vips_of conf vid) + length (routes_of conf vid)) vids)
@@ -195,17 +189,13 @@ module _ (conf : Configuration) (told : AreTold conf) where
       set : List ℕ
       set = routing_set conf v.vid
 
-      empty : (vips : List Net4) → length vips ≡ 0 → vips ≡ []
-      empty [] is = refl
-      empty (vip ∷ vips) is = absurd (omega (arith, is))
-
       by : (b : Bool) → (length v.vips == 0) ≡ b → IsNumberOf (Taken v) (if b then 0 else length (vips_in conf set) + length (routes_in conf set))
-      by true is = no_number (Taken v) (λ q p. p.0 (empty v.vips (eqb-true (length v.vips) 0 is)))
+      by true is = no_number (Taken v) (λ q p. p.0 (empty v.vips is))
       by false is =
           same_number _ (Taken v) (length (vips_in conf set) + length (routes_in conf set))
-          (λ q p. (λ none. true≢false (sym (eq-eqb (length v.vips) 0 (ap (λ (l : List Net4). length l) none)) ∙ is), p.0, p.1))
+          (λ q p. (λ none. true≢false (sym (nil_length v.vips none) ∙ is), p.0, p.1))
           (λ q p. (p.1, p.2))
-          (items_of_set set (set_once v.vid))
+          (items_of_set set (set_of conf told.routers v.vid).distinct)
 
   pub item_triples : IsNumberOf (IsRouteItem conf) (sum_by (route_items conf) conf.vlans)
   unfolding ItemAt Taken

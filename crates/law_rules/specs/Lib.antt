@@ -1,3 +1,4 @@
 pub mod Counted
 pub mod Limits
 pub mod MatchKeys
+pub mod Rules

@@ -17,7 +17,8 @@ pub fn things_have_one_number<T>()
     ensures { (xs ys : List T) → AreDistinct xs → AreDistinct ys → ((x : T) → Contains xs x ↔ Contains ys x) → length xs ≡ length ys }
 {}
 
-/// The limits on datapaths, interfaces and VLANs.
+/// The limits on datapaths, on VLANs, on interfaces and on the VLANs of a router count numbers: each that one of
+/// them has, once.
 pub fn parts_are_counted_by_their_numbers()
     ensures dps { (conf : Configuration) → AreTold conf → IsNumberOf (IsDpId conf) (length conf.dps) }
     ensures vlans { (conf : Configuration) → AreTold conf → IsNumberOf (IsVid conf) (length conf.vlans) }
@@ -26,7 +27,8 @@ pub fn parts_are_counted_by_their_numbers()
         → IsNumberOf (Contains r.vlans) (length r.vlans) }
 {}
 
-/// The limits on mirrors.
+/// The limit on mirrors counts the interfaces that mirror a port, by their numbers; the one on special ports the
+/// edge ports of a datapath that send packets back or are mirrored.
 pub fn mirrors_are_counted_by_their_numbers()
     ensures mirrors { (conf : Configuration) → AreTold conf → (d : Dp) → Contains conf.dps d → (number : ℕ)
         → IsNumberOf (Mirrors d number) (count_by (λ m. is_mirror_of m number) d.ports) }
@@ -34,13 +36,15 @@ pub fn mirrors_are_counted_by_their_numbers()
         → IsNumberOf (IsSpecial d) (size_of conf limit.Special d) }
 {}
 
-/// The limit on members.
+/// The limit on members counts pairs of an interface and a VLAN to which it belongs: natively, with a tag, or as
+/// an end of a stack link.
 pub fn members_are_pairs()
     ensures { (conf : Configuration) → AreTold conf → (d : Dp) → Contains conf.dps d
         → IsNumberOf (IsMember conf d) (size_of conf limit.Members d) }
 {}
 
-/// The limits on entries and outputs of ACLs.
+/// The limit on entries of ACLs counts pairs of an attachment and one of its rules, or the denial behind them; the
+/// one on outputs counts, attachment by attachment, pairs of a rule and an interface that the rule names.
 pub fn acls_are_counted_by_attachments()
     ensures entries { (conf : Configuration) → AreTold conf → (d : Dp) → Contains conf.dps d
         → IsNumberOf (IsAclEntry conf d) (size_of conf limit.AclEntries d) }
@@ -48,7 +52,9 @@ pub fn acls_are_counted_by_attachments()
         → IsNumberOf (IsAclOutput conf d) (size_of conf limit.AclOutputs d) }
 {}
 
-/// The limits on routes, gateways, and what VLANs are routed by.
+/// The limit on routes counts pairs of a VLAN and one of its routes; the one on gateways triples of a group of
+/// datapaths, a VLAN and the address of a gateway; the one on route items triples of a VLAN that has a VIP, a VLAN
+/// of its routing set, and a VIP or a route of that one.
 pub fn routes_are_counted_by_vlans()
     ensures routes { (conf : Configuration) → AreTold conf → IsNumberOf (IsRoute conf) (routes conf) }
     ensures gateways { (conf : Configuration) → AreTold conf

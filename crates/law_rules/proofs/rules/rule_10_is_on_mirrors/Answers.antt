@@ -1,0 +1,5 @@
+use Rattle.law_rules.proofs.MirrorsAndStacks.{mirrored_named, mirrors_valid, mirrors_kept}
+use Rattle.law_rules.proofs.rules.rule_10_is_on_mirrors.Goals as goal
+
+pub returns : goal.returns
+returns c = λ o differ. (λ none. (mirrored_named o none, mirrors_valid o none), λ is. mirrors_kept o differ is.0 is.1)
