@@ -1,17 +1,15 @@
 //! The Gauge that the lines speak of.
 
-use crate::happening::happening;
 use conf_check::conf_of_bytes;
 use conf_types::Conf;
-use ctl_life::Saying;
 use fg_outside::Happening;
 use gauge_conf::{GaugeConf, read_gauge, resolve_gauge};
 use gauge_poll::{Gauge, GaugeTurn};
 use net_base::NoMemory;
 use std::alloc::Global;
-use std::fmt::Write;
 use std::mem::replace;
 use test_lines::{Answers, write_escaped};
+use test_turns::{happening, put_saying};
 use yaml_subset::read_yaml;
 
 /// The configuration of the switches that was taken last, until a Gauge has it, and the Gauge.
@@ -19,21 +17,6 @@ use yaml_subset::read_yaml;
 pub struct Bench {
     conf: Option<Conf>,
     gauge: Option<Gauge>,
-}
-
-/// One line for what was said.
-fn put_saying(alloc: Global, out: &mut String, saying: &Saying) -> Result<(), NoMemory> {
-    match saying {
-        Saying::Send { conn, bytes } => {
-            let digits = hex::encode(alloc, bytes.as_slice())?;
-            write!(out, "\n  send {conn} {digits}")
-        }
-        Saying::Close { conn, cause } => write!(out, "\n  close {conn} {}", cause.name()),
-        Saying::Line(text) => {
-            out.push_str("\n  line ")?;
-            write_escaped(out, text.as_str())
-        }
-    }
 }
 
 fn shown(alloc: Global, given: &GaugeTurn) -> Result<String, NoMemory> {

@@ -4,7 +4,6 @@
 #![tactic(auto)]
 
 mod bench;
-mod happening;
 
 use bench::Bench;
 use std::io;

@@ -1,35 +1,18 @@
 //! The controller that the lines speak of.
 
-use crate::happening::happening;
 use crate::units::Uncounted;
 use conf_check::conf_of_bytes;
 use ctl_core::Controller;
-use ctl_life::Saying;
 use fg_outside::Happening;
 use net_base::NoMemory;
 use std::alloc::Global;
-use std::fmt::Write;
-use test_lines::{Answers, write_escaped};
+use test_lines::Answers;
+use test_turns::{happening, put_saying};
 
 /// The controller of the last configuration, if one was taken.
 #[derive(Drop)]
 pub struct Bench {
     controller: Option<Controller>,
-}
-
-/// One line for what was said.
-fn put_saying(alloc: Global, out: &mut String, saying: &Saying) -> Result<(), NoMemory> {
-    match saying {
-        Saying::Send { conn, bytes } => {
-            let digits = hex::encode(alloc, bytes.as_slice())?;
-            write!(out, "\n  send {conn} {digits}")
-        }
-        Saying::Close { conn, cause } => write!(out, "\n  close {conn} {}", cause.name()),
-        Saying::Line(text) => {
-            out.push_str("\n  line ")?;
-            write_escaped(out, text.as_str())
-        }
-    }
 }
 
 fn turn(alloc: Global, controller: &mut Controller, what: &Happening) -> Result<String, NoMemory> {

@@ -3,7 +3,6 @@
 #![tactic(auto)]
 
 mod bench;
-mod happening;
 mod units;
 mod worked;
 
