@@ -1,10 +1,7 @@
-use Rattle.std.proofs.Common.{List, refl, ap, ◌∙◌}
-use Rattle.std.specs.List.{flat_map}
-use Rattle.ctl_life.specs.declared.saying.Saying.{Saying}
-use Rattle.hub_drive.specs.Driving.{deeds_by, line_by, written_on}
+use Rattle.std.proofs.Common.{refl, ◌∙◌}
 use Rattle.hub_drive.proofs.Answering.{all_done, nothing_done, part_lined, part_told, part_written, whole_told}
 use Rattle.hub_drive.proofs.Pieces.{on_err}
-use Rattle.hub_drive.proofs.Telling.{Goes-none, Goes-of, Goes-of-part, Tells-same}
+use Rattle.hub_drive.proofs.Telling.{Goes-none, Goes-of, Goes-of-part}
 use Rattle.hub_drive.proofs.turn.take_turn.Goals as goal
 
 pub returns-in_err-moment-clause-part : goal.returns-in_err-moment-clause-part
@@ -36,71 +33,33 @@ returns-in_err-tell_hub-clause-part g c = λ w stands.
 
 pub returns-in_err-write_all-clause-part : goal.returns-in_err-write_all-clause-part
 returns-in_err-write_all-clause-part g c = λ w stands.
-    let works = g.M.Machine.runs.works in
-    let may = g.H.Hub.may in
-    let outlet = c.args.outlet in
-    let taken = c.in_ok-moment.field-0 in
-    let hub = c.args.hub.now in
-    let told_hub = c.tell_hub.new.hub in
+    let took = c.in_ok-moment.ensures in
     on_err c.from_residual-in_err-write_all.result
-    (part_written works may outlet c.args.what.now w taken.sayings (c.in_ok-moment.ensures.says w stands) hub told_hub
-    taken.moment (c.in_ok-moment.ensures.moment w stands) taken.prints (c.in_ok-moment.ensures.prints w stands) c.as_slice-4.result.now (flat_map line_by taken.sayings)
-    (c.as_slice-4.ensures ∙ c.in_ok-printed.ensures ∙ ap (λ (l : List Saying). written_on outlet taken.moment l taken.prints) c.as_slice.ensures)
-    refl
-    (Tells-same may hub told_hub (flat_map (deeds_by outlet) c.as_slice-3.result.now) (flat_map (deeds_by outlet) taken.sayings) (ap (λ (l : List Saying). flat_map (deeds_by outlet) l) c.as_slice-3.ensures) c.in_ok-tell_hub.ensures.ok)
+    (part_written g.M.Machine.runs.works g.H.Hub.may c.args.outlet c.args.what.now w _ (took.says w stands) c.args.hub.now c.tell_hub.new.hub _ (took.moment w stands) _ (took.prints w stands) _ _
+    (rw c.as_slice.ensures at (c.as_slice-4.ensures ∙ c.in_ok-printed.ensures)) refl (rw c.as_slice-3.ensures at c.in_ok-tell_hub.ensures.ok)
     (g.O.Sink.wrote c.args.out.now) (g.O.Sink.wrote c.write_all.new.sink) (g.E.Sink.wrote c.args.err.now) c.in_err-write_all.ensures.err)
 
 pub returns-in_err-write_all-2-clause-part : goal.returns-in_err-write_all-2-clause-part
 returns-in_err-write_all-2-clause-part g c = λ w stands.
-    let works = g.M.Machine.runs.works in
-    let may = g.H.Hub.may in
-    let outlet = c.args.outlet in
-    let taken = c.in_ok-moment.field-0 in
-    let hub = c.args.hub.now in
-    let told_hub = c.tell_hub.new.hub in
+    let took = c.in_ok-moment.ensures in
     on_err c.from_residual-in_err-write_all-2.result
-    (part_lined works may outlet c.args.what.now w taken.sayings (c.in_ok-moment.ensures.says w stands) hub told_hub
-    taken.moment (c.in_ok-moment.ensures.moment w stands) taken.prints (c.in_ok-moment.ensures.prints w stands) c.as_slice-4.result.now c.as_slice-5.result.now
-    (c.as_slice-4.ensures ∙ c.in_ok-printed.ensures ∙ ap (λ (l : List Saying). written_on outlet taken.moment l taken.prints) c.as_slice.ensures)
-    (c.as_slice-5.ensures ∙ c.in_ok-lines.ensures ∙ ap (λ (l : List Saying). flat_map line_by l) c.as_slice-2.ensures)
-    (Tells-same may hub told_hub (flat_map (deeds_by outlet) c.as_slice-3.result.now) (flat_map (deeds_by outlet) taken.sayings) (ap (λ (l : List Saying). flat_map (deeds_by outlet) l) c.as_slice-3.ensures) c.in_ok-tell_hub.ensures.ok)
+    (part_lined g.M.Machine.runs.works g.H.Hub.may c.args.outlet c.args.what.now w _ (took.says w stands) c.args.hub.now c.tell_hub.new.hub _ (took.moment w stands) _ (took.prints w stands) _ _
+    (rw c.as_slice.ensures at (c.as_slice-4.ensures ∙ c.in_ok-printed.ensures)) (rw c.as_slice-2.ensures at (c.as_slice-5.ensures ∙ c.in_ok-lines.ensures)) (rw c.as_slice-3.ensures at c.in_ok-tell_hub.ensures.ok)
     (g.O.Sink.wrote c.args.out.now) (g.O.Sink.wrote c.write_all.new.sink) (g.E.Sink.wrote c.args.err.now) (g.E.Sink.wrote c.write_all-2.new.sink) c.in_ok-write_all.ensures.ok c.in_err-write_all-2.ensures.err)
 
 pub returns-in_err-write_all-clause-told : goal.returns-in_err-write_all-clause-told
 returns-in_err-write_all-clause-told g c = λ w stands failed.
-    let works = g.M.Machine.runs.works in
-    let may = g.H.Hub.may in
-    let outlet = c.args.outlet in
-    let taken = c.in_ok-moment.field-0 in
-    let hub = c.args.hub.now in
-    let told_hub = c.tell_hub.new.hub in
-    whole_told works may outlet c.args.what.now w taken.sayings (c.in_ok-moment.ensures.says w stands) hub told_hub
-    (Tells-same may hub told_hub (flat_map (deeds_by outlet) c.as_slice-3.result.now) (flat_map (deeds_by outlet) taken.sayings) (ap (λ (l : List Saying). flat_map (deeds_by outlet) l) c.as_slice-3.ensures) c.in_ok-tell_hub.ensures.ok)
+    whole_told g.M.Machine.runs.works g.H.Hub.may c.args.outlet c.args.what.now w _ (c.in_ok-moment.ensures.says w stands) c.args.hub.now c.tell_hub.new.hub (rw c.as_slice-3.ensures at c.in_ok-tell_hub.ensures.ok)
 
 pub returns-in_err-write_all-2-clause-told : goal.returns-in_err-write_all-2-clause-told
 returns-in_err-write_all-2-clause-told g c = λ w stands failed.
-    let works = g.M.Machine.runs.works in
-    let may = g.H.Hub.may in
-    let outlet = c.args.outlet in
-    let taken = c.in_ok-moment.field-0 in
-    let hub = c.args.hub.now in
-    let told_hub = c.tell_hub.new.hub in
-    whole_told works may outlet c.args.what.now w taken.sayings (c.in_ok-moment.ensures.says w stands) hub told_hub
-    (Tells-same may hub told_hub (flat_map (deeds_by outlet) c.as_slice-3.result.now) (flat_map (deeds_by outlet) taken.sayings) (ap (λ (l : List Saying). flat_map (deeds_by outlet) l) c.as_slice-3.ensures) c.in_ok-tell_hub.ensures.ok)
+    whole_told g.M.Machine.runs.works g.H.Hub.may c.args.outlet c.args.what.now w _ (c.in_ok-moment.ensures.says w stands) c.args.hub.now c.tell_hub.new.hub (rw c.as_slice-3.ensures at c.in_ok-tell_hub.ensures.ok)
 
 pub returns-clause-ok : goal.returns-clause-ok
 returns-clause-ok g c = λ w stands.
-    let works = g.M.Machine.runs.works in
-    let may = g.H.Hub.may in
-    let outlet = c.args.outlet in
-    let taken = c.in_ok-moment.field-0 in
-    let hub = c.args.hub.now in
-    let told_hub = c.tell_hub.new.hub in
-    all_done works may outlet c.args.what.now w taken.sayings (c.in_ok-moment.ensures.says w stands) hub told_hub
-    taken.moment (c.in_ok-moment.ensures.moment w stands) taken.prints (c.in_ok-moment.ensures.prints w stands) c.as_slice-4.result.now c.as_slice-5.result.now
-    (c.as_slice-4.ensures ∙ c.in_ok-printed.ensures ∙ ap (λ (l : List Saying). written_on outlet taken.moment l taken.prints) c.as_slice.ensures)
-    (c.as_slice-5.ensures ∙ c.in_ok-lines.ensures ∙ ap (λ (l : List Saying). flat_map line_by l) c.as_slice-2.ensures)
-    (Tells-same may hub told_hub (flat_map (deeds_by outlet) c.as_slice-3.result.now) (flat_map (deeds_by outlet) taken.sayings) (ap (λ (l : List Saying). flat_map (deeds_by outlet) l) c.as_slice-3.ensures) c.in_ok-tell_hub.ensures.ok)
+    let took = c.in_ok-moment.ensures in
+    all_done g.M.Machine.runs.works g.H.Hub.may c.args.outlet c.args.what.now w _ (took.says w stands) c.args.hub.now c.tell_hub.new.hub _ (took.moment w stands) _ (took.prints w stands) _ _
+    (rw c.as_slice.ensures at (c.as_slice-4.ensures ∙ c.in_ok-printed.ensures)) (rw c.as_slice-2.ensures at (c.as_slice-5.ensures ∙ c.in_ok-lines.ensures)) (rw c.as_slice-3.ensures at c.in_ok-tell_hub.ensures.ok)
     (g.O.Sink.wrote c.args.out.now) (g.O.Sink.wrote c.write_all.new.sink) (g.E.Sink.wrote c.args.err.now) (g.E.Sink.wrote c.write_all-2.new.sink) c.in_ok-write_all.ensures.ok c.in_ok-write_all-2.ensures.ok
 
 pub returns-in_err-tell_hub-clause-goes : goal.returns-in_err-tell_hub-clause-goes

@@ -10,7 +10,6 @@ loop-saying-init g c = record { told = Tells-none g.H.Hub.may c.args.hub.now; fa
 
 pub returns-in_err-tell_one-clause-err : goal.returns-in_err-tell_one-clause-err
 returns-in_err-tell_one-clause-err g c =
-    let may = g.H.Hub.may in
     let tells = deeds_by c.args.outlet in
     let sayings = c.args.sayings.now in
     let i = c.loop-saying.saying-index in
@@ -18,9 +17,9 @@ returns-in_err-tell_one-clause-err g c =
     let before = flat_map tells (take i sayings) in
     let behind = flat_map tells (drop (i + 1) sayings) in
     on_err c.from_residual.result
-    (TellsPart-same may c.args.hub.now c.tell_one.new.hub ((before ++ tells one) ++ behind) (flat_map tells sayings) (flat_map-parts tells sayings i one c.loop-saying-test.true c.saying-item.is)
-    (TellsPart-first may c.args.hub.now c.tell_one.new.hub (before ++ tells one) behind
-    (TellsPart-second may c.args.hub.now c.loop-saying.hub c.tell_one.new.hub before (tells one) c.loop-saying.invariant.told c.in_err-tell_one.ensures.err)))
+    (TellsPart-same g.H.Hub.may c.args.hub.now c.tell_one.new.hub ((before ++ tells one) ++ behind) (flat_map tells sayings) (flat_map-parts tells sayings i one c.loop-saying-test.true c.saying-item.is)
+    (TellsPart-first g.H.Hub.may c.args.hub.now c.tell_one.new.hub (before ++ tells one) behind
+    (TellsPart-second g.H.Hub.may c.args.hub.now c.loop-saying.hub c.tell_one.new.hub before (tells one) c.loop-saying.invariant.told c.in_err-tell_one.ensures.err)))
 
 pub loop-saying-preserved : goal.loop-saying-preserved
 loop-saying-preserved g c =
