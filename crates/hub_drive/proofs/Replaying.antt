@@ -10,7 +10,7 @@ use Rattle.fg_outside.specs.Counts.{Rose}
 use Rattle.fg_outside.specs.FileSource.{faults_of, files_of, left_in, missing_of, name_of, KeepsFiles}
 use Rattle.fg_outside.specs.Wrote.{appended}
 use Rattle.fg_outside.specs.HubStep.{HubStep, Leads, happenings, story, turned}
-use Rattle.fg_outside.proofs.SinkLemmas.{appended-nil, AppendsFront-none}
+use Rattle.fg_outside.proofs.SinkLemmas.{appended-nil}
 use Rattle.fg_outside.proofs.CountLemmas.{Rose-since}
 use Rattle.fg_outside.proofs.StepLemmas.{Went-all, KeepsFiles-fault, KeepsFiles-read, KeepsFiles-same, KeepsFiles-then}
 use Rattle.recording.specs.declared.refused.RecordRefused.{RecordRefused}
@@ -27,7 +27,7 @@ use Rattle.hub_drive.specs.Machine.{Workings}
 use Rattle.hub_drive.specs.Driven.{Drives}
 use Rattle.hub_drive.specs.Replay.{IsStoryOf, ReadsSource, Replays, RunsSource, TellsSoFar, replayed_by}
 use Rattle.hub_drive.proofs.Deeds.{front_closed, whole_closed, whole_happened}
-use Rattle.hub_drive.proofs.Stories.{none_begun, out-none}
+use Rattle.hub_drive.proofs.Stories.{out-none}
 use Rattle.hub_drive.proofs.Telling.{IsFront-same}
 
 -- ---- nothing was read
@@ -45,17 +45,6 @@ module _ {S : Type 0} (m : Workings S) (outlet : Outlet) (contents : Option Cont
 
   pub never_read : (absence fault : Type 0) (out err : Option (List ℕ)) → absence ⊎ fault → Replays m outlet contents name absence fault w out out err err replayed.Unread
   never_read absence fault out err why = ([], record { out = nothing_out out; err = sym (appended-nil err) }, nothing_told, why)
-
-  pub never_begun : (absence fault : Type 0) (out err : Option (List ℕ)) → Replays m outlet contents name absence fault w out out err err replayed.Memory
-  never_begun absence fault out err = (
-    [],
-    record {
-      out = AppendsFront-none out (out_of m outlet w []);
-      err = AppendsFront-none err [];
-      but_last = none_begun m outlet w [] out out err err (nothing_out out) (sym (appended-nil err));
-    },
-    nothing_told,
-  )
 
 -- a file that isn't there, or isn't read
 pub why_unread : {E : Type 0} (there : Result Bool E) (absence fault : Type 0) → IfOk there (λ b. b ≡ false → absence) → OnErr there fault → result_unwrap_or there false ≡ false → absence ⊎ fault

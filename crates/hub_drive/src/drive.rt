@@ -35,44 +35,6 @@ impl Stopped {
     }
 }
 
-/// Runs a machine on the turns of a hub, `most` of them at most.
-pub(crate) fn drive_made<M: Machine, H: Hub, O: Sink, E: Sink>(
-    alloc: Global,
-    machine: &mut M,
-    hub: &mut H,
-    outlet: Outlet,
-    most: u64,
-    out: &mut O,
-    err: &mut E,
-) -> Drove
-    ensures drove { (w : M.runs.State) → M.runs.stands machine.old w → Drives M.runs.works H.may outlet most w hub.old hub.new
-        (O.wrote out.old) (O.wrote out.new) (E.wrote err.old) (E.wrote err.new) result }
-
-    ensures goes { Goes H.may hub.old hub.new }
-
-    ensures hub_fault { result ≡ Drove.HubFault → Rose (H.faults hub.old) (H.faults hub.new) }
-    ensures no_hub_fault { result ≢ Drove.HubFault → H.faults hub.new ≡ H.faults hub.old }
-    ensures write_fault { result ≡ Drove.WriteFault → Rose (O.faults out.old) (O.faults out.new) ⊎ Rose (E.faults err.old) (E.faults err.new) }
-    ensures no_write_fault { result ≢ Drove.WriteFault → (O.faults out.new ≡ O.faults out.old) × (E.faults err.new ≡ E.faults err.old) }
-    ensures hub_faults { H.faults hub.old ≤ H.faults hub.new }
-    ensures out_faults { O.faults out.old ≤ O.faults out.new }
-    ensures err_faults { E.faults err.old ≤ E.faults err.new }
-{
-    for _ in 0..most {
-        match hub.turn() {
-            Turn::Happened(what) => {
-                if let Err(stopped) = take_turn(alloc, machine, &what, outlet, hub, out, err) {
-                    return stopped.drove();
-                }
-            }
-            Turn::Done => return Drove::Done,
-            Turn::Failed => return Drove::HubFault,
-            Turn::Memory => return Drove::Memory,
-        }
-    }
-    Drove::Spent
-}
-
 /// Runs a machine, if there was memory for it, on the turns of a hub, `most` of them at most. Of each turn the hub is
 /// told what is said, and what goes to standard output and the lines are written, before the next one is taken.
 pub fn drive<M: Machine + Drop, H: Hub, O: Sink, E: Sink>(
@@ -100,8 +62,20 @@ pub fn drive<M: Machine + Drop, H: Hub, O: Sink, E: Sink>(
     ensures out_faults { O.faults out.old ≤ O.faults out.new }
     ensures err_faults { E.faults err.old ≤ E.faults err.new }
 {
-    match machine {
-        Ok(mut made) => drive_made(alloc, &mut made, hub, outlet, most, out, err),
-        Err(_) => Drove::Memory,
+    let Ok(mut machine) = machine else {
+        return Drove::Memory;
+    };
+    for _ in 0..most {
+        match hub.turn() {
+            Turn::Happened(what) => {
+                if let Err(stopped) = take_turn(alloc, &mut machine, &what, outlet, hub, out, err) {
+                    return stopped.drove();
+                }
+            }
+            Turn::Done => return Drove::Done,
+            Turn::Failed => return Drove::HubFault,
+            Turn::Memory => return Drove::Memory,
+        }
     }
+    Drove::Spent
 }

@@ -3,7 +3,7 @@ ghost use Rattle.fg_outside.specs.Contents.{Tells};
 ghost use Rattle.fg_outside.specs.Counts.{Rose};
 ghost use Rattle.hub_drive.specs.Replay.{ReadsSource, Replays, RunsSource, replayed_by};
 
-use crate::drive::{Drove, drive_made};
+use crate::drive::{Drove, drive};
 use crate::machine::Machine;
 use crate::sayings::Outlet;
 use fg_outside::{Failed, FileSource, Files, Sink, Source};
@@ -53,16 +53,16 @@ fn is_there<F: Files>(files: &mut F, name: &str) -> Result<bool, Failed>
     Ok(files.read_at(name, 0, &mut [])?.is_some())
 }
 
-/// Runs a machine on the recording that a source gives, and gives the source back.
-fn run_source<M: Machine, S: Source, O: Sink, E: Sink>(
+/// Runs a machine, if there was memory for it, on the recording that a source gives, and gives the source back.
+fn run_source<M: Machine + Drop, S: Source, O: Sink, E: Sink>(
     alloc: Global,
-    machine: &mut M,
+    machine: Result<M, NoMemory>,
     outlet: Outlet,
     source: S,
     out: &mut O,
     err: &mut E,
 ) -> (Drove, Option<RecordRefused>, S)
-    ensures runs { (w : M.runs.State) → M.runs.stands machine.old w → RunsSource M.runs.works outlet S.left S.may w source
+    ensures runs { (w : M.runs.State) → IfOk machine (λ made. M.runs.stands made w) → RunsSource M.runs.works outlet S.left S.may w source
         (O.wrote out.old) (O.wrote out.new) (E.wrote err.old) (E.wrote err.new) result.0 result.1 }
     ensures reads { ReadsSource S.left S.may source result.2 }
 
@@ -74,8 +74,7 @@ fn run_source<M: Machine, S: Source, O: Sink, E: Sink>(
     ensures err_faults { E.faults err.old ≤ E.faults err.new }
 {
     let mut hub = ScriptHub::new(alloc, source);
-    let most = u64::MAX;
-    let drove = drive_made(alloc, machine, &mut hub, outlet, most, out, err);
+    let drove = drive(alloc, machine, &mut hub, outlet, u64::MAX, out, err);
     let refused = hub.refused();
     (drove, refused, hub.into_source())
 }
@@ -117,10 +116,7 @@ pub fn replay<M: Machine + Drop, F: Files, O: Sink, E: Sink>(
     if !is_there(&mut files, name.as_str()).unwrap_or(false) {
         return (Replayed::Unread, files);
     }
-    let Ok(mut machine) = machine else {
-        return (Replayed::Memory, files);
-    };
     let source = FileSource::new(files, name);
-    let (drove, refused, source) = run_source(alloc, &mut machine, outlet, source, out, err);
+    let (drove, refused, source) = run_source(alloc, machine, outlet, source, out, err);
     (replayed_by(drove, refused), source.into_files())
 }

@@ -1,9 +1,8 @@
-use Rattle.std.proofs.Common.{◌≡◌, ◌≤◌, true, false, IfOk, sym, subst, ◌∙◌, arith}
+use Rattle.std.proofs.Common.{◌≡◌, ◌≤◌, true, false, sym, ◌∙◌, arith}
 use Rattle.std.proofs.lemmas.Grind.{common_steps}
 use Rattle.std.specs.Result.{result_unwrap_or}
 use Rattle.fg_outside.specs.FileSource.{files_of}
-use Rattle.fg_outside.specs.Counts.{Rose}
-use Rattle.hub_drive.proofs.Replaying.{failed_write, fault_of_files, fault_of_told, never_begun, never_read, no_failed_read, no_failed_write, none_of_files, reads_keep, run_replays, unread_fault, was_read, was_there, why_unread}
+use Rattle.hub_drive.proofs.Replaying.{failed_write, fault_of_files, fault_of_told, never_read, no_failed_read, no_failed_write, none_of_files, reads_keep, run_replays, unread_fault, was_read, was_there, why_unread}
 use Rattle.hub_drive.proofs.replay.replay.Goals as goal
 
 pub returns-then-not-unwrap_or-clause-replayed : goal.returns-then-not-unwrap_or-clause-replayed
@@ -12,15 +11,9 @@ returns-then-not-unwrap_or-clause-replayed g c = λ w stands.
     never_read g.M.Machine.runs.works c.args.outlet (g.F.Files.contents c.args.files) c.args.name w _ _ (g.O.Sink.wrote c.args.out.now) (g.E.Sink.wrote c.args.err.now)
     (why_unread c.is_there.result _ _ c.is_there.ensures.absent c.is_there.ensures.failed is)
 
-pub returns-in_default-clause-replayed : goal.returns-in_default-clause-replayed
-returns-in_default-clause-replayed g c = λ w stands.
-    never_begun g.M.Machine.runs.works c.args.outlet (g.F.Files.contents c.args.files) c.args.name w
-    (Rose (g.F.Files.absences c.args.files) (g.F.Files.absences c.args.files)) (Rose (g.F.Files.faults c.args.files) (g.F.Files.faults c.args.files))
-    (g.O.Sink.wrote c.args.out.now) (g.E.Sink.wrote c.args.err.now)
-
 pub returns-clause-replayed : goal.returns-clause-replayed
 returns-clause-replayed g c = λ w stands.
-    let runs = c.run_source-drove.ensures.runs w (subst (λ r. IfOk r (λ made. g.M.Machine.runs.stands made w)) c.in-Ok.is stands) in
+    let runs = c.run_source-drove.ensures.runs w stands in
     let keeps = reads_keep g.F.Files.contents g.F.Files.faults g.F.Files.absences c.new-source.result _ c.run_source-drove.ensures.reads in
     rw (c.replayed_by.ensures, c.into_files.ensures) (run_replays g.M.Machine.runs.works c.args.outlet g.F.Files.contents g.F.Files.faults g.F.Files.absences (g.F.Files.contents c.args.files) c.args.name w c.new-source.result _ _ _ _ _ _ runs
     (λ bytes tells. c.new-source.ensures.left bytes (rw c.is_there.ensures.contents tells)) _ _
@@ -39,11 +32,6 @@ returns-clause-there g c = λ bytes tells unread.
     (rw (c.new-source.ensures.files, c.new-source.ensures.name, c.is_there.ensures.contents) tells)
     (rw c.new-source.ensures.files c.is_there.ensures.faults) keeps
     (c.run_source-drove.ensures.fault (unread_fault _ _ (sym c.replayed_by.ensures ∙ unread))))
-
-pub returns-in_default-clause-no_fault : goal.returns-in_default-clause-no_fault
-returns-in_default-clause-no_fault g c = λ other below.
-    let is : result_unwrap_or c.is_there.result false ≡ true = grind (arith, common_steps) in
-    was_read c.is_there.result _ c.is_there.ensures.no_fault is
 
 pub returns-clause-no_fault : goal.returns-clause-no_fault
 returns-clause-no_fault g c = λ other below.
