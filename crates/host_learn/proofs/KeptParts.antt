@@ -12,9 +12,9 @@ use Rattle.conf_types.specs.Lists.{EachBefore, is_same}
 use Rattle.conf_types.specs.State.{IsSameHost}
 use Rattle.host_learn.specs.Kept.{finds_room, kept_hosts, last_of_each, may_stay, with_room}
 use Rattle.host_learn.specs.Learning.{is_heard}
-use Rattle.host_learn.specs.Parts.{IsPartOf}
+use Rattle.host_list.specs.Parts.{IsPartOf}
 use Rattle.host_learn.specs.Table.{Table}
-use Rattle.host_learn.proofs.Lists.{all_map, all_part, before_part, filter_all, filter_part, none_passes, part_of_part, part_skip}
+use Rattle.host_list.proofs.Lists.{all_map, all_part, before_part, filter_all, filter_part, none_passes, part_of_part, part_skip}
 
 -- ---- parts
 

@@ -15,7 +15,7 @@ use Rattle.conf_types.specs.State.{is_host_at, is_host_in, is_permanent, is_port
 use Rattle.conf_types.proofs.Reached.{same_id}
 use Rattle.host_learn.specs.Kept.{finds_room, with_room}
 use Rattle.host_learn.specs.Learning.{is_full_at, is_full_in, is_occupied}
-use Rattle.host_learn.proofs.Lists.{all_map, before_push, count_push, none_passes}
+use Rattle.host_list.proofs.Lists.{all_map, before_push, count_push, none_passes}
 use Rattle.host_learn.proofs.Sizes.{less}
 
 pub not_true : (b : Bool) → not b ≡ true → b ≡ false

@@ -20,7 +20,7 @@ use Rattle.host_learn.specs.Learning.{is_host, takes_in}
 use Rattle.host_learn.specs.Table.{Table}
 use Rattle.host_learn.proofs.KeptParts.{kept_apart, kept_stays, staying}
 use Rattle.host_learn.proofs.KeptRoom.{first_kept, not_true, port_within, vlan_within}
-use Rattle.host_learn.proofs.Lists.{all_both, all_map, each_found}
+use Rattle.host_list.proofs.Lists.{all_both, all_map, each_found}
 use Rattle.host_learn.proofs.Sizes.{room_within}
 
 -- each item stands apart from those behind it in more than one way

@@ -17,13 +17,13 @@ use Rattle.conf_types.specs.State.{State, IsHost, IsNeighbour, IsSameHost, IsVal
 use Rattle.conf_types.specs.Valid.{IsValid}
 use Rattle.host_learn.specs.declared.learn.Learn.TheVariants.{Learned, Moved, Refreshed, Full, NotLearnable}
 use Rattle.host_learn.specs.Learning.{hosts_after, is_full, is_full_at, is_full_in, is_heard, is_host, is_kept_off, is_known, is_learnable, is_occupied, learned, refreshed, stands_there}
-use Rattle.host_learn.specs.Parts.{IsPartOf}
+use Rattle.host_list.specs.Parts.{IsPartOf}
 use Rattle.host_learn.specs.Table.{Table}
 use Rattle.host_learn.proofs.KeptParts.{same_is_heard}
 use Rattle.host_learn.proofs.KeptRoom.{KeepsFirst, counted, free_for, not_true, port_room, vlan_room}
 use Rattle.host_learn.proofs.KeptValid.{ports_found, stands, vlans_found}
-use Rattle.host_learn.proofs.Lists.{all_both, all_map, all_part, all_push, before_part, before_push, count_off, count_part, filter_all, filter_part, found_passes, none_passes, part_same}
-use Rattle.host_learn.proofs.Moments.{refreshed_all, refreshed_before, refreshed_count}
+use Rattle.host_list.proofs.Lists.{all_both, all_map, all_part, all_push, before_part, before_push, count_off, count_part, filter_all, filter_part, found_passes, none_passes, part_same}
+use Rattle.host_list.proofs.Moments.{refreshed_all, refreshed_before, refreshed_count}
 use Rattle.host_learn.proofs.Sizes.{fewer_by_one, less, neither, second}
 
 -- an interface that is found has the number

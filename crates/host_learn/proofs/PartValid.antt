@@ -12,7 +12,7 @@ use Rattle.conf_types.specs.Groups.{IsDp, group_of}
 use Rattle.conf_types.specs.Links.{is_up}
 use Rattle.conf_types.specs.State.{State, IsHost, IsNeighbour, IsSameHost, IsValidState, is_host_at, is_host_in, is_running}
 use Rattle.host_learn.proofs.KeptRoom.{KeepsFirst}
-use Rattle.host_learn.proofs.Lists.{all_both, all_map, all_part, before_part, count_part, filter_all, filter_part}
+use Rattle.host_list.proofs.Lists.{all_both, all_map, all_part, before_part, count_part, filter_all, filter_part}
 use Rattle.host_learn.proofs.Sizes.{fewer}
 
 pub part_valid : (conf : Configuration) (state : State) (running : List DpId) (ups : List UpRec) (test : HostRec → Bool) → IsValidState conf state

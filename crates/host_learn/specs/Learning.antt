@@ -1,4 +1,5 @@
 -- What the table makes of a host that is heard: by a packet with its address, at a port, in a VLAN.
+pub use Rattle.host_list.specs.Hosts.{is_in_place, is_heard, stands_there, is_known, refreshed, moved}
 use Rattle.std.specs.Prelude.{◌==◌, ◌&&◌, ◌||◌, not, Bool, false, List, [], ◌∷◌, ◌++◌, length, map, filter, nat_le, if◌then◌else◌}
 use Rattle.std.specs.List.{list_any}
 use Rattle.std.specs.Option.{option_map_or}
@@ -12,20 +13,6 @@ use Rattle.conf_types.specs.State.{is_host_at, is_gateway_address, is_barred, is
 use Rattle.host_learn.specs.declared.learn.Learn.{Learn}
 use Rattle.host_learn.specs.declared.learn.Learn.TheVariants.{Learned, Moved, Refreshed, Full, NotLearnable}
 use Rattle.host_learn.specs.Table.{Table, has_key}
-
--- the host is the one that is heard, and stands where it is heard
-abbrev pub is_in_place : HostRec → HostRec → Bool
-is_in_place heard host = is_host_at heard.dp heard.port host && host.vid == heard.vid && is_same host.mac.0 heard.mac.0
-
--- the host is the one that is heard, wherever it stands
-abbrev pub is_heard : Configuration → HostRec → HostRec → Bool
-is_heard conf heard host = has_key conf (group_of conf heard.dp) heard.vid heard.mac.0 host
-
-abbrev pub stands_there : List HostRec → HostRec → Bool
-stands_there hosts heard = list_any (is_in_place heard) hosts
-
-abbrev pub is_known : Configuration → List HostRec → HostRec → Bool
-is_known conf hosts heard = list_any (is_heard conf heard) hosts
 
 -- some host of its VLAN stands where it is heard
 abbrev pub is_occupied : List HostRec → HostRec → Bool
@@ -73,14 +60,6 @@ outcome conf table heard =
     else if stands_there table.hosts heard then Refreshed
     else if is_known conf table.hosts heard then Moved
     else Learned
-
--- its moment is the new one, and its place in the list stays
-abbrev pub refreshed : HostRec → List HostRec → List HostRec
-refreshed heard hosts = map (λ host. if is_in_place heard host then record host { learned = heard.learned } else host) hosts
-
--- a host that moved is taken out, and comes last
-abbrev pub moved : Configuration → HostRec → List HostRec → List HostRec
-moved conf heard hosts = filter (λ host. not (is_heard conf heard host)) hosts ++ heard ∷ []
 
 abbrev pub hosts_after : Configuration → HostRec → List HostRec → Learn → List HostRec
 hosts_after conf heard hosts Learned = hosts ++ heard ∷ []

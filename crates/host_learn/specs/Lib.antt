@@ -1,10 +1,3 @@
-pub mod Addresses
-pub mod Counts
 pub mod Kept
 pub mod Learning
-pub mod Leaving
-pub mod Order
-pub mod Parts
-pub mod Passed
-pub mod Shelves
 pub mod Table

@@ -4,8 +4,9 @@ ghost use Rattle.std.specs.Prelude.{◌≡◌, [], filter, IfOk};
 ghost use Rattle.host_learn.specs.Learning.{is_full_at, is_full_in, is_known, is_occupied};
 ghost use Rattle.host_learn.specs.Kept.{finds_room, kept_hosts, last_of_each, may_stay, with_room};
 
-use crate::host::{has_key, is_host};
+use crate::host::is_host;
 use conf_types::{Conf, HostRec, UpRec, is_up};
+use host_list::has_key;
 use net_base::{Moment, NoMemory};
 use std::alloc::Global;
 

@@ -12,7 +12,7 @@ ghost use Rattle.conf_types.specs.State.{State, IsNeighbour, IsValidState, is_ru
 ghost use Rattle.conf_types.specs.Valid.{IsValid};
 ghost use Rattle.host_learn.specs.Kept.{kept_hosts};
 ghost use Rattle.host_learn.specs.Learning.{learned};
-ghost use Rattle.host_learn.specs.Parts.{IsPartOf};
+ghost use Rattle.host_list.specs.Parts.{IsPartOf};
 ghost use Rattle.host_learn.specs.Table.{Table};
 
 /// What is kept is a part of what was, in the same order and with the same moments.

@@ -1,23 +1,16 @@
-ghost use Rattle.std.specs.Prelude.{◌≡◌, ◌==◌, ◌<◌, ◌≤◌, ◌^◌, [], filter, length, not, slice_get, IfOk, OnErr, OnSome};
-ghost use Rattle.std.specs.List.{find, list_any};
+ghost use Rattle.std.specs.Prelude.{◌≡◌, ◌==◌, ◌<◌, ◌≤◌, [], length, slice_get, IfOk, OnErr, OnSome};
 ghost use Rattle.std.specs.Option.{option_copied};
-ghost use Rattle.conf_types.specs.State.{is_host_at, is_to_forget};
+ghost use Rattle.conf_types.specs.State.{is_to_forget};
 ghost use Rattle.host_learn.specs.Kept.{kept};
 ghost use Rattle.host_learn.specs.Learning.{learned, outcome};
-ghost use Rattle.host_learn.specs.Leaving.{leaves};
-ghost use Rattle.host_learn.specs.Order.{hosts_of, is_due_from};
-ghost use Rattle.host_learn.specs.Table.{first_due, has_key, host_of, off_datapath, off_due, off_port, without_first};
+ghost use Rattle.host_learn.specs.Table.{first_due, host_of, off_datapath, off_due, off_port, without_first};
 
-use crate::addresses::Entry;
-use crate::ageing::{Passed, leave_any_due, take_due};
-use crate::host::has_key;
 use crate::kept::kept_hosts;
 use crate::learn::{Learn, outcome, take_in};
-use crate::order::{Leaving, Order, key_address};
 use conf_types::{Conf, HostRec, HostRecs, UpRec};
+use host_list::{Hosts, HostsIter};
 use net_base::{DpId, Mac, Moment, NoMemory, PortNo, Vid};
 use std::alloc::Global;
-use std::collections::btree_map::Values;
 use std::marker::Model;
 
 /// The hosts that were learned, in the order of learning, and how many there are at most. Contracts
@@ -26,61 +19,18 @@ use std::marker::Model;
 pub struct HostTable {
     alloc: Global,
     limit: u32,
-    order: Order,
-    passed: Passed,
+    hosts: Hosts,
 }
 
 impl Model for HostTable {
     ghost use Rattle.std.specs.Prelude.{◌≤◌, length};
-    ghost use Rattle.host_learn.specs.Order.{hosts_of};
-    ghost use Rattle.host_learn.specs.Passed.{ArePassed};
     ghost use Rattle.host_learn.specs.Table.{Table};
 
     ghost Value = { Table };
 
-    ghost view = { λ t. record { limit = t.limit; hosts = hosts_of t.order } };
+    ghost view = { λ t. record { limit = t.limit; hosts = t.hosts } };
 
-    ghost invariant = { λ t. (length t.order ≤ t.limit) × ArePassed t.passed t.order };
-}
-
-fn find_host<'a>(
-    entries: &'a [Entry],
-    conf: &Conf,
-    group: DpId,
-    vid: Vid,
-    mac: Mac,
-) -> Option<&'a HostRec>
-    ensures { option_copied result ≡ find (has_key conf.now group vid mac.0) (hosts_of entries.now) }
-{
-    for entry in entries {
-        if has_key(conf, &entry.1, group, vid, mac) {
-            return Some(&entry.1);
-        }
-    }
-    None
-}
-
-/// Takes out the hosts that leave. Each is looked for from the place of the one before.
-fn leave(order: &mut Order, leaving: &Leaving)
-    ensures { order.new ≡ filter (λ e. not (leaves leaving.now e.1)) order.old }
-{
-    let mut from = 0;
-    while let Some(place) = order.first_leaving(from, leaving) {
-        order.remove(place);
-        from = place;
-    }
-}
-
-/// The hosts of a list, in its order.
-fn in_order(alloc: Global, hosts: &[HostRec]) -> Result<Order, NoMemory>
-    requires { length hosts.now < 2 ^ 32 }
-    ensures { IfOk result (λ order. hosts_of order ≡ hosts.now) }
-{
-    let mut order = Order::new(alloc);
-    for host in hosts {
-        order.push(host)?;
-    }
-    Ok(order)
+    ghost invariant = { λ t. length t.hosts ≤ t.limit };
 }
 
 impl HostTable {
@@ -91,8 +41,7 @@ impl HostTable {
         Ok(HostTable {
             alloc,
             limit,
-            order: Order::new(alloc),
-            passed: Passed::none(),
+            hosts: Hosts::new(alloc),
         })
     }
 
@@ -101,14 +50,14 @@ impl HostTable {
         ensures count { result ≡ length self.now.hosts }
         ensures limit { result ≤ self.now.limit }
     {
-        self.order.len()
+        self.hosts.len()
     }
 
     /// Whether there is no host.
     pub fn is_empty(&self) -> bool
         ensures { result ≡ (length self.now.hosts == 0) }
     {
-        self.order.len() == 0
+        self.hosts.is_empty()
     }
 
     /// The host at a place in the order of learning, counted from 0; `None` exactly where the place
@@ -117,24 +66,28 @@ impl HostTable {
         ensures value { option_copied result ≡ slice_get self.now.hosts place }
         ensures within { OnSome result (place < length self.now.hosts) }
     {
-        self.order.nth(place)
+        self.hosts.nth(place)
     }
 
     /// The hosts in the order of learning, one after another.
     pub fn iter(&self) -> HostsIter<'_>
         ensures { result ≡ self.now.hosts }
     {
-        HostsIter {
-            rest: self.order.iter(),
-        }
+        self.hosts.iter()
+    }
+
+    /// The list of the hosts, to be looked up and counted.
+    pub fn as_hosts(&self) -> &Hosts
+        ensures { result.now ≡ self.now.hosts }
+    {
+        &self.hosts
     }
 
     /// The hosts in the order of learning.
     pub fn hosts(&self, alloc: Global) -> Result<HostRecs, NoMemory>
         ensures { IfOk result (λ made. made ≡ self.now.hosts) }
     {
-        let hosts = self.order.hosts(alloc)?;
-        HostRecs::from_slice(alloc, hosts.as_slice())
+        self.hosts.to_list(alloc)
     }
 
     /// Takes in a packet with this source that came by this port in this VLAN, and answers what
@@ -159,9 +112,8 @@ impl HostTable {
             mac,
             learned: now,
         };
-        let told = outcome(conf, self.limit, &self.order, &heard);
-        self.passed = Passed::none();
-        take_in(conf, &mut self.order, &heard, told)?;
+        let told = outcome(conf, self.limit, &self.hosts, &heard);
+        take_in(conf, &mut self.hosts, &heard, told)?;
         Ok(told)
     }
 
@@ -171,31 +123,28 @@ impl HostTable {
         ensures found { result ≡ first_due conf.now now.0 self.old.hosts }
         ensures list { self.new ≡ record self.old { hosts = without_first (is_to_forget conf.now now.0) self.old.hosts } }
     {
-        take_due(&mut self.order, &mut self.passed, conf, now)
+        self.hosts.age(conf, now)
     }
 
     /// Takes out the hosts that are to be forgotten at a moment, as `age` does one after another.
     pub fn forget_due(&mut self, conf: &Conf, now: Moment)
         ensures { self.new ≡ record self.old { hosts = off_due conf.now now.0 self.old.hosts } }
     {
-        self.passed = Passed::none();
-        leave_any_due(&mut self.order, conf, now);
+        self.hosts.forget_due(conf, now);
     }
 
     /// Takes out the hosts at a port.
     pub fn forget_port(&mut self, dp: DpId, port: PortNo)
         ensures { self.new ≡ record self.old { hosts = off_port dp port self.old.hosts } }
     {
-        self.passed = Passed::none();
-        leave(&mut self.order, &Leaving::Port(dp, port));
+        self.hosts.forget_port(dp, port);
     }
 
     /// Takes out the hosts of a datapath.
     pub fn forget_dp(&mut self, dp: DpId)
         ensures { self.new ≡ record self.old { hosts = off_datapath dp self.old.hosts } }
     {
-        self.passed = Passed::none();
-        leave(&mut self.order, &Leaving::Datapath(dp));
+        self.hosts.forget_dp(dp);
     }
 
     /// The host with this address in the VLAN, in the group of the datapath; `None` exactly where
@@ -203,9 +152,7 @@ impl HostTable {
     pub fn get(&self, conf: &Conf, dp: DpId, vid: Vid, mac: Mac) -> Option<&HostRec>
         ensures { option_copied result ≡ host_of conf.now self.now.hosts dp vid mac.0 }
     {
-        let address = key_address(vid, mac);
-        let group = conf.group_number(dp);
-        find_host(self.order.entries(&address), conf, group, vid, mac)
+        self.hosts.get(conf, dp, vid, mac)
     }
 
     /// The table that is kept under a new configuration, with these ports up: without the hosts
@@ -214,43 +161,13 @@ impl HostTable {
     pub fn kept(&self, conf: &Conf, ups: &[UpRec], now: Moment) -> Result<HostTable, NoMemory>
         ensures { IfOk result (λ table. table ≡ kept conf.now ups.now now.0 self.now) }
     {
-        let hosts = self.order.hosts(self.alloc)?;
+        let hosts = self.hosts.to_list(self.alloc)?;
         let hosts = kept_hosts(self.alloc, conf, ups, now, self.limit, hosts.as_slice())?;
-        let order = in_order(self.alloc, hosts.as_slice())?;
+        let hosts = Hosts::from_slice(self.alloc, hosts.as_slice())?;
         Ok(HostTable {
             alloc: self.alloc,
             limit: self.limit,
-            order,
-            passed: Passed::none(),
+            hosts,
         })
-    }
-}
-
-/// The hosts that are left to be seen, in the order of learning, which is what contracts see.
-#[derive(Debug, Drop)]
-pub struct HostsIter<'a> {
-    rest: Values<'a, u64, HostRec>,
-}
-
-impl<'a> Model for HostsIter<'a> {
-    ghost use Rattle.std.specs.Prelude.{List};
-    ghost use Rattle.conf_types.specs.declared.state.HostRec.{HostRec};
-
-    ghost Value = { List HostRec };
-
-    ghost view = { λ it. it.rest };
-}
-
-impl<'a> Iterator for HostsIter<'a> {
-    ghost use Rattle.std.specs.Iterator.{YieldsFirstRef, item_count};
-
-    type Item = &'a HostRec;
-
-    ghost next_gives = { YieldsFirstRef (λ rest. rest) };
-
-    ghost remaining = { item_count (λ rest. rest) };
-
-    fn next(&mut self) -> Option<&'a HostRec> {
-        self.rest.next()
     }
 }

@@ -3,6 +3,7 @@
 #![tactic(auto)]
 
 mod beside;
+mod counted;
 mod plain;
 mod table;
 mod worked;
@@ -57,6 +58,7 @@ fn answer(alloc: Global, bench: &mut Bench, line: &str) -> Result<Option<String>
     let name = words.next().unwrap_or("");
     match name {
         "run" => beside::answer(alloc, [&bench.before, &bench.conf], &mut words),
+        "count" => counted::answer(alloc, &bench.conf, &bench.table, &mut words),
         _ => table::answer(alloc, &bench.conf, &mut bench.table, name, &mut words),
     }
 }

@@ -19,7 +19,7 @@ fn host(words: &mut SplitWhitespace<'_>) -> Option<HostRec> {
     })
 }
 
-fn put_host(alloc: Global, out: &mut String, host: &HostRec) -> Result<(), NoMemory> {
+pub fn put_host(alloc: Global, out: &mut String, host: &HostRec) -> Result<(), NoMemory> {
     write!(out, "{} {} {} ", host.dp.0, host.port.get(), host.vid.get())?;
     put_mac(alloc, out, host.mac)?;
     write!(out, " {}", host.learned.0)

@@ -1,0 +1,13 @@
+pub mod AtAddress
+pub mod Due
+pub mod Entries
+pub mod Indexed
+pub mod Leaving
+pub mod Lists
+pub mod Moments
+pub mod Narrow
+pub mod Passed
+pub mod Shelved
+pub mod Sound
+pub mod Spots
+pub mod Tallies

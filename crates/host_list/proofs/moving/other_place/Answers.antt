@@ -1,0 +1,13 @@
+use Rattle.std.proofs.Common.{filter, ap, ◌∙◌}
+use Rattle.host_list.specs.declared.addresses.Address.{Address}
+use Rattle.host_list.specs.Addresses.{address_of, has_address}
+use Rattle.host_list.specs.Order.{first_entry, is_other}
+use Rattle.host_list.proofs.Narrow.{first_told, other_tells}
+use Rattle.host_list.proofs.moving.other_place.Goals as goal
+
+pub returns-clause-value : goal.returns-clause-value
+returns-clause-value c =
+    let heard = c.args.heard.now in
+    let order = c.args.order.now in
+    let entries = c.entries.ensures.value ∙ ap (λ (a : Address). filter (has_address a) order) c.address_of.ensures in
+    c.first_other.ensures ∙ ap (first_entry (is_other c.args.conf.now heard c.args.place)) entries ∙ first_told (address_of heard) (is_other c.args.conf.now heard c.args.place) (other_tells c.args.conf.now heard c.args.place) order
