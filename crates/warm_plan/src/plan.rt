@@ -1,9 +1,10 @@
 //! The entries of a datapath, and the keys of each unit's.
 
-ghost use Rattle.std.specs.Prelude.{◌≡◌, ◌++◌, ◌*◌, Some, [], ◌∷◌, map, filter, not, length, IfOk, OnOk};
+ghost use Rattle.std.specs.Prelude.{◌≡◌, ◌++◌, ◌*◌, Some, [], ◌∷◌, map, filter, not, length, IfOk, IfSome, OnOk};
 ghost use Rattle.of_match.specs.declared.entry.Command.TheVariants.{Add};
 ghost use Rattle.of_match.specs.Settled.{after_all};
 ghost use Rattle.conf_types.specs.Configuration.{dp_with};
+ghost use Rattle.packet_way.specs.Known.{stack_of};
 ghost use Rattle.packet_way.specs.Present.{state_of};
 ghost use Rattle.plan_units.specs.Units.{entries};
 ghost use Rattle.cold_start.specs.Counts.{RisesAtMost, RisesAtLeast};
@@ -13,14 +14,15 @@ ghost use Rattle.warm_plan.specs.Parts.{keys_of, without_parts, part_of, with_un
 ghost use Rattle.warm_plan.specs.Touched.{KeepTold, wanted_of};
 
 use crate::effect::Effect;
-use crate::reaches::is_reached;
+use crate::reaches::{is_linked, is_reached};
 use crate::touched::{Touched, add_all, all_touched, bring, remove_all};
-use cold_start::unit_entries;
+use cold_start::unit_entries_with;
 use conf_types::{Conf, Dp, Tally};
 use net_base::{Items, NoMemory, TryCopy};
 use of_match::{Entry, Key, Tables};
-use packet_way::Now;
+use packet_way::{Now, make_paths};
 use plan_units::Unit;
+use stack_paths::Paths;
 use std::alloc::Global;
 use std::mem;
 
@@ -78,6 +80,22 @@ fn take_out(
         }
     }
     Ok(kept)
+}
+
+/// The paths of a state's stack, where one of the units hangs on them.
+fn paths_for(
+    alloc: Global,
+    conf: &Conf,
+    now: &Now,
+    made: &[Unit],
+) -> Result<Option<Paths>, NoMemory>
+    ensures { IfOk result (λ made. IfSome made (λ paths. paths ≡ stack_of conf.now now.now.ups)) }
+{
+    if !made.iter().any(|unit| is_linked(unit)) {
+        return Ok(None);
+    }
+    let paths = make_paths(alloc, conf, now.ups.as_slice())?;
+    Ok(Some(paths))
 }
 
 impl Plan {
@@ -143,18 +161,20 @@ impl Plan {
         alloc: Global,
         conf: &Conf,
         now: &Now,
+        paths: Option<&Paths>,
         dp: &Dp,
         unit: Unit,
         units: &mut T,
     ) -> Result<(), NoMemory>
-        requires { dp_with conf.now.dps dp.now.id ≡ Some dp.now }
+        requires dp { dp_with conf.now.dps dp.now.id ≡ Some dp.now }
+        requires paths { IfSome paths (λ paths. paths.now ≡ stack_of conf.now now.now.ups) }
         ensures parts { OnOk result (self.new.parts ≡ self.old.parts ++ part_of conf.now (state_of now.now) dp.now unit ∷ []) }
         ensures wanted { OnOk result (self.new.wanted ≡ after_all self.old.wanted (map Add (entries conf.now (state_of now.now) dp.now unit))) }
         ensures told { OnOk result (KeepTold self.old.touched.keys self.old.wanted self.new.touched.keys self.new.wanted) }
         ensures most { RisesAtMost 3 (T.count units.old) (T.count units.new) }
         ensures least { OnOk result (RisesAtLeast 1 (T.count units.old) (T.count units.new)) }
     {
-        let made = unit_entries(alloc, conf, now, dp.id, &unit, units)?;
+        let made = unit_entries_with(alloc, conf, now, paths, dp.id, &unit, units)?;
         let keys = keys_of(alloc, made.as_slice())?;
         self.parts.push(Part { unit, keys })?;
         add_all(alloc, &mut self.wanted, &mut self.touched, made)?;
@@ -180,8 +200,10 @@ impl Plan {
         ensures most { RisesAtMost (3 * length made.now) (T.count units.old) (T.count units.new) }
         ensures least { OnOk result (RisesAtLeast (length made.now) (T.count units.old) (T.count units.new)) }
     {
+        let known = paths_for(alloc, conf, now, made)?;
+        let paths = known.as_ref();
         for unit in made {
-            self.make_one(alloc, conf, now, dp, *unit, units)?;
+            self.make_one(alloc, conf, now, paths, dp, *unit, units)?;
         }
         Ok(())
     }

@@ -61,7 +61,8 @@ fn host_reaches(dp: &Dp, host: &HostEffect, unit: &Unit) -> bool
     }
 }
 
-fn is_linked(unit: &Unit) -> bool
+/// Whether the entries of a unit hang on the stack's links.
+pub(crate) fn is_linked(unit: &Unit) -> bool
     ensures { result ≡ is_linked unit.now }
 {
     match unit {

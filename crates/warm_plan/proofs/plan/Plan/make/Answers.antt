@@ -1,8 +1,13 @@
-use Rattle.std.proofs.Common.{◌∙◌, ◌++◌, List, [], ◌∷◌, map, take, sym, ap, arith}
+use Rattle.std.proofs.Common.{◌≡◌, ◌∙◌, ◌++◌, List, [], ◌∷◌, Option, None, Some, map, take, sym, ap, subst, arith}
+use Rattle.std.specs.Prelude.{IfSome}
+use Rattle.std.specs.Borrow.{Bor}
+use Rattle.std.specs.Option.{option_copied}
 use Rattle.std.proofs.lemmas.List.{append_assoc, map_more}
+use Rattle.stack_paths.specs.Stack.{Stack}
 use Rattle.of_match.specs.declared.entry.Command.TheVariants.{Add}
 use Rattle.of_match.specs.declared.entry.Entry.{Entry}
 use Rattle.of_match.specs.Settled.{after_all}
+use Rattle.packet_way.specs.Known.{stack_of}
 use Rattle.packet_way.specs.Present.{state_of}
 use Rattle.plan_units.specs.declared.unit.Unit.{Unit as PlanUnit}
 use Rattle.plan_units.specs.Units.{entries}
@@ -10,6 +15,14 @@ use Rattle.warm_plan.specs.declared.plan.Part.{Part}
 use Rattle.warm_plan.specs.Parts.{part_of}
 use Rattle.warm_plan.proofs.Commands.{units_more}
 use Rattle.warm_plan.proofs.plan.Plan.make.Goals as goal
+
+-- what holds of the paths holds of what is lent of them
+lent : (right : Stack → Type 0) (r : Option (Bor Stack)) (paths : Option Stack) → option_copied r ≡ paths → IfSome paths right → IfSome r (λ s. right s.now)
+lent right None paths is holds = tt
+lent right (Some s) paths is holds = subst (λ (o : Option Stack). IfSome o right) (sym is) holds
+
+pub make_one-requires-clause-paths : goal.make_one-requires-clause-paths
+make_one-requires-clause-paths g c = lent (λ (s : Stack). s ≡ stack_of c.args.conf.now c.args.now.now.ups) c.as_ref-paths.result c.in_ok-known.known c.as_ref-paths.ensures.value c.in_ok-known.ensures
 
 pub loop-unit-preserved : goal.loop-unit-preserved
 loop-unit-preserved g c =

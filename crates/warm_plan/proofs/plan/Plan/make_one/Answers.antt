@@ -14,11 +14,11 @@ use Rattle.warm_plan.proofs.plan.Plan.make_one.Goals as goal
 pub returns-clause-parts : goal.returns-clause-parts
 returns-clause-parts g c =
     let unit = c.args.unit in
-    let made = c.in_ok-made.ensures.entries ∙ ap (λ o. option_map_or (λ (d : Dp). entries c.args.conf.now (state_of c.args.now.now) d unit) o []) c.requires in
+    let made = c.in_ok-made.ensures.entries ∙ ap (λ o. option_map_or (λ (d : Dp). entries c.args.conf.now (state_of c.args.now.now) d unit) o []) c.requires.dp in
     let part : List Key → Part = λ ks. record { unit = unit; keys = ks } in
     c.in_ok-push.ensures.ok ∙ ap (λ (ks : List Key). c.args.self.now.parts ++ part ks ∷ []) (c.in_ok-keys.ensures ∙ ap keys_of (c.as_slice.ensures ∙ made))
 
 pub returns-clause-wanted : goal.returns-clause-wanted
 returns-clause-wanted g c =
-    let made = c.in_ok-made.ensures.entries ∙ ap (λ o. option_map_or (λ (d : Dp). entries c.args.conf.now (state_of c.args.now.now) d c.args.unit) o []) c.requires in
+    let made = c.in_ok-made.ensures.entries ∙ ap (λ o. option_map_or (λ (d : Dp). entries c.args.conf.now (state_of c.args.now.now) d c.args.unit) o []) c.requires.dp in
     c.in_ok-add_all.ensures.tables ∙ ap (λ (es : List Entry). after_all c.args.self.now.wanted (map Add es)) made
