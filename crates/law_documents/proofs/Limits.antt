@@ -53,7 +53,7 @@ no_sum f xs h = from_zero f 0 xs h
 
 -- ---- the entries of a document
 
-entries_are : (x : Tree-F Tree Pair) (pairs : List Pair) → HasEntries x pairs → entries_in x ≡ pairs
+pub entries_are : (x : Tree-F Tree Pair) (pairs : List Pair) → HasEntries x pairs → entries_in x ≡ pairs
 entries_are (tree.Map ps) pairs has = has
 entries_are tree.Null pairs has = sym has
 entries_are (tree.Bool flag) pairs has = absurd has
@@ -122,7 +122,7 @@ module _ (t : Tree) (raw : RawConf) (says : Says t raw) where
       by (inl one) = absurd (not_empty raw.vlans one.vlan one.among none)
       by (inr made) = made.1
 
-  none_of : (f : Vlan → ℕ) → ((vid : ℕ) → f (vlan_of (made_vlan vid)) ≡ 0) → raw.vlans ≡ [] → sum_by f conf.vlans ≡ 0
+  pub none_of : (f : Vlan → ℕ) → ((vid : ℕ) → f (vlan_of (made_vlan vid)) ≡ 0) → raw.vlans ≡ [] → sum_by f conf.vlans ≡ 0
   none_of f nothing none = no_sum f conf.vlans (λ v i.
       let m = of_mapped (λ (v : PlacedVlan). vlan_of v.vlan) o.vlans v i in
       let made = all_made none m.0 m.1 in
@@ -135,7 +135,7 @@ module _ (t : Tree) (raw : RawConf) (says : Says t raw) where
       (given t (codes "vlans") (λ u. IsMap (AreMaps VlanSays) u raw.vlans) (raw.vlans ≡ []) (says.0, says.1, says.2.vlans) (λ no. true≢false (sym is ∙ ap (nat_lt most) (none no) ∙ few)))
       (λ u m. own u m.0 m.1))
 
-  no_gateways : raw.vlans ≡ [] → gateways conf ≡ 0
+  pub no_gateways : raw.vlans ≡ [] → gateways conf ≡ 0
   no_gateways none = ap (λ n. group_count conf * n) (none_of gateways_of (λ vid. refl) none) ∙ times_zero (group_count conf)
     where
       times_zero : (n : ℕ) → n * 0 ≡ 0

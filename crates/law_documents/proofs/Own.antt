@@ -69,11 +69,11 @@ pub own_leads : (t : Tree) (site : List (List ℕ)) (has : Bool) (name : List �
 own_leads t site true name r = onward t site (HasOwn true name) (name ∷ []) (λ v. IsOwn (out-Tree v)) r (λ u h. h.1 refl)
 own_leads t site false name r = there t site (HasOwn false name) (λ v. IsOwn (out-Tree v)) r (λ u h. h.0)
 
-some_given : (o : Option Tree) (default : Type 0) (P : Tree → Type 0) → is_some o ≡ true → MatchOption o default P → IsSomeAnd o P
+pub some_given : (o : Option Tree) (default : Type 0) (P : Tree → Type 0) → is_some o ≡ true → MatchOption o default P → IsSomeAnd o P
 some_given None default P is m = absurd (true≢false (sym is))
 some_given (Some v) default P is m = m
 
-some_number : (k : Key) (o : Option Tree) (n : ℕ) → is_some o ≡ true → IsNumbered k o n → IsSomeAnd o (λ v. IsNumber v n)
+pub some_number : (k : Key) (o : Option Tree) (n : ℕ) → is_some o ≡ true → IsNumbered k o n → IsSomeAnd o (λ v. IsNumber v n)
 some_number (key.Int m) None n is r = absurd (true≢false (sym is))
 some_number (key.Int m) (Some v) n is r = r.1
 some_number (key.Text text) o n is r = r

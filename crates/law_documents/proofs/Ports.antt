@@ -40,7 +40,7 @@ use Rattle.law_documents.proofs.Parts.{IsPart, dp_leads, acl_leads}
 use Rattle.law_documents.proofs.Told.{At, told_if, told_of, each, both}
 
 -- a tree that names the port
-abbrev PortAt : Tree → PortRef → Type 0
+abbrev pub PortAt : Tree → PortRef → Type 0
 PortAt u ref = IsPortOf (out-Tree u) ref
 
 mirror_form : (v : Tree) (o : OneOrList PortRef) → IsOneOrList PortAt v o → NamesPorts (out-Tree v)
@@ -54,14 +54,14 @@ stack_form v (Some end) is = section (out-Tree v) is.0 is.1
 -- ---- a rule of an ACL
 
 module _ (t : Tree) (r : List (List ℕ) × RawRule) (here : Reaches t r.0 (λ u. IsMap RuleItemSays u r.1)) where
-  actions_lead : Reaches t (actions_site r.0) (λ v. IsMap ActionsSay v r.1)
+  pub actions_lead : Reaches t (actions_site r.0) (λ v. IsMap ActionsSay v r.1)
   actions_lead =
       onward t r.0 (λ u. IsMap RuleItemSays u r.1) (codes "rule" ∷ codes "actions" ∷ []) (λ v. IsMap ActionsSay v r.1) here (λ u m.
       onward u (codes "rule" ∷ []) (λ v. IsMap RuleSays v r.1) (codes "actions" ∷ []) (λ v. IsMap ActionsSay v r.1)
       (needed u (codes "rule") (λ v. IsMap RuleSays v r.1) m.0 m.1 m.2)
       (λ w n. needed w (codes "actions") (λ v. IsMap ActionsSay v r.1) n.0 n.1 n.2.actions))
 
-  field_leads : (f : RawField) → IsIn r.1.fields f → At t IsScalar (r.0 ++ codes "rule" ∷ f.key ∷ [])
+  pub field_leads : (f : RawField) → IsIn r.1.fields f → At t IsScalar (r.0 ++ codes "rule" ∷ f.key ∷ [])
   field_leads f i =
       onward t r.0 (λ u. IsMap RuleItemSays u r.1) (codes "rule" ∷ f.key ∷ []) (λ v. IsScalar (out-Tree v)) here (λ u m.
       onward u (codes "rule" ∷ []) (λ v. IsMap RuleSays v r.1) (f.key ∷ []) (λ v. IsScalar (out-Tree v))

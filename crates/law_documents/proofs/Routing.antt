@@ -31,7 +31,7 @@ use Rattle.law_documents.proofs.Told.{At, told_if, each, both}
 use Rattle.law_documents.proofs.Vlans.{VlanAt, routed_leads, IsVlan, vlan_leads}
 
 -- each of a list, with what it stands for and those before it
-of_zip_behind : {A B : Type 0} (f : A → B) (earlier : List B) (xs : List A) (z : A × (List B × B)) → IsIn (zip xs (with_earlier earlier (map f xs))) z → IsIn xs z.0 × (f z.0 ≡ z.1.1)
+pub of_zip_behind : {A B : Type 0} (f : A → B) (earlier : List B) (xs : List A) (z : A × (List B × B)) → IsIn (zip xs (with_earlier earlier (map f xs))) z → IsIn xs z.0 × (f z.0 ≡ z.1.1)
 of_zip_behind f earlier [] z i = absurd i
 of_zip_behind {A = A} {B = B} f earlier (x ∷ xs) z (inl e) = (inl (ap (λ (z : A × (List B × B)). z.0) e), ap f (sym (ap (λ (z : A × (List B × B)). z.0) e)) ∙ ap (λ (z : A × (List B × B)). z.1.1) e)
 of_zip_behind f earlier (x ∷ xs) z (inr i) = let m = of_zip_behind f (earlier ++ f x ∷ []) xs z i in (inr m.0, m.1)
@@ -50,7 +50,7 @@ module _ {A : Type 0} (t : Tree) (name : List ℕ) (P : Tree → A → Type 0) (
 -- ---- a route
 
 module _ (t : Tree) (site : List (List ℕ)) (route : Route) (at : Reaches t site (λ u. IsMap RouteItemSays u route)) where
-  route_leads : Reaches t (under site (codes "route")) (λ u. IsMap RouteSays u route)
+  pub route_leads : Reaches t (under site (codes "route")) (λ u. IsMap RouteSays u route)
   route_leads = onward t site (λ u. IsMap RouteItemSays u route) (codes "route" ∷ []) (λ u. IsMap RouteSays u route) at (λ u m. needed u (codes "route") (λ v. IsMap RouteSays v route) m.0 m.1 m.2)
 
   dst_leads : At t SpellsNetwork (route_site site (codes "ip_dst"))
@@ -70,10 +70,10 @@ module _ (t : Tree) (raw : RawConf) (says : Says t raw) where
   abbrev conf : Configuration
   conf = resolved o
 
-  vip_at : (v : PlacedVlan) → IsIn o.vlans v → (item : List (List ℕ) × Net4) → IsIn (each_at (under v.site (codes "faucet_vips")) v.vlan.vips) item → Reaches t item.0 (λ w. IsNetwork w item.1)
+  pub vip_at : (v : PlacedVlan) → IsIn o.vlans v → (item : List (List ℕ) × Net4) → IsIn (each_at (under v.site (codes "faucet_vips")) v.vlan.vips) item → Reaches t item.0 (λ w. IsNetwork w item.1)
   vip_at v i = vlan_list t (codes "faucet_vips") IsNetwork (λ v. v.vips) (λ vid. refl) v (λ u part. (part.1.0, part.1.1, part.1.2.vips)) (vlan_leads t raw says v i)
 
-  route_at : (v : PlacedVlan) → IsIn o.vlans v → (item : List (List ℕ) × Route) → IsIn (each_at (under v.site (codes "routes")) v.vlan.routes) item → Reaches t item.0 (λ w. IsMap RouteItemSays w item.1)
+  pub route_at : (v : PlacedVlan) → IsIn o.vlans v → (item : List (List ℕ) × Route) → IsIn (each_at (under v.site (codes "routes")) v.vlan.routes) item → Reaches t item.0 (λ w. IsMap RouteItemSays w item.1)
   route_at v i = vlan_list t (codes "routes") (IsMap RouteItemSays) (λ v. v.routes) (λ vid. refl) v (λ u part. (part.1.0, part.1.1, part.1.2.routes)) (vlan_leads t raw says v i)
 
   vips_lead : PathsLead t SpellsNetwork (overlapping_vips o conf)
