@@ -1,0 +1,5 @@
+mod Found
+mod Names
+mod Routing
+mod Limits
+mod Ports
