@@ -30,9 +30,9 @@ abbrev pub fault_if : Bool → ConfCause → List (List ℕ) → List ConfFault
 fault_if test cause site = if test then fault cause site ∷ [] else []
 
 -- the fault at the place, where there is a cause
-abbrev pub fault_of : Option ConfCause → List (List ℕ) → List ConfFault
-fault_of None site = []
-fault_of (Some cause) site = fault cause site ∷ []
+abbrev pub fault_if_some : Option ConfCause → List (List ℕ) → List ConfFault
+fault_if_some None site = []
+fault_if_some (Some cause) site = fault cause site ∷ []
 
 abbrev pub first : {A : Type 0} → List A → Option A
 first [] = None

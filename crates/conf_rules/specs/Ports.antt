@@ -24,7 +24,7 @@ use Rattle.conf_shape.specs.declared.refused.ConfCause.TheVariants.{Unresolved, 
 use Rattle.conf_shape.specs.declared.refused.ConfFault.{ConfFault}
 use Rattle.conf_resolve.specs.declared.ordered.OrderedConf.{OrderedConf}
 use Rattle.conf_resolve.specs.Resolved.{to_list, number_named, far_end}
-use Rattle.conf_rules.specs.Places.{fault_if, fault_of, first, under, each_at, items_at, Interface, interfaces, site_of}
+use Rattle.conf_rules.specs.Places.{fault_if, fault_if_some, first, under, each_at, items_at, Interface, interfaces, site_of}
 
 -- ---- rule 8: the ports that an attached ACL names exist on each datapath where it is attached, and are no
 -- ends of stack links
@@ -53,7 +53,7 @@ abbrev pub port_at_site : List (List ℕ) → Option PortRef → List (List (Lis
 port_at_site site port = map (λ name. (under site (codes "port"), name)) (to_list port)
 
 abbrev pub wrong_port : Configuration → RawAcl → List (List ℕ) × PortRef → List ConfFault
-wrong_port conf a target = fault_of (first (wrong_targets conf a.name target.1)) target.0
+wrong_port conf a target = fault_if_some (first (wrong_targets conf a.name target.1)) target.0
 
 abbrev pub wrong_output : Configuration → RawAcl → List (List ℕ) × RawOutput → List ConfFault
 wrong_output conf a o =
@@ -108,7 +108,7 @@ mirrored_cause raw d p name =
     option_map_or (λ number. if is_mirrorable d p number then None else Some (Conflict 10)) (number_named raw name) (Some Unresolved)
 
 abbrev pub wrong_mirrored : Interface → List (List ℕ) × PortRef → List ConfFault
-wrong_mirrored i item = fault_of (mirrored_cause i.raw_dp i.dp i.port item.1) item.0
+wrong_mirrored i item = fault_if_some (mirrored_cause i.raw_dp i.dp i.port item.1) item.0
 
 abbrev pub is_used : Port → Bool
 is_used p = not (length (vlans_named p) == 0) || (not (length p.acls == 0) || is_some p.stack)
@@ -149,7 +149,7 @@ stack_cause o conf d p end =
     option_map_or (λ far. if is_right_end conf d p far then None else Some (Conflict 11)) (far_end o.dps end) (Some Unresolved)
 
 abbrev pub wrong_stack : OrderedConf → Configuration → Interface → List ConfFault
-wrong_stack o conf i = flat_map (λ end. fault_of (stack_cause o conf i.dp i.port end) (stack_site i)) (to_list i.raw.stack)
+wrong_stack o conf i = flat_map (λ end. fault_if_some (stack_cause o conf i.dp i.port end) (stack_site i)) (to_list i.raw.stack)
 
 abbrev pub wrong_stacks : OrderedConf → Configuration → List ConfFault
 wrong_stacks o conf = flat_map (wrong_stack o conf) (interfaces o conf)

@@ -14,7 +14,7 @@ use Rattle.conf_shape.specs.declared.refused.ConfCause.TheVariants.{UnknownKey, 
 use Rattle.conf_shape.specs.declared.refused.ConfFault.{ConfFault}
 use Rattle.conf_shape.specs.Scalars.{unless, within, if_within}
 use Rattle.conf_shape.specs.Sections.{key_text, is_key, map_keys, is_needed}
-use Rattle.conf_rules.specs.Places.{fault, fault_if, fault_of, first, under, each_at}
+use Rattle.conf_rules.specs.Places.{fault, fault_if, fault_if_some, first, under, each_at}
 use Rattle.gauge_conf.specs.declared.forms.Form.{Form}
 use Rattle.gauge_conf.specs.declared.forms.Form.TheVariants.{Words, Texts, OneText, FileName, Word, Number, Only, Named}
 use Rattle.gauge_conf.specs.declared.forms.Part.{Part}
@@ -78,9 +78,9 @@ list_faults _ site items = fault WrongType site ∷ []
 -- ---- a value that is no map
 
 abbrev pub plain_in : Form → List (List ℕ) → Tree-F Tree Pair → List ConfFault
-plain_in form site (tree.Bool flag) = fault_of (flag_cause form flag) site
-plain_in form site (tree.Int n) = fault_of (number_cause form n) site
-plain_in form site (tree.Text text) = fault_of (text_cause form text) site
+plain_in form site (tree.Bool flag) = fault_if_some (flag_cause form flag) site
+plain_in form site (tree.Int n) = fault_if_some (number_cause form n) site
+plain_in form site (tree.Text text) = fault_if_some (text_cause form text) site
 plain_in form site (tree.List items) = list_faults form site items
 plain_in form site _ = fault WrongType site ∷ []
 

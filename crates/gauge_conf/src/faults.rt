@@ -2,7 +2,7 @@ ghost use Rattle.std.specs.Prelude.{◌≡◌, [], map, IfOk};
 ghost use Rattle.std.specs.List.{list_any, flat_map};
 ghost use Rattle.std.specs.Option.{option_map};
 ghost use Rattle.conf_shape.specs.Sections.{is_key, map_keys};
-ghost use Rattle.conf_rules.specs.Places.{first, fault_of, each_at};
+ghost use Rattle.conf_rules.specs.Places.{first, fault_if_some, each_at};
 ghost use Rattle.gauge_conf.specs.Keys.{seen_row, keys_of};
 ghost use Rattle.gauge_conf.specs.Faults.{is_control, word_cause, text_cause, number_cause, agree, flag_cause, is_text, texts_faults, list_faults, plain_faults, row_of, entry_faults, lacks, missing, map_faults, part_faults, named_entry, value_faults, faults_of, first_fault};
 
@@ -130,7 +130,7 @@ fn list_fault(alloc: Global, form: Form, site: Names, items: &[Tree]) -> Found
 
 /// A fault at a place, where there is a cause.
 fn broken_by(alloc: Global, cause: Option<ConfCause>, site: Names) -> Found
-    ensures { IfOk result (λ found. found ≡ first (fault_of cause site)) }
+    ensures { IfOk result (λ found. found ≡ first (fault_if_some cause site)) }
 {
     match cause {
         Some(cause) => broken(alloc, cause, site),
