@@ -13,7 +13,7 @@ use Rattle.conf_shape.specs.declared.refused.ConfCause.{ConfCause}
 use Rattle.conf_shape.specs.declared.refused.ConfFault.{ConfFault}
 use Rattle.conf_resolve.specs.declared.ordered.OrderedConf.{OrderedConf}
 use Rattle.conf_resolve.specs.Resolved.{to_list, resolved}
-use Rattle.conf_rules.specs.Places.{fault, fault_if, fault_of, under, nth, each_at, items_at, with_earlier, is_repeat, Interface, interfaces}
+use Rattle.conf_rules.specs.Places.{fault, fault_if, fault_if_some, under, nth, each_at, items_at, with_earlier, is_repeat, Interface, interfaces}
 use Rattle.law_checks.proofs.KeptLinks.{at, of_interfaces}
 use Rattle.law_checks.proofs.Members.{IsIn, all_joined, some_of, of_mapped}
 use Rattle.law_documents.specs.Forms.{IsOwn}
@@ -31,7 +31,7 @@ module _ (t : Tree) (Broken : List (List ℕ) → Tree → Type 0) where
   found_if true cause site r = (found cause site (r refl), tt)
   found_if false cause site r = tt
 
-  pub found_of : (cause : Option ConfCause) (site : List (List ℕ)) → ((c : ConfCause) → cause ≡ Some c → Reaches t site (Broken site)) → PathsBreak t Broken (fault_of cause site)
+  pub found_of : (cause : Option ConfCause) (site : List (List ℕ)) → ((c : ConfCause) → cause ≡ Some c → Reaches t site (Broken site)) → PathsBreak t Broken (fault_if_some cause site)
   found_of None site r = tt
   found_of (Some cause) site r = (found cause site (r cause refl), tt)
 

@@ -2,8 +2,8 @@
 use Rattle.std.specs.Prelude.{◌≡◌, ℕ, ◌==◌, ◌&&◌, ◌||◌, Bool, true, false, not, if◌then◌else◌, List, [], ◌∷◌, ◌++◌, map, codes, length, Option, Some, None, is_some, IsSomeAnd, unwrap_or}
 use Rattle.std.specs.List.{flat_map, list_any}
 use Rattle.std.specs.Option.{option_map_or}
-use Rattle.std.proofs.Common.{◌⊎◌, inl, inr, refl, sym, ap, ◌∙◌, subst, true≢false, eqb-true, eq-eqb}
-use Rattle.std.proofs.lemmas.Bool.{or_cases, and_parts, and_from, not-true}
+use Rattle.std.proofs.Common.{◌⊎◌, inl, inr, refl, sym, ap, ◌∙◌, subst, true≢false, eqb-true}
+use Rattle.std.proofs.lemmas.Bool.{or_cases, and_parts, not-true}
 use Rattle.std.proofs.lemmas.Option.{none-some, same_Some}
 use Rattle.net_base.specs.WellFormed.{has_prerequisite}
 use Rattle.yaml_tree.specs.declared.tree.Tree.{Tree, out-Tree}
@@ -32,13 +32,13 @@ use Rattle.conf_shape.specs.declared.refused.ConfCause.TheVariants.{Unresolved, 
 use Rattle.conf_resolve.specs.declared.ordered.OrderedConf.{OrderedConf}
 use Rattle.conf_resolve.specs.InOrder.{port_site, ordered}
 use Rattle.conf_resolve.specs.Resolved.{to_list, items_of, once, number_named, far_end, dp_of, port_of, resolved}
-use Rattle.conf_rules.specs.Places.{fault_if, fault_of, first, under, each_at, items_at}
+use Rattle.conf_rules.specs.Places.{fault_if, fault_if_some, first, under, each_at, items_at}
 use Rattle.conf_rules.specs.Ports.{is_in, is_attached, wrong_target, wrong_on, wrong_targets, port_at_site, wrong_port, wrong_output, actions_site, mirror_at, outputs_at, wrong_rule, rules_at, wrong_acl, wrong_acl_ports, lacking_field, lacking_fields, lacking_of_acl, lacking_rules, is_mirrorable, mirrored_cause, wrong_mirrored, is_used, wrong_mirror, wrong_mirrors, is_end, points_back, is_free, is_right_end, stack_cause, wrong_stack, wrong_stacks}
 use Rattle.law_checks.specs.Says.{Says, PortSays, StackEndSays, OutputSays, ActionsSay, RuleItemSays}
 use Rattle.law_checks.specs.Values.{IsList, IsOneOrList, IsMap}
 use Rattle.law_checks.proofs.Empty.{values_of}
 use Rattle.law_checks.proofs.Kept.{is_value}
-use Rattle.law_checks.proofs.KeptLinks.{at, nil_length}
+use Rattle.law_checks.proofs.KeptLinks.{at, free_end, its_end}
 use Rattle.law_checks.proofs.Members.{IsIn, of_flat, some_of}
 use Rattle.law_checks.proofs.Orders.{same_texts}
 use Rattle.law_documents.specs.Forms.{IsScalar}
@@ -121,27 +121,15 @@ used p is = by (or_cases (not (length (vlans_named p) == 0)) (not (length p.acls
     by (inr e) = more (or_cases (not (length p.acls == 0)) (is_some p.stack) e)
 
 free : (p : Port) → IsFree p → is_free p ≡ true
-free p is =
-    and_from (length (vlans_named p) == 0 && length p.acls == 0 && length p.mirror == 0 && not p.output_only && not p.hairpin) (not p.permanent_learn)
-    (and_from (length (vlans_named p) == 0 && length p.acls == 0 && length p.mirror == 0 && not p.output_only) (not p.hairpin)
-    (and_from (length (vlans_named p) == 0 && length p.acls == 0 && length p.mirror == 0) (not p.output_only)
-    (and_from (length (vlans_named p) == 0 && length p.acls == 0) (length p.mirror == 0)
-    (and_from (length (vlans_named p) == 0) (length p.acls == 0) (nil_length (vlans_named p) is.no_vlan) (nil_length p.acls is.no_acl))
-    (nil_length p.mirror is.no_mirror))
-    (ap not is.takes_packets))
-    (ap not is.no_hairpin))
-    (ap not is.no_permanent_learn)
+free p is = free_end p is.no_vlan is.no_acl is.no_mirror is.takes_packets is.no_hairpin is.no_permanent_learn
 
 module _ (conf : Configuration) (d : Dp) (p : Port) (far : StackEnd) where
   not_back : points_back conf d p far ≡ false → IsNoFarEnd conf d p far
   not_back is = by (port_at conf far.dp far.port) refl is
     where
-      its_end : (r : Option StackEnd) → r ≡ Some (record { dp = d.id; port = p.no }) → option_map_or (λ end. is_end end d p) r false ≡ true
-      its_end r e = ap (λ (r : Option StackEnd). option_map_or (λ end. is_end end d p) r false) e ∙ and_from (d.id.0 == d.id.0) (p.no == p.no) (eq-eqb d.id.0 d.id.0 refl) (eq-eqb p.no p.no refl)
-
       by : (r : Option Port) → port_at conf far.dp far.port ≡ r → option_map_or (λ q. option_map_or (λ end. is_end end d p) q.stack false) r false ≡ false → IsNoFarEnd conf d p far
       by None here e = inr (inl here)
-      by (Some q) here e = inr (inr (q, here, λ back. true≢false (sym (its_end q.stack back) ∙ e)))
+      by (Some q) here e = inr (inr (q, here, λ back. true≢false (sym (its_end d p q.stack back) ∙ e)))
 
   no_far_end : is_right_end conf d p far ≡ false → IsNoFarEnd conf d p far ⊎ (IsFree p → ⊥)
   no_far_end is = by (either_fails (not (far.dp.0 == d.id.0) && points_back conf d p far) (is_free p) is)
@@ -338,7 +326,7 @@ module _ (t : Tree) (raw : RawConf) (says : Says t raw) where
         (λ v m. subst (λ (r : Option RawStackEnd). IsSomeAnd r (IsMap StackEndSays v)) is m))
 
     stacks : PathsBreak t (IsWrongStack o conf) (wrong_stack o conf (at o d p))
-    stacks = each t (IsWrongStack o conf) (λ end. fault_of (stack_cause o conf (dp_of o d) port end) stack_at) (to_list p.stack) (λ end i.
+    stacks = each t (IsWrongStack o conf) (λ end. fault_if_some (stack_cause o conf (dp_of o d) port end) stack_at) (to_list p.stack) (λ end i.
         let is = some_is p.stack end i in
         found_of t (IsWrongStack o conf) (stack_cause o conf (dp_of o d) port end) stack_at (λ cause wrong.
         there t stack_at (λ v. IsMap StackEndSays v end) (IsWrongStack o conf stack_at) (stack end is) (λ u says. record {

@@ -1,5 +1,5 @@
--- The ACLs of a configuration that breaks no rule are valid where they are attached.
-use Rattle.std.specs.Prelude.{◌≡◌, ℕ, ◌&&◌, Bool, true, false, not, List, [], ◌∷◌, ◌++◌, map, codes, Option, Some, None, IsTrue, IsSomeAnd, is_some, is_none, if◌then◌else◌}
+-- ACLs are valid, and valid where they are attached, where no rule on them is broken.
+use Rattle.std.specs.Prelude.{◌≡◌, ℕ, ◌&&◌, Bool, true, false, List, [], ◌∷◌, ◌++◌, map, codes, Option, Some, None, IsTrue, IsSomeAnd, is_some, is_none, if◌then◌else◌}
 use Rattle.std.specs.List.{AllByRecursion, flat_map, list_any}
 use Rattle.std.specs.Option.{option_map_or}
 use Rattle.std.proofs.Common.{inl, inr, refl, sym, ap, ◌∙◌, subst, true≢false}
@@ -24,18 +24,18 @@ use Rattle.conf_shape.specs.declared.raw.RawField.{RawField}
 use Rattle.conf_shape.specs.declared.raw.RawOutput.{RawOutput}
 use Rattle.conf_shape.specs.declared.raw.RawRule.{RawRule}
 use Rattle.conf_shape.specs.declared.raw.RawAcl.{RawAcl}
-use Rattle.conf_shape.specs.declared.raw.RawPort.{RawPort}
 use Rattle.conf_shape.specs.declared.raw.RawConf.{RawConf}
 use Rattle.conf_shape.specs.declared.refused.ConfCause.TheVariants.{Unresolved, Conflict}
+use Rattle.conf_resolve.specs.declared.ordered.OrderedConf.{OrderedConf}
 use Rattle.conf_resolve.specs.declared.ordered.PlacedVlan.{PlacedVlan}
-use Rattle.conf_resolve.specs.InOrder.{ordered, dps_in_order, acls_in_order, vlans_in_order, port_site, is_text_before}
+use Rattle.conf_resolve.specs.InOrder.{ordered, acls_in_order, port_site, is_text_before}
 use Rattle.conf_resolve.specs.InRange.{IsInRange, RuleIsInRange}
 use Rattle.conf_resolve.specs.Resolved.{acl_names, acl_of, rule_of, port_of, dp_of, vlan_of, ports_of, to_list, resolved}
-use Rattle.conf_rules.specs.Names.{unknown_acl, unknown_at, unknown_acls_of_dp}
-use Rattle.conf_rules.specs.Places.{fault_if, under, each_at, one_at, list_at}
-use Rattle.conf_rules.specs.Ports.{is_in, is_attached, wrong_target, wrong_on, wrong_targets, port_at_site, wrong_port, wrong_output, actions_site, mirror_at, outputs_at, wrong_rule, rules_at, wrong_acl, lacking_fields}
+use Rattle.conf_rules.specs.Names.{unknown_acl, unknown_at, unknown_acls_of_vlan, unknown_acls_of_port, unknown_acls_of_dp, unknown_acls}
+use Rattle.conf_rules.specs.Places.{under, each_at, one_at, list_at}
+use Rattle.conf_rules.specs.Ports.{is_in, is_attached, wrong_target, wrong_on, wrong_targets, port_at_site, wrong_port, wrong_output, actions_site, mirror_at, outputs_at, wrong_rule, rules_at, wrong_acl, wrong_acl_ports, lacking_field, lacking_fields, lacking_of_acl, lacking_rules}
 use Rattle.law_checks.proofs.Empty.{none_left, none_right, none_at, none_of_values, values_at, values_of, passes, holds, no_first}
-use Rattle.law_checks.proofs.RuleFields.{rule_valid}
+use Rattle.law_checks.proofs.RuleFields.{HasWhatItAsks, asks, rule_valid}
 use Rattle.law_checks.proofs.Members.{IsIn, of_all, all_by, in_front, all_mapped, all_flat, of_mapped, any_by, found, before_mapped, before_both}
 use Rattle.law_checks.proofs.Orders.{all_ordered, each_ordered, sorted, text_order, text_rises, other_texts, same_texts, same_itself}
 use Rattle.law_checks.proofs.Unbroken.{BreaksNone}
@@ -135,52 +135,41 @@ at_true false xs is none = absurd (true≢false (sym is))
 pub is_in_by : (names : List (List ℕ)) (name other : List ℕ) → IsIn names name → name ≡ other → is_in other names ≡ true
 is_in_by names name other i same = any_by (λ n. is_same n other) names name i (same_itself name other same)
 
-module _ (raw : RawConf) (range : IsInRange raw) where
+module _ (o : OrderedConf) where
   abbrev conf : Configuration
-  conf = resolved (ordered raw)
+  conf = resolved o
 
-  module _ (whole : BreaksNone (ordered raw) conf) where
-    -- ---- rules
+  -- ---- the fields of rules
 
-    acls_in_range : AllByRecursion (λ (a : RawAcl). AllByRecursion RuleIsInRange a.rules) (acls_in_order raw)
-    acls_in_range = all_ordered (λ (a : RawAcl). AllByRecursion RuleIsInRange a.rules) _ raw.acls range.acls
+  pub asked : lacking_rules o ≡ [] → (a : RawAcl) → IsIn o.acls a → (r : RawRule) → IsIn a.rules r → (f : RawField) → IsIn r.fields f → has_prerequisite f.field.id (map (λ g. g.field) r.fields) ≡ true
+  asked none a ca r cr f cf =
+      let m = none_of_values lacking_fields (rules_at a) a.rules (values_at (codes "acls" ∷ a.name ∷ []) a.rules) (none_at lacking_of_acl o.acls none a ca) r cr in
+      holds (has_prerequisite f.field.id (map (λ g. g.field) r.fields)) (Conflict 9) (m.0 ++ codes "rule" ∷ f.key ∷ [])
+      (none_at (lacking_field m.0 (map (λ g. g.field) r.fields)) r.fields m.1 f cf)
 
-    asked : (a : RawAcl) → IsIn (acls_in_order raw) a → (r : RawRule) → IsIn a.rules r → (f : RawField) → IsIn r.fields f → has_prerequisite f.field.id (map (λ g. g.field) r.fields) ≡ true
-    asked a ca r cr f cf =
-        let of_acl = none_at (λ (a : RawAcl). flat_map lacking_fields (rules_at a)) (acls_in_order raw) whole.fields_stand a ca in
-        let m = none_of_values lacking_fields (rules_at a) a.rules (values_at (codes "acls" ∷ a.name ∷ []) a.rules) of_acl r cr in
-        holds (has_prerequisite f.field.id (map (λ g. g.field) r.fields)) (Conflict 9) (m.0 ++ codes "rule" ∷ f.key ∷ [])
-        (none_at (λ (f : RawField). fault_if (not (has_prerequisite f.field.id (map (λ g. g.field) r.fields))) (Conflict 9) (m.0 ++ codes "rule" ∷ f.key ∷ [])) r.fields m.1 f cf)
+  pub fields_asked : lacking_rules o ≡ [] → AllByRecursion (λ acl. AllByRecursion (λ rule. AllByRecursion (λ f. IsTrue (has_prerequisite f.id rule.fields)) rule.fields) acl.rules) conf.acls
+  fields_asked none = all_mapped (λ (acl : Acl). AllByRecursion HasWhatItAsks acl.rules) acl_of o.acls (all_by _ o.acls (λ a ca.
+      all_mapped HasWhatItAsks rule_of a.rules (all_by _ a.rules (λ r cr. asks r (λ f cf. asked none a ca r cr f cf)))))
 
-    rules_valid : AllByRecursion (λ acl. AllByRecursion IsRule acl.rules) conf.acls
-    rules_valid = all_mapped (λ (acl : Acl). AllByRecursion IsRule acl.rules) acl_of (acls_in_order raw) (all_by _ (acls_in_order raw) (λ a ca.
-        all_mapped IsRule rule_of a.rules (all_by _ a.rules (λ r cr.
-        rule_valid r (of_all RuleIsInRange a.rules (of_all (λ (a : RawAcl). AllByRecursion RuleIsInRange a.rules) (acls_in_order raw) acls_in_range a ca) r cr) (λ f cf. asked a ca r cr f cf)))))
+  -- ---- names
 
-    acls_rise : EachBefore (λ (a b : RawAcl). IsTextBefore a.name b.name) (acls_in_order raw)
-    acls_rise =
-        before_both (λ (a b : RawAcl). is_text_before b.name a.name ≡ false) (λ a b. a.name ≡ b.name → ⊥) (λ a b. IsTextBefore a.name b.name) (acls_in_order raw)
-        (sorted (λ (a b : RawAcl). is_text_before a.name b.name) (text_order (λ (a : RawAcl). a.name)) raw.acls)
-        (each_ordered (λ (a b : RawAcl). a.name ≡ b.name → ⊥) (λ a b. is_text_before a.name b.name) raw.acls (λ a b other same. other (sym same)) range.acl_names)
-        (λ a b not other. text_rises a.name b.name not (other_texts a.name b.name other))
+  module _ (none : unknown_acls o conf ≡ []) where
+    pub acls_of_ports : AllByRecursion (λ d. AllByRecursion (λ p. AclsExist conf p.acls) d.ports) conf.dps
+    acls_of_ports = all_mapped (λ (d : Dp). AllByRecursion (λ p. AclsExist conf p.acls) d.ports) (dp_of o) o.dps (all_by _ o.dps (λ d cd.
+        let of_dp = none_at (unknown_acls_of_dp conf) o.dps (none_right (flat_map (unknown_acls_of_vlan conf) o.vlans) _ none) d cd in
+        all_mapped (λ (p : Port). AclsExist conf p.acls) (port_of o d) d.ports (all_by _ d.ports (λ p cp.
+        acls_exist conf (port_site d p) p.acls (none_at (unknown_acls_of_port conf d) d.ports of_dp p cp)))))
 
-    -- ---- names
+    pub acls_of_vlans : AllByRecursion (λ v. AclsExist conf v.acls) conf.vlans
+    acls_of_vlans = all_mapped (λ (v : Vlan). AclsExist conf v.acls) (λ (v : PlacedVlan). vlan_of v.vlan) o.vlans (all_by _ o.vlans (λ v cv.
+        acls_exist conf v.site v.vlan.acls (none_at (unknown_acls_of_vlan conf) o.vlans (none_left (flat_map (unknown_acls_of_vlan conf) o.vlans) _ none) v cv)))
 
-    acls_of_ports : AllByRecursion (λ d. AllByRecursion (λ p. AclsExist conf p.acls) d.ports) conf.dps
-    acls_of_ports = all_mapped (λ (d : Dp). AllByRecursion (λ p. AclsExist conf p.acls) d.ports) (dp_of (ordered raw)) (dps_in_order raw) (all_by _ (dps_in_order raw) (λ d cd.
-        let of_dp = none_at (unknown_acls_of_dp conf) (dps_in_order raw) (none_right (flat_map (λ (v : PlacedVlan). unknown_at conf v.site v.vlan.acls) (vlans_in_order raw)) _ whole.acls_exist) d cd in
-        all_mapped (λ (p : Port). AclsExist conf p.acls) (port_of (ordered raw) d) d.ports (all_by _ d.ports (λ p cp.
-        acls_exist conf (port_site d p) p.acls (none_at (λ (p : RawPort). unknown_at conf (port_site d p) p.acls) d.ports of_dp p cp)))))
+  -- ---- ports that are named
 
-    acls_of_vlans : AllByRecursion (λ v. AclsExist conf v.acls) conf.vlans
-    acls_of_vlans = all_mapped (λ (v : Vlan). AclsExist conf v.acls) (λ (v : PlacedVlan). vlan_of v.vlan) (vlans_in_order raw) (all_by _ (vlans_in_order raw) (λ v cv.
-        acls_exist conf v.site v.vlan.acls (none_at (λ (v : PlacedVlan). unknown_at conf v.site v.vlan.acls) (vlans_in_order raw) (none_left (flat_map (λ (v : PlacedVlan). unknown_at conf v.site v.vlan.acls) (vlans_in_order raw)) _ whole.acls_exist) v cv)))
-
-    -- ---- ports that are named
-
-    rule_names_ports : (d : Dp) → IsIn conf.dps d → (a : RawAcl) → IsIn (acls_in_order raw) a → is_attached conf d a.name ≡ true → (r : RawRule) → IsIn a.rules r → AllByRecursion (λ name. IsSomeAnd (port_named d name) (λ p. p.stack ≡ None)) (names_in (rule_of r))
+  module _ (none : wrong_acl_ports o conf ≡ []) where
+    rule_names_ports : (d : Dp) → IsIn conf.dps d → (a : RawAcl) → IsIn o.acls a → is_attached conf d a.name ≡ true → (r : RawRule) → IsIn a.rules r → AllByRecursion (λ name. IsSomeAnd (port_named d name) (λ p. p.stack ≡ None)) (names_in (rule_of r))
     rule_names_ports d cd a ca attached r cr = all_by (λ name. IsSomeAnd (port_named d name) (λ p. p.stack ≡ None)) (names_in (rule_of r)) (λ name i.
-        let of_acl = none_at (wrong_acl conf) (acls_in_order raw) whole.targets_exist a ca in
+        let of_acl = none_at (wrong_acl conf) o.acls none a ca in
         let m = none_of_values (wrong_rule conf a) (rules_at a) a.rules (values_at (codes "acls" ∷ a.name ∷ []) a.rules) of_acl r cr in
         let n = none_of_values (wrong_port conf a) (targets_at (m.0, r)) (names_in (rule_of r)) (targets_values m.0 r) (sym (targets_wrong conf a (m.0, r)) ∙ m.1) name i in
         let causes = no_first (wrong_targets conf a.name name) n.0 n.1 in
@@ -195,26 +184,51 @@ module _ (raw : RawConf) (range : IsInRange raw) where
         by name here None is = tt
         by name here (Some acl) is =
             let f = found (λ (acl : Acl). is_same acl.name name) conf.acls acl is in
-            let m = of_mapped acl_of (acls_in_order raw) acl f.0 in
+            let m = of_mapped acl_of o.acls acl f.0 in
             let same : name ≡ m.0.name = sym (ap (λ (acl : Acl). acl.name) m.2 ∙ same_texts acl.name name f.1) in
             subst (λ (acl : Acl). AllByRecursion (λ (rule : Rule). AllByRecursion (λ name. IsSomeAnd (port_named d name) (λ p. p.stack ≡ None)) (names_in rule)) acl.rules) m.2
             (all_mapped (λ (rule : Rule). AllByRecursion (λ name. IsSomeAnd (port_named d name) (λ p. p.stack ≡ None)) (names_in rule)) rule_of m.0.rules
             (all_by _ m.0.rules (λ r cr. rule_names_ports d cd m.0 m.1 (subst (λ (n : List ℕ). is_attached conf d n ≡ true) same here) r cr)))
 
-    ports_on : (d : Dp) → IsIn conf.dps d → (p : Port) → IsIn d.ports p → NamePortsOf d (rules_of conf p.acls)
-    ports_on d cd p cp = names_ports d cd p.acls (λ name i.
+    named_on_port : (d : Dp) → IsIn conf.dps d → (p : Port) → IsIn d.ports p → NamePortsOf d (rules_of conf p.acls)
+    named_on_port d cd p cp = names_ports d cd p.acls (λ name i.
         or_left (list_any (λ (p : Port). is_in name p.acls) d.ports) _ (any_by (λ (p : Port). is_in name p.acls) d.ports p cp (is_in_by p.acls name name i refl)))
 
-    vlans_on : (d : Dp) → IsIn conf.dps d → (v : Vlan) → IsIn conf.vlans v → has_edge_member d v.vid ≡ true → NamePortsOf d (rules_of conf v.acls)
-    vlans_on d cd v cv member = names_ports d cd v.acls (λ name i.
+    named_on_vlan : (d : Dp) → IsIn conf.dps d → (v : Vlan) → IsIn conf.vlans v → has_edge_member d v.vid ≡ true → NamePortsOf d (rules_of conf v.acls)
+    named_on_vlan d cd v cv member = names_ports d cd v.acls (λ name i.
         or_right (list_any (λ (p : Port). is_in name p.acls) d.ports) _ (any_by (λ (v : Vlan). is_in name v.acls && has_edge_member d v.vid) conf.vlans v cv (and_from (is_in name v.acls) (has_edge_member d v.vid) (is_in_by v.acls name name i refl) member)))
 
-    pub acls_valid : AclsAreValid conf
+    pub ports_on : AllByRecursion (λ d. AllByRecursion (λ p. NamePortsOf d (rules_of conf p.acls)) d.ports) conf.dps
+    ports_on = all_by (λ d. AllByRecursion (λ p. NamePortsOf d (rules_of conf p.acls)) d.ports) conf.dps (λ d cd. all_by _ d.ports (λ p cp. named_on_port d cd p cp))
+
+    pub vlans_on : AllByRecursion (λ d. AllByRecursion (λ v. has_edge_member d v.vid ≡ true → NamePortsOf d (rules_of conf v.acls)) conf.vlans) conf.dps
+    vlans_on = all_by (λ d. AllByRecursion (λ v. has_edge_member d v.vid ≡ true → NamePortsOf d (rules_of conf v.acls)) conf.vlans) conf.dps (λ d cd. all_by _ conf.vlans (λ v cv. named_on_vlan d cd v cv))
+
+-- ---- of a raw configuration in range
+
+module _ (raw : RawConf) (range : IsInRange raw) where
+  module _ (whole : BreaksNone (ordered raw) (resolved (ordered raw))) where
+    acls_in_range : AllByRecursion (λ (a : RawAcl). AllByRecursion RuleIsInRange a.rules) (acls_in_order raw)
+    acls_in_range = all_ordered (λ (a : RawAcl). AllByRecursion RuleIsInRange a.rules) _ raw.acls range.acls
+
+    rules_valid : AllByRecursion (λ acl. AllByRecursion IsRule acl.rules) (resolved (ordered raw)).acls
+    rules_valid = all_mapped (λ (acl : Acl). AllByRecursion IsRule acl.rules) acl_of (acls_in_order raw) (all_by _ (acls_in_order raw) (λ a ca.
+        all_mapped IsRule rule_of a.rules (all_by _ a.rules (λ r cr.
+        rule_valid r (of_all RuleIsInRange a.rules (of_all (λ (a : RawAcl). AllByRecursion RuleIsInRange a.rules) (acls_in_order raw) acls_in_range a ca) r cr) (λ f cf. asked (ordered raw) whole.fields_stand a ca r cr f cf)))))
+
+    acls_rise : EachBefore (λ (a b : RawAcl). IsTextBefore a.name b.name) (acls_in_order raw)
+    acls_rise =
+        before_both (λ (a b : RawAcl). is_text_before b.name a.name ≡ false) (λ a b. a.name ≡ b.name → ⊥) (λ a b. IsTextBefore a.name b.name) (acls_in_order raw)
+        (sorted (λ (a b : RawAcl). is_text_before a.name b.name) (text_order (λ (a : RawAcl). a.name)) raw.acls)
+        (each_ordered (λ (a b : RawAcl). a.name ≡ b.name → ⊥) (λ a b. is_text_before a.name b.name) raw.acls (λ a b other same. other (sym same)) range.acl_names)
+        (λ a b not other. text_rises a.name b.name not (other_texts a.name b.name other))
+
+    pub acls_valid : AclsAreValid (resolved (ordered raw))
     acls_valid = record {
       rules = rules_valid;
       in_order = before_mapped (λ (a b : Acl). IsTextBefore a.name b.name) acl_of (acls_in_order raw) acls_rise;
-      of_ports = acls_of_ports;
-      of_vlans = acls_of_vlans;
-      ports_on = all_by (λ d. AllByRecursion (λ p. NamePortsOf d (rules_of conf p.acls)) d.ports) conf.dps (λ d cd. all_by _ d.ports (λ p cp. ports_on d cd p cp));
-      vlans_on = all_by (λ d. AllByRecursion (λ v. has_edge_member d v.vid ≡ true → NamePortsOf d (rules_of conf v.acls)) conf.vlans) conf.dps (λ d cd. all_by _ conf.vlans (λ v cv. vlans_on d cd v cv));
+      of_ports = acls_of_ports (ordered raw) whole.acls_exist;
+      of_vlans = acls_of_vlans (ordered raw) whole.acls_exist;
+      ports_on = ports_on (ordered raw) whole.targets_exist;
+      vlans_on = vlans_on (ordered raw) whole.targets_exist;
     }

@@ -11,11 +11,9 @@ use Rattle.net_base.specs.Field.{exact, prefix}
 use Rattle.net_base.proofs.Addresses.{same_mac, same_ip4, same_net4}
 use Rattle.yaml_tree.specs.declared.tree.Pair.{Pair}
 use Rattle.yaml_tree.specs.declared.tree.Tree.{Tree}
-use Rattle.conf_shape.specs.declared.kinds.MapKind.TheVariants.{Rule}
 use Rattle.conf_shape.specs.declared.kinds.Scalar.{Scalar}
 use Rattle.conf_shape.specs.declared.kinds.Scalar.TheVariants.{MaskedMac, Prefix}
 use Rattle.conf_shape.specs.declared.raw.RawField.{RawField}
-use Rattle.conf_shape.specs.Keys.{keys_of}
 use Rattle.conf_shape.specs.Sections.{key_text}
 use Rattle.conf_shape.specs.Scalars.{asked_scalar}
 use Rattle.conf_shape.specs.Values.{tag_bit, spelled_at, raw_field_or, ahead}

@@ -5,13 +5,10 @@ use Rattle.net_base.specs.declared.address.Mac.{Mac}
 use Rattle.yaml_tree.specs.declared.tree.Key.{Key}
 use Rattle.yaml_tree.specs.declared.tree.Pair.{Pair}
 use Rattle.yaml_tree.specs.declared.tree.Tree.{Tree, out-Tree}
-use Rattle.conf_shape.specs.declared.kinds.MapKind.{MapKind}
-use Rattle.conf_shape.specs.declared.kinds.MapKind.TheVariants as maps
 use Rattle.conf_shape.specs.declared.raw.OneOrList.TheVariants as several
 use Rattle.conf_shape.specs.declared.raw.RawConf.{RawConf}
 use Rattle.conf_shape.specs.declared.raw.RawRule.{RawRule}
-use Rattle.conf_shape.specs.Raw.{port_flag_keys, port_flags_by, drop_flag_keys, drop_flags_by}
-use Rattle.conf_shape.specs.Reads.{value_at, default_of, default_number, default_text}
+use Rattle.conf_shape.specs.Reads.{value_at}
 use Rattle.law_checks.specs.Values.{IsNumber, IsText, IsPermission, IsLabelOf, IsVlanOf, IsPortOf, IsMac, IsAddress, IsNetwork, Each, IsList, IsOneOrList, IsMap, AreMaps, Given, Needed}
 use Rattle.law_checks.specs.Fields.{asked_fields}
 use Rattle.law_checks.specs.Says.{NumberSays, NamesSay, AclNamesSay, PortFlagsSay, StackEndSays, PortSays, DropFlagsSay, PrioritySays, DpSays, RouteSays, RouteItemSays, VlanSays, OutputSays, ActionsSay, RuleSays, RuleItemSays, AclSays, RouterSays, TopSays, Says}

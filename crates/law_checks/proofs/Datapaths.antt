@@ -16,17 +16,18 @@ use Rattle.conf_shape.specs.declared.raw.VlanRef.TheVariants.{Vid, Name}
 use Rattle.conf_shape.specs.declared.raw.RawPort.{RawPort}
 use Rattle.conf_shape.specs.declared.raw.RawDp.{RawDp}
 use Rattle.conf_shape.specs.declared.raw.RawConf.{RawConf}
-use Rattle.conf_shape.specs.declared.refused.ConfCause.TheVariants.{Duplicate}
 use Rattle.conf_resolve.specs.declared.ordered.OrderedConf.{OrderedConf}
 use Rattle.conf_resolve.specs.declared.ordered.PlacedVlan.{PlacedVlan}
-use Rattle.conf_resolve.specs.InOrder.{ports_in_order, dps_in_order, vlans_in_order, dp_site, port_site, ordered, is_text_before}
+use Rattle.conf_resolve.specs.InOrder.{ports_in_order, dps_in_order, vlans_in_order, port_site, ordered, is_text_before}
 use Rattle.conf_resolve.specs.InRange.{IsInRange, NamesVlan, PortIsInRange}
 use Rattle.conf_resolve.specs.Resolved.{port_of, dp_of, vlan_of, resolved, to_list, vid_of}
-use Rattle.conf_rules.specs.Names.{repeated_dp, repeated_port, repeated_ports_of, number_site, is_same_vlan, named_again, twice_of_port, twice_of_dp}
-use Rattle.conf_rules.specs.Places.{fault_if, under, is_repeat, with_earlier, each_at}
-use Rattle.law_checks.proofs.Empty.{none_left, none_right, none_at, none_of_values, values_at, passes, none_repeat, no_repeats, HasNoRepeat}
+use Rattle.conf_rules.specs.Names.{repeated_ports_of, is_same_vlan, named_again, twice_of_port, twice_of_dp, vlans_twice}
+use Rattle.conf_rules.specs.Places.{under, is_repeat, with_earlier, each_at}
+use Rattle.law_checks.proofs.Apart.{ids_differ, dp_names_differ, port_numbers_differ, port_names_differ}
+use Rattle.law_checks.proofs.Empty.{none_at, none_of_values, values_at, passes, no_repeats, HasNoRepeat}
+use Rattle.law_checks.proofs.Kept.{before_unmapped}
 use Rattle.law_checks.proofs.Members.{IsIn, of_all, all_by, all_mapped, of_joined, in_front, behind, of_mapped, in_mapped, of_kept, finds, found, before_mapped, before_both, before_kept, before_by, before_joined}
-use Rattle.law_checks.proofs.Orders.{of_order, sorted, number_order, text_order, rises, text_rises, not_same}
+use Rattle.law_checks.proofs.Orders.{of_order, sorted, number_order, text_order, rises_apart, text_rises, other_texts}
 use Rattle.law_checks.proofs.Unbroken.{BreaksNone}
 use Rattle.law_checks.proofs.Vlans.{dp_in_range, HasVlan, number_of_port}
 
@@ -70,6 +71,40 @@ pub apart_numbers : (o : OrderedConf) (a b : VlanRef) (m n : ℕ) → is_same_vl
 apart_numbers o a b m n not am bn =
     eqb-false m n (sym (ap (λ (r : Option ℕ). option_map_or (λ x. option_map_or (λ y. x == y) (vid_of o.vlans b) false) r false) am ∙ ap (λ (r : Option ℕ). option_map_or (λ y. m == y) r false) bn) ∙ not)
 
+-- ---- VLANs that an interface names are named once
+
+module _ (o : OrderedConf) where
+  module _ (none : vlans_twice o ≡ []) where
+    tagged_once : (d : RawDp) → IsIn o.dps d → (p : RawPort) → IsIn d.ports p → HasNoRepeat (is_same_vlan o) (to_list p.native) p.tagged
+    tagged_once d cd p cp =
+        let of_dp = none_at (twice_of_dp o) o.dps none d cd in
+        let of_port = none_at (twice_of_port o d) d.ports of_dp p cp in
+        let site = under (port_site d p) (codes "tagged_vlans") in
+        let items = with_earlier (to_list p.native) p.tagged in
+        no_repeats (is_same_vlan o) (to_list p.native) p.tagged (all_by (λ item. is_repeat (is_same_vlan o) item ≡ false) items (λ item i.
+        let m = none_of_values (named_again o) (each_at site items) items (values_at site items) of_port item i in passes _ _ _ m.1))
+
+    port_once : (d : RawDp) → IsIn o.dps d → (p : RawPort) → IsIn d.ports p → AreDistinct (vlans_named (port_of o d p))
+    port_once d cd p cp =
+        let apart = tagged_once d cd p cp in
+        subst AreDistinct (sym (named_as_list (port_of o d p))) (before_joined (λ (m n : ℕ). m ≡ n → ⊥) (to_list (option_and_then (vid_of o.vlans) p.native)) (filter_map (vid_of o.vlans) p.tagged)
+        (lone (option_and_then (vid_of o.vlans) p.native))
+        (before_kept (λ (m n : ℕ). m ≡ n → ⊥) (vid_of o.vlans) p.tagged (before_by (λ (a b : VlanRef). is_same_vlan o a b ≡ false) (λ a b. (m n : ℕ) → vid_of o.vlans a ≡ Some m → vid_of o.vlans b ≡ Some n → m ≡ n → ⊥) p.tagged apart.among (λ a b ia ib not m n am bn. apart_numbers o a b m n not am bn)))
+        (all_by (λ m. AllByRecursion (λ n. m ≡ n → ⊥) (filter_map (vid_of o.vlans) p.tagged)) (to_list (option_and_then (vid_of o.vlans) p.native)) (λ m i. all_by (λ n. m ≡ n → ⊥) (filter_map (vid_of o.vlans) p.tagged) (λ n j.
+        let a = of_option (vid_of o.vlans) p.native m i in
+        let b = of_kept (vid_of o.vlans) p.tagged n j in
+        apart_numbers o a.0 b.0 m n (apart.across a.0 b.0 a.1 b.1) a.2 b.2))))
+      where
+        lone : (o : Option ℕ) → AreDistinct (to_list o)
+        lone None = tt
+        lone (Some vid) = (tt, tt)
+
+    pub each_once : AllByRecursion (λ d. AllByRecursion (λ p. AreDistinct (vlans_named p)) d.ports) (resolved o).dps
+    each_once = all_mapped (λ (d : Dp). AllByRecursion (λ p. AreDistinct (vlans_named p)) d.ports) (dp_of o) o.dps (all_by (λ d. AllByRecursion (λ p. AreDistinct (vlans_named p)) (dp_of o d).ports) o.dps (λ d cd.
+        all_mapped (λ (p : Port). AreDistinct (vlans_named p)) (port_of o d) d.ports (all_by (λ p. AreDistinct (vlans_named (port_of o d p))) d.ports (λ p cp. port_once d cd p cp))))
+
+-- ---- of a raw configuration in range
+
 module _ (raw : RawConf) (range : IsInRange raw) where
   abbrev conf : Configuration
   conf = resolved (ordered raw)
@@ -103,31 +138,6 @@ module _ (raw : RawConf) (range : IsInRange raw) where
       is_there vid (named_there d cd p cp m.0 (names_in_range p r m.0 m.1) m.1 vid m.2))
 
   module _ (whole : BreaksNone (ordered raw) conf) where
-    tagged_once : (d : RawDp) → IsIn (dps_in_order raw) d → (p : RawPort) → IsIn d.ports p → HasNoRepeat (is_same_vlan (ordered raw)) (to_list p.native) p.tagged
-    tagged_once d cd p cp =
-        let of_dp = none_at (twice_of_dp (ordered raw)) (dps_in_order raw) whole.named_once d cd in
-        let of_port = none_at (twice_of_port (ordered raw) d) d.ports of_dp p cp in
-        let site = under (port_site d p) (codes "tagged_vlans") in
-        let items = with_earlier (to_list p.native) p.tagged in
-        no_repeats (is_same_vlan (ordered raw)) (to_list p.native) p.tagged (all_by (λ item. is_repeat (is_same_vlan (ordered raw)) item ≡ false) items (λ item i.
-        let m = none_of_values (named_again (ordered raw)) (each_at site items) items (values_at site items) of_port item i in passes _ _ _ m.1))
-
-    port_once : (d : RawDp) → IsIn (dps_in_order raw) d → (p : RawPort) → IsIn d.ports p → AreDistinct (vlans_named (port_of (ordered raw) d p))
-    port_once d cd p cp =
-        let o = ordered raw in
-        let apart = tagged_once d cd p cp in
-        subst AreDistinct (sym (named_as_list (port_of o d p))) (before_joined (λ (m n : ℕ). m ≡ n → ⊥) (to_list (option_and_then (vid_of o.vlans) p.native)) (filter_map (vid_of o.vlans) p.tagged)
-        (lone (option_and_then (vid_of o.vlans) p.native))
-        (before_kept (λ (m n : ℕ). m ≡ n → ⊥) (vid_of o.vlans) p.tagged (before_by (λ (a b : VlanRef). is_same_vlan o a b ≡ false) (λ a b. (m n : ℕ) → vid_of o.vlans a ≡ Some m → vid_of o.vlans b ≡ Some n → m ≡ n → ⊥) p.tagged apart.among (λ a b ia ib not m n am bn. apart_numbers o a b m n not am bn)))
-        (all_by (λ m. AllByRecursion (λ n. m ≡ n → ⊥) (filter_map (vid_of o.vlans) p.tagged)) (to_list (option_and_then (vid_of o.vlans) p.native)) (λ m i. all_by (λ n. m ≡ n → ⊥) (filter_map (vid_of o.vlans) p.tagged) (λ n j.
-        let a = of_option (vid_of o.vlans) p.native m i in
-        let b = of_kept (vid_of o.vlans) p.tagged n j in
-        apart_numbers o a.0 b.0 m n (apart.across a.0 b.0 a.1 b.1) a.2 b.2))))
-      where
-        lone : (o : Option ℕ) → AreDistinct (to_list o)
-        lone None = tt
-        lone (Some n) = (tt, tt)
-
     port_valid : (d : RawDp) → IsIn (dps_in_order raw) d → (p : RawPort) → IsIn d.ports p → IsPort conf (port_of (ordered raw) d p)
     port_valid d cd p cp = let r = of_all PortIsInRange d.ports (dp_in_range raw range d cd).ports p cp in record {
       number = r.number;
@@ -136,16 +146,10 @@ module _ (raw : RawConf) (range : IsInRange raw) where
       hosts = r.hosts;
       most_hosts = r.most_hosts;
       vlans = port_vlans d cd p cp;
-      once = port_once d cd p cp;
+      once = port_once (ordered raw) whole.named_once d cd p cp;
     }
 
     -- ---- in order, no two alike
-
-    ports_differ : (item : List RawPort × RawPort) (d : RawDp) → repeated_port d item ≡ [] → (is_repeat (λ (a b : RawPort). a.no == b.no) item ≡ false) × (is_repeat (λ (a b : RawPort). is_same a.names.name b.names.name) item ≡ false)
-    ports_differ item d none = (
-      passes _ _ _ (none_left (fault_if (is_repeat (λ (a b : RawPort). a.no == b.no) item) _ (number_site d item.1)) _ none),
-      passes _ _ _ (none_right (fault_if (is_repeat (λ (a b : RawPort). a.no == b.no) item) _ (number_site d item.1)) _ none),
-    )
 
     of_raw_dp : (d : RawDp) → IsIn (dps_in_order raw) d → (e : RawDp) × (ports_in_order e ≡ d)
     of_raw_dp d cd = let m = of_mapped ports_in_order raw.dps d (of_order _ (map ports_in_order raw.dps) d cd) in (m.0, m.2)
@@ -155,13 +159,8 @@ module _ (raw : RawConf) (range : IsInRange raw) where
 
     ports_rise : (d : RawDp) → IsIn (dps_in_order raw) d → EachBefore (λ (p q : RawPort). p.no < q.no) d.ports
     ports_rise d cd =
-        let apart = none_repeat (λ (a b : RawPort). a.no == b.no) (repeated_port d) [] d.ports (λ item none. (ports_differ item d none).0) (none_at repeated_ports_of (dps_in_order raw) whole.ports_differ d cd) in
-        before_both (λ (p q : RawPort). nat_lt q.no p.no ≡ false) (λ p q. (p.no == q.no) ≡ false) (λ p q. p.no < q.no) d.ports (ports_sorted d cd) apart.among (λ p q not other. rises p.no q.no not other)
-
-    port_names_differ : (d : RawDp) → IsIn (dps_in_order raw) d → EachBefore (λ (p q : RawPort). p.names.name ≡ q.names.name → ⊥) d.ports
-    port_names_differ d cd =
-        let apart = none_repeat (λ (a b : RawPort). is_same a.names.name b.names.name) (repeated_port d) [] d.ports (λ item none. (ports_differ item d none).1) (none_at repeated_ports_of (dps_in_order raw) whole.ports_differ d cd) in
-        before_by (λ (p q : RawPort). is_same p.names.name q.names.name ≡ false) (λ p q. p.names.name ≡ q.names.name → ⊥) d.ports apart.among (λ p q ip iq not. not_same p.names.name q.names.name not)
+        before_both (λ (p q : RawPort). nat_lt q.no p.no ≡ false) (λ p q. p.no ≡ q.no → ⊥) (λ p q. p.no < q.no) d.ports (ports_sorted d cd)
+        (before_unmapped (λ (p q : Port). p.no ≡ q.no → ⊥) (port_of (ordered raw) d) d.ports (port_numbers_differ (ordered raw) d (none_at repeated_ports_of (dps_in_order raw) whole.ports_differ d cd))) (λ p q not other. rises_apart p.no q.no not other)
 
     datapath_valid : (d : RawDp) → IsIn (dps_in_order raw) d → IsDatapath conf (dp_of (ordered raw) d)
     datapath_valid d cd = let r = dp_in_range raw range d cd in record {
@@ -173,29 +172,18 @@ module _ (raw : RawConf) (range : IsInRange raw) where
       stack_priority = r.stack_priority;
       ports = all_mapped (IsPort conf) (port_of (ordered raw) d) d.ports (all_by _ d.ports (λ p cp. port_valid d cd p cp));
       in_order = before_mapped (λ (p q : Port). p.no < q.no) (port_of (ordered raw) d) d.ports (ports_rise d cd);
-      port_names = before_mapped (λ (p q : Port). p.name ≡ q.name → ⊥) (port_of (ordered raw) d) d.ports (port_names_differ d cd);
+      port_names = port_names_differ (ordered raw) d (none_at repeated_ports_of (dps_in_order raw) whole.ports_differ d cd);
     }
-
-    dps_differ : (item : List RawDp × RawDp) → repeated_dp item ≡ [] → (is_repeat (λ (a b : RawDp). a.id.0 == b.id.0) item ≡ false) × (is_repeat (λ (a b : RawDp). is_same a.names.name b.names.name) item ≡ false)
-    dps_differ item none = (
-      passes _ Duplicate (under (dp_site item.1) (codes "dp_id")) (none_left (fault_if (is_repeat (λ (a b : RawDp). a.id.0 == b.id.0) item) Duplicate (under (dp_site item.1) (codes "dp_id"))) _ none),
-      passes _ _ _ (none_right (fault_if (is_repeat (λ (a b : RawDp). a.id.0 == b.id.0) item) Duplicate (under (dp_site item.1) (codes "dp_id"))) _ none),
-    )
-
-    pub dp_ids : EachBefore (λ (d e : RawDp). d.id.0 ≡ e.id.0 → ⊥) (dps_in_order raw)
-    dp_ids =
-        let apart = none_repeat (λ (a b : RawDp). a.id.0 == b.id.0) repeated_dp [] (dps_in_order raw) (λ item none. (dps_differ item none).0) whole.dps_differ in
-        before_by (λ (d e : RawDp). (d.id.0 == e.id.0) ≡ false) (λ d e. d.id.0 ≡ e.id.0 → ⊥) (dps_in_order raw) apart.among (λ d e id ie not. eqb-false d.id.0 e.id.0 not)
 
     dps_rise : EachBefore (λ (d e : RawDp). IsTextBefore d.names.name e.names.name) (dps_in_order raw)
     dps_rise =
-        let apart = none_repeat (λ (a b : RawDp). is_same a.names.name b.names.name) repeated_dp [] (dps_in_order raw) (λ item none. (dps_differ item none).1) whole.dps_differ in
-        before_both (λ (d e : RawDp). is_text_before e.names.name d.names.name ≡ false) (λ d e. is_same d.names.name e.names.name ≡ false) (λ d e. IsTextBefore d.names.name e.names.name) (dps_in_order raw)
-        (sorted (λ (d e : RawDp). is_text_before d.names.name e.names.name) (text_order (λ (d : RawDp). d.names.name)) (map ports_in_order raw.dps)) apart.among (λ d e not other. text_rises d.names.name e.names.name not other)
+        before_both (λ (d e : RawDp). is_text_before e.names.name d.names.name ≡ false) (λ d e. d.names.name ≡ e.names.name → ⊥) (λ d e. IsTextBefore d.names.name e.names.name) (dps_in_order raw)
+        (sorted (λ (d e : RawDp). is_text_before d.names.name e.names.name) (text_order (λ (d : RawDp). d.names.name)) (map ports_in_order raw.dps))
+        (before_unmapped (λ (d e : Dp). d.name ≡ e.name → ⊥) (dp_of (ordered raw)) (dps_in_order raw) (dp_names_differ (ordered raw) whole.dps_differ)) (λ d e not other. text_rises d.names.name e.names.name not (other_texts d.names.name e.names.name other))
 
     pub datapaths_valid : DatapathsAreValid conf
     datapaths_valid = record {
       each = all_mapped (IsDatapath conf) (dp_of (ordered raw)) (dps_in_order raw) (all_by _ (dps_in_order raw) (λ d cd. datapath_valid d cd));
       in_order = before_mapped (λ (d e : Dp). IsTextBefore d.name e.name) (dp_of (ordered raw)) (dps_in_order raw) dps_rise;
-      ids = before_mapped (λ (d e : Dp). d.id.0 ≡ e.id.0 → ⊥) (dp_of (ordered raw)) (dps_in_order raw) dp_ids;
+      ids = ids_differ (ordered raw) whole.dps_differ;
     }

@@ -11,7 +11,7 @@ use Rattle.conf_shape.specs.declared.refused.ConfFault.{ConfFault}
 use Rattle.conf_shape.specs.declared.refused.LimitName.{LimitName}
 use Rattle.conf_resolve.specs.Resolved.{items_of}
 use Rattle.conf_rules.specs.Limits.{above}
-use Rattle.conf_rules.specs.Places.{fault_if, fault_of, first, nth, each_at, items_at, with_earlier, is_repeat}
+use Rattle.conf_rules.specs.Places.{fault_if, fault_if_some, first, nth, each_at, items_at, with_earlier, is_repeat}
 use Rattle.law_checks.proofs.Members.{IsIn, of_all, all_by, all_mapped, in_front, behind, fails}
 
 -- ---- empty lists
@@ -48,11 +48,11 @@ holds false cause site is = absurd (cc)
 pub within : (most n : ℕ) (name : LimitName) (site : List (List ℕ)) → above most n name site ≡ [] → n ≤ most
 within most n name site is = ltb-false most n (passes (nat_lt most n) _ site is)
 
-pub no_first : (causes : List ConfCause) (site : List (List ℕ)) → fault_of (first causes) site ≡ [] → causes ≡ []
+pub no_first : (causes : List ConfCause) (site : List (List ℕ)) → fault_if_some (first causes) site ≡ [] → causes ≡ []
 no_first [] site is = refl
 no_first (cause ∷ causes) site is = absurd (cc)
 
-pub no_cause : (test : Bool) (cause : ConfCause) (site : List (List ℕ)) → fault_of (if test then None else Some cause) site ≡ [] → test ≡ true
+pub no_cause : (test : Bool) (cause : ConfCause) (site : List (List ℕ)) → fault_if_some (if test then None else Some cause) site ≡ [] → test ≡ true
 no_cause true cause site is = refl
 no_cause false cause site is = absurd (cc)
 

@@ -1,14 +1,12 @@
--- A valid configuration keeps the rules on the rules of ACLs.
-use Rattle.std.specs.Prelude.{◌≡◌, ℕ, ◌&&◌, Bool, true, false, not, List, [], ◌∷◌, ◌++◌, map, codes, Option, Some, None, IsTrue, IsSomeAnd, is_some, nat_lt, if◌then◌else◌}
-use Rattle.std.specs.List.{AllByRecursion, flat_map, list_any, find}
+-- No rule on the rules of ACLs is broken where they are valid.
+use Rattle.std.specs.Prelude.{◌≡◌, ℕ, ◌&&◌, Bool, true, false, List, [], ◌∷◌, ◌++◌, map, codes, Option, Some, None, IsTrue, IsSomeAnd, is_some, nat_lt, if◌then◌else◌}
+use Rattle.std.specs.List.{AllByRecursion, list_any, find}
 use Rattle.std.specs.Option.{option_map_or}
 use Rattle.std.proofs.Common.{◌⊎◌, inl, inr, refl, sym, ap, ◌∙◌, subst, true≢false}
 use Rattle.std.proofs.lemmas.Bool.{and_parts, or_cases}
 use Rattle.net_base.specs.declared.field.Field.{Field}
-use Rattle.net_base.specs.declared.field.FieldId.{FieldId}
-use Rattle.net_base.specs.declared.field.Prerequisite.{Prerequisite}
-use Rattle.net_base.specs.FieldId.{number_of, prerequisites_of}
-use Rattle.net_base.specs.WellFormed.{has_prerequisite, has_one, meets_one}
+use Rattle.net_base.specs.FieldId.{number_of}
+use Rattle.net_base.specs.WellFormed.{has_prerequisite}
 use Rattle.conf_types.specs.declared.acl.Acl.{Acl}
 use Rattle.conf_types.specs.declared.acl.PortRef.{PortRef}
 use Rattle.conf_types.specs.declared.acl.Rule.{Rule}
@@ -18,33 +16,25 @@ use Rattle.conf_types.specs.declared.datapath.StackEnd.{StackEnd}
 use Rattle.conf_types.specs.declared.vlan.Vlan.{Vlan}
 use Rattle.conf_types.specs.Attached.{acl_named, rules_of, port_named, names_in}
 use Rattle.conf_types.specs.Configuration.{Configuration}
-use Rattle.conf_types.specs.Lists.{IsTextBefore, is_same}
+use Rattle.conf_types.specs.Lists.{EachBefore, IsTextBefore, is_same}
 use Rattle.conf_types.specs.Membership.{has_edge_member}
-use Rattle.conf_types.specs.Valid.{IsValid, IsRule, NamePortsOf}
+use Rattle.conf_types.specs.Valid.{NamePortsOf}
 use Rattle.conf_shape.specs.declared.raw.RawField.{RawField}
 use Rattle.conf_shape.specs.declared.raw.RawRule.{RawRule}
 use Rattle.conf_shape.specs.declared.raw.RawAcl.{RawAcl}
 use Rattle.conf_shape.specs.declared.refused.ConfCause.{ConfCause}
 use Rattle.conf_shape.specs.declared.refused.ConfCause.TheVariants.{Unresolved, Conflict}
 use Rattle.conf_resolve.specs.declared.ordered.OrderedConf.{OrderedConf}
-use Rattle.conf_resolve.specs.InOrder.{in_order}
 use Rattle.conf_resolve.specs.Resolved.{acl_of, rule_of, resolved, to_list}
-use Rattle.conf_rules.specs.Places.{fault_if, fault_of, first}
-use Rattle.conf_rules.specs.Ports.{is_in, is_attached, wrong_target, wrong_on, wrong_port, wrong_rule, rules_at, wrong_acl, wrong_acl_ports, lacking_fields, lacking_rules}
+use Rattle.conf_rules.specs.Places.{fault_if_some, first}
+use Rattle.conf_rules.specs.Ports.{is_in, is_attached, wrong_target, wrong_on, wrong_port, wrong_rule, rules_at, wrong_acl, wrong_acl_ports, lacking_field, lacking_fields, lacking_of_acl, lacking_rules}
 use Rattle.law_checks.proofs.Acls.{targets_at, targets_wrong, targets_values}
 use Rattle.law_checks.proofs.Empty.{values_at}
 use Rattle.law_checks.proofs.Kept.{all_empty, no_lack, is_value}
 use Rattle.law_checks.proofs.KeptNames.{before_not_same}
-use Rattle.law_checks.proofs.Members.{IsIn, of_all, in_mapped, in_flat, some_of, any_by, finds, found, two_of}
+use Rattle.law_checks.proofs.Members.{IsIn, of_all, in_mapped, in_flat, some_of, finds, found, two_of}
 use Rattle.law_checks.proofs.Orders.{of_order, into_order, same_texts, same_itself}
-
--- what stands there in order stands there
-asked_before : (before : Field → Field → Bool) (fs : List Field) (id : FieldId) → has_prerequisite id (in_order before fs) ≡ true → has_prerequisite id fs ≡ true
-asked_before before fs id = by (prerequisites_of id)
-  where
-    by : (asked : List Prerequisite) → has_one asked (in_order before fs) ≡ true → has_one asked fs ≡ true
-    by [] is = refl
-    by (p ∷ asked) is = let m = some_of (meets_one (p ∷ asked)) (in_order before fs) is in any_by (meets_one (p ∷ asked)) fs m.0 (of_order before fs m.0 m.1) m.2
+use Rattle.law_checks.proofs.RuleFields.{HasWhatItAsks, same_asked}
 
 pub no_wrong_target : (name : PortRef) (d : Dp) → IsSomeAnd (port_named d name) (λ p. p.stack ≡ None) → to_list (wrong_target name d) ≡ []
 no_wrong_target name d = by (port_named d name)
@@ -61,27 +51,31 @@ module _ (o : OrderedConf) where
   abbrev conf : Configuration
   conf = resolved o
 
-  module _ (valid : IsValid conf) where
-    rule_is : (a : RawAcl) → IsIn o.acls a → (r : RawRule) → IsIn a.rules r → IsRule (rule_of r)
-    rule_is a ca r cr = of_all IsRule (acl_of a).rules (of_all (λ (a : Acl). AllByRecursion IsRule a.rules) conf.acls valid.acls.rules (acl_of a) (in_mapped acl_of o.acls a ca)) (rule_of r) (in_mapped rule_of a.rules r cr)
+  -- ---- the fields of rules
 
-    field_has : (a : RawAcl) → IsIn o.acls a → (r : RawRule) → IsIn a.rules r → (f : RawField) → IsIn r.fields f → has_prerequisite f.field.id (map (λ g. g.field) r.fields) ≡ true
-    field_has a ca r cr f cf =
-        let before : Field → Field → Bool = λ f g. nat_lt (number_of f.id) (number_of g.id) in
-        asked_before before (map (λ g. g.field) r.fields) f.field.id
-        (of_all (λ (f : Field). IsTrue (has_prerequisite f.id (rule_of r).fields)) (rule_of r).fields (rule_is a ca r cr).fields.prerequisites f.field (into_order before (map (λ g. g.field) r.fields) f.field (in_mapped (λ (g : RawField). g.field) r.fields f cf)))
+  pub fields_kept : AllByRecursion (λ acl. AllByRecursion HasWhatItAsks acl.rules) conf.acls → lacking_rules o ≡ []
+  fields_kept all = all_empty lacking_of_acl o.acls (λ a ca. all_empty lacking_fields (rules_at a) (λ item i.
+      let cr = is_value (rules_at a) a.rules (values_at (codes "acls" ∷ a.name ∷ []) a.rules) item i in
+      all_empty (lacking_field item.0 (map (λ g. g.field) item.1.fields)) item.1.fields (λ f cf.
+      no_lack (has_prerequisite f.field.id (map (λ g. g.field) item.1.fields)) (Conflict 9) (item.0 ++ codes "rule" ∷ f.key ∷ []) (field_has a ca item.1 cr f cf))))
+    where
+      before : Field → Field → Bool
+      before f g = nat_lt (number_of f.id) (number_of g.id)
 
-    pub fields_kept : lacking_rules o ≡ []
-    fields_kept = all_empty (λ (a : RawAcl). flat_map lacking_fields (rules_at a)) o.acls (λ a ca. all_empty lacking_fields (rules_at a) (λ item i.
-        let cr = is_value (rules_at a) a.rules (values_at (codes "acls" ∷ a.name ∷ []) a.rules) item i in
-        all_empty (λ (f : RawField). fault_if (not (has_prerequisite f.field.id (map (λ g. g.field) item.1.fields))) (Conflict 9) (item.0 ++ codes "rule" ∷ f.key ∷ [])) item.1.fields (λ f cf.
-        no_lack (has_prerequisite f.field.id (map (λ g. g.field) item.1.fields)) (Conflict 9) (item.0 ++ codes "rule" ∷ f.key ∷ []) (field_has a ca item.1 cr f cf))))
+      field_has : (a : RawAcl) → IsIn o.acls a → (r : RawRule) → IsIn a.rules r → (f : RawField) → IsIn r.fields f → has_prerequisite f.field.id (map (λ g. g.field) r.fields) ≡ true
+      field_has a ca r cr f cf =
+          let of_rule = of_all HasWhatItAsks (acl_of a).rules (of_all (λ (a : Acl). AllByRecursion HasWhatItAsks a.rules) conf.acls all (acl_of a) (in_mapped acl_of o.acls a ca)) (rule_of r) (in_mapped rule_of a.rules r cr) in
+          same_asked (rule_of r).fields (map (λ g. g.field) r.fields) (λ g j. of_order before (map (λ g. g.field) r.fields) g j) f.field.id
+          (of_all (λ (f : Field). IsTrue (has_prerequisite f.id (rule_of r).fields)) (rule_of r).fields of_rule f.field (into_order before (map (λ g. g.field) r.fields) f.field (in_mapped (λ (g : RawField). g.field) r.fields f cf)))
 
-    -- ---- ports that are named
+  -- ---- ports that are named
 
+  module _ (in_order : EachBefore (λ a b. IsTextBefore a.name b.name) conf.acls)
+      (ports_on : AllByRecursion (λ d. AllByRecursion (λ p. NamePortsOf d (rules_of conf p.acls)) d.ports) conf.dps)
+      (vlans_on : AllByRecursion (λ d. AllByRecursion (λ v. has_edge_member d v.vid ≡ true → NamePortsOf d (rules_of conf v.acls)) conf.vlans) conf.dps) where
     -- an ACL is found by its name
     named_acl : (a : RawAcl) → IsIn o.acls a → acl_named conf.acls a.name ≡ Some (acl_of a)
-    named_acl a ca = f.1 ∙ ap Some (sym (by (two_of (λ (a b : Acl). IsTextBefore a.name b.name) conf.acls valid.acls.in_order (acl_of a) f.0 (in_mapped acl_of o.acls a ca) m.0)))
+    named_acl a ca = f.1 ∙ ap Some (sym (by (two_of (λ (a b : Acl). IsTextBefore a.name b.name) conf.acls in_order (acl_of a) f.0 (in_mapped acl_of o.acls a ca) m.0)))
       where
         f : (y : Acl) × (find (λ (acl : Acl). is_same acl.name a.name) conf.acls ≡ Some y)
         f = finds (λ (acl : Acl). is_same acl.name a.name) conf.acls (acl_of a) (in_mapped acl_of o.acls a ca) (same_itself a.name a.name refl)
@@ -112,17 +106,17 @@ module _ (o : OrderedConf) where
         by : (list_any (λ (p : Port). is_in a.name p.acls) d.ports ≡ true) ⊎ (list_any (λ (v : Vlan). is_in a.name v.acls && has_edge_member d v.vid) conf.vlans ≡ true) → IsSomeAnd (port_named d name) (λ p. p.stack ≡ None)
         by (inl is) =
             let m = some_of (λ (p : Port). is_in a.name p.acls) d.ports is in
-            of_rules m.0.acls m.2 (of_all (λ (p : Port). NamePortsOf d (rules_of conf p.acls)) d.ports (of_all (λ (d : Dp). AllByRecursion (λ p. NamePortsOf d (rules_of conf p.acls)) d.ports) conf.dps valid.acls.ports_on d cd) m.0 m.1)
+            of_rules m.0.acls m.2 (of_all (λ (p : Port). NamePortsOf d (rules_of conf p.acls)) d.ports (of_all (λ (d : Dp). AllByRecursion (λ p. NamePortsOf d (rules_of conf p.acls)) d.ports) conf.dps ports_on d cd) m.0 m.1)
         by (inr is) =
             let m = some_of (λ (v : Vlan). is_in a.name v.acls && has_edge_member d v.vid) conf.vlans is in
             let parts = and_parts (is_in a.name m.0.acls) (has_edge_member d m.0.vid) m.2 in
-            of_rules m.0.acls parts.0 (of_all (λ (v : Vlan). has_edge_member d v.vid ≡ true → NamePortsOf d (rules_of conf v.acls)) conf.vlans (of_all (λ (d : Dp). AllByRecursion (λ v. has_edge_member d v.vid ≡ true → NamePortsOf d (rules_of conf v.acls)) conf.vlans) conf.dps valid.acls.vlans_on d cd) m.0 m.1 parts.1)
+            of_rules m.0.acls parts.0 (of_all (λ (v : Vlan). has_edge_member d v.vid ≡ true → NamePortsOf d (rules_of conf v.acls)) conf.vlans (of_all (λ (d : Dp). AllByRecursion (λ v. has_edge_member d v.vid ≡ true → NamePortsOf d (rules_of conf v.acls)) conf.vlans) conf.dps vlans_on d cd) m.0 m.1 parts.1)
 
     pub targets_kept : wrong_acl_ports o conf ≡ []
     targets_kept = all_empty (wrong_acl conf) o.acls (λ a ca. all_empty (wrong_rule conf a) (rules_at a) (λ item i.
         let cr = is_value (rules_at a) a.rules (values_at (codes "acls" ∷ a.name ∷ []) a.rules) item i in
         targets_wrong conf a item ∙ all_empty (wrong_port conf a) (targets_at item) (λ target j.
         let cn = is_value (targets_at item) (names_in (rule_of item.1)) (targets_values item.0 item.1) target j in
-        ap (λ (causes : List ConfCause). fault_of (first causes) target.0)
+        ap (λ (causes : List ConfCause). fault_if_some (first causes) target.0)
         (all_empty (wrong_on conf a.name target.1) conf.dps (λ d cd.
         if_true (is_attached conf d a.name) (to_list (wrong_target target.1 d)) (λ attached. no_wrong_target target.1 d (names_port d cd a ca item.1 cr target.1 cn attached)))))))

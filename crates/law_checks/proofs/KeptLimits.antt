@@ -1,4 +1,4 @@
--- A valid configuration is within the limits of the rules.
+-- A configuration that is within the limits passes none.
 use Rattle.std.specs.Prelude.{◌≡◌, ℕ, ◌≤◌, ◌==◌, ◌&&◌, Bool, true, false, not, List, [], ◌∷◌, ◌++◌, map, filter, cond, length, sum_by, count_by, nat_lt}
 use Rattle.std.specs.List.{flat_map, zip}
 use Rattle.std.proofs.Common.{inl, inr, refl, sym, ap, ◌∙◌, subst, true≢false, arith}
@@ -11,7 +11,7 @@ use Rattle.conf_types.specs.declared.vlan.Router.{Router}
 use Rattle.conf_types.specs.Attached.{rules_of}
 use Rattle.conf_types.specs.Configuration.{Configuration}
 use Rattle.conf_types.specs.Membership.{has_edge_member, is_mirror_of}
-use Rattle.conf_types.specs.Valid.{IsValid, DatapathIsWithin, attached, route_items}
+use Rattle.conf_types.specs.Valid.{DatapathIsWithin, IsWithinLimits, attached, route_items}
 use Rattle.conf_shape.specs.declared.raw.RawPort.{RawPort}
 use Rattle.conf_shape.specs.declared.raw.RawDp.{RawDp}
 use Rattle.conf_shape.specs.declared.refused.ConfFault.{ConfFault}
@@ -24,8 +24,8 @@ use Rattle.conf_resolve.specs.InOrder.{dp_site, router_site}
 use Rattle.conf_resolve.specs.Resolved.{dp_of, port_of, vlan_of, router_of, resolved}
 use Rattle.conf_rules.specs.Limits.{whole_dps, whole_vlans, size_of, most_of, at_dp, at_dps, many_mirrors, too_many_mirrors, is_attached_somewhere, many_rules_on_vlan, many_rules_on_port, too_many_rules, many_vips, many_router_vlans, too_many_router_vlans, routes, gateways, passed_limits}
 use Rattle.conf_rules.specs.Places.{vlans_of, site_of, dps_of}
+use Rattle.law_checks.proofs.Interfaces.{at, all_interfaces}
 use Rattle.law_checks.proofs.Kept.{both_empty, all_empty, no_fault, not_above, of_zipped}
-use Rattle.law_checks.proofs.KeptLinks.{at, all_interfaces}
 use Rattle.law_checks.proofs.Members.{IsIn, of_all, in_front, behind, in_mapped, of_mapped, some_of}
 
 -- what passes a test stays
@@ -43,9 +43,9 @@ module _ (o : OrderedConf) where
   abbrev conf : Configuration
   conf = resolved o
 
-  module _ (valid : IsValid conf) where
+  module _ (within : IsWithinLimits conf) where
     dp_within : (d : RawDp) → IsIn o.dps d → DatapathIsWithin conf (dp_of o d)
-    dp_within d cd = of_all (DatapathIsWithin conf) conf.dps valid.limits.each (dp_of o d) (in_mapped (dp_of o) o.dps d cd)
+    dp_within d cd = of_all (DatapathIsWithin conf) conf.dps within.each (dp_of o d) (in_mapped (dp_of o) o.dps d cd)
 
     -- a limit of each datapath
     each_dp : (name : LimitName) → ((d : RawDp) → IsIn o.dps d → size_of conf name (dp_of o d) ≤ most_of name) → at_dps o conf name ≡ []
@@ -89,19 +89,19 @@ module _ (o : OrderedConf) where
         not_above 4 (count_by (λ m. is_mirror_of m p.no) (dp_of o d).ports) limit.Mirrors (site_of (at o d p)) (of_all (λ (p : Port). count_by (λ m. is_mirror_of m p.no) (dp_of o d).ports ≤ 4) (dp_of o d).ports (dp_within d cd).mirrors (port_of o d p) (in_mapped (port_of o d) d.ports p cp)))
 
     vips_few : flat_map many_vips (vlans_of o conf) ≡ []
-    vips_few = each_vlan many_vips (λ v cv. not_above 8 (length (vlan_of v.vlan).vips) limit.Vips v.site (of_all (λ (v : Vlan). length v.vips ≤ 8) conf.vlans valid.limits.vips (vlan_of v.vlan) (in_mapped (λ (v : PlacedVlan). vlan_of v.vlan) o.vlans v cv)))
+    vips_few = each_vlan many_vips (λ v cv. not_above 8 (length (vlan_of v.vlan).vips) limit.Vips v.site (of_all (λ (v : Vlan). length v.vips ≤ 8) conf.vlans within.vips (vlan_of v.vlan) (in_mapped (λ (v : PlacedVlan). vlan_of v.vlan) o.vlans v cv)))
 
     router_vlans_few : too_many_router_vlans o conf ≡ []
     router_vlans_few = all_empty many_router_vlans (zip o.routers conf.routers) (λ r i.
         let z = of_zipped (router_of o) o.routers r i in
-        not_above 16 (length r.1.vlans) limit.RouterVlans (router_site r.0) (subst (λ (s : Router). length s.vlans ≤ 16) z.1 (of_all (λ (r : Router). length r.vlans ≤ 16) conf.routers valid.limits.router_vlans (router_of o r.0) (in_mapped (router_of o) o.routers r.0 z.0))))
+        not_above 16 (length r.1.vlans) limit.RouterVlans (router_site r.0) (subst (λ (s : Router). length s.vlans ≤ 16) z.1 (of_all (λ (r : Router). length r.vlans ≤ 16) conf.routers within.router_vlans (router_of o r.0) (in_mapped (router_of o) o.routers r.0 z.0))))
 
     pub limits_kept : passed_limits o conf ≡ []
     limits_kept =
         both_empty _ _
-        (both_empty _ _ (not_above 64 (length conf.dps) limit.Dps whole_dps valid.limits.dps)
+        (both_empty _ _ (not_above 64 (length conf.dps) limit.Dps whole_dps within.dps)
         (both_empty _ _ (each_dp limit.Ports (λ d cd. (dp_within d cd).ports))
-        (both_empty _ _ (not_above 1024 (length conf.vlans) limit.Vlans whole_vlans valid.limits.vlans)
+        (both_empty _ _ (not_above 1024 (length conf.vlans) limit.Vlans whole_vlans within.vlans)
         (both_empty _ _ mirrors_few (each_dp limit.Special (λ d cd. (dp_within d cd).special))))))
         (both_empty _ _
         (both_empty _ _ rules_kept
@@ -110,6 +110,6 @@ module _ (o : OrderedConf) where
         (each_dp limit.Members (λ d cd. (dp_within d cd).members)))))
         (both_empty _ _ vips_few
         (both_empty _ _ router_vlans_few
-        (both_empty _ _ (not_above 1024 (routes conf) limit.Routes whole_vlans valid.limits.routes)
-        (both_empty _ _ (not_above 1024 (gateways conf) limit.Gateways whole_vlans valid.limits.gateways)
-        (not_above 32768 (sum_by (route_items conf) conf.vlans) limit.RouteItems whole_vlans valid.limits.route_items))))))
+        (both_empty _ _ (not_above 1024 (routes conf) limit.Routes whole_vlans within.routes)
+        (both_empty _ _ (not_above 1024 (gateways conf) limit.Gateways whole_vlans within.gateways)
+        (not_above 32768 (sum_by (route_items conf) conf.vlans) limit.RouteItems whole_vlans within.route_items))))))

@@ -1,29 +1,29 @@
--- A valid configuration keeps the rules on mirrors and stack links.
-use Rattle.std.specs.Prelude.{◌≡◌, ℕ, ◌<◌, ◌==◌, ◌&&◌, ◌||◌, Bool, true, false, not, List, [], ◌∷◌, map, length, Option, Some, None, IfSome, IsTrue, IsSomeAnd, is_some, is_none, unwrap_or, if◌then◌else◌}
-use Rattle.std.specs.List.{AllByRecursion, flat_map, zip}
+-- No rule on mirrors and stack links is broken where they are valid.
+use Rattle.std.specs.Prelude.{◌≡◌, ℕ, ◌==◌, ◌&&◌, ◌||◌, Bool, true, false, not, List, [], map, length, Option, Some, None, IfSome, IsTrue, IsSomeAnd, is_some, is_none, unwrap_or, if◌then◌else◌}
+use Rattle.std.specs.List.{AllByRecursion, flat_map}
 use Rattle.std.specs.Option.{option_map, option_map_or}
-use Rattle.std.proofs.Common.{◌⊎◌, inl, inr, refl, sym, ap, ◌∙◌, subst, true≢false, arith, eqb-true, eq-eqb}
+use Rattle.std.proofs.Common.{◌⊎◌, inl, inr, refl, sym, ap, ◌∙◌, subst, true≢false, eqb-true, eq-eqb}
 use Rattle.std.proofs.lemmas.Bool.{and_parts, and_from, or_from, not_from_false, ne_eqb}
 use Rattle.conf_types.specs.declared.acl.PortRef.{PortRef}
 use Rattle.conf_types.specs.declared.datapath.Dp.{Dp}
 use Rattle.conf_types.specs.declared.datapath.Port.{Port}
 use Rattle.conf_types.specs.declared.datapath.StackEnd.{StackEnd}
 use Rattle.conf_types.specs.Configuration.{Configuration, port_with, port_at}
+use Rattle.conf_types.specs.Lists.{EachBefore}
 use Rattle.conf_types.specs.Membership.{is_edge}
-use Rattle.conf_types.specs.Valid.{IsValid, IsMirror, IsStackPort, vlans_named}
+use Rattle.conf_types.specs.Valid.{IsMirror, MirrorsAreValid, IsStackPort, StacksAreValid, vlans_named}
 use Rattle.conf_shape.specs.declared.raw.RawStackEnd.{RawStackEnd}
 use Rattle.conf_shape.specs.declared.raw.RawPort.{RawPort}
 use Rattle.conf_shape.specs.declared.raw.RawDp.{RawDp}
 use Rattle.conf_shape.specs.declared.refused.ConfCause.TheVariants.{Unresolved, Conflict}
 use Rattle.conf_resolve.specs.declared.ordered.OrderedConf.{OrderedConf}
 use Rattle.conf_resolve.specs.Resolved.{dp_of, port_of, resolved, items_of, to_list, number_named, far_end}
-use Rattle.conf_rules.specs.Places.{fault_of, items_at, dps_of, Interface, interfaces_of, interfaces}
+use Rattle.conf_rules.specs.Places.{fault_if_some, items_at}
 use Rattle.conf_rules.specs.Ports.{is_mirrorable, wrong_mirrored, is_used, mirror_site, wrong_mirror, wrong_mirrors, is_end, points_back, is_free, is_right_end, stack_site, stack_cause, wrong_stack, wrong_stacks}
-use Rattle.law_checks.specs.Resolves.{PortResolves, Resolves}
 use Rattle.law_checks.proofs.Empty.{values_of, no_length}
-use Rattle.law_checks.proofs.Kept.{both_empty, all_empty, no_fault, is_value, of_zipped}
-use Rattle.law_checks.proofs.KeptNames.{datapath}
-use Rattle.law_checks.proofs.Members.{IsIn, of_all, in_mapped, of_flat, found, two_of}
+pub use Rattle.law_checks.proofs.Interfaces.{at, of_interfaces, all_interfaces}
+use Rattle.law_checks.proofs.Kept.{both_empty, all_empty, no_fault, is_value}
+use Rattle.law_checks.proofs.Members.{IsIn, of_all, in_mapped, found, two_of}
 use Rattle.law_checks.proofs.Once.{into_once}
 
 -- ---- small facts
@@ -46,49 +46,43 @@ pub some_number : (o : Option ℕ) → IsTrue (is_some o) → (n : ℕ) × (o �
 some_number None is = absurd (true≢false (sym is))
 some_number (Some n) is = (n, refl)
 
+-- an end that does nothing else
+pub free_end : (p : Port) → vlans_named p ≡ [] → p.acls ≡ [] → p.mirror ≡ [] → p.output_only ≡ false → p.hairpin ≡ false → p.permanent_learn ≡ false → is_free p ≡ true
+free_end p no_vlan no_acl no_mirror takes_packets no_hairpin no_permanent_learn =
+    and_from (length (vlans_named p) == 0 && length p.acls == 0 && length p.mirror == 0 && not p.output_only && not p.hairpin) (not p.permanent_learn)
+    (and_from (length (vlans_named p) == 0 && length p.acls == 0 && length p.mirror == 0 && not p.output_only) (not p.hairpin)
+    (and_from (length (vlans_named p) == 0 && length p.acls == 0 && length p.mirror == 0) (not p.output_only)
+    (and_from (length (vlans_named p) == 0 && length p.acls == 0) (length p.mirror == 0)
+    (and_from (length (vlans_named p) == 0) (length p.acls == 0) (nil_length (vlans_named p) no_vlan) (nil_length p.acls no_acl))
+    (nil_length p.mirror no_mirror))
+    (ap not takes_packets))
+    (ap not no_hairpin))
+    (ap not no_permanent_learn)
+
+-- an end that points to the interface
+pub its_end : (d : Dp) (p : Port) (r : Option StackEnd) → r ≡ Some (record { dp = d.id; port = p.no }) → option_map_or (λ end. is_end end d p) r false ≡ true
+its_end d p r is = ap (λ (r : Option StackEnd). option_map_or (λ end. is_end end d p) r false) is ∙ and_from (d.id.0 == d.id.0) (p.no == p.no) (eq-eqb d.id.0 d.id.0 refl) (eq-eqb p.no p.no refl)
+
 module _ (o : OrderedConf) where
   abbrev conf : Configuration
   conf = resolved o
 
-  abbrev pub at : RawDp → RawPort → Interface
-  at d p = record { raw_dp = d; dp = dp_of o d; raw = p; port = port_of o d p }
+  -- ---- mirrors
 
-  -- an interface is written on a datapath that is
-  pub of_interfaces : (i : Interface) → IsIn (interfaces o conf) i → (d : RawDp) × IsIn o.dps d × (p : RawPort) × IsIn d.ports p × (at d p ≡ i)
-  of_interfaces i ci =
-      let m = of_flat interfaces_of (dps_of o conf) i ci in
-      let z = of_zipped (dp_of o) o.dps m.0 m.1 in
-      let d : RawDp = m.0.0 in
-      let here : IsIn (interfaces_of (d, dp_of o d)) i = subst (λ (e : Dp). IsIn (interfaces_of (d, e)) i) (sym z.1) m.2 in
-      let n = of_flat (λ (q : RawPort × Port). record { raw_dp = d; dp = dp_of o d; raw = q.0; port = q.1 } ∷ []) (zip d.ports (map (port_of o d) d.ports)) i here in
-      let y = of_zipped (port_of o d) d.ports n.0 n.1 in
-      let made : Port → Interface = λ q. record { raw_dp = d; dp = dp_of o d; raw = n.0.0; port = q } in
-      (d, z.0, n.0.0, y.0, ap made y.1 ∙ alone (made n.0.1) i n.2)
-    where
-      alone : (i j : Interface) → IsIn (i ∷ []) j → i ≡ j
-      alone i j (inl e) = e
-      alone i j (inr k) = absurd k
-
-  -- what holds of each interface as it is written holds of all
-  pub all_interfaces : {C : Type 0} (f : Interface → List C) → ((d : RawDp) → IsIn o.dps d → (p : RawPort) → IsIn d.ports p → f (at d p) ≡ []) → flat_map f (interfaces o conf) ≡ []
-  all_interfaces f h = all_empty f (interfaces o conf) (λ i ci.
-      let w = of_interfaces i ci in
-      subst (λ i. f i ≡ []) w.4 (h w.0 w.1 w.2 w.3))
-
-  module _ (valid : IsValid conf) where
-    -- ---- mirrors
-
+  module _ (differ : AllByRecursion (λ d. EachBefore (λ p q. p.no ≡ q.no → ⊥) d.ports) conf.dps)
+      (named : AllByRecursion (λ d. AllByRecursion (λ p. AllByRecursion (λ name. IsTrue (is_some (number_named d name))) (items_of p.mirror)) d.ports) o.dps)
+      (mirrors : MirrorsAreValid conf) where
     mirror_is : (d : RawDp) → IsIn o.dps d → (p : RawPort) → IsIn d.ports p → ((port_of o d p).mirror ≡ [] → ⊥) → IsMirror (dp_of o d) (port_of o d p)
-    mirror_is d cd p cp = of_all (λ (p : Port). (p.mirror ≡ [] → ⊥) → IsMirror (dp_of o d) p) (dp_of o d).ports (of_all (λ (d : Dp). AllByRecursion (λ p. (p.mirror ≡ [] → ⊥) → IsMirror d p) d.ports) conf.dps valid.mirrors.each (dp_of o d) (in_mapped (dp_of o) o.dps d cd)) (port_of o d p) (in_mapped (port_of o d) d.ports p cp)
+    mirror_is d cd p cp = of_all (λ (p : Port). (p.mirror ≡ [] → ⊥) → IsMirror (dp_of o d) p) (dp_of o d).ports (of_all (λ (d : Dp). AllByRecursion (λ p. (p.mirror ≡ [] → ⊥) → IsMirror d p) d.ports) conf.dps mirrors.each (dp_of o d) (in_mapped (dp_of o) o.dps d cd)) (port_of o d p) (in_mapped (port_of o d) d.ports p cp)
 
     -- a number is that of one interface
     one_port : (d : RawDp) → IsIn o.dps d → (p q : Port) → IsIn (dp_of o d).ports p → IsIn (dp_of o d).ports q → p.no ≡ q.no → p ≡ q
-    one_port d cd p q cp cq same = by (two_of (λ (p q : Port). p.no < q.no) (dp_of o d).ports (datapath o valid d cd).in_order p q cp cq)
+    one_port d cd p q cp cq same = by (two_of (λ (p q : Port). p.no ≡ q.no → ⊥) (dp_of o d).ports (of_all (λ (d : Dp). EachBefore (λ p q. p.no ≡ q.no → ⊥) d.ports) conf.dps differ (dp_of o d) (in_mapped (dp_of o) o.dps d cd)) p q cp cq)
       where
-        by : (p ≡ q) ⊎ ((p.no < q.no) ⊎ (q.no < p.no)) → p ≡ q
+        by : (p ≡ q) ⊎ ((p.no ≡ q.no → ⊥) ⊎ (q.no ≡ p.no → ⊥)) → p ≡ q
         by (inl e) = e
-        by (inr (inl lt)) = absurd (omega arith)
-        by (inr (inr lt)) = absurd (omega arith)
+        by (inr (inl other)) = absurd (other same)
+        by (inr (inr other)) = absurd (other (sym same))
 
     mirrorable : (d : RawDp) → IsIn o.dps d → (p : RawPort) → IsIn d.ports p → (n : ℕ) → IsIn (port_of o d p).mirror n → is_mirrorable (dp_of o d) (port_of o d p) n ≡ true
     mirrorable d cd p cp n i =
@@ -117,66 +111,49 @@ module _ (o : OrderedConf) where
         by true is = refl
         by false is = free (mirror_is d cd p cp (λ nil. true≢false (sym (nil_length (port_of o d p).mirror nil) ∙ is)))
 
-    module _ (names : Resolves o) where
-      port_names : (d : RawDp) → IsIn o.dps d → (p : RawPort) → IsIn d.ports p → PortResolves o d p
-      port_names d cd p cp = of_all (PortResolves o d) d.ports (of_all (λ (d : RawDp). AllByRecursion (PortResolves o d) d.ports) o.dps names.ports d cd) p cp
+    mirrored_kept : (d : RawDp) → IsIn o.dps d → (p : RawPort) → IsIn d.ports p → (item : List (List ℕ) × PortRef) → IsIn (items_of p.mirror) item.1 → wrong_mirrored (at o d p) item ≡ []
+    mirrored_kept d cd p cp item i =
+        let s = some_number (number_named d item.1) (of_all (λ name. IsTrue (is_some (number_named d name))) (items_of p.mirror) (of_all (λ (p : RawPort). AllByRecursion (λ name. IsTrue (is_some (number_named d name))) (items_of p.mirror)) d.ports (of_all (λ (d : RawDp). AllByRecursion (λ p. AllByRecursion (λ name. IsTrue (is_some (number_named d name))) (items_of p.mirror)) d.ports) o.dps named d cd) p cp) item.1 i) in
+        let number : PortRef → ℕ = λ name. unwrap_or (number_named d name) p.no in
+        let same : number item.1 ≡ s.0 = ap (λ (r : Option ℕ). unwrap_or r p.no) s.1 in
+        let here : IsIn (port_of o d p).mirror s.0 = into_once (map number (items_of p.mirror)) s.0 (subst (λ n. IsIn (map number (items_of p.mirror)) n) same (in_mapped number (items_of p.mirror) item.1 i)) in
+        ap (λ (r : Option ℕ). fault_if_some (option_map_or (λ number. if is_mirrorable (dp_of o d) (port_of o d p) number then None else Some (Conflict 10)) r (Some Unresolved)) item.0) s.1
+        ∙ ap (λ (b : Bool). fault_if_some (if b then None else Some (Conflict 10)) item.0) (mirrorable d cd p cp s.0 here)
 
-      mirrored_kept : (d : RawDp) → IsIn o.dps d → (p : RawPort) → IsIn d.ports p → (item : List (List ℕ) × PortRef) → IsIn (items_of p.mirror) item.1 → wrong_mirrored (at d p) item ≡ []
-      mirrored_kept d cd p cp item i =
-          let s = some_number (number_named d item.1) (of_all (λ name. IsTrue (is_some (number_named d name))) (items_of p.mirror) (port_names d cd p cp).mirrored item.1 i) in
-          let number : PortRef → ℕ = λ name. unwrap_or (number_named d name) p.no in
-          let same : number item.1 ≡ s.0 = ap (λ (r : Option ℕ). unwrap_or r p.no) s.1 in
-          let here : IsIn (port_of o d p).mirror s.0 = into_once (map number (items_of p.mirror)) s.0 (subst (λ n. IsIn (map number (items_of p.mirror)) n) same (in_mapped number (items_of p.mirror) item.1 i)) in
-          ap (λ (r : Option ℕ). fault_of (option_map_or (λ number. if is_mirrorable (dp_of o d) (port_of o d p) number then None else Some (Conflict 10)) r (Some Unresolved)) item.0) s.1
-          ∙ ap (λ (b : Bool). fault_of (if b then None else Some (Conflict 10)) item.0) (mirrorable d cd p cp s.0 here)
+    pub mirrors_kept : wrong_mirrors o conf ≡ []
+    mirrors_kept = all_interfaces o wrong_mirror (λ d cd p cp. both_empty (flat_map (wrong_mirrored (at o d p)) (items_at (mirror_site (at o d p)) p.mirror)) _
+        (all_empty (wrong_mirrored (at o d p)) (items_at (mirror_site (at o d p)) p.mirror) (λ item i. mirrored_kept d cd p cp item (is_value (items_at (mirror_site (at o d p)) p.mirror) (items_of p.mirror) (values_of (mirror_site (at o d p)) p.mirror) item i)))
+        (no_fault (not (length (port_of o d p).mirror == 0) && is_used (port_of o d p)) (Conflict 10) (mirror_site (at o d p)) (not_used d cd p cp)))
 
-      pub mirrors_kept : wrong_mirrors o conf ≡ []
-      mirrors_kept = all_interfaces wrong_mirror (λ d cd p cp. both_empty (flat_map (wrong_mirrored (at d p)) (items_at (mirror_site (at d p)) p.mirror)) _
-          (all_empty (wrong_mirrored (at d p)) (items_at (mirror_site (at d p)) p.mirror) (λ item i. mirrored_kept d cd p cp item (is_value (items_at (mirror_site (at d p)) p.mirror) (items_of p.mirror) (values_of (mirror_site (at d p)) p.mirror) item i)))
-          (no_fault (not (length (port_of o d p).mirror == 0) && is_used (port_of o d p)) (Conflict 10) (mirror_site (at d p)) (not_used d cd p cp)))
+  -- ---- stack links
 
-      -- ---- stack links
+  right_end : (d : Dp) (p : Port) (far : StackEnd) → IsStackPort conf d p far → is_right_end conf d p far ≡ true
+  right_end d p far is =
+      and_from (not (far.dp.0 == d.id.0) && points_back conf d p far) (is_free p)
+      (and_from (not (far.dp.0 == d.id.0)) (points_back conf d p far) (not_from_false (far.dp.0 == d.id.0) (ne_eqb far.dp.0 d.id.0 (λ same. is.elsewhere (sym same)))) (back (port_at conf far.dp far.port) is.far_end))
+      (free_end p is.no_vlan is.no_acl is.no_mirror is.takes_packets is.no_hairpin is.no_permanent_learn)
+    where
+      back : (r : Option Port) → IsSomeAnd r (λ q. q.stack ≡ Some (record { dp = d.id; port = p.no })) → option_map_or (λ q. option_map_or (λ end. is_end end d p) q.stack false) r false ≡ true
+      back None is = absurd is
+      back (Some q) is = its_end d p q.stack is
 
-      right_end : (d : Dp) (p : Port) (far : StackEnd) → IsStackPort conf d p far → is_right_end conf d p far ≡ true
-      right_end d p far is =
-          let free : is_free p ≡ true =
-          and_from (length (vlans_named p) == 0 && length p.acls == 0 && length p.mirror == 0 && not p.output_only && not p.hairpin) (not p.permanent_learn)
-          (and_from (length (vlans_named p) == 0 && length p.acls == 0 && length p.mirror == 0 && not p.output_only) (not p.hairpin)
-          (and_from (length (vlans_named p) == 0 && length p.acls == 0 && length p.mirror == 0) (not p.output_only)
-          (and_from (length (vlans_named p) == 0 && length p.acls == 0) (length p.mirror == 0)
-          (and_from (length (vlans_named p) == 0) (length p.acls == 0) (nil_length (vlans_named p) is.no_vlan) (nil_length p.acls is.no_acl))
-          (nil_length p.mirror is.no_mirror))
-          (ap not is.takes_packets))
-          (ap not is.no_hairpin))
-          (ap not is.no_permanent_learn)
-          in
-          and_from (not (far.dp.0 == d.id.0) && points_back conf d p far) (is_free p)
-          (and_from (not (far.dp.0 == d.id.0)) (points_back conf d p far) (not_from_false (far.dp.0 == d.id.0) (ne_eqb far.dp.0 d.id.0 (λ same. is.elsewhere (sym same)))) (back (port_at conf far.dp far.port) is.far_end))
-          free
-        where
-          its_end : (r : Option StackEnd) → r ≡ Some (record { dp = d.id; port = p.no }) → option_map_or (λ end. is_end end d p) r false ≡ true
-          its_end r is = ap (λ (r : Option StackEnd). option_map_or (λ end. is_end end d p) r false) is ∙ and_from (d.id.0 == d.id.0) (p.no == p.no) (eq-eqb d.id.0 d.id.0 refl) (eq-eqb p.no p.no refl)
+  module _ (named : AllByRecursion (λ d. AllByRecursion (λ p. IfSome p.stack (λ end. IsTrue (is_some (far_end o.dps end)))) d.ports) o.dps) (stacks : StacksAreValid conf) where
+    stack_kept : (d : RawDp) → IsIn o.dps d → (p : RawPort) → IsIn d.ports p → (end : RawStackEnd) → p.stack ≡ Some end → fault_if_some (stack_cause o conf (dp_of o d) (port_of o d p) end) (stack_site (at o d p)) ≡ []
+    stack_kept d cd p cp end is = by (far_end o.dps end) refl (subst (λ (r : Option RawStackEnd). IfSome r (λ end. IsTrue (is_some (far_end o.dps end)))) is (of_all (λ (p : RawPort). IfSome p.stack (λ end. IsTrue (is_some (far_end o.dps end)))) d.ports (of_all (λ (d : RawDp). AllByRecursion (λ p. IfSome p.stack (λ end. IsTrue (is_some (far_end o.dps end)))) d.ports) o.dps named d cd) p cp))
+      where
+        stands : IfSome (port_of o d p).stack (IsStackPort conf (dp_of o d) (port_of o d p))
+        stands = of_all (λ (p : Port). IfSome p.stack (IsStackPort conf (dp_of o d) p)) (dp_of o d).ports (of_all (λ (d : Dp). AllByRecursion (λ p. IfSome p.stack (IsStackPort conf d p)) d.ports) conf.dps stacks.each (dp_of o d) (in_mapped (dp_of o) o.dps d cd)) (port_of o d p) (in_mapped (port_of o d) d.ports p cp)
 
-          back : (r : Option Port) → IsSomeAnd r (λ q. q.stack ≡ Some (record { dp = d.id; port = p.no })) → option_map_or (λ q. option_map_or (λ end. is_end end d p) q.stack false) r false ≡ true
-          back None is = absurd is
-          back (Some q) is = its_end q.stack is
+        by : (r : Option StackEnd) → far_end o.dps end ≡ r → IsTrue (is_some (far_end o.dps end)) → fault_if_some (option_map_or (λ far. if is_right_end conf (dp_of o d) (port_of o d p) far then None else Some (Conflict 11)) r (Some Unresolved)) (stack_site (at o d p)) ≡ []
+        by None e here = absurd (true≢false (sym here ∙ ap (λ (r : Option StackEnd). is_some r) e))
+        by (Some far) e here =
+            let far_is : (port_of o d p).stack ≡ Some far = ap (λ (r : Option RawStackEnd). option_map (λ end. unwrap_or (far_end o.dps end) (record { dp = d.id; port = p.no })) r) is ∙ ap (λ (r : Option StackEnd). Some (unwrap_or r (record { dp = d.id; port = p.no }))) e in
+            ap (λ (b : Bool). fault_if_some (if b then None else Some (Conflict 11)) (stack_site (at o d p))) (right_end (dp_of o d) (port_of o d p) far (subst (λ (r : Option StackEnd). IfSome r (IsStackPort conf (dp_of o d) (port_of o d p))) far_is stands))
 
-      stack_kept : (d : RawDp) → IsIn o.dps d → (p : RawPort) → IsIn d.ports p → (end : RawStackEnd) → p.stack ≡ Some end → fault_of (stack_cause o conf (dp_of o d) (port_of o d p) end) (stack_site (at d p)) ≡ []
-      stack_kept d cd p cp end is = by (far_end o.dps end) refl (subst (λ (r : Option RawStackEnd). IfSome r (λ end. IsTrue (is_some (far_end o.dps end)))) is (port_names d cd p cp).far_end)
-        where
-          stands : IfSome (port_of o d p).stack (IsStackPort conf (dp_of o d) (port_of o d p))
-          stands = of_all (λ (p : Port). IfSome p.stack (IsStackPort conf (dp_of o d) p)) (dp_of o d).ports (of_all (λ (d : Dp). AllByRecursion (λ p. IfSome p.stack (IsStackPort conf d p)) d.ports) conf.dps valid.stacks.each (dp_of o d) (in_mapped (dp_of o) o.dps d cd)) (port_of o d p) (in_mapped (port_of o d) d.ports p cp)
+    one_end : (r : Option RawStackEnd) (end : RawStackEnd) → IsIn (to_list r) end → r ≡ Some end
+    one_end None end i = absurd i
+    one_end (Some e) end (inl same) = ap Some same
+    one_end (Some e) end (inr i) = absurd i
 
-          by : (r : Option StackEnd) → far_end o.dps end ≡ r → IsTrue (is_some (far_end o.dps end)) → fault_of (option_map_or (λ far. if is_right_end conf (dp_of o d) (port_of o d p) far then None else Some (Conflict 11)) r (Some Unresolved)) (stack_site (at d p)) ≡ []
-          by None e here = absurd (true≢false (sym here ∙ ap (λ (r : Option StackEnd). is_some r) e))
-          by (Some far) e here =
-              let far_is : (port_of o d p).stack ≡ Some far = ap (λ (r : Option RawStackEnd). option_map (λ end. unwrap_or (far_end o.dps end) (record { dp = d.id; port = p.no })) r) is ∙ ap (λ (r : Option StackEnd). Some (unwrap_or r (record { dp = d.id; port = p.no }))) e in
-              ap (λ (b : Bool). fault_of (if b then None else Some (Conflict 11)) (stack_site (at d p))) (right_end (dp_of o d) (port_of o d p) far (subst (λ (r : Option StackEnd). IfSome r (IsStackPort conf (dp_of o d) (port_of o d p))) far_is stands))
-
-      one_end : (r : Option RawStackEnd) (end : RawStackEnd) → IsIn (to_list r) end → r ≡ Some end
-      one_end None end i = absurd i
-      one_end (Some e) end (inl same) = ap Some same
-      one_end (Some e) end (inr i) = absurd i
-
-      pub stacks_kept : wrong_stacks o conf ≡ []
-      stacks_kept = all_interfaces (wrong_stack o conf) (λ d cd p cp. all_empty (λ (end : RawStackEnd). fault_of (stack_cause o conf (dp_of o d) (port_of o d p) end) (stack_site (at d p))) (to_list p.stack) (λ end i. stack_kept d cd p cp end (one_end p.stack end i)))
+    pub stacks_kept : wrong_stacks o conf ≡ []
+    stacks_kept = all_interfaces o (wrong_stack o conf) (λ d cd p cp. all_empty (λ (end : RawStackEnd). fault_if_some (stack_cause o conf (dp_of o d) (port_of o d p) end) (stack_site (at o d p))) (to_list p.stack) (λ end i. stack_kept d cd p cp end (one_end p.stack end i)))

@@ -1,4 +1,4 @@
--- A valid configuration keeps the rules on names and numbers.
+-- No rule on names and numbers is broken where what they ask holds.
 use Rattle.std.specs.Prelude.{◌≡◌, ℕ, ◌<◌, ◌==◌, false, List, [], ◌∷◌, ◌++◌, codes, Option, Some, None, IsTrue, is_some, is_none, option_and_then}
 use Rattle.std.specs.List.{AllByRecursion, flat_map, filter_map}
 use Rattle.std.specs.Option.{option_map_or}
@@ -12,8 +12,8 @@ use Rattle.conf_types.specs.declared.datapath.Port.{Port}
 use Rattle.conf_types.specs.declared.vlan.Vlan.{Vlan}
 use Rattle.conf_types.specs.Attached.{acl_named}
 use Rattle.conf_types.specs.Configuration.{Configuration}
-use Rattle.conf_types.specs.Lists.{AreDistinct, IsTextBefore, is_same}
-use Rattle.conf_types.specs.Valid.{IsValid, IsPort, IsDatapath, AclsExist}
+use Rattle.conf_types.specs.Lists.{EachBefore, AreDistinct, IsTextBefore, is_same}
+use Rattle.conf_types.specs.Valid.{IsValid, IsPort, IsDatapath, AclsExist, vlans_named}
 use Rattle.conf_shape.specs.declared.raw.RawAclNames.{RawAclNames}
 use Rattle.conf_shape.specs.declared.raw.VlanRef.{VlanRef}
 use Rattle.conf_shape.specs.declared.raw.RawPort.{RawPort}
@@ -21,16 +21,17 @@ use Rattle.conf_shape.specs.declared.raw.RawDp.{RawDp}
 use Rattle.conf_shape.specs.declared.refused.ConfCause.TheVariants.{Duplicate, Unresolved, Conflict}
 use Rattle.conf_resolve.specs.declared.ordered.OrderedConf.{OrderedConf}
 use Rattle.conf_resolve.specs.declared.ordered.PlacedVlan.{PlacedVlan}
-use Rattle.conf_resolve.specs.InOrder.{dp_site, port_site}
+use Rattle.conf_resolve.specs.InOrder.{port_site}
 use Rattle.conf_resolve.specs.Resolved.{port_of, dp_of, vlan_of, acl_names, resolved, to_list, vid_of}
-use Rattle.conf_rules.specs.Names.{repeated_vlan, repeated_vlans, repeated_dp, repeated_dps, repeated_port, repeated_ports_of, repeated_ports, is_same_vlan, named_again, twice_of_port, twice_of_dp, vlans_twice, unknown_acl, unknown_at, unknown_acls_of_dp, unknown_acls, are_both, both_of_vlan, both_of_dp, acls_twice}
-use Rattle.conf_rules.specs.Places.{fault_if, under, name_site, each_at, one_at, list_at, with_earlier, is_repeat}
+use Rattle.conf_rules.specs.Names.{repeated_vlans, repeated_dps, repeated_ports_of, repeated_ports, is_same_vlan, named_again, twice_of_port, twice_of_dp, vlans_twice, unknown_acl, unknown_at, unknown_acls_of_vlan, unknown_acls_of_port, unknown_acls_of_dp, unknown_acls, are_both, both_of_vlan, both_of_dp, acls_twice}
+use Rattle.conf_rules.specs.Places.{fault_if, under, each_at, one_at, list_at, with_earlier, is_repeat}
 use Rattle.law_checks.proofs.Acls.{acls_at}
+use Rattle.law_checks.proofs.Apart.{no_vlan_twice, no_dp_twice, no_port_twice}
 use Rattle.law_checks.proofs.Datapaths.{named_as_list}
 use Rattle.law_checks.proofs.Empty.{none_left, none_right, none_at, passes, values_at, HasNoRepeat}
-use Rattle.law_checks.proofs.Kept.{both_empty, all_empty, no_fault, is_value, repeats_none, repeat_free, before_unmapped, before_unkept}
-use Rattle.law_checks.proofs.Members.{IsIn, of_all, in_mapped, in_kept, before_by, before_parts}
-use Rattle.law_checks.proofs.Orders.{other_texts}
+use Rattle.law_checks.proofs.Kept.{both_empty, all_empty, no_fault, is_value, repeats_none, before_unkept}
+use Rattle.law_checks.proofs.Members.{IsIn, of_all, all_by, in_mapped, in_kept, before_by, before_parts}
+use Rattle.law_checks.proofs.Orders.{not_same}
 
 pub before_not_same : (a b : List ℕ) → IsTextBefore a b → is_same a b ≡ false
 before_not_same a b is = ap is_eq is
@@ -74,42 +75,13 @@ module _ (o : OrderedConf) where
   abbrev conf : Configuration
   conf = resolved o
 
-  module _ (valid : IsValid conf) where
-    -- ---- VLANs, datapaths and interfaces
+  -- ---- VLANs that an interface names
 
-    pub vlans_kept : repeated_vlans o ≡ []
-    vlans_kept =
-        let numbers = before_by (λ (v w : PlacedVlan). v.vlan.vid < w.vlan.vid) (λ v w. (v.vlan.vid == w.vlan.vid) ≡ false) o.vlans (before_unmapped (λ (v w : Vlan). v.vid < w.vid) (λ (v : PlacedVlan). vlan_of v.vlan) o.vlans valid.vlans.in_order) (λ v w i j lt. ne_eqb v.vlan.vid w.vlan.vid (λ same. omega arith)) in
-        let names = before_by (λ (v w : PlacedVlan). v.vlan.names.name ≡ w.vlan.names.name → ⊥) (λ v w. is_same v.vlan.names.name w.vlan.names.name ≡ false) o.vlans (before_unmapped (λ (v w : Vlan). v.name ≡ w.name → ⊥) (λ (v : PlacedVlan). vlan_of v.vlan) o.vlans valid.vlans.names) (λ v w i j other. other_texts v.vlan.names.name w.vlan.names.name other) in
-        all_empty repeated_vlan (with_earlier [] o.vlans) (λ item i. both_empty _ _
-        (no_fault _ _ _ (repeat_free (λ (a b : PlacedVlan). a.vlan.vid == b.vlan.vid) o.vlans numbers item i))
-        (no_fault _ _ _ (repeat_free (λ (a b : PlacedVlan). is_same a.vlan.names.name b.vlan.names.name) o.vlans names item i)))
-
-    pub dps_kept : repeated_dps o ≡ []
-    dps_kept =
-        let ids = before_by (λ (d e : RawDp). d.id.0 ≡ e.id.0 → ⊥) (λ d e. (d.id.0 == e.id.0) ≡ false) o.dps (before_unmapped (λ (d e : Dp). d.id.0 ≡ e.id.0 → ⊥) (dp_of o) o.dps valid.datapaths.ids) (λ d e i j other. ne_eqb d.id.0 e.id.0 other) in
-        let names = before_by (λ (d e : RawDp). IsTextBefore d.names.name e.names.name) (λ d e. is_same d.names.name e.names.name ≡ false) o.dps (before_unmapped (λ (d e : Dp). IsTextBefore d.name e.name) (dp_of o) o.dps valid.datapaths.in_order) (λ d e i j is. before_not_same d.names.name e.names.name is) in
-        all_empty repeated_dp (with_earlier [] o.dps) (λ item i. both_empty _ _
-        (no_fault _ Duplicate (under (dp_site item.1) (codes "dp_id")) (repeat_free (λ (a b : RawDp). a.id.0 == b.id.0) o.dps ids item i))
-        (no_fault _ Duplicate (name_site (dp_site item.1) item.1.names) (repeat_free (λ (a b : RawDp). is_same a.names.name b.names.name) o.dps names item i)))
-
-    pub datapath : (d : RawDp) → IsIn o.dps d → IsDatapath conf (dp_of o d)
-    datapath d cd = of_all (IsDatapath conf) conf.dps valid.datapaths.each (dp_of o d) (in_mapped (dp_of o) o.dps d cd)
-
-    pub ports_kept : repeated_ports o ≡ []
-    ports_kept = all_empty repeated_ports_of o.dps (λ d cd.
-        let numbers = before_by (λ (p q : RawPort). p.no < q.no) (λ p q. (p.no == q.no) ≡ false) d.ports (before_unmapped (λ (p q : Port). p.no < q.no) (port_of o d) d.ports (datapath d cd).in_order) (λ p q i j lt. ne_eqb p.no q.no (λ same. omega arith)) in
-        let names = before_by (λ (p q : RawPort). p.names.name ≡ q.names.name → ⊥) (λ p q. is_same p.names.name q.names.name ≡ false) d.ports (before_unmapped (λ (p q : Port). p.name ≡ q.name → ⊥) (port_of o d) d.ports (datapath d cd).port_names) (λ p q i j other. other_texts p.names.name q.names.name other) in
-        all_empty (repeated_port d) (with_earlier [] d.ports) (λ item i. both_empty _ _
-        (no_fault _ _ _ (repeat_free (λ (a b : RawPort). a.no == b.no) d.ports numbers item i))
-        (no_fault _ _ _ (repeat_free (λ (a b : RawPort). is_same a.names.name b.names.name) d.ports names item i))))
-
-    -- ---- VLANs that an interface names
-
+  module _ (all : AllByRecursion (λ d. AllByRecursion (λ p. AreDistinct (vlans_named p)) d.ports) conf.dps) where
     tagged_once : (d : RawDp) → IsIn o.dps d → (p : RawPort) → IsIn d.ports p → HasNoRepeat (is_same_vlan o) (to_list p.native) p.tagged
     tagged_once d cd p cp =
-        let port = of_all (IsPort conf) (dp_of o d).ports (datapath d cd).ports (port_of o d p) (in_mapped (port_of o d) d.ports p cp) in
-        let parts = before_parts (λ (m n : ℕ). m ≡ n → ⊥) (to_list (option_and_then (vid_of o.vlans) p.native)) (filter_map (vid_of o.vlans) p.tagged) (subst AreDistinct (named_as_list (port_of o d p)) port.once) in
+        let once = of_all (λ (p : Port). AreDistinct (vlans_named p)) (dp_of o d).ports (of_all (λ (d : Dp). AllByRecursion (λ p. AreDistinct (vlans_named p)) d.ports) conf.dps all (dp_of o d) (in_mapped (dp_of o) o.dps d cd)) (port_of o d p) (in_mapped (port_of o d) d.ports p cp) in
+        let parts = before_parts (λ (m n : ℕ). m ≡ n → ⊥) (to_list (option_and_then (vid_of o.vlans) p.native)) (filter_map (vid_of o.vlans) p.tagged) (subst AreDistinct (named_as_list (port_of o d p)) once) in
         record {
           among = before_by (λ (a b : VlanRef). (m n : ℕ) → vid_of o.vlans a ≡ Some m → vid_of o.vlans b ≡ Some n → m ≡ n → ⊥) (λ a b. is_same_vlan o a b ≡ false) p.tagged (before_unkept (λ (m n : ℕ). m ≡ n → ⊥) (vid_of o.vlans) p.tagged parts.1) (λ a b i j h. differ o a b h);
           across = λ a b i j. differ o a b (λ m n am bn. parts.2 m n (native_number o p.native a m i am) (in_kept (vid_of o.vlans) p.tagged b n j bn));
@@ -122,17 +94,40 @@ module _ (o : OrderedConf) where
         all_empty (named_again o) (each_at site items) (λ item i.
         no_fault (is_repeat (is_same_vlan o) item.1) Duplicate item.0 (of_all (λ item. is_repeat (is_same_vlan o) item ≡ false) items (repeats_none (is_same_vlan o) (to_list p.native) p.tagged (tagged_once d cd p cp)) item.1 (is_value (each_at site items) items (values_at site items) item i)))))
 
-    -- ---- ACLs that are named
+  -- ---- ACLs that are named
 
-    acls_known : (site : List (List ℕ)) (acls : RawAclNames) → are_both acls ≡ false → AclsExist conf (acl_names acls) → unknown_at conf site acls ≡ []
-    acls_known site acls single exist = sym (flat_map-append (unknown_acl conf) (one_at site acls) (list_at site acls)) ∙ all_empty (unknown_acl conf) (acls_at site acls) (λ item i.
-        no_fault (is_none (acl_named conf.acls item.1)) Unresolved item.0 (known (acl_named conf.acls item.1) (of_all (λ name. IsTrue (is_some (acl_named conf.acls name))) (acl_names acls) exist item.1 (acl_value site acls single item i))))
+  acls_known : (site : List (List ℕ)) (acls : RawAclNames) → are_both acls ≡ false → AclsExist conf (acl_names acls) → unknown_at conf site acls ≡ []
+  acls_known site acls single exist = sym (flat_map-append (unknown_acl conf) (one_at site acls) (list_at site acls)) ∙ all_empty (unknown_acl conf) (acls_at site acls) (λ item i.
+      no_fault (is_none (acl_named conf.acls item.1)) Unresolved item.0 (known (acl_named conf.acls item.1) (of_all (λ name. IsTrue (is_some (acl_named conf.acls name))) (acl_names acls) exist item.1 (acl_value site acls single item i))))
 
-    pub acls_kept : acls_twice o ≡ [] → unknown_acls o conf ≡ []
-    acls_kept none = both_empty _ _
-        (all_empty (λ (v : PlacedVlan). unknown_at conf v.site v.vlan.acls) o.vlans (λ v cv.
-        acls_known v.site v.vlan.acls (passes (are_both v.vlan.acls) (Conflict 7) v.site (none_at both_of_vlan o.vlans (none_left (flat_map both_of_vlan o.vlans) (flat_map both_of_dp o.dps) none) v cv))
-        (of_all (λ (v : Vlan). AclsExist conf v.acls) conf.vlans valid.acls.of_vlans (vlan_of v.vlan) (in_mapped (λ (v : PlacedVlan). vlan_of v.vlan) o.vlans v cv))))
-        (all_empty (unknown_acls_of_dp conf) o.dps (λ d cd. all_empty (λ (p : RawPort). unknown_at conf (port_site d p) p.acls) d.ports (λ p cp.
-        acls_known (port_site d p) p.acls (passes (are_both p.acls) (Conflict 7) (port_site d p) (none_at (λ (p : RawPort). fault_if (are_both p.acls) (Conflict 7) (port_site d p)) d.ports (none_at both_of_dp o.dps (none_right (flat_map both_of_vlan o.vlans) (flat_map both_of_dp o.dps) none) d cd) p cp))
-        (of_all (λ (p : Port). AclsExist conf p.acls) (dp_of o d).ports (of_all (λ (d : Dp). AllByRecursion (λ p. AclsExist conf p.acls) d.ports) conf.dps valid.acls.of_ports (dp_of o d) (in_mapped (dp_of o) o.dps d cd)) (port_of o d p) (in_mapped (port_of o d) d.ports p cp)))))
+  pub acls_kept : acls_twice o ≡ [] → AllByRecursion (λ v. AclsExist conf v.acls) conf.vlans → AllByRecursion (λ d. AllByRecursion (λ p. AclsExist conf p.acls) d.ports) conf.dps → unknown_acls o conf ≡ []
+  acls_kept none of_vlans of_ports =
+      let one_of_vlan = none_at both_of_vlan o.vlans (none_left (flat_map both_of_vlan o.vlans) (flat_map both_of_dp o.dps) none) in
+      let one_of_dp = none_at both_of_dp o.dps (none_right (flat_map both_of_vlan o.vlans) (flat_map both_of_dp o.dps) none) in
+      both_empty (flat_map (unknown_acls_of_vlan conf) o.vlans) (flat_map (unknown_acls_of_dp conf) o.dps)
+      (all_empty (unknown_acls_of_vlan conf) o.vlans (λ v i. acls_known v.site v.vlan.acls (passes (are_both v.vlan.acls) (Conflict 7) v.site (one_of_vlan v i)) (of_all (λ (v : Vlan). AclsExist conf v.acls) conf.vlans of_vlans (vlan_of v.vlan) (in_mapped (λ (v : PlacedVlan). vlan_of v.vlan) o.vlans v i))))
+      (all_empty (unknown_acls_of_dp conf) o.dps (λ d i. all_empty (unknown_acls_of_port conf d) d.ports (λ p j.
+      acls_known (port_site d p) p.acls (passes (are_both p.acls) (Conflict 7) (port_site d p) (none_at (λ (p : RawPort). fault_if (are_both p.acls) (Conflict 7) (port_site d p)) d.ports (one_of_dp d i) p j))
+      (of_all (λ (p : Port). AclsExist conf p.acls) (dp_of o d).ports (of_all (λ (d : Dp). AllByRecursion (λ p. AclsExist conf p.acls) d.ports) conf.dps of_ports (dp_of o d) (in_mapped (dp_of o) o.dps d i)) (port_of o d p) (in_mapped (port_of o d) d.ports p j)))))
+
+  -- ---- VLANs, datapaths and interfaces of a valid configuration
+
+  module _ (valid : IsValid conf) where
+    pub vlans_kept : repeated_vlans o ≡ []
+    vlans_kept = no_vlan_twice o (before_by (λ (v w : Vlan). v.vid < w.vid) (λ v w. v.vid ≡ w.vid → ⊥) conf.vlans valid.vlans.in_order (λ v w i j lt same. omega arith)) valid.vlans.names
+
+    pub dps_kept : repeated_dps o ≡ []
+    dps_kept = no_dp_twice o valid.datapaths.ids (before_by (λ (d e : Dp). IsTextBefore d.name e.name) (λ d e. d.name ≡ e.name → ⊥) conf.dps valid.datapaths.in_order (λ d e i j is. not_same d.name e.name (before_not_same d.name e.name is)))
+
+    pub numbers_differ : AllByRecursion (λ d. EachBefore (λ p q. p.no ≡ q.no → ⊥) d.ports) conf.dps
+    numbers_differ = all_by (λ (d : Dp). EachBefore (λ (p q : Port). p.no ≡ q.no → ⊥) d.ports) conf.dps (λ d i.
+        before_by (λ (p q : Port). p.no < q.no) (λ p q. p.no ≡ q.no → ⊥) d.ports (of_all (IsDatapath conf) conf.dps valid.datapaths.each d i).in_order (λ p q j k lt same. omega arith))
+
+    pub ports_kept : repeated_ports o ≡ []
+    ports_kept = all_empty repeated_ports_of o.dps (λ d cd.
+        let i = in_mapped (dp_of o) o.dps d cd in
+        no_port_twice o d (of_all (λ (d : Dp). EachBefore (λ p q. p.no ≡ q.no → ⊥) d.ports) conf.dps numbers_differ (dp_of o d) i) (of_all (IsDatapath conf) conf.dps valid.datapaths.each (dp_of o d) i).port_names)
+
+    pub named_once : AllByRecursion (λ d. AllByRecursion (λ p. AreDistinct (vlans_named p)) d.ports) conf.dps
+    named_once = all_by (λ (d : Dp). AllByRecursion (λ p. AreDistinct (vlans_named p)) d.ports) conf.dps (λ d i.
+        all_by (λ (p : Port). AreDistinct (vlans_named p)) d.ports (λ p j. (of_all (IsPort conf) d.ports (of_all (IsDatapath conf) conf.dps valid.datapaths.each d i).ports p j).once))

@@ -1,5 +1,5 @@
--- A valid configuration keeps the rules on routing.
-use Rattle.std.specs.Prelude.{◌≡◌, ℕ, ◌<◌, ◌==◌, ◌&&◌, Bool, true, false, List, [], ◌∷◌, codes, Option, Some, None, nat_le, if◌then◌else◌}
+-- No rule on routing is broken where what it asks holds.
+use Rattle.std.specs.Prelude.{◌≡◌, ℕ, ◌<◌, ◌==◌, ◌&&◌, Bool, true, false, not, List, [], ◌∷◌, codes, Option, Some, None, IsTrue, nat_le, if◌then◌else◌}
 use Rattle.std.specs.List.{AllByRecursion, flat_map, filter_map, list_any, zip, find}
 use Rattle.std.specs.Option.{option_map_or}
 use Rattle.std.proofs.Common.{◌⊎◌, inl, inr, refl, sym, ap, ◌∙◌, subst, true≢false, arith, eqb-true, eq-eqb}
@@ -134,6 +134,49 @@ module _ (o : OrderedConf) where
   abbrev vlan : PlacedVlan → Vlan
   vlan v = vlan_of v.vlan
 
+  -- ---- routers
+
+  not_again : (s : RawRouter) (e : List Router) → ((r : Router) → IsIn e r → AllByRecursion (λ vid. is_among (router_of o s).vlans vid ≡ false) r.vlans) → shared_of_router o (s, (e, router_of o s)) ≡ []
+  not_again s e behind = all_empty (routed_twice o e) (routed_at s) (λ item i.
+      let named = is_value (routed_at s) s.vlans (values_at (under (router_site s) (codes "vlans")) s.vlans) item i in
+      all_empty (λ vid. fault_if (list_any (is_in_router vid) e) (Conflict 13) item.0) (to_list (vid_of o.vlans item.1)) (λ vid j.
+      let here : IsIn (router_of o s).vlans vid = into_once (filter_map (vid_of o.vlans) s.vlans) vid (in_kept (vid_of o.vlans) s.vlans item.1 vid named (number_of (vid_of o.vlans item.1) vid j)) in
+      no_fault (list_any (is_in_router vid) e) (Conflict 13) item.0 (none_any (is_in_router vid) e (λ r cr. false_from_ne_true (is_among r.vlans vid) (λ is.
+      true≢false (sym (among (router_of o s).vlans vid here) ∙ of_all (λ vid. is_among (router_of o s).vlans vid ≡ false) r.vlans (behind r cr) vid (is_one_of r.vlans vid is)))))))
+
+  pub routers_kept : EachBefore (λ r s. AllByRecursion (λ vid. is_among s.vlans vid ≡ false) r.vlans) conf.routers → shared_vlans o conf ≡ []
+  routers_kept apart = empty_behind (router_of o) (λ (r : Router) (s : RawRouter). AllByRecursion (λ vid. is_among (router_of o s).vlans vid ≡ false) r.vlans) (shared_of_router o) [] o.routers (λ s cs e behind. not_again s e behind)
+      (record { among = before_unmapped (λ (r s : Router). AllByRecursion (λ vid. is_among s.vlans vid ≡ false) r.vlans) (router_of o) o.routers apart; across = λ b y i j. absurd i })
+
+  -- ---- routes
+
+  networks : Vlan → List Net4
+  networks v = vips_in conf (routing_set conf v.vid)
+
+  right_route : (v : Vlan) (site : List (List ℕ)) (r : Route) → (leads_inside conf v.vid r.dst ≡ false) × (is_neighbour_address v.vips r.gw.0 ≡ true) → wrong_route conf v (site, r) ≡ []
+  right_route v site r is =
+      both_empty (fault_if (leads_inside conf v.vid r.dst) (Conflict 14) (route_site site (codes "ip_dst"))) (fault_if (not (is_neighbour_address v.vips r.gw.0)) (Conflict 14) (route_site site (codes "ip_gw")))
+      (no_fault (leads_inside conf v.vid r.dst) (Conflict 14) (route_site site (codes "ip_dst")) is.0) (no_lack (is_neighbour_address v.vips r.gw.0) (Conflict 14) (route_site site (codes "ip_gw")) is.1)
+
+  none_of : (v : PlacedVlan) → RoutesAreValid conf (vlan_of v.vlan) → wrong_routes_of conf (v, vlan_of v.vlan) ≡ []
+  unfolding networks
+  none_of v is =
+      let w = vlan_of v.vlan in
+      let site = under v.site (codes "routes") in
+      all_empty (wrong_route conf w) (each_at site w.routes) (λ item i.
+      let r = is_value (each_at site w.routes) w.routes (values_at site w.routes) item i in
+      right_route w item.0 item.1 (
+        none_any (lies_in item.1.dst) (networks w) (λ vip j. not_inside item.1.dst vip (of_all (λ vip. LiesIn item.1.dst vip → ⊥) (networks w) (of_all (λ r. AllByRecursion (λ vip. LiesIn r.dst vip → ⊥) (networks w)) w.routes is.outside item.1 r) vip j)),
+        of_all (λ r. IsTrue (is_neighbour_address w.vips r.gw.0)) w.routes is.reached item.1 r,
+      ))
+
+  pub leads_kept : AllByRecursion (RoutesAreValid conf) conf.vlans → wrong_routes o conf ≡ []
+  leads_kept all = all_empty (wrong_routes_of conf) (vlans_of o conf) (λ e i.
+      let z = of_zipped (λ (v : PlacedVlan). vlan_of v.vlan) o.vlans e i in
+      ap (λ (v : Vlan). wrong_routes_of conf (e.0, v)) (sym z.1) ∙ none_of e.0 (of_all (RoutesAreValid conf) conf.vlans all (vlan e.0) (in_mapped (λ (v : PlacedVlan). vlan_of v.vlan) o.vlans e.0 z.0)))
+
+  -- ---- VIPs and routes of a routing set of a valid configuration
+
   module _ (valid : IsValid conf) where
     is_vlan : (v : PlacedVlan) → IsIn o.vlans v → IsIn conf.vlans (vlan v)
     is_vlan v cv = in_mapped (λ (v : PlacedVlan). vlan_of v.vlan) o.vlans v cv
@@ -166,32 +209,3 @@ module _ (o : OrderedConf) where
 
     pub routes_kept : repeated_routes o conf ≡ []
     routes_kept = none_alike (λ v. v.routes) is_same_route Duplicate (codes "routes") (λ site. route_site site (codes "ip_dst")) (λ r s. AreSame r.dst s.dst → ⊥) other_route (λ r s other same. other (record { ip = sym same.ip; len = sym same.len })) valid.routing.routes
-
-    -- ---- routers
-
-    not_again : (s : RawRouter) (e : List Router) → ((r : Router) → IsIn e r → AllByRecursion (λ vid. is_among (router_of o s).vlans vid ≡ false) r.vlans) → shared_of_router o (s, (e, router_of o s)) ≡ []
-    not_again s e behind = all_empty (routed_twice o e) (routed_at s) (λ item i.
-        let named = is_value (routed_at s) s.vlans (values_at (under (router_site s) (codes "vlans")) s.vlans) item i in
-        all_empty (λ vid. fault_if (list_any (is_in_router vid) e) (Conflict 13) item.0) (to_list (vid_of o.vlans item.1)) (λ vid j.
-        let here : IsIn (router_of o s).vlans vid = into_once (filter_map (vid_of o.vlans) s.vlans) vid (in_kept (vid_of o.vlans) s.vlans item.1 vid named (number_of (vid_of o.vlans item.1) vid j)) in
-        no_fault (list_any (is_in_router vid) e) (Conflict 13) item.0 (none_any (is_in_router vid) e (λ r cr. false_from_ne_true (is_among r.vlans vid) (λ is.
-        true≢false (sym (among (router_of o s).vlans vid here) ∙ of_all (λ vid. is_among (router_of o s).vlans vid ≡ false) r.vlans (behind r cr) vid (is_one_of r.vlans vid is)))))))
-
-    pub routers_kept : shared_vlans o conf ≡ []
-    routers_kept = empty_behind (router_of o) (λ (r : Router) (s : RawRouter). AllByRecursion (λ vid. is_among (router_of o s).vlans vid ≡ false) r.vlans) (shared_of_router o) [] o.routers (λ s cs e behind. not_again s e behind)
-        (record { among = before_unmapped (λ (r s : Router). AllByRecursion (λ vid. is_among s.vlans vid ≡ false) r.vlans) (router_of o) o.routers valid.routing.apart; across = λ b y i j. absurd i })
-
-    -- ---- routes
-
-    pub leads_kept : wrong_routes o conf ≡ []
-    leads_kept = all_empty (wrong_routes_of conf) (vlans_of o conf) (λ e i.
-        let z = of_zipped (λ (v : PlacedVlan). vlan_of v.vlan) o.vlans e i in
-        ap (λ (v : Vlan). wrong_routes_of conf (e.0, v)) (sym z.1) ∙ right e.0 (of_all (RoutesAreValid conf) conf.vlans valid.routing.each (vlan e.0) (is_vlan e.0 z.0)))
-      where
-        right : (v : PlacedVlan) → RoutesAreValid conf (vlan_of v.vlan) → wrong_routes_of conf (v, vlan_of v.vlan) ≡ []
-        right v is = all_empty (wrong_route conf (vlan_of v.vlan)) (each_at (under v.site (codes "routes")) v.vlan.routes) (λ item i.
-            let here = is_value (each_at (under v.site (codes "routes")) v.vlan.routes) v.vlan.routes (values_at (under v.site (codes "routes")) v.vlan.routes) item i in
-            both_empty _ _
-            (no_fault (leads_inside conf v.vlan.vid item.1.dst) (Conflict 14) (route_site item.0 (codes "ip_dst")) (none_any (lies_in item.1.dst) (vips_in conf (routing_set conf v.vlan.vid)) (λ vip j.
-            not_inside item.1.dst vip (of_all (λ vip. LiesIn item.1.dst vip → ⊥) (vips_in conf (routing_set conf v.vlan.vid)) (of_all (λ (route : Route). AllByRecursion (λ vip. LiesIn route.dst vip → ⊥) (vips_in conf (routing_set conf v.vlan.vid))) v.vlan.routes is.outside item.1 here) vip j))))
-            (no_lack (is_neighbour_address v.vlan.vips item.1.gw.0) (Conflict 14) (route_site item.0 (codes "ip_gw")) (of_all (λ (route : Route). is_neighbour_address v.vlan.vips route.gw.0 ≡ true) v.vlan.routes is.reached item.1 here)))

@@ -19,8 +19,8 @@ law raw range none = let whole = unbroken (ordered raw) (resolved (ordered raw))
   vlans = vlans_valid raw range whole;
   datapaths = datapaths_valid raw range whole;
   acls = acls_valid raw range whole;
-  mirrors = mirrors_valid raw range whole;
-  stacks = stacks_valid raw range whole;
+  mirrors = mirrors_valid (ordered raw) whole.mirrors;
+  stacks = stacks_valid (ordered raw) whole.stacks;
   routing = routing_valid raw range whole;
-  limits = limits_valid raw range whole;
+  limits = limits_valid (ordered raw) whole.limits;
 }

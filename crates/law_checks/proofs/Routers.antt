@@ -1,16 +1,17 @@
--- The routing of a configuration that breaks no rule is valid.
+-- Routing is valid where no rule on it is broken.
 use Rattle.std.specs.Prelude.{◌≡◌, ℕ, ◌==◌, ◌&&◌, ◌||◌, Bool, true, false, not, List, [], map, codes, Option, Some, IsTrue, is_some}
 use Rattle.std.specs.List.{AllByRecursion, flat_map, filter_map, list_any, zip}
 use Rattle.std.specs.Option.{option_map_or}
 use Rattle.std.proofs.Common.{inl, refl, sym, ◌∙◌, subst, true≢false}
 use Rattle.std.proofs.lemmas.Bool.{or_parts, and_from, eq-eqb, false_from_ne_true}
 use Rattle.std.proofs.lemmas.Option.{same_Some}
+use Rattle.net_base.specs.declared.net4.Net4.{Net4}
 use Rattle.conf_types.specs.declared.vlan.Route.{Route}
 use Rattle.conf_types.specs.declared.vlan.Router.{Router}
 use Rattle.conf_types.specs.declared.vlan.Vlan.{Vlan}
 use Rattle.conf_types.specs.Configuration.{Configuration, vlan_with}
 use Rattle.conf_types.specs.Lists.{EachBefore, AreDistinct, IsTextBefore, is_among}
-use Rattle.conf_types.specs.Networks.{AreApart, AreSame, is_neighbour_address}
+use Rattle.conf_types.specs.Networks.{AreApart, AreSame, LiesIn, is_neighbour_address}
 use Rattle.conf_types.specs.Routing.{routing_set, vips_in, routes_in}
 use Rattle.conf_types.specs.Valid.{RoutesAreValid, RoutingIsValid}
 use Rattle.conf_shape.specs.declared.raw.VlanRef.{VlanRef}
@@ -20,13 +21,14 @@ use Rattle.conf_shape.specs.declared.raw.RawConf.{RawConf}
 use Rattle.conf_shape.specs.declared.refused.ConfCause.{ConfCause}
 use Rattle.conf_shape.specs.declared.refused.ConfCause.TheVariants.{Duplicate, Conflict}
 use Rattle.conf_shape.specs.declared.refused.ConfFault.{ConfFault}
+use Rattle.conf_resolve.specs.declared.ordered.OrderedConf.{OrderedConf}
 use Rattle.conf_resolve.specs.declared.ordered.PlacedVlan.{PlacedVlan}
 use Rattle.conf_resolve.specs.InOrder.{ordered, vlans_in_order, routers_in_order, router_site, is_text_before}
 use Rattle.conf_resolve.specs.InRange.{IsInRange, NamesVlan}
 use Rattle.conf_resolve.specs.Resolved.{router_of, vlan_of, resolved, to_list, vid_of}
 use Rattle.conf_rules.specs.Names.{routed_at}
 use Rattle.conf_rules.specs.Places.{fault_if, under, each_at, vlans_of, with_earlier, is_repeat}
-use Rattle.conf_rules.specs.Routing.{are_routed, overlap, is_in_router, routed_twice, shared_of_router, lies_in, route_site, leads_inside, wrong_route, wrong_routes_of, is_same_route}
+use Rattle.conf_rules.specs.Routing.{are_routed, overlap, is_in_router, routed_twice, shared_of_router, shared_vlans, lies_in, route_site, leads_inside, wrong_route, wrong_routes_of, wrong_routes, is_same_route}
 use Rattle.law_checks.proofs.Datapaths.{by_name, is_there}
 use Rattle.law_checks.proofs.Empty.{none_left, none_right, none_at, none_of_values, values_at, passes, holds, no_repeats, HasNoRepeat, in_earlier, each_behind, none_behind}
 use Rattle.law_checks.proofs.Members.{IsIn, of_all, all_by, all_mapped, of_kept, fails, among, is_one_of, in_zipped, before_by, before_both, before_mapped, EachTo, second_fails}
@@ -81,9 +83,56 @@ alike_in_sets {X = X} conf f alike cause key place R vs told back are none vids 
     (λ v e here u cu routed a b ia ib. told a b (behind_one conf f alike cause key place v e (vlan_of v.vlan) here u cu routed a b ia ib)) none).among))
     vids set
 
-module _ (raw : RawConf) (range : IsInRange raw) where
+-- ---- routers and routes
+
+module _ (o : OrderedConf) where
   abbrev conf : Configuration
-  conf = resolved (ordered raw)
+  conf = resolved o
+
+  not_again : (s : RawRouter) (e : List Router) → shared_of_router o (s, (e, router_of o s)) ≡ [] → (r : Router) → IsIn e r → AllByRecursion (λ vid. is_among (router_of o s).vlans vid ≡ false) r.vlans
+  not_again s e none r cr = all_by (λ vid. is_among (router_of o s).vlans vid ≡ false) r.vlans (λ vid i.
+      false_from_ne_true (is_among (router_of o s).vlans vid) (λ here.
+      let m = of_kept (vid_of o.vlans) s.vlans vid (of_once (filter_map (vid_of o.vlans) s.vlans) vid (is_one_of (router_of o s).vlans vid here)) in
+      let n = none_of_values (routed_twice o e) (routed_at s) s.vlans (values_at (under (router_site s) (codes "vlans")) s.vlans) none m.0 m.1 in
+      let not_any = passes (list_any (is_in_router vid) e) (Conflict 13) n.0 (none_at (λ vid. fault_if (list_any (is_in_router vid) e) (Conflict 13) n.0) (to_list (vid_of o.vlans m.0)) n.1 vid (subst (λ (n : Option ℕ). IsIn (to_list n) vid) (sym m.2) (inl refl))) in
+      true≢false (sym (among r.vlans vid i) ∙ fails (is_in_router vid) e not_any r cr)))
+
+  pub routers_apart : shared_vlans o conf ≡ [] → EachBefore (λ r s. AllByRecursion (λ vid. is_among s.vlans vid ≡ false) r.vlans) conf.routers
+  routers_apart none = before_mapped (λ (r s : Router). AllByRecursion (λ vid. is_among s.vlans vid ≡ false) r.vlans) (router_of o) o.routers
+      (each_behind (router_of o) (λ (r : Router) (s : RawRouter). AllByRecursion (λ vid. is_among (router_of o s).vlans vid ≡ false) r.vlans) (shared_of_router o) [] o.routers (λ s e is r cr. not_again s e is r cr) none).among
+
+  as_vlan : PlacedVlan → Vlan
+  as_vlan v = vlan_of v.vlan
+
+  networks : Vlan → List Net4
+  networks v = vips_in conf (routing_set conf v.vid)
+
+  route_right : (v : Vlan) (site : List (List ℕ)) (r : Route) → wrong_route conf v (site, r) ≡ [] → (leads_inside conf v.vid r.dst ≡ false) × (is_neighbour_address v.vips r.gw.0 ≡ true)
+  route_right v site r none =
+      let dst = fault_if (leads_inside conf v.vid r.dst) (Conflict 14) (route_site site (codes "ip_dst")) in
+      let gw = fault_if (not (is_neighbour_address v.vips r.gw.0)) (Conflict 14) (route_site site (codes "ip_gw")) in
+      (passes (leads_inside conf v.vid r.dst) (Conflict 14) (route_site site (codes "ip_dst")) (none_left dst gw none), holds (is_neighbour_address v.vips r.gw.0) (Conflict 14) (route_site site (codes "ip_gw")) (none_right dst gw none))
+
+  all_right : (v : PlacedVlan) → wrong_routes_of conf (v, vlan_of v.vlan) ≡ [] → RoutesAreValid conf (vlan_of v.vlan)
+  unfolding networks
+  all_right v none =
+      let w = vlan_of v.vlan in
+      let site = under v.site (codes "routes") in
+      let each : (r : Route) → IsIn w.routes r → (leads_inside conf w.vid r.dst ≡ false) × (is_neighbour_address w.vips r.gw.0 ≡ true) = λ r i. (let at = none_of_values (wrong_route conf w) (each_at site w.routes) w.routes (values_at site w.routes) none r i in route_right w at.0 r at.1) in
+      record {
+        reached = all_by (λ r. IsTrue (is_neighbour_address w.vips r.gw.0)) w.routes (λ r i. (each r i).1);
+        outside = all_by (λ r. AllByRecursion (λ vip. LiesIn r.dst vip → ⊥) (networks w)) w.routes (λ r i. all_by (λ vip. LiesIn r.dst vip → ⊥) (networks w) (λ vip j. outside r.dst vip (fails (lies_in r.dst) (networks w) (each r i).0 vip j)));
+      }
+
+  pub routes_valid : wrong_routes o conf ≡ [] → AllByRecursion (RoutesAreValid conf) conf.vlans
+  unfolding as_vlan
+  routes_valid none = all_mapped (RoutesAreValid conf) as_vlan o.vlans (all_by (λ v. RoutesAreValid conf (as_vlan v)) o.vlans (λ v i. all_right v (none_at (wrong_routes_of conf) (vlans_of o conf) none (v, as_vlan v) (in_zipped as_vlan o.vlans v i))))
+
+-- ---- of a raw configuration in range
+
+module _ (raw : RawConf) (range : IsInRange raw) where
+  abbrev meant : Configuration
+  meant = resolved (ordered raw)
 
   -- ---- the VLANs of routers
 
@@ -94,13 +143,13 @@ module _ (raw : RawConf) (range : IsInRange raw) where
   of_router : (r : RawRouter) (vid : ℕ) → IsIn (router_of (ordered raw) r).vlans vid → (name : VlanRef) × IsIn r.vlans name × (vid_of (vlans_in_order raw) name ≡ Some vid)
   of_router r vid i = of_kept (vid_of (vlans_in_order raw)) r.vlans vid (of_once (filter_map (vid_of (vlans_in_order raw)) r.vlans) vid i)
 
-  router_vlans : AllByRecursion (λ r. AllByRecursion (λ vid. IsTrue (is_some (vlan_with conf.vlans vid))) r.vlans) conf.routers
-  router_vlans = all_mapped (λ (r : Router). AllByRecursion (λ vid. IsTrue (is_some (vlan_with conf.vlans vid))) r.vlans) (router_of (ordered raw)) (routers_in_order raw) (all_by _ (routers_in_order raw) (λ r cr.
-      all_by (λ vid. IsTrue (is_some (vlan_with conf.vlans vid))) (router_of (ordered raw) r).vlans (λ vid i.
+  router_vlans : AllByRecursion (λ r. AllByRecursion (λ vid. IsTrue (is_some (vlan_with meant.vlans vid))) r.vlans) meant.routers
+  router_vlans = all_mapped (λ (r : Router). AllByRecursion (λ vid. IsTrue (is_some (vlan_with meant.vlans vid))) r.vlans) (router_of (ordered raw)) (routers_in_order raw) (all_by _ (routers_in_order raw) (λ r cr.
+      all_by (λ vid. IsTrue (is_some (vlan_with meant.vlans vid))) (router_of (ordered raw) r).vlans (λ vid i.
       let m = of_router r vid i in
       is_there raw range vid (named_there r cr m.0 (of_all NamesVlan r.vlans (of_all (λ (r : RawRouter). AllByRecursion NamesVlan r.vlans) (routers_in_order raw) (routers_in_range raw range) r cr) m.0 m.1) m.1 vid m.2))))
 
-  routers_once : AllByRecursion (λ r. AreDistinct r.vlans) conf.routers
+  routers_once : AllByRecursion (λ r. AreDistinct r.vlans) meant.routers
   routers_once = all_mapped (λ (r : Router). AreDistinct r.vlans) (router_of (ordered raw)) (routers_in_order raw) (all_by _ (routers_in_order raw) (λ r cr. once_distinct (filter_map (vid_of (vlans_in_order raw)) r.vlans)))
 
   routers_rise : EachBefore (λ (r s : RawRouter). IsTextBefore r.name s.name) (routers_in_order raw)
@@ -110,56 +159,24 @@ module _ (raw : RawConf) (range : IsInRange raw) where
       (each_ordered (λ (r s : RawRouter). r.name ≡ s.name → ⊥) (λ r s. is_text_before r.name s.name) raw.routers (λ r s other same. other (sym same)) range.router_names)
       (λ r s not other. text_rises r.name s.name not (other_texts r.name s.name other))
 
-  module _ (whole : BreaksNone (ordered raw) conf) where
-    not_again : (s : RawRouter) (e : List Router) → shared_of_router (ordered raw) (s, (e, router_of (ordered raw) s)) ≡ [] → (r : Router) → IsIn e r → AllByRecursion (λ vid. is_among (router_of (ordered raw) s).vlans vid ≡ false) r.vlans
-    not_again s e none r cr = all_by (λ vid. is_among (router_of (ordered raw) s).vlans vid ≡ false) r.vlans (λ vid i.
-        false_from_ne_true (is_among (router_of (ordered raw) s).vlans vid) (λ here.
-        let m = of_router s vid (is_one_of (router_of (ordered raw) s).vlans vid here) in
-        let n = none_of_values (routed_twice (ordered raw) e) (routed_at s) s.vlans (values_at (under (router_site s) (codes "vlans")) s.vlans) none m.0 m.1 in
-        let not_any = passes (list_any (is_in_router vid) e) (Conflict 13) n.0 (none_at (λ vid. fault_if (list_any (is_in_router vid) e) (Conflict 13) n.0) (to_list (vid_of (vlans_in_order raw) m.0)) n.1 vid (subst (λ (o : Option ℕ). IsIn (to_list o) vid) (sym m.2) (inl refl))) in
-        true≢false (sym (among r.vlans vid i) ∙ fails (is_in_router vid) e not_any r cr)))
-
-    routers_apart : EachBefore (λ r s. AllByRecursion (λ vid. is_among s.vlans vid ≡ false) r.vlans) conf.routers
-    routers_apart = before_mapped (λ (r s : Router). AllByRecursion (λ vid. is_among s.vlans vid ≡ false) r.vlans) (router_of (ordered raw)) (routers_in_order raw)
-        (each_behind (router_of (ordered raw)) (λ (r : Router) (s : RawRouter). AllByRecursion (λ vid. is_among (router_of (ordered raw) s).vlans vid ≡ false) r.vlans) (shared_of_router (ordered raw)) [] (routers_in_order raw) (λ s e none r cr. not_again s e none r cr) whole.one_router).among
-
+  module _ (whole : BreaksNone (ordered raw) meant) where
     -- ---- networks
 
-    vips_apart : (vid : ℕ) → EachBefore AreApart (vips_in conf (routing_set conf vid))
-    vips_apart vid = alike_in_sets conf (λ v. v.vips) overlap (Conflict 12) (codes "faucet_vips") (λ site. site) AreApart (vlans_in_order raw) apart (λ a b r ip in_b in_a. r ip in_a in_b) refl whole.vips_apart (routing_set conf vid) (set_of conf routers_once vid)
+    vips_apart : (vid : ℕ) → EachBefore AreApart (vips_in meant (routing_set meant vid))
+    vips_apart vid = alike_in_sets meant (λ v. v.vips) overlap (Conflict 12) (codes "faucet_vips") (λ site. site) AreApart (vlans_in_order raw) apart (λ a b r ip in_b in_a. r ip in_a in_b) refl whole.vips_apart (routing_set meant vid) (set_of meant routers_once vid)
 
-    routes_differ : (vid : ℕ) → EachBefore (λ r s. AreSame r.dst s.dst → ⊥) (routes_in conf (routing_set conf vid))
-    routes_differ vid = alike_in_sets conf (λ v. v.routes) is_same_route Duplicate (codes "routes") (λ site. route_site site (codes "ip_dst")) (λ r s. AreSame r.dst s.dst → ⊥) (vlans_in_order raw)
+    routes_differ : (vid : ℕ) → EachBefore (λ r s. AreSame r.dst s.dst → ⊥) (routes_in meant (routing_set meant vid))
+    routes_differ vid = alike_in_sets meant (λ v. v.routes) is_same_route Duplicate (codes "routes") (λ site. route_site site (codes "ip_dst")) (λ r s. AreSame r.dst s.dst → ⊥) (vlans_in_order raw)
         (λ r s not same. true≢false (sym (and_from (r.dst.ip.0 == s.dst.ip.0) (r.dst.len == s.dst.len) (eq-eqb r.dst.ip.0 s.dst.ip.0 same.ip) (eq-eqb r.dst.len s.dst.len same.len)) ∙ not))
-        (λ r s other same. other (record { ip = sym same.ip; len = sym same.len })) refl whole.routes_differ (routing_set conf vid) (set_of conf routers_once vid)
+        (λ r s other same. other (record { ip = sym same.ip; len = sym same.len })) refl whole.routes_differ (routing_set meant vid) (set_of meant routers_once vid)
 
-    -- ---- routes
-
-    route_right : (v : PlacedVlan) → IsIn (vlans_in_order raw) v → (r : Route) → IsIn v.vlan.routes r → (leads_inside conf v.vlan.vid r.dst ≡ false) × (is_neighbour_address v.vlan.vips r.gw.0 ≡ true)
-    route_right v cv r cr =
-        let w = vlan_of v.vlan in
-        let of_vlan = none_at (wrong_routes_of conf) (vlans_of (ordered raw) conf) whole.routes_lead_out (v, w) (in_zipped (λ (v : PlacedVlan). vlan_of v.vlan) (vlans_in_order raw) v cv) in
-        let m = none_of_values (wrong_route conf w) (each_at (under v.site (codes "routes")) w.routes) w.routes (values_at (under v.site (codes "routes")) w.routes) of_vlan r cr in
-        let inside = fault_if (leads_inside conf w.vid r.dst) (Conflict 14) (route_site m.0 (codes "ip_dst")) in
-        let far = fault_if (not (is_neighbour_address w.vips r.gw.0)) (Conflict 14) (route_site m.0 (codes "ip_gw")) in (
-          passes (leads_inside conf w.vid r.dst) (Conflict 14) (route_site m.0 (codes "ip_dst")) (none_left inside far m.1),
-          holds (is_neighbour_address w.vips r.gw.0) (Conflict 14) (route_site m.0 (codes "ip_gw")) (none_right inside far m.1),
-        )
-
-    routes_right : (v : PlacedVlan) → IsIn (vlans_in_order raw) v → RoutesAreValid conf (vlan_of v.vlan)
-    routes_right v cv = record {
-      reached = all_by _ v.vlan.routes (λ r cr. (route_right v cv r cr).1);
-      outside = all_by _ v.vlan.routes (λ r cr. all_by _ (vips_in conf (routing_set conf v.vlan.vid)) (λ vip i.
-          outside r.dst vip (fails (lies_in r.dst) (vips_in conf (routing_set conf v.vlan.vid)) (route_right v cv r cr).0 vip i)));
-    }
-
-    pub routing_valid : RoutingIsValid conf
+    pub routing_valid : RoutingIsValid meant
     routing_valid = record {
       in_order = before_mapped (λ (r s : Router). IsTextBefore r.name s.name) (router_of (ordered raw)) (routers_in_order raw) routers_rise;
       vlans = router_vlans;
       once = routers_once;
-      apart = routers_apart;
-      vips = all_by _ conf.vlans (λ v cv. vips_apart v.vid);
-      routes = all_by _ conf.vlans (λ v cv. routes_differ v.vid);
-      each = all_mapped (RoutesAreValid conf) (λ (v : PlacedVlan). vlan_of v.vlan) (vlans_in_order raw) (all_by _ (vlans_in_order raw) (λ v cv. routes_right v cv));
+      apart = routers_apart (ordered raw) whole.one_router;
+      vips = all_by _ meant.vlans (λ v cv. vips_apart v.vid);
+      routes = all_by _ meant.vlans (λ v cv. routes_differ v.vid);
+      each = routes_valid (ordered raw) whole.routes_lead_out;
     }

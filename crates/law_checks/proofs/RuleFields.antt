@@ -9,6 +9,7 @@ use Rattle.net_base.specs.declared.field.FieldId.TheVariants.{InPort, VlanVid}
 use Rattle.net_base.specs.declared.field.Prerequisite.{Prerequisite}
 use Rattle.net_base.specs.FieldId.{number_of, bits_of, may_be_masked, prerequisites_of, all_ones}
 use Rattle.net_base.specs.WellFormed.{Fits, AreAscending, has_prerequisite, has_one, meets_one}
+use Rattle.conf_types.specs.declared.acl.Rule.{Rule}
 use Rattle.conf_types.specs.Lists.{EachBefore}
 use Rattle.conf_types.specs.RuleFields.{MayAsk, MayAskBits, IsNumber, IsMasked, IsPrefix, IsAddress}
 use Rattle.conf_types.specs.Valid.{IsRule, NamesPort}
@@ -61,13 +62,28 @@ ascending : (fs : List Field) → EachBefore (λ (f g : Field). number_of f.id <
 ascending [] r = tt
 ascending (f ∷ fs) r = (r.0, ascending fs r.1)
 
--- what stands somewhere stands there in another order
-still_asked : (before : Field → Field → Bool) (fs : List Field) (id : FieldId) → has_prerequisite id fs ≡ true → has_prerequisite id (in_order before fs) ≡ true
-still_asked before fs id = by (prerequisites_of id)
+-- what is asked for stands there where all stands there
+pub same_asked : (fs gs : List Field) → ((f : Field) → IsIn fs f → IsIn gs f) → (id : FieldId) → has_prerequisite id fs ≡ true → has_prerequisite id gs ≡ true
+same_asked fs gs also id = by (prerequisites_of id)
   where
-    by : (asked : List Prerequisite) → has_one asked fs ≡ true → has_one asked (in_order before fs) ≡ true
+    by : (asked : List Prerequisite) → has_one asked fs ≡ true → has_one asked gs ≡ true
     by [] is = refl
-    by (p ∷ asked) is = let m = some_of (meets_one (p ∷ asked)) fs is in any_by (meets_one (p ∷ asked)) (in_order before fs) m.0 (into_order before fs m.0 m.1) m.2
+    by (p ∷ asked) is = let m = some_of (meets_one (p ∷ asked)) fs is in any_by (meets_one (p ∷ asked)) gs m.0 (also m.0 m.1) m.2
+
+abbrev pub HasWhatItAsks : Rule → Type 0
+HasWhatItAsks rule = AllByRecursion (λ f. IsTrue (has_prerequisite f.id rule.fields)) rule.fields
+
+-- a rule has what its fields ask for where they have as they are written
+pub asks : (r : RawRule) → ((f : RawField) → IsIn r.fields f → has_prerequisite f.field.id (map (λ g. g.field) r.fields) ≡ true) → HasWhatItAsks (rule_of r)
+asks r asked = all_by (λ f. IsTrue (has_prerequisite f.id (in_order before fields))) (in_order before fields) (λ f i.
+    let m = of_mapped (λ (f : RawField). f.field) r.fields f (of_order before fields f i) in
+    same_asked fields (in_order before fields) (λ g j. into_order before fields g j) f.id (subst (λ (g : Field). has_prerequisite g.id fields ≡ true) m.2 (asked m.0 m.1)))
+  where
+    fields : List Field
+    fields = map (λ f. f.field) r.fields
+
+    before : Field → Field → Bool
+    before f g = nat_lt (number_of f.id) (number_of g.id)
 
 -- ---- the ports that are named by their numbers
 
@@ -88,9 +104,7 @@ rule_valid r range asked = record {
         (each_ordered (λ (f g : Field). number_of f.id ≡ number_of g.id → ⊥) before fields (λ f g other same. other (sym same)) (before_mapped (λ (f g : Field). number_of f.id ≡ number_of g.id → ⊥) (λ (f : RawField). f.field) r.fields range.once))
         (λ f g not other. rises_apart (number_of f.id) (number_of g.id) not other));
     fitting = all_by Fits (in_order before fields) (λ f i. fits f (of_all (λ (f : Field). MayAsk f.id f) (in_order before fields) each f i));
-    prerequisites = all_by (λ f. IsTrue (has_prerequisite f.id (in_order before fields))) (in_order before fields) (λ f i.
-        let m = of_mapped (λ (f : RawField). f.field) r.fields f (of_order before fields f i) in
-        still_asked before fields f.id (subst (λ (g : Field). has_prerequisite g.id fields ≡ true) m.2 (asked m.0 m.1)));
+    prerequisites = asks r asked;
   };
   each = each;
   ports = all_joined NamesPort (to_list r.mirror) (flat_map ports_of (items_of r.output)) (of_option NamesPort r.mirror range.mirror)

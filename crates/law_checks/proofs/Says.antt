@@ -25,7 +25,7 @@ use Rattle.conf_shape.specs.declared.raw.RawRule.{RawRule}
 use Rattle.conf_shape.specs.declared.raw.RawStackEnd.{RawStackEnd}
 use Rattle.conf_shape.specs.Faults.{faults_of, first_fault}
 use Rattle.conf_shape.specs.Keys.{Nothing, OwnKey, row, keys_of}
-use Rattle.conf_shape.specs.Raw.{acls_at, names_by, port_flag_keys, port_flags_by, port_flags, port_with, port_of_entry, drop_flag_keys, drop_flags_by, drop_flags, datapath_with, datapath_of_entry, vip_of, route_of, mac_at, vlan_with, vlan_of_entry, output_of, rule_with, rule_of, acl_of_entry, router_of_entry, raw_of}
+use Rattle.conf_shape.specs.Raw.{acls_at, names_by, port_flags, port_with, port_of_entry, drop_flags, datapath_with, datapath_of_entry, vip_of, route_of, mac_at, vlan_with, vlan_of_entry, output_of, rule_with, rule_of, acl_of_entry, router_of_entry, raw_of}
 use Rattle.conf_shape.specs.Reads.{value_at, permission_of, number_of, text_of, words_of, items_of, entries_of, words_at, entries_at, option_at, list_at, one_or_list_of, number_under, default_of, default_flag, default_number, default_text, flag_at, number_at, text_at, label_of, port_of, vlan_of}
 use Rattle.conf_shape.specs.Sections.{key_text, row_at, named_kind, number_or_name}
 use Rattle.conf_shape.specs.Values.{mac_of, net_of, ip_of}

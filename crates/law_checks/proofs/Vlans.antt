@@ -1,12 +1,12 @@
 -- The VLANs of a configuration that breaks no rule are valid, and those that are named by a number are there.
-use Rattle.std.specs.Prelude.{◌≡◌, ℕ, ◌+◌, ◌<◌, ◌==◌, Bool, true, false, List, [], ◌∷◌, ◌++◌, map, codes, Option, Some, None, IfSome, nat_lt, if◌then◌else◌}
+use Rattle.std.specs.Prelude.{◌≡◌, ℕ, ◌+◌, ◌<◌, Bool, true, false, List, [], ◌∷◌, ◌++◌, map, codes, Option, Some, None, IfSome, nat_lt, if◌then◌else◌}
 use Rattle.std.specs.Fmt.{decimal}
 use Rattle.std.specs.List.{AllByRecursion, flat_map, enumerate_from}
 use Rattle.std.specs.Option.{option_map_or}
 use Rattle.std.proofs.Common.{◌⊎◌, inl, inr, refl, sym, ap, ◌∙◌, subst}
 use Rattle.net_base.specs.Numbers.{IsVid}
 use Rattle.conf_types.specs.declared.vlan.Vlan.{Vlan}
-use Rattle.conf_types.specs.Lists.{EachBefore, is_among, is_same}
+use Rattle.conf_types.specs.Lists.{EachBefore, is_among}
 use Rattle.conf_types.specs.Valid.{IsVlan, VlansAreValid}
 use Rattle.conf_shape.specs.declared.raw.VlanRef.{VlanRef}
 use Rattle.conf_shape.specs.declared.raw.VlanRef.TheVariants.{Vid, Name}
@@ -19,12 +19,11 @@ use Rattle.conf_resolve.specs.declared.ordered.PlacedVlan.{PlacedVlan}
 use Rattle.conf_resolve.specs.InOrder.{ports_in_order, dps_in_order, routers_in_order, port_site, router_site, made_vlan, by_number, by_numbers, of_port, named, further, written, vlans_in_order, ordered}
 use Rattle.conf_resolve.specs.InRange.{IsInRange, NamesVlan, VlanIsInRange, DpIsInRange, PortIsInRange}
 use Rattle.conf_resolve.specs.Resolved.{vlan_of, resolved, to_list}
-use Rattle.conf_rules.specs.Names.{repeated_vlan, vid_site}
-use Rattle.conf_rules.specs.Places.{fault_if, is_repeat}
-use Rattle.law_checks.proofs.Empty.{none_left, none_right, passes, none_repeat}
+use Rattle.law_checks.proofs.Apart.{vids_differ, vlan_names_differ}
+use Rattle.law_checks.proofs.Kept.{before_unmapped}
 use Rattle.law_checks.proofs.Made.{made_number, made_in_range}
 use Rattle.law_checks.proofs.Members.{IsIn, of_all, all_by, all_mapped, of_joined, in_front, behind, of_mapped, in_mapped, of_flat, in_flat, is_one_of, before_mapped, before_both}
-use Rattle.law_checks.proofs.Orders.{of_order, into_order, all_ordered, sorted, number_order, rises, not_same}
+use Rattle.law_checks.proofs.Orders.{of_order, into_order, all_ordered, sorted, number_order, rises_apart}
 use Rattle.law_checks.proofs.Unbroken.{BreaksNone}
 
 -- ---- the VLANs that are made
@@ -195,22 +194,11 @@ module _ (raw : RawConf) (range : IsInRange raw) where
   -- ---- they are valid
 
   module _ (whole : BreaksNone (ordered raw) (resolved (ordered raw))) where
-    differ : (item : List PlacedVlan × PlacedVlan) → repeated_vlan item ≡ [] → (is_repeat (λ (a b : PlacedVlan). a.vlan.vid == b.vlan.vid) item ≡ false) × (is_repeat (λ (a b : PlacedVlan). is_same a.vlan.names.name b.vlan.names.name) item ≡ false)
-    differ item none = (
-      passes _ _ _ (none_left (fault_if (is_repeat (λ (a b : PlacedVlan). a.vlan.vid == b.vlan.vid) item) _ (vid_site item.1)) _ none),
-      passes _ _ _ (none_right (fault_if (is_repeat (λ (a b : PlacedVlan). a.vlan.vid == b.vlan.vid) item) _ (vid_site item.1)) _ none),
-    )
-
     pub vlans_rise : EachBefore (λ (v w : PlacedVlan). v.vlan.vid < w.vlan.vid) (vlans_in_order raw)
     vlans_rise =
-        let apart = none_repeat (λ (a b : PlacedVlan). a.vlan.vid == b.vlan.vid) repeated_vlan [] (vlans_in_order raw) (λ item none. (differ item none).0) whole.vlans_differ in
-        before_both (λ (v w : PlacedVlan). nat_lt w.vlan.vid v.vlan.vid ≡ false) (λ v w. (v.vlan.vid == w.vlan.vid) ≡ false) (λ v w. v.vlan.vid < w.vlan.vid) (vlans_in_order raw)
-        (sorted (λ (v w : PlacedVlan). nat_lt v.vlan.vid w.vlan.vid) (number_order (λ (v : PlacedVlan). v.vlan.vid)) (map written raw.vlans ++ new_vlans)) apart.among (λ v w not other. rises v.vlan.vid w.vlan.vid not other)
-
-    vlan_names : EachBefore (λ (v w : PlacedVlan). v.vlan.names.name ≡ w.vlan.names.name → ⊥) (vlans_in_order raw)
-    vlan_names =
-        let apart = none_repeat (λ (a b : PlacedVlan). is_same a.vlan.names.name b.vlan.names.name) repeated_vlan [] (vlans_in_order raw) (λ item none. (differ item none).1) whole.vlans_differ in
-        before_both (λ (v w : PlacedVlan). is_same v.vlan.names.name w.vlan.names.name ≡ false) (λ v w. is_same v.vlan.names.name w.vlan.names.name ≡ false) (λ v w. v.vlan.names.name ≡ w.vlan.names.name → ⊥) (vlans_in_order raw) apart.among apart.among (λ v w not also. not_same v.vlan.names.name w.vlan.names.name not)
+        before_both (λ (v w : PlacedVlan). nat_lt w.vlan.vid v.vlan.vid ≡ false) (λ v w. v.vlan.vid ≡ w.vlan.vid → ⊥) (λ v w. v.vlan.vid < w.vlan.vid) (vlans_in_order raw)
+        (sorted (λ (v w : PlacedVlan). nat_lt v.vlan.vid w.vlan.vid) (number_order (λ (v : PlacedVlan). v.vlan.vid)) (map written raw.vlans ++ new_vlans))
+        (before_unmapped (λ (v w : Vlan). v.vid ≡ w.vid → ⊥) (λ (v : PlacedVlan). vlan_of v.vlan) (vlans_in_order raw) (vids_differ (ordered raw) whole.vlans_differ)) (λ v w not other. rises_apart v.vlan.vid w.vlan.vid not other)
 
     pub vlans_valid : VlansAreValid (resolved (ordered raw))
     vlans_valid = record {
@@ -225,5 +213,5 @@ module _ (raw : RawConf) (range : IsInRange raw) where
         most_hosts = r.most_hosts;
       }));
       in_order = before_mapped (λ (v w : Vlan). v.vid < w.vid) (λ (v : PlacedVlan). vlan_of v.vlan) (vlans_in_order raw) vlans_rise;
-      names = before_mapped (λ (v w : Vlan). v.name ≡ w.name → ⊥) (λ (v : PlacedVlan). vlan_of v.vlan) (vlans_in_order raw) vlan_names;
+      names = vlan_names_differ (ordered raw) whole.vlans_differ;
     }

@@ -24,7 +24,7 @@ use Rattle.conf_shape.specs.Keys.{match_keys}
 use Rattle.conf_resolve.specs.declared.ordered.OrderedConf.{OrderedConf}
 use Rattle.conf_resolve.specs.InOrder.{port_site, ordered}
 use Rattle.conf_resolve.specs.Resolved.{to_list, items_of, once, number_named, dp_of, port_of, resolved}
-use Rattle.conf_rules.specs.Places.{fault_if, fault_of, first, under, each_at, items_at, Interface, interfaces}
+use Rattle.conf_rules.specs.Places.{fault_if, fault_if_some, first, under, each_at, items_at, Interface, interfaces}
 use Rattle.conf_rules.specs.Ports.{wrong_targets, port_at_site, wrong_port, wrong_output, actions_site, mirror_at, outputs_at, wrong_rule, rules_at, lacking_field, lacking_fields, mirrored_cause, wrong_mirrored, is_used, wrong_mirror, stack_cause, wrong_stack}
 use Rattle.law_checks.specs.Says.{Says, PortSays, StackEndSays, OutputSays, ActionsSay, RuleSays, RuleItemSays}
 use Rattle.law_checks.specs.Values.{IsPortOf, IsList, IsOneOrList, IsMap}
@@ -128,7 +128,7 @@ module _ (t : Tree) (raw : RawConf) (says : Says t raw) where
       unmirrored is none = true≢false (sym is ∙ ap (λ (m : OneOrList PortRef). not (length (once (map (λ name. unwrap_or (number_named d name) p.no) (items_of m))) == 0) && is_used (port_of (ordered raw) d p)) none)
 
   stacks_lead : (d : RawDp) (p : RawPort) → Reaches t (port_site d p) (IsPart PortSays p) → PathsLead t IsSection (wrong_stack o conf (at o d p))
-  stacks_lead d p r = each t IsSection (λ end. fault_of (stack_cause o conf (dp_of o d) (port_of o d p) end) (under (port_site d p) (codes "stack"))) (to_list p.stack) (λ end i.
+  stacks_lead d p r = each t IsSection (λ end. fault_if_some (stack_cause o conf (dp_of o d) (port_of o d p) end) (under (port_site d p) (codes "stack"))) (to_list p.stack) (λ end i.
       told_of t IsSection (stack_cause o conf (dp_of o d) (port_of o d p) end) (under (port_site d p) (codes "stack"))
       (onward t (port_site d p) (IsPart PortSays p) (codes "stack" ∷ []) (λ v. IsSection (out-Tree v)) r (λ u h.
       there u (codes "stack" ∷ []) (λ v. IsSomeAnd p.stack (IsMap StackEndSays v)) (λ v. IsSection (out-Tree v))

@@ -7,7 +7,7 @@ use Rattle.yaml_tree.specs.declared.tree.Tree.{Tree, out-Tree}
 use Rattle.yaml_tree.specs.declared.tree.Tree.TheOpen.{Tree-F}
 use Rattle.conf_shape.specs.declared.refused.ConfCause.{ConfCause}
 use Rattle.conf_shape.specs.declared.refused.ConfFault.{ConfFault}
-use Rattle.conf_rules.specs.Places.{fault, fault_if, fault_of}
+use Rattle.conf_rules.specs.Places.{fault, fault_if, fault_if_some}
 use Rattle.law_checks.proofs.Members.{IsIn, all_by, all_flat, all_joined}
 use Rattle.law_documents.specs.Leads.{PathLeads, PathsLead}
 use Rattle.law_documents.proofs.Leads.{Reaches}
@@ -27,7 +27,7 @@ module _ (t : Tree) (Form : Tree-F Tree Pair → Type 0) where
   told_if true cause site r = (path cause site (r refl), tt)
   told_if false cause site r = tt
 
-  pub told_of : (cause : Option ConfCause) (site : List (List ℕ)) → At site → PathsLead t Form (fault_of cause site)
+  pub told_of : (cause : Option ConfCause) (site : List (List ℕ)) → At site → PathsLead t Form (fault_if_some cause site)
   told_of None site r = tt
   told_of (Some cause) site r = (path cause site r, tt)
 

@@ -1,115 +1,57 @@
--- Numbers and names that are given twice.
-use Rattle.std.specs.Prelude.{◌≡◌, ℕ, ◌==◌, false, List, [], ◌++◌, codes}
-use Rattle.std.specs.List.{AllByRecursion, flat_map, filter_map}
-use Rattle.std.proofs.lemmas.Bool.{ne_eqb, eqb-false}
+-- Numbers and names that are given once, rules 1 to 3.
+use Rattle.std.specs.Prelude.{◌≡◌, []}
+use Rattle.std.specs.List.{AllByRecursion, filter_map}
 use Rattle.conf_types.specs.declared.datapath.Dp.{Dp}
 use Rattle.conf_types.specs.declared.datapath.Port.{Port}
 use Rattle.conf_types.specs.declared.vlan.Router.{Router}
-use Rattle.conf_types.specs.declared.vlan.Vlan.{Vlan}
 use Rattle.conf_types.specs.Configuration.{Configuration}
-use Rattle.conf_types.specs.Lists.{EachBefore, AreDistinct, is_same}
-use Rattle.conf_shape.specs.declared.raw.RawDp.{RawDp}
-use Rattle.conf_shape.specs.declared.raw.RawPort.{RawPort}
+use Rattle.conf_types.specs.Lists.{EachBefore, AreDistinct}
 use Rattle.conf_shape.specs.declared.raw.RawRouter.{RawRouter}
-use Rattle.conf_shape.specs.declared.refused.ConfCause.TheVariants.{Duplicate}
-use Rattle.conf_shape.specs.declared.refused.ConfFault.{ConfFault}
 use Rattle.conf_resolve.specs.declared.ordered.OrderedConf.{OrderedConf}
-use Rattle.conf_resolve.specs.declared.ordered.PlacedVlan.{PlacedVlan}
-use Rattle.conf_resolve.specs.InOrder.{dp_site, port_site}
-use Rattle.conf_resolve.specs.Resolved.{dp_of, port_of, vlan_of, router_of, resolved, vid_of}
-use Rattle.conf_rules.specs.Names.{vid_site, repeated_vlans, repeated_dps, number_site, repeated_ports_of, repeated_ports}
-use Rattle.conf_rules.specs.Places.{fault_if, under, name_site, with_earlier, is_repeat}
-use Rattle.law_checks.proofs.Empty.{none_left, none_right, none_at, passes, none_repeat}
-use Rattle.law_checks.proofs.Kept.{both_empty, all_empty, no_fault, repeat_free, all_unmapped, before_unmapped}
-use Rattle.law_checks.proofs.Members.{of_all, all_by, all_mapped, before_by, before_mapped}
+use Rattle.conf_resolve.specs.Resolved.{dp_of, router_of, resolved, vid_of}
+use Rattle.conf_rules.specs.Names.{repeated_vlans, repeated_dps, repeated_ports_of, repeated_ports}
+use Rattle.law_checks.proofs.Apart.{vids_differ, vlan_names_differ, no_vlan_twice, ids_differ, dp_names_differ, no_dp_twice, port_numbers_differ, port_names_differ, no_port_twice}
+use Rattle.law_checks.proofs.Empty.{none_at}
+use Rattle.law_checks.proofs.Kept.{all_empty}
+use Rattle.law_checks.proofs.Members.{of_all, all_by, all_mapped, in_mapped}
 use Rattle.law_checks.proofs.Once.{once_distinct}
-use Rattle.law_checks.proofs.Orders.{not_same, other_texts}
 use Rattle.law_rules.specs.Limits.{AreTold}
 use Rattle.law_rules.specs.Rules.{VlansDiffer, DatapathsDiffer, InterfacesDiffer}
-
--- ---- two faults of each: of its number, and of its name
-
-module _ {A : Type 0} (number : A → ℕ) (name : A → List ℕ) (number_at name_at : A → List (List ℕ)) where
-  abbrev same_number : List A × A → List ConfFault
-  same_number item = fault_if (is_repeat (λ a b. number a == number b) item) Duplicate (number_at item.1)
-
-  abbrev same_name : List A × A → List ConfFault
-  same_name item = fault_if (is_repeat (λ a b. is_same (name a) (name b)) item) Duplicate (name_at item.1)
-
-  abbrev twice : List A × A → List ConfFault
-  twice item = same_number item ++ same_name item
-
-  numbers_apart : (xs : List A) → flat_map twice (with_earlier [] xs) ≡ [] → EachBefore (λ a b. number a ≡ number b → ⊥) xs
-  numbers_apart xs none =
-      let apart = none_repeat (λ a b. number a == number b) twice [] xs (λ item is. passes (is_repeat (λ a b. number a == number b) item) Duplicate (number_at item.1) (none_left (same_number item) (same_name item) is)) none in
-      before_by (λ a b. (number a == number b) ≡ false) (λ a b. number a ≡ number b → ⊥) xs apart.among (λ a b i j other. eqb-false (number a) (number b) other)
-
-  names_apart : (xs : List A) → flat_map twice (with_earlier [] xs) ≡ [] → EachBefore (λ a b. name a ≡ name b → ⊥) xs
-  names_apart xs none =
-      let apart = none_repeat (λ a b. is_same (name a) (name b)) twice [] xs (λ item is. passes (is_repeat (λ a b. is_same (name a) (name b)) item) Duplicate (name_at item.1) (none_right (same_number item) (same_name item) is)) none in
-      before_by (λ a b. is_same (name a) (name b) ≡ false) (λ a b. name a ≡ name b → ⊥) xs apart.among (λ a b i j other. not_same (name a) (name b) other)
-
-  none_twice : (xs : List A) → EachBefore (λ a b. number a ≡ number b → ⊥) xs → EachBefore (λ a b. name a ≡ name b → ⊥) xs → flat_map twice (with_earlier [] xs) ≡ []
-  none_twice xs numbers names =
-      let by_number = before_by (λ a b. number a ≡ number b → ⊥) (λ a b. (number a == number b) ≡ false) xs numbers (λ a b i j other. ne_eqb (number a) (number b) other) in
-      let by_name = before_by (λ a b. name a ≡ name b → ⊥) (λ a b. is_same (name a) (name b) ≡ false) xs names (λ a b i j other. other_texts (name a) (name b) other) in
-      all_empty twice (with_earlier [] xs) (λ item i. both_empty (same_number item) (same_name item)
-      (no_fault (is_repeat (λ a b. number a == number b) item) Duplicate (number_at item.1) (repeat_free (λ a b. number a == number b) xs by_number item i))
-      (no_fault (is_repeat (λ a b. is_same (name a) (name b)) item) Duplicate (name_at item.1) (repeat_free (λ a b. is_same (name a) (name b)) xs by_name item i)))
-
--- ---- rules 1 to 3
 
 module _ (o : OrderedConf) where
   abbrev conf : Configuration
   conf = resolved o
 
-  as_vlan : PlacedVlan → Vlan
-  as_vlan v = vlan_of v.vlan
-
   pub vlans_differ : repeated_vlans o ≡ [] → VlansDiffer conf
-  unfolding as_vlan
-  vlans_differ none = record {
-    numbers = before_mapped (λ (v w : Vlan). v.vid ≡ w.vid → ⊥) as_vlan o.vlans (numbers_apart (λ (v : PlacedVlan). v.vlan.vid) (λ v. v.vlan.names.name) vid_site (λ v. name_site v.site v.vlan.names) o.vlans none);
-    names = before_mapped (λ (v w : Vlan). v.name ≡ w.name → ⊥) as_vlan o.vlans (names_apart (λ (v : PlacedVlan). v.vlan.vid) (λ v. v.vlan.names.name) vid_site (λ v. name_site v.site v.vlan.names) o.vlans none);
-  }
+  vlans_differ none = record { numbers = vids_differ o none; names = vlan_names_differ o none }
 
   pub differing_vlans : VlansDiffer conf → repeated_vlans o ≡ []
-  unfolding as_vlan
-  differing_vlans is = none_twice (λ (v : PlacedVlan). v.vlan.vid) (λ v. v.vlan.names.name) vid_site (λ v. name_site v.site v.vlan.names) o.vlans (before_unmapped (λ (v w : Vlan). v.vid ≡ w.vid → ⊥) as_vlan o.vlans is.numbers) (before_unmapped (λ (v w : Vlan). v.name ≡ w.name → ⊥) as_vlan o.vlans is.names)
-
-  id_site : RawDp → List (List ℕ)
-  id_site d = under (dp_site d) (codes "dp_id")
+  differing_vlans is = no_vlan_twice o is.numbers is.names
 
   pub dps_differ : repeated_dps o ≡ [] → DatapathsDiffer conf
-  unfolding id_site
-  dps_differ none = record {
-    ids = before_mapped (λ (d e : Dp). d.id.0 ≡ e.id.0 → ⊥) (dp_of o) o.dps (numbers_apart (λ (d : RawDp). d.id.0) (λ d. d.names.name) id_site (λ d. name_site (dp_site d) d.names) o.dps none);
-    names = before_mapped (λ (d e : Dp). d.name ≡ e.name → ⊥) (dp_of o) o.dps (names_apart (λ (d : RawDp). d.id.0) (λ d. d.names.name) id_site (λ d. name_site (dp_site d) d.names) o.dps none);
-  }
+  dps_differ none = record { ids = ids_differ o none; names = dp_names_differ o none }
 
   pub differing_dps : DatapathsDiffer conf → repeated_dps o ≡ []
-  unfolding id_site
-  differing_dps is = none_twice (λ (d : RawDp). d.id.0) (λ d. d.names.name) id_site (λ d. name_site (dp_site d) d.names) o.dps (before_unmapped (λ (d e : Dp). d.id.0 ≡ e.id.0 → ⊥) (dp_of o) o.dps is.ids) (before_unmapped (λ (d e : Dp). d.name ≡ e.name → ⊥) (dp_of o) o.dps is.names)
-
-  ports_differ_of : (d : RawDp) → repeated_ports_of d ≡ [] → InterfacesDiffer (dp_of o d)
-  ports_differ_of d none = record {
-    numbers = before_mapped (λ (p q : Port). p.no ≡ q.no → ⊥) (port_of o d) d.ports (numbers_apart (λ (p : RawPort). p.no) (λ p. p.names.name) (number_site d) (λ p. name_site (port_site d p) p.names) d.ports none);
-    names = before_mapped (λ (p q : Port). p.name ≡ q.name → ⊥) (port_of o d) d.ports (names_apart (λ (p : RawPort). p.no) (λ p. p.names.name) (number_site d) (λ p. name_site (port_site d p) p.names) d.ports none);
-  }
+  differing_dps is = no_dp_twice o is.ids is.names
 
   pub ports_differ : repeated_ports o ≡ [] → AllByRecursion InterfacesDiffer conf.dps
-  ports_differ none = all_mapped InterfacesDiffer (dp_of o) o.dps (all_by (λ d. InterfacesDiffer (dp_of o d)) o.dps (λ d i. ports_differ_of d (none_at repeated_ports_of o.dps none d i)))
+  ports_differ none = all_mapped InterfacesDiffer (dp_of o) o.dps (all_by (λ d. InterfacesDiffer (dp_of o d)) o.dps (λ d i.
+      let here = none_at repeated_ports_of o.dps none d i in
+      record { numbers = port_numbers_differ o d here; names = port_names_differ o d here }))
 
   pub differing_ports : AllByRecursion InterfacesDiffer conf.dps → repeated_ports o ≡ []
   differing_ports all = all_empty repeated_ports_of o.dps (λ d i.
-      let is = of_all (λ d. InterfacesDiffer (dp_of o d)) o.dps (all_unmapped InterfacesDiffer (dp_of o) o.dps all) d i in
-      none_twice (λ (p : RawPort). p.no) (λ p. p.names.name) (number_site d) (λ p. name_site (port_site d p) p.names) d.ports (before_unmapped (λ (p q : Port). p.no ≡ q.no → ⊥) (port_of o d) d.ports is.numbers) (before_unmapped (λ (p q : Port). p.name ≡ q.name → ⊥) (port_of o d) d.ports is.names))
+      let is = of_all InterfacesDiffer conf.dps all (dp_of o d) (in_mapped (dp_of o) o.dps d i) in
+      no_port_twice o d is.numbers is.names)
+
+  pub numbers_differ : AllByRecursion InterfacesDiffer conf.dps → AllByRecursion (λ d. EachBefore (λ p q. p.no ≡ q.no → ⊥) d.ports) conf.dps
+  numbers_differ all = all_by (λ (d : Dp). EachBefore (λ (p q : Port). p.no ≡ q.no → ⊥) d.ports) conf.dps (λ d i. (of_all InterfacesDiffer conf.dps all d i).numbers)
 
   -- so numbers tell them apart; a router's VLANs are gathered so
   pub told : repeated_vlans o ≡ [] → repeated_dps o ≡ [] → repeated_ports o ≡ [] → AreTold conf
   told vlans dps ports = record {
-    vlans = (vlans_differ vlans).numbers;
-    dps = (dps_differ dps).ids;
-    ports = all_by (λ (d : Dp). EachBefore (λ (p q : Port). p.no ≡ q.no → ⊥) d.ports) conf.dps (λ d i. (of_all InterfacesDiffer conf.dps (ports_differ ports) d i).numbers);
+    vlans = vids_differ o vlans;
+    dps = ids_differ o dps;
+    ports = numbers_differ (ports_differ ports);
     routers = all_mapped (λ (r : Router). AreDistinct r.vlans) (router_of o) o.routers (all_by (λ (r : RawRouter). AreDistinct (router_of o r).vlans) o.routers (λ r i. once_distinct (filter_map (vid_of o.vlans) r.vlans)));
   }

@@ -1,16 +1,7 @@
+pub mod RoutedVlans
 pub mod Counts
 pub mod PortLimits
 pub mod AclLimits
 pub mod RouteLimits
 pub mod Apart
 pub mod NamedVlans
-pub mod WrongRoutes
-pub mod AskedFields
-pub mod SharedVlans
-pub mod Interfaces
-pub mod WithinLimits
-pub mod NotPassed
-pub mod NamedOnce
-pub mod NamedAcls
-pub mod AclPorts
-pub mod MirrorsAndStacks

@@ -4,11 +4,14 @@ use Rattle.std.specs.List.{AllByRecursion}
 use Rattle.net_base.specs.WellFormed.{has_prerequisite}
 use Rattle.conf_types.specs.declared.acl.Rule.{Rule}
 use Rattle.conf_types.specs.declared.datapath.Dp.{Dp}
+use Rattle.conf_types.specs.declared.vlan.Route.{Route}
 use Rattle.conf_types.specs.declared.vlan.Router.{Router}
 use Rattle.conf_types.specs.Attached.{rules_of}
 use Rattle.conf_types.specs.Configuration.{Configuration}
 use Rattle.conf_types.specs.Lists.{EachBefore, is_among}
 use Rattle.conf_types.specs.Membership.{has_edge_member}
+use Rattle.conf_types.specs.Networks.{AreApart, AreSame}
+use Rattle.conf_types.specs.Routing.{vips_in, routes_in}
 use Rattle.conf_types.specs.Valid.{AclsExist, NamePortsOf}
 use Rattle.conf_shape.specs.declared.raw.VlanRef.{VlanRef}
 use Rattle.conf_resolve.specs.declared.ordered.OrderedConf.{OrderedConf}
@@ -60,6 +63,20 @@ MirroredAreNamed o = AllByRecursion (λ d. AllByRecursion (λ p. AllByRecursion 
 abbrev pub FarEndsAreNamed : OrderedConf → Type 0
 FarEndsAreNamed o = AllByRecursion (λ d. AllByRecursion (λ p. IfSome p.stack (λ end. IsTrue (is_some (far_end o.dps end)))) d.ports) o.dps
 
+-- rule 12: the networks of the VIPs of a VLAN, and of the VLANs of a router, don't overlap
+pub record VipsAreApart (conf : Configuration) : Type 0 where
+  pub alone : AllByRecursion (λ v. EachBefore AreApart v.vips) conf.vlans
+  pub together : AllByRecursion (λ r. EachBefore AreApart (vips_in conf r.vlans)) conf.routers
+
 -- rule 13, of two routers
 abbrev pub ShareNone : Router → Router → Type 0
 ShareNone r s = AllByRecursion (λ vid. is_among s.vlans vid ≡ false) r.vlans
+
+-- rule 15, of two routes: they lead to different networks
+abbrev pub LeadApart : Route → Route → Type 0
+LeadApart r s = AreSame r.dst s.dst → ⊥
+
+-- the routes of a VLAN, and of the VLANs of a router
+pub record RoutesDiffer (conf : Configuration) : Type 0 where
+  pub alone : AllByRecursion (λ v. EachBefore LeadApart v.routes) conf.vlans
+  pub together : AllByRecursion (λ r. EachBefore LeadApart (routes_in conf r.vlans)) conf.routers

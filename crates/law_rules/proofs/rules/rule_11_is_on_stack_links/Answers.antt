@@ -1,4 +1,5 @@
-use Rattle.law_rules.proofs.MirrorsAndStacks.{far_ends_named, stacks_valid, stacks_kept}
+use Rattle.law_checks.proofs.KeptLinks.{stacks_kept}
+use Rattle.law_checks.proofs.Links.{far_ends_named, stacks_valid}
 use Rattle.law_rules.proofs.rules.rule_11_is_on_stack_links.Goals as goal
 
 pub returns : goal.returns
