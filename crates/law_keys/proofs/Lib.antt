@@ -1,0 +1,12 @@
+pub mod Lists
+pub mod Texts
+pub mod Trees
+pub mod Scalars
+pub mod Networks
+pub mod MapKeys
+pub mod Missing
+pub mod Told
+pub mod Fine
+pub mod Exact
+pub mod Defaults
+pub mod MeansLaw

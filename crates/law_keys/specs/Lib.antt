@@ -1,0 +1,4 @@
+pub mod Tables
+pub mod Grammar
+pub mod Causes
+pub mod Means
