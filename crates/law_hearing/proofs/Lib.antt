@@ -1,0 +1,3 @@
+mod SaidFrames
+mod ReadTexts
+mod FoundTexts

@@ -1,0 +1,5 @@
+pub mod Lines
+pub mod Parts
+pub mod Numbers
+pub mod Scalars
+pub mod Keys
