@@ -40,9 +40,9 @@ far_name conf far = option_map_or (λ d. d.name) (dp_with conf.dps far.dp) []
 abbrev pub far_end_text : Configuration → StackEnd → List ℕ
 far_end_text conf far = object ((codes "dp", quoted (far_name conf far)) ∷ (codes "port", decimal far.port) ∷ [])
 
-unfoldable pub port_text : Configuration → Port → List ℕ
-port_text conf p =
-    object ((codes "acls_in", names_text p.acls)
+abbrev pub port_members : Configuration → Port → List Member
+port_members conf p =
+    (codes "acls_in", names_text p.acls)
     ∷ (codes "description", quoted p.description)
     ∷ (codes "enabled", flag p.enabled)
     ∷ (codes "hairpin", flag p.hairpin)
@@ -55,7 +55,10 @@ port_text conf p =
     ∷ (codes "permanent_learn", flag p.permanent_learn)
     ∷ (codes "stack", option_map_or (far_end_text conf) p.stack null)
     ∷ (codes "tagged_vlans", numbers_text p.tagged)
-    ∷ (codes "unicast_flood", flag p.unicast_flood) ∷ [])
+    ∷ (codes "unicast_flood", flag p.unicast_flood) ∷ []
+
+unfoldable pub port_text : Configuration → Port → List ℕ
+port_text conf p = object (port_members conf p)
 
 -- ---- datapaths
 
@@ -63,9 +66,9 @@ port_text conf p =
 abbrev pub port_member : Configuration → Port → Member
 port_member conf p = (decimal p.no, port_text conf p)
 
-unfoldable pub dp_text : Configuration → Dp → List ℕ
-dp_text conf d =
-    object ((codes "arp_neighbor_timeout", decimal d.arp_timeout)
+abbrev pub dp_members : Configuration → Dp → List Member
+dp_members conf d =
+    (codes "arp_neighbor_timeout", decimal d.arp_timeout)
     ∷ (codes "description", quoted d.description)
     ∷ (codes "dp_id", decimal d.id.0)
     ∷ (codes "drop_bpdu", flag d.drop_bpdu)
@@ -75,7 +78,10 @@ dp_text conf d =
     ∷ (codes "hardware", quoted d.hardware)
     ∷ (codes "interfaces", object (map (port_member conf) d.ports))
     ∷ (codes "stack_priority", number_or_null d.stack_priority)
-    ∷ (codes "timeout", decimal d.timeout) ∷ [])
+    ∷ (codes "timeout", decimal d.timeout) ∷ []
+
+unfoldable pub dp_text : Configuration → Dp → List ℕ
+dp_text conf d = object (dp_members conf d)
 
 abbrev pub dp_member : Configuration → Dp → Member
 dp_member conf d = (d.name, dp_text conf d)
@@ -89,16 +95,19 @@ abbrev pub route_text : Route → List ℕ
 route_text route =
     object ((codes "ip_dst", vip_text route.dst) ∷ (codes "ip_gw", quoted (ip4_text route.gw.0)) ∷ [])
 
-unfoldable pub vlan_text : Vlan → List ℕ
-vlan_text v =
-    object ((codes "acls_in", names_text v.acls)
+abbrev pub vlan_members : Vlan → List Member
+vlan_members v =
+    (codes "acls_in", names_text v.acls)
     ∷ (codes "description", quoted v.description)
     ∷ (codes "faucet_mac", quoted (mac_text v.mac.0))
     ∷ (codes "faucet_vips", list (map vip_text v.vips))
     ∷ (codes "max_hosts", decimal v.max_hosts)
     ∷ (codes "name", quoted v.name)
     ∷ (codes "routes", list (map route_text v.routes))
-    ∷ (codes "unicast_flood", flag v.unicast_flood) ∷ [])
+    ∷ (codes "unicast_flood", flag v.unicast_flood) ∷ []
+
+unfoldable pub vlan_text : Vlan → List ℕ
+vlan_text v = object (vlan_members v)
 
 -- a VLAN stands under its identifier
 abbrev pub vlan_member : Vlan → Member

@@ -1,13 +1,13 @@
 -- The text of a datapath tells each of its fields, and those of its interfaces.
-use Rattle.std.proofs.Common.{◌≡◌, ◌≢◌, ◌<◌, ◌^◌, ℕ, List, [], ◌∷◌, map, Some, refl, sym, ap, ◌∙◌, subst, arith, decimal, codes}
+use Rattle.std.proofs.Common.{◌≡◌, ◌≢◌, ◌<◌, ◌^◌, ℕ, List, map, Some, refl, sym, ap, ◌∙◌, subst, arith, decimal}
 use Rattle.std.specs.List.{AllByRecursion}
 use Rattle.conf_types.specs.declared.datapath.Dp.{Dp}
 use Rattle.conf_types.specs.declared.datapath.Port.{Port}
 use Rattle.conf_types.specs.Configuration.{Configuration}
 use Rattle.conf_types.specs.Lists.{IsTextBefore}
 use Rattle.conf_types.specs.Valid.{IsValid, IsDatapath}
-use Rattle.conf_json.specs.Json.{Member, flag, quoted, with_member, braces, object}
-use Rattle.conf_json.specs.Text.{number_or_null, port_member, port_text, dp_text, dp_member}
+use Rattle.conf_json.specs.Json.{Member, with_member, braces, object}
+use Rattle.conf_json.specs.Text.{port_member, port_text, dp_members, dp_text, dp_member}
 use Rattle.law_json.specs.Agree.{OneByOne, PortsAgree, DpsAgree}
 use Rattle.law_json.proofs.Alike.{by_number, by_text, AreMembers, each_before, map_values, own_names, same_members, one_of_key}
 use Rattle.law_json.proofs.Members.{IsIn, all_in, in_all, in_map, of_map, object_value, shared}
@@ -39,20 +39,6 @@ same_ports a b valid_a valid_b told d e in_a in_b same =
     d.ports e.ports (ports_are a valid_a d in_a) (ports_are b valid_b e in_b) same
 
 -- ---- a datapath
-
-abbrev dp_members : Configuration → Dp → List Member
-dp_members conf d =
-    (codes "arp_neighbor_timeout", decimal d.arp_timeout)
-    ∷ (codes "description", quoted d.description)
-    ∷ (codes "dp_id", decimal d.id.0)
-    ∷ (codes "drop_bpdu", flag d.drop_bpdu)
-    ∷ (codes "drop_broadcast_source_address", flag d.drop_broadcast)
-    ∷ (codes "drop_lldp", flag d.drop_lldp)
-    ∷ (codes "drop_spoofed_faucet_mac", flag d.drop_spoofed)
-    ∷ (codes "hardware", quoted d.hardware)
-    ∷ (codes "interfaces", object (map (port_member conf) d.ports))
-    ∷ (codes "stack_priority", number_or_null d.stack_priority)
-    ∷ (codes "timeout", decimal d.timeout) ∷ []
 
 dp_is : (conf : Configuration) (d : Dp) → dp_text conf d ≡ braces (dp_members conf d)
 unfolding dp_text with_member

@@ -6,8 +6,8 @@ use Rattle.conf_types.specs.declared.datapath.Dp.{Dp}
 use Rattle.conf_types.specs.declared.datapath.Port.{Port}
 use Rattle.conf_types.specs.declared.datapath.StackEnd.{StackEnd}
 use Rattle.conf_types.specs.Configuration.{Configuration, dp_with}
-use Rattle.conf_json.specs.Json.{Member, null, flag, quoted, with_member, braces}
-use Rattle.conf_json.specs.Text.{numbers_text, names_text, number_or_null, far_name, far_end_text, port_text}
+use Rattle.conf_json.specs.Json.{Member, null, quoted, with_member, braces}
+use Rattle.conf_json.specs.Text.{far_name, far_end_text, port_members, port_text}
 use Rattle.law_json.specs.Agree.{PortsAgree}
 use Rattle.law_json.proofs.Members.{IsIn}
 use Rattle.law_json.proofs.Parts.{IsSmall, names_value, same_names, same_flag, same_number, numbers_value, same_numbers, or_null_value, same_or_null, optional_value, same_optional}
@@ -58,23 +58,6 @@ same_far a b told f g d e at_f at_g small_f small_g same =
     ap (λ id. record { dp = id; port = f.port }) dp ∙ ap (λ (no : ℕ). record { dp = g.dp; port = no }) port
 
 -- ---- an interface
-
-abbrev pub port_members : Configuration → Port → List Member
-port_members conf p =
-    (codes "acls_in", names_text p.acls)
-    ∷ (codes "description", quoted p.description)
-    ∷ (codes "enabled", flag p.enabled)
-    ∷ (codes "hairpin", flag p.hairpin)
-    ∷ (codes "max_hosts", decimal p.max_hosts)
-    ∷ (codes "mirror", numbers_text p.mirror)
-    ∷ (codes "name", quoted p.name)
-    ∷ (codes "native_vlan", number_or_null p.native)
-    ∷ (codes "opstatus_reconf", flag p.opstatus_reconf)
-    ∷ (codes "output_only", flag p.output_only)
-    ∷ (codes "permanent_learn", flag p.permanent_learn)
-    ∷ (codes "stack", option_map_or (far_end_text conf) p.stack null)
-    ∷ (codes "tagged_vlans", numbers_text p.tagged)
-    ∷ (codes "unicast_flood", flag p.unicast_flood) ∷ []
 
 port_is : (conf : Configuration) (p : Port) → port_text conf p ≡ braces (port_members conf p)
 unfolding port_text with_member

@@ -9,8 +9,8 @@ use Rattle.conf_types.specs.declared.vlan.Route.{Route}
 use Rattle.conf_types.specs.declared.vlan.Vlan.{Vlan}
 use Rattle.conf_types.specs.Configuration.{Configuration}
 use Rattle.conf_types.specs.Valid.{IsValid, IsVlan, IsVip, IsRoute}
-use Rattle.conf_json.specs.Json.{Member, flag, quoted, with_member, braces, list, object}
-use Rattle.conf_json.specs.Text.{names_text, vip_text, route_text, vlan_text, vlan_member}
+use Rattle.conf_json.specs.Json.{Member, quoted, with_member, braces, list, object}
+use Rattle.conf_json.specs.Text.{vip_text, route_text, vlan_members, vlan_text, vlan_member}
 use Rattle.law_json.proofs.Alike.{by_number, AreMembers, each_before, same_members, same_lists}
 use Rattle.law_json.proofs.Members.{all_in, in_all}
 use Rattle.law_json.proofs.Parts.{IsSmall, items_value, same_items, names_value, same_names, same_flag, same_number, same_vip}
@@ -46,17 +46,6 @@ same_route r s in_r in_s e =
     ap (λ net. record { dst = net; gw = r.gw }) dst ∙ ap (λ (n : ℕ). record { dst = s.dst; gw = record { 0 = n } }) gw
 
 -- ---- a VLAN
-
-abbrev vlan_members : Vlan → List Member
-vlan_members v =
-    (codes "acls_in", names_text v.acls)
-    ∷ (codes "description", quoted v.description)
-    ∷ (codes "faucet_mac", quoted (mac_text v.mac.0))
-    ∷ (codes "faucet_vips", list (map vip_text v.vips))
-    ∷ (codes "max_hosts", decimal v.max_hosts)
-    ∷ (codes "name", quoted v.name)
-    ∷ (codes "routes", list (map route_text v.routes))
-    ∷ (codes "unicast_flood", flag v.unicast_flood) ∷ []
 
 vlan_is : (v : Vlan) → vlan_text v ≡ braces (vlan_members v)
 unfolding vlan_text with_member

@@ -205,6 +205,23 @@ module _ {S : Type 0} (wrote : S → Option (List ℕ)) (start : Option (List �
 
   -- ---- a closing
 
+  -- what was written stays, and tells the same by other closings
+  kept_as : (old new : Recorder S) (closes closes' : List Closing) (given : List Happening) (kept : Kept wrote start live old closes given) → wrote new.sink ≡ wrote old.sink → is_broken new ≡ is_broken old
+      → told_by closes' kept.records ≡ told_by closes kept.records → AreWithin (length given) closes' → (later → is_broken new ≡ false → Goes new kept.records closes' given) → Kept wrote start later new closes' given
+  kept_as old new closes closes' given kept bytes broken same within runs = record {
+    records = kept.records;
+    bytes = kept.bytes;
+    part = kept.part;
+    written = bytes ∙ kept.written;
+    spell = kept.spell;
+    follow = kept.follow;
+    gave = ap (λ (t : Told). t.given) same ∙ kept.gave;
+    within = within;
+    cut = kept.cut;
+    none = λ whole. kept.none (sym broken ∙ whole);
+    runs = runs;
+  }
+
   abbrev with_closing : List Closing → (given : List Happening) → (c : ℕ) → List Closing
   with_closing closes given c = closes ++ record { conn = c; behind = length given } ∷ []
 
@@ -226,30 +243,19 @@ module _ {S : Type 0} (wrote : S → Option (List ℕ)) (start : Option (List �
   pub kept_closing : (faults : S → ℕ) (old new : Recorder S) (c : ℕ) (closes : List Closing) (given : List Happening) → live → Kept wrote start live old closes given → NotesClosing wrote faults old c new → Kept wrote start later new (with_closing closes given c) given
   kept_closing faults old new c closes given alive kept (inl passes) =
       let same = same_told closes given c kept.records kept.gave in
-      subst (λ (rec : Recorder S). Kept wrote start later rec (with_closing closes given c) given) (sym passes.same) (
+      subst (λ (rec : Recorder S). Kept wrote start later rec (with_closing closes given c) given) (sym passes.same)
+      (kept_as old old closes (with_closing closes given c) given kept refl refl same (within_push (length given) closes (record { conn = c; behind = length given }) kept.within (omega arith))
+      (λ now whole.
+      let goes = kept.runs alive whole in
       record {
-        records = kept.records;
-        bytes = kept.bytes;
-        part = kept.part;
-        written = kept.written;
-        spell = kept.spell;
-        follow = kept.follow;
-        gave = ap (λ (t : Told). t.given) same ∙ kept.gave;
-        within = within_push (length given) closes (record { conn = c; behind = length given }) kept.within (omega arith);
-        cut = kept.cut;
-        none = kept.none;
-        runs = λ now whole.
-            let goes = kept.runs alive whole in
-            record {
-              place = goes.place;
-              moment = goes.moment ∙ sym (ap (λ (t : Told). t.moment) same);
-              shut = λ conn there. shut_then closes given c conn (goes.shut conn there) (
-                  elim passes.why [
-                    | inl was_broken ↦ absurd (true≢false (sym was_broken ∙ whole))
-                    | inr not_there ↦ other c conn (c == conn) (place_of old).opened refl not_there there
-                  ]);
-            };
-      })
+        place = goes.place;
+        moment = goes.moment ∙ sym (ap (λ (t : Told). t.moment) same);
+        shut = λ conn there. shut_then closes given c conn (goes.shut conn there) (
+            elim passes.why [
+              | inl was_broken ↦ absurd (true≢false (sym was_broken ∙ whole))
+              | inr not_there ↦ other c conn (c == conn) (place_of old).opened refl not_there there
+            ]);
+      }))
   kept_closing faults old new c closes given alive kept (inr too) =
       let goes = kept.runs alive too.whole in
       let same = same_told closes given c kept.records kept.gave in
@@ -269,19 +275,7 @@ module _ {S : Type 0} (wrote : S → Option (List ℕ)) (start : Option (List �
   -- memory ran out: it doesn't go on, and closings behind all that was given tell nothing else
   pub kept_rests : (old new : Recorder S) (closes closes' : List Closing) (given : List Happening) → (later → ⊥) → Kept wrote start live old closes given → Rests wrote old new
       → ((records : List Record) → (told_by closes records).given ≡ given → told_by closes' records ≡ told_by closes records) → AreWithin (length given) closes' → Kept wrote start later new closes' given
-  kept_rests old new closes closes' given over kept rests same within = record {
-    records = kept.records;
-    bytes = kept.bytes;
-    part = kept.part;
-    written = rests.bytes ∙ kept.written;
-    spell = kept.spell;
-    follow = kept.follow;
-    gave = ap (λ (t : Told). t.given) (same kept.records kept.gave) ∙ kept.gave;
-    within = within;
-    cut = kept.cut;
-    none = λ whole. kept.none (sym rests.broken ∙ whole);
-    runs = λ now whole. absurd (over now);
-  }
+  kept_rests old new closes closes' given over kept rests same within = kept_as old new closes closes' given kept rests.bytes rests.broken (same kept.records kept.gave) within (λ now whole. absurd (over now))
 
   pub kept_unnoted : (old new : Recorder S) (c : ℕ) (closes : List Closing) (given : List Happening) → (later → ⊥) → Kept wrote start live old closes given → Rests wrote old new → Kept wrote start later new (with_closing closes given c) given
   kept_unnoted old new c closes given over kept rests =
@@ -290,16 +284,4 @@ module _ {S : Type 0} (wrote : S → Option (List ℕ)) (start : Option (List �
 
   -- the same recorder goes on
   pub kept_on : (rec : Recorder S) (closes : List Closing) (given : List Happening) → (later → live) → Kept wrote start live rec closes given → Kept wrote start later rec closes given
-  kept_on rec closes given still kept = record {
-    records = kept.records;
-    bytes = kept.bytes;
-    part = kept.part;
-    written = kept.written;
-    spell = kept.spell;
-    follow = kept.follow;
-    gave = kept.gave;
-    within = kept.within;
-    cut = kept.cut;
-    none = kept.none;
-    runs = λ now whole. kept.runs (still now) whole;
-  }
+  kept_on rec closes given still kept = kept_as rec rec closes closes given kept refl refl refl kept.within (λ now whole. kept.runs (still now) whole)
