@@ -1,5 +1,5 @@
 -- A command keeps the entries in key order.
-use Rattle.std.proofs.Common.{◌≡◌, Bool, true, false, cond, List, [], ◌∷◌, ◌++◌, Result, Ok, Err, OnOk, OnErr, refl, sym, ap, subst, ◌∙◌, true≢false}
+use Rattle.std.proofs.Common.{◌≡◌, ℕ, zero, suc, ◌<◌, arith, length, get_or, Bool, true, false, cond, List, [], ◌∷◌, ◌++◌, refl, sym, ap, ◌∙◌, true≢false}
 use Rattle.std.specs.List.{AllByRecursion, filter}
 use Rattle.std.specs.declared.cmp.Ordering.{Ordering}
 use Rattle.std.specs.declared.cmp.Ordering.TheVariants.{Less, Equal, Greater}
@@ -37,6 +37,12 @@ all_pass p (x ∷ xs) = keep (p x) refl (all_pass p xs)
     keep : (b : Bool) → p x ≡ b → AllByRecursion (λ y. p y ≡ true) (filter p xs) → AllByRecursion (λ y. p y ≡ true) (cond b (x ∷ filter p xs) (filter p xs))
     keep true e kept = (e, kept)
     keep false e kept = kept
+
+-- what is true of each is true of the one at a place
+pub all_at : {X : Type 0} (P : X → Type 0) (xs : List X) (i : ℕ) (d : X) → AllByRecursion P xs → i < length xs → P (get_or xs i d)
+all_at P [] i d all lt = absurd (omega arith)
+all_at P (x ∷ xs) zero d all lt = all.0
+all_at P (x ∷ xs) (suc i) d all lt = all_at P xs i d all.1 (omega arith)
 
 -- ---- key order
 
@@ -91,8 +97,3 @@ order_after es (Add e) order =
 order_after es (DeleteStrict k) order =
     order_append (below k es) (above k es) (order_filter _ es order) (order_filter _ es order) (all_across k es)
 order_after es DeleteAll order = tt
-
--- the entries after a call that did the command, or changed nothing
-pub order_kept : {T E : Type 0} (r : Result T E) (old new : List Entry) (c : Command) → OnOk r (new ≡ after old c) → OnErr r (new ≡ old) → IsInKeyOrder old → IsInKeyOrder new
-order_kept (Ok v) old new c ok err order = subst IsInKeyOrder (sym ok) (order_after old c order)
-order_kept (Err v) old new c ok err order = subst IsInKeyOrder (sym err) order

@@ -1,5 +1,5 @@
-pub mod Places
 pub mod AfterOrder
+pub mod Keyed
 pub mod Runs
 pub mod Best
 pub mod Allowed

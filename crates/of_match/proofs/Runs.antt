@@ -1,16 +1,14 @@
 -- Runs through the tables: actions in parts, the entry that is chosen, and why a run is allowed.
-use Rattle.std.proofs.Common.{◌≡◌, ℕ, ◌+◌, ◌<◌, true, false, cond, List, [], ◌∷◌, ◌++◌, length, get_or, take, drop, Some, None, refl, sym, ap, ◌∙◌, arith, append_assoc, append-nil}
+use Rattle.std.proofs.Common.{◌≡◌, ℕ, ◌<◌, List, [], ◌∷◌, ◌++◌, length, get_or, drop, Option, Some, None, refl, sym, ap, ◌∙◌, arith, append_assoc, append-nil}
 use Rattle.std.specs.Prelude.{option_and_then}
 use Rattle.std.specs.Option.{option_map_or}
-use Rattle.std.specs.List.{filter}
 use Rattle.std.proofs.lemmas.Bool.Decides.{nat_tests}
-use Rattle.std.proofs.lemmas.List.Elements.{filter_more}
 use Rattle.of_match.specs.declared.action.Action.{Action}
 use Rattle.of_match.specs.declared.action.Instr.{Instr}
 use Rattle.of_match.specs.declared.entry.Entry.{Entry}
 use Rattle.of_match.specs.declared.packet.Packet.{Packet}
 use Rattle.of_match.specs.Act.{act_sends, act_left, sends_of, left_by}
-use Rattle.of_match.specs.Pipeline.{takes, actions_in, actions_of, prefer, highest_of, keep_first, chosen}
+use Rattle.of_match.specs.Pipeline.{actions_in, actions_of, prefer, keep_first}
 
 -- ---- actions in two parts
 
@@ -60,22 +58,16 @@ sends_ended instrs x port p lt is left =
 
 -- ---- the entry that is chosen
 
+-- the best so far, unless another has a higher priority
+abbrev pub better : Option Entry → Option Entry → Option Entry
+better None o = o
+better (Some best) o = Some (prefer best o)
+
 -- the first of three, by either bracketing
-prefer-keep_first : (x y b : Entry) → prefer y (Some (keep_first x (Some b))) ≡ keep_first x (Some (prefer y (Some b)))
-prefer-keep_first x y b = grind (arith, nat_tests)
+prefer-keep_first : (x b y : Entry) → prefer b (Some (prefer x (Some y))) ≡ prefer (keep_first x (Some b)) (Some y)
+prefer-keep_first x b y = grind (arith, nat_tests)
 
-pub highest_of-push : (es : List Entry) (x : Entry) → highest_of (es ++ x ∷ []) ≡ Some (keep_first x (highest_of es))
-highest_of-push [] x = refl
-highest_of-push (y ∷ ys) x =
-    ap (λ o. Some (prefer y o)) (highest_of-push ys x)
-    ∙ ap Some (elim (highest_of ys) as (λ o. prefer y (Some (keep_first x o)) ≡ keep_first x (Some (prefer y o))) [ None ↦ refl | Some b ↦ prefer-keep_first x y b ])
-
--- what is chosen among one entry more
-pub chosen_more : (es : List Entry) (i t port : ℕ) (p : Packet) (x : Entry) → i < length es → x ≡ get_or es i x → chosen (take (i + 1) es) t port p ≡ cond (takes t port p x) (Some (keep_first x (chosen (take i es) t port p))) (chosen (take i es) t port p)
-chosen_more es i t port p x lt is =
-    let front = filter (takes t port p) (take i es) in
-    ap highest_of (filter_more (takes t port p) es i x lt ∙ ap (λ y. front ++ cond (takes t port p y) (y ∷ []) []) (sym is))
-    ∙ elim (takes t port p x) as (λ b. highest_of (front ++ cond b (x ∷ []) []) ≡ cond b (Some (keep_first x (highest_of front))) (highest_of front)) [
-      | true ↦ highest_of-push front x
-      | false ↦ ap highest_of (append-nil front)
-    ]
+pub better-keep_first : (x : Entry) (best o : Option Entry) → better best (Some (prefer x o)) ≡ better (Some (keep_first x best)) o
+better-keep_first x None o = refl
+better-keep_first x (Some b) None = refl
+better-keep_first x (Some b) (Some y) = ap Some (prefer-keep_first x b y)

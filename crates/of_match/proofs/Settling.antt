@@ -9,7 +9,7 @@ use Rattle.of_match.specs.declared.entry.Command.{Command}
 use Rattle.of_match.specs.declared.entry.Command.TheVariants.{Add, DeleteStrict, DeleteAll}
 use Rattle.of_match.specs.FlowTables.{after}
 use Rattle.of_match.specs.Settled.{after_all, Settles, key_of, AreOfDistinctKeys}
-use Rattle.of_match.proofs.Places.{all_at}
+use Rattle.of_match.proofs.AfterOrder.{all_at}
 use Rattle.of_match.proofs.Commute.{Apart, Apart-sym, commute}
 
 -- ---- commands that are apart in pairs

@@ -1,5 +1,5 @@
 -- The flow entries of a switch, and what commands make of them.
-use Rattle.std.specs.Prelude.{◌≡◌, ℕ, ◌+◌, ◌<◌, ◌≤◌, List, [], ◌∷◌, ◌++◌, length, Option, Some, None, take, drop, slice_index_or}
+use Rattle.std.specs.Prelude.{◌≡◌, List, [], ◌∷◌, ◌++◌, map, Option}
 use Rattle.std.specs.List.{AllByRecursion, filter, find}
 use Rattle.std.specs.declared.cmp.Ordering.TheVariants.{Less}
 use Rattle.std.specs.Ordering.{is_lt, is_eq, is_gt}
@@ -38,18 +38,6 @@ NeedsNoMemory (Add entry) = ⊥
 NeedsNoMemory (DeleteStrict key) = Unit {0}
 NeedsNoMemory DeleteAll = Unit {0}
 
--- ---- places, which a search answers
-
--- the entry at place i has the key
-pub record IsAt (tables : List Entry) (key : Key) (i : ℕ) : Type 0 where
-  pub in_range : i < length tables
-  pub before : take i tables ≡ below key tables
-  pub behind : drop (i + 1) tables ≡ above key tables
-  pub here : (d : Entry) → entry_at tables key ≡ Some (slice_index_or tables i d)
-
--- no entry has the key, which would go at place i
-pub record IsGapFor (tables : List Entry) (key : Key) (i : ℕ) : Type 0 where
-  pub in_range : i ≤ length tables
-  pub before : take i tables ≡ below key tables
-  pub behind : drop i tables ≡ above key tables
-  pub none : entry_at tables key ≡ None
+-- each entry beside its key, by which it is found
+abbrev pub keyed : List Entry → List (Key × Entry)
+keyed tables = map (λ e. (e.key, e)) tables

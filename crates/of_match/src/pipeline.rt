@@ -30,11 +30,11 @@ fn keep_first<'a>(entry: &'a Entry, best: Option<&'a Entry>) -> &'a Entry
 }
 
 // The first entry of the highest priority that takes a packet in a table.
-fn chosen<'a>(entries: &'a [Entry], table: u8, port: PortNo, packet: &Packet) -> Option<&'a Entry>
-    ensures { option_copied result ≡ chosen entries.now table port packet.now }
+fn chosen<'a>(tables: &'a Tables, table: u8, port: PortNo, packet: &Packet) -> Option<&'a Entry>
+    ensures { option_copied result ≡ chosen tables.now table port packet.now }
 {
     let mut best: Option<&'a Entry> = None;
-    for entry in entries {
+    for entry in tables.iter() {
         if takes(table, port, packet, entry) {
             best = Some(keep_first(entry, best));
         }
@@ -103,22 +103,22 @@ fn act_instrs(
 // Adds what a packet sends from a table on to what was sent.
 fn run_into(
     alloc: Global,
-    entries: &[Entry],
+    tables: &Tables,
     table: u8,
     port: PortNo,
     packet: Packet,
     outs: &mut Sents,
 ) -> Result<(), NoMemory>
-    ensures { OnOk result (outs.new ≡ outs.old ++ run_from (256 - table) entries.now table port packet) }
+    ensures { OnOk result (outs.new ≡ outs.old ++ run_from (256 - table) tables.now table port packet) }
 {
-    let Some(entry) = chosen(entries, table, port, &packet) else {
+    let Some(entry) = chosen(tables, table, port, &packet) else {
         return Ok(());
     };
     let Some(left) = act_instrs(alloc, entry.instrs.as_slice(), port, packet, outs)? else {
         return Ok(());
     };
     match next_table(entry.instrs.as_slice(), table) {
-        Some(next) => run_into(alloc, entries, next, port, left, outs),
+        Some(next) => run_into(alloc, tables, next, port, left, outs),
         None => Ok(()),
     }
 }
@@ -131,13 +131,6 @@ pub fn run(alloc: Global, tables: &Tables, port: PortNo, packet: &Packet) -> Res
     ensures first { IfOk result (λ outs. outs ≡ first_run tables.now port packet.now) }
 {
     let mut outs = Sents::new(alloc);
-    run_into(
-        alloc,
-        tables.as_slice(),
-        0,
-        port,
-        packet.copy(alloc)?,
-        &mut outs,
-    )?;
+    run_into(alloc, tables, 0, port, packet.copy(alloc)?, &mut outs)?;
     Ok(outs)
 }

@@ -1,64 +1,37 @@
-ghost use Rattle.std.specs.Prelude.{◌≡◌, ◌↔◌, [], length, IsTrue, IsOk, IfOk, IfErr, OnOk, OnErr};
+ghost use Rattle.std.specs.Prelude.{◌≡◌, ◌↔◌, [], length, IsTrue, IsOk, IfOk, OnOk, OnErr};
 ghost use Rattle.std.specs.Option.{option_copied};
 ghost use Rattle.of_match.specs.declared.entry.Command.TheVariants.{Add, DeleteStrict, DeleteAll};
-ghost use Rattle.of_match.specs.FlowTables.{IsInKeyOrder, entry_at, after, NeedsNoMemory, IsAt, IsGapFor};
+ghost use Rattle.of_match.specs.FlowTables.{IsInKeyOrder, entry_at, above, after, NeedsNoMemory};
 
 use crate::entry::{Command, Entry, Key};
 use net_base::{NoMemory, TryCopy};
 use std::alloc::Global;
+use std::collections::BTreeMap;
+use std::collections::btree_map::Range;
 use std::marker::Model;
+use std::ops::Bound;
 
 /// The flow tables of a switch, which contracts see as the list of their entries, in key order,
-/// no two with one key (OpenFlow 1.3, 5.2).
+/// no two with one key (OpenFlow 1.3, 5.2). A look-up, an add and a removal take a time that grows
+/// as the logarithm of their number.
 #[derive(Debug, Drop)]
 pub struct Tables {
-    entries: Vec<Entry>,
+    alloc: Global,
+    // Each entry stands at its own key.
+    entries: BTreeMap<Key, Entry>,
 }
 
 impl Model for Tables {
-    ghost use Rattle.std.specs.Prelude.{List};
+    ghost use Rattle.std.specs.Prelude.{◌≡◌, List};
+    ghost use Rattle.std.specs.BTreeMap.{values};
     ghost use Rattle.of_match.specs.declared.entry.Entry.{Entry};
-    ghost use Rattle.of_match.specs.FlowTables.{IsInKeyOrder};
+    ghost use Rattle.of_match.specs.FlowTables.{IsInKeyOrder, keyed};
 
     ghost Value = { List Entry };
 
-    ghost view = { λ t. t.entries.items };
+    ghost view = { λ t. values t.entries };
 
-    ghost invariant = { λ t. IsInKeyOrder t.entries.items };
-}
-
-// Where the entry with a key is, or where it would go.
-fn place(entries: &[Entry], key: &Key) -> Result<usize, usize>
-    requires { IsInKeyOrder entries.now }
-    ensures found { IfOk result (IsAt entries.now key.now) }
-    ensures absent { IfErr result (IsGapFor entries.now key.now) }
-{
-    entries.binary_search_by(|entry| entry.key.cmp(key))
-}
-
-// The entry goes to its key's place, in place of one that has the key.
-fn add_in(entries: &mut Vec<Entry>, entry: Entry) -> Result<(), NoMemory>
-    requires { IsInKeyOrder entries.old.items }
-    ensures ok { OnOk result (entries.new.items ≡ after entries.old.items (Add entry)) }
-    ensures err { OnErr result (entries.new.items ≡ entries.old.items) }
-{
-    match place(entries.as_slice(), &entry.key) {
-        Ok(at) => {
-            entries[at] = entry;
-            Ok(())
-        }
-        Err(at) => Ok(entries.insert(at, entry)?),
-    }
-}
-
-// The entry with the key goes, if there is one.
-fn remove_in(entries: &mut Vec<Entry>, key: &Key)
-    requires { IsInKeyOrder entries.old.items }
-    ensures { entries.new.items ≡ after entries.old.items (DeleteStrict key.now) }
-{
-    if let Ok(at) = place(entries.as_slice(), key) {
-        let _ = entries.remove(at);
-    }
+    ghost invariant = { λ t. (t.entries.entries ≡ keyed (values t.entries)) × IsInKeyOrder (values t.entries) };
 }
 
 impl Tables {
@@ -67,7 +40,8 @@ impl Tables {
         ensures { result ≡ [] }
     {
         Tables {
-            entries: Vec::new(alloc),
+            alloc,
+            entries: BTreeMap::new(alloc),
         }
     }
 
@@ -75,10 +49,7 @@ impl Tables {
     pub fn get(&self, key: &Key) -> Option<&Entry>
         ensures { option_copied result ≡ entry_at self.now key.now }
     {
-        match place(self.entries.as_slice(), key) {
-            Ok(at) => Some(&self.entries[at]),
-            Err(_) => None,
-        }
+        self.entries.get(key)
     }
 
     /// The entries, in key order.
@@ -87,24 +58,29 @@ impl Tables {
         ensures ordered { IsInKeyOrder self.now }
     {
         TablesIter {
-            rest: self.entries.as_slice(),
+            rest: self.entries.range(..),
         }
     }
 
-    /// The entries, in key order.
-    pub fn as_slice(&self) -> &[Entry]
-        ensures items { result.now ≡ self.now }
-        ensures ordered { IsInKeyOrder self.now }
+    /// The entries behind a key, in key order. Those before them are not gone through.
+    pub fn iter_above(&self, key: &Key) -> TablesIter<'_>
+        ensures { result ≡ above key.now self.now }
     {
-        self.entries.as_slice()
+        TablesIter {
+            rest: self.entries.range((Bound::Excluded(key), Bound::Unbounded)),
+        }
     }
 
     /// The tables of these entries, which stand in key order, no two with one key.
-    pub fn from_ordered(entries: Vec<Entry>) -> Tables
+    pub fn from_ordered(alloc: Global, entries: Vec<Entry>) -> Result<Tables, NoMemory>
         requires { IsInKeyOrder entries.items }
-        ensures { result ≡ entries.items }
+        ensures { IfOk result (λ made. made ≡ entries.items) }
     {
-        Tables { entries }
+        let mut made = Tables::new(alloc);
+        for entry in entries {
+            made.add(entry)?;
+        }
+        Ok(made)
     }
 
     /// Whether there is no entry.
@@ -127,14 +103,16 @@ impl Tables {
         ensures ok { OnOk result (self.new ≡ after self.old (Add entry)) }
         ensures err { OnErr result (self.new ≡ self.old) }
     {
-        add_in(&mut self.entries, entry)
+        let key = entry.key.copy(self.alloc)?;
+        self.entries.insert(key, entry)?;
+        Ok(())
     }
 
     /// Takes out the entry with exactly this key, if there is one.
     pub fn remove(&mut self, key: &Key)
         ensures { self.new ≡ after self.old (DeleteStrict key.now) }
     {
-        remove_in(&mut self.entries, key);
+        let _ = self.entries.remove(key);
     }
 
     /// Takes out all entries.
@@ -145,37 +123,30 @@ impl Tables {
     }
 }
 
-// Equal entries, in the same order.
-fn copy_in(alloc: Global, entries: &[Entry]) -> Result<Vec<Entry>, NoMemory>
-    ensures { IfOk result (λ made. made.items ≡ entries.now) }
-{
-    let mut made = Vec::new(alloc);
-    for entry in entries {
-        made.push(entry.copy(alloc)?)?;
-    }
-    Ok(made)
-}
-
 impl TryCopy for Tables {
     fn copy(&self, alloc: Global) -> Result<Tables, NoMemory> {
-        let entries = copy_in(alloc, self.entries.as_slice())?;
-        Ok(Tables { entries })
+        let mut made = Tables::new(alloc);
+        for entry in self.iter() {
+            made.add(entry.copy(alloc)?)?;
+        }
+        Ok(made)
     }
 }
 
 /// The entries that are left to be seen, in key order, which is what contracts see.
 #[derive(Debug, Drop)]
 pub struct TablesIter<'a> {
-    rest: &'a [Entry],
+    rest: Range<'a, Key, Entry>,
 }
 
 impl<'a> Model for TablesIter<'a> {
     ghost use Rattle.std.specs.Prelude.{List};
+    ghost use Rattle.std.specs.Map.{values_of};
     ghost use Rattle.of_match.specs.declared.entry.Entry.{Entry};
 
     ghost Value = { List Entry };
 
-    ghost view = { λ it. it.rest.now };
+    ghost view = { λ it. values_of it.rest };
 }
 
 impl<'a> Iterator for TablesIter<'a> {
@@ -188,9 +159,8 @@ impl<'a> Iterator for TablesIter<'a> {
     ghost remaining = { item_count (λ rest. rest) };
 
     fn next(&mut self) -> Option<&'a Entry> {
-        let (first, others) = self.rest.split_first()?;
-        self.rest = others;
-        Some(first)
+        let (_, entry) = self.rest.next()?;
+        Some(entry)
     }
 }
 

@@ -1,10 +1,10 @@
 -- Entries in key order, cut before a key.
-use Rattle.std.proofs.Common.{◌≡◌, ℕ, zero, suc, Bool, true, false, cond, List, [], ◌∷◌, ◌++◌, length, take, drop, Option, Some, None, refl, sym, ap, ◌∙◌, subst, true≢false, arith}
-use Rattle.std.specs.List.{AllByRecursion, filter, find, prefix_len}
+use Rattle.std.proofs.Common.{◌≡◌, ℕ, zero, suc, Bool, true, false, cond, List, [], ◌∷◌, take, drop, Some, None, refl, sym, ap, ◌∙◌, subst, true≢false, arith}
+use Rattle.std.specs.List.{AllByRecursion, prefix_len}
 use Rattle.std.specs.Option.{option_map_or}
 use Rattle.std.specs.declared.cmp.Ordering.{Ordering}
 use Rattle.std.specs.declared.cmp.Ordering.TheVariants.{Less, Equal, Greater}
-use Rattle.std.specs.Ordering.{is_lt, is_eq, is_gt, ordering_reverse}
+use Rattle.std.specs.Ordering.{is_lt, is_eq, ordering_reverse}
 use Rattle.of_match.specs.declared.entry.Key.{Key}
 use Rattle.of_match.specs.declared.entry.Entry.{Entry}
 use Rattle.of_match.specs.KeyOrder.{key_cmp}
@@ -45,6 +45,9 @@ module _ (k : Key) where
   pub none_at : (es : List Entry) → AllByRecursion (λ f. key_cmp f.key k ≡ Greater) es → entry_at es k ≡ None
   none_at [] all = refl
   none_at (e ∷ es) all = rw all.0 (none_at es all.1)
+
+  pub none_before : (f : Entry) (fs : List Entry) → IsInKeyOrder (f ∷ fs) → is_lt (key_cmp f.key k) ≡ false → below k (f ∷ fs) ≡ []
+  none_before f fs h not_before = rw not_before (none_below fs (all_behind f.key not_before fs h.0))
 
   pub record IsCut (es : List Entry) (n : ℕ) : Type 0 where
     pub gone : take n es ≡ below k es
@@ -95,26 +98,36 @@ module _ (k : Key) where
 
 -- ---- the first entry, where nothing is below the key
 
-module _ (e f : Entry) (fs : List Entry) (h : IsInKeyOrder (f ∷ fs)) (none : below e.key (f ∷ fs) ≡ []) where
-  pub has_first : key_cmp f.key e.key ≡ Equal → has (f ∷ fs) e ≡ entry_same f e
-  has_first o = ap (λ b. option_map_or (λ g. entry_same g e) (cond b (Some f) (entry_at fs e.key)) false) (ap is_eq o)
+module _ (k : Key) (f : Entry) (fs : List Entry) (h : IsInKeyOrder (f ∷ fs)) (none : below k (f ∷ fs) ≡ []) where
+  pub found_first : key_cmp f.key k ≡ Equal → entry_at (f ∷ fs) k ≡ Some f
+  found_first o = ap (λ b. cond b (Some f) (entry_at fs k)) (ap is_eq o)
 
-  pub above_first : key_cmp f.key e.key ≡ Equal → above e.key (f ∷ fs) ≡ fs
-  above_first o = rw o (all_above e.key fs (head e.key f fs h none).others)
+  pub above_found : key_cmp f.key k ≡ Equal → above k (f ∷ fs) ≡ fs
+  above_found o = rw o (all_above k fs (head k f fs h none).others)
 
-  is_behind : is_eq (key_cmp f.key e.key) ≡ false → key_cmp f.key e.key ≡ Greater
-  is_behind other = from_case (key_cmp f.key e.key) refl
+  is_behind : is_eq (key_cmp f.key k) ≡ false → key_cmp f.key k ≡ Greater
+  is_behind other = from_case (key_cmp f.key k) refl
     where
-      from_case : (o : Ordering) → key_cmp f.key e.key ≡ o → key_cmp f.key e.key ≡ Greater
-      from_case Less o = absurd (true≢false (sym (ap is_lt o) ∙ (head e.key f fs h none).at_least))
+      from_case : (o : Ordering) → key_cmp f.key k ≡ o → key_cmp f.key k ≡ Greater
+      from_case Less o = absurd (true≢false (sym (ap is_lt o) ∙ (head k f fs h none).at_least))
       from_case Equal o = absurd (true≢false (sym (ap is_eq o) ∙ other))
       from_case Greater o = o
 
-  all : is_eq (key_cmp f.key e.key) ≡ false → AllByRecursion (λ g. key_cmp g.key e.key ≡ Greater) (f ∷ fs)
-  all other = (is_behind other, (head e.key f fs h none).others)
+  all : is_eq (key_cmp f.key k) ≡ false → AllByRecursion (λ g. key_cmp g.key k ≡ Greater) (f ∷ fs)
+  all other = (is_behind other, (head k f fs h none).others)
+
+  pub not_found : is_eq (key_cmp f.key k) ≡ false → entry_at (f ∷ fs) k ≡ None
+  not_found other = none_at k (f ∷ fs) (all other)
+
+  pub above_not_found : is_eq (key_cmp f.key k) ≡ false → above k (f ∷ fs) ≡ f ∷ fs
+  above_not_found other = all_above k (f ∷ fs) (all other)
+
+module _ (e f : Entry) (fs : List Entry) (h : IsInKeyOrder (f ∷ fs)) (none : below e.key (f ∷ fs) ≡ []) where
+  pub has_first : key_cmp f.key e.key ≡ Equal → has (f ∷ fs) e ≡ entry_same f e
+  has_first o = ap (λ p. option_map_or (λ g. entry_same g e) p false) (found_first e.key f fs h none o)
+
+  pub above_first : key_cmp f.key e.key ≡ Equal → above e.key (f ∷ fs) ≡ fs
+  above_first o = above_found e.key f fs h none o
 
   pub has_no_first : is_eq (key_cmp f.key e.key) ≡ false → has (f ∷ fs) e ≡ false
-  has_no_first other = ap (λ o. option_map_or (λ g. entry_same g e) o false) (none_at e.key (f ∷ fs) (all other))
-
-  pub above_no_first : is_eq (key_cmp f.key e.key) ≡ false → above e.key (f ∷ fs) ≡ f ∷ fs
-  above_no_first other = all_above e.key (f ∷ fs) (all other)
+  has_no_first other = ap (λ o. option_map_or (λ g. entry_same g e) o false) (not_found e.key f fs h none other)

@@ -3,6 +3,7 @@
 
 pub mod laws;
 mod merge;
+mod rest;
 #[cfg(test)]
 mod tests;
 mod told;

@@ -1,82 +1,81 @@
-ghost use Rattle.std.specs.Prelude.{◌≡◌, ◌++◌, ◌∷◌, [], length, if◌then◌else◌, IfOk, OnOk};
-ghost use Rattle.std.specs.List.{take_while};
-ghost use Rattle.std.specs.Option.{option_copied};
-ghost use Rattle.std.specs.Ordering.{is_lt};
+ghost use Rattle.std.specs.Prelude.{◌≡◌, ◌++◌, ◌∷◌, [], if◌then◌else◌, IfOk, OnOk};
 ghost use Rattle.of_match.specs.declared.entry.Command.TheVariants.{Add};
-ghost use Rattle.of_match.specs.FlowTables.{IsInKeyOrder, below, above};
-ghost use Rattle.of_match.specs.KeyOrder.{key_cmp};
-ghost use Rattle.of_match.specs.Same.{entry_same};
+ghost use Rattle.of_match.specs.FlowTables.{IsInKeyOrder, entry_at, below, above};
 ghost use Rattle.plan_difference.specs.Difference.{deletes, has, difference};
 
+use crate::rest::Rest;
 use net_base::{NoMemory, TryCopy};
 use of_match::{Command, Commands, Entry, Key, Tables};
 use std::alloc::Global;
 
-fn push_deletes(alloc: Global, batch: &mut Commands, entries: &[Entry]) -> Result<(), NoMemory>
-    ensures { OnOk result (batch.new ≡ batch.old ++ deletes entries.now) }
+fn push_delete(alloc: Global, batch: &mut Commands, entry: &Entry) -> Result<(), NoMemory>
+    ensures { OnOk result (batch.new ≡ batch.old ++ deletes (entry.now ∷ [])) }
 {
-    for entry in entries {
-        batch.push(Command::DeleteStrict(entry.key.copy(alloc)?))?;
+    batch.push(Command::DeleteStrict(entry.key.copy(alloc)?))
+}
+
+/// Deletes of all entries that are left.
+fn push_deletes(alloc: Global, batch: &mut Commands, from: Rest<'_>) -> Result<(), NoMemory>
+    ensures { OnOk result (batch.new ≡ batch.old ++ deletes from.entry) }
+{
+    let mut from = from;
+    while let Some(gone) = from.next() {
+        push_delete(alloc, batch, gone)?;
     }
     Ok(())
 }
 
-/// How many entries stand before a key.
-fn count_before(entries: &[Entry], key: &Key) -> usize
-    ensures { result ≡ length (take_while (λ e. is_lt (key_cmp e.key key.now)) entries.now) }
+/// Deletes of the entries before a key. The others are left.
+fn push_gone(
+    alloc: Global,
+    batch: &mut Commands,
+    from: &mut Rest<'_>,
+    key: &Key,
+) -> Result<(), NoMemory>
+    requires { IsInKeyOrder from.old }
+    ensures batch { OnOk result (batch.new ≡ batch.old ++ deletes (below key.now from.old)) }
+    ensures ordered { OnOk result (IsInKeyOrder from.new) }
+    ensures begins { OnOk result (below key.now from.new ≡ []) }
+    ensures here { OnOk result (entry_at from.new key.now ≡ entry_at from.old key.now) }
+    ensures behind { OnOk result (above key.now from.new ≡ above key.now from.old) }
 {
-    entries
-        .iter()
-        .take_while(|entry| entry.key.cmp(key).is_lt())
-        .count()
-}
-
-fn push_entry(alloc: Global, batch: &mut Commands, entry: &Entry) -> Result<(), NoMemory>
-    ensures { OnOk result (batch.new ≡ batch.old ++ Add entry.now ∷ []) }
-{
-    batch.push(Command::Add(entry.copy(alloc)?))
+    while let Some(gone) = from.next_before(key) {
+        push_delete(alloc, batch, gone)?;
+    }
+    Ok(())
 }
 
 /// What is to be done for an entry that is to stand, where these stand at its key and behind: an add,
-/// unless it stands. The others are left.
-fn push_add<'a>(
+/// unless it stands. Those behind it are left.
+fn push_add(
     alloc: Global,
     batch: &mut Commands,
-    from: &'a [Entry],
+    from: &mut Rest<'_>,
     entry: &Entry,
-) -> Result<&'a [Entry], NoMemory>
-    requires ordered { IsInKeyOrder from.now }
-    requires begins { below entry.now.key from.now ≡ [] }
-    ensures batch { OnOk result (batch.new ≡ batch.old ++ (if has from.now entry.now then [] else Add entry.now ∷ [])) }
-    ensures left { IfOk result (λ rest. rest.now ≡ above entry.now.key from.now) }
+) -> Result<(), NoMemory>
+    requires ordered { IsInKeyOrder from.old }
+    requires begins { below entry.now.key from.old ≡ [] }
+    ensures batch { OnOk result (batch.new ≡ batch.old ++ (if has from.old entry.now then [] else Add entry.now ∷ [])) }
+    ensures left { from.new ≡ above entry.now.key from.old }
 {
-    let Some((first, others)) = from.split_first() else {
-        push_entry(alloc, batch, entry)?;
-        return Ok(from);
-    };
-    if first.key != entry.key {
-        push_entry(alloc, batch, entry)?;
-        return Ok(from);
+    match from.next_at(&entry.key) {
+        Some(held) if held == entry => Ok(()),
+        _ => batch.push(Command::Add(entry.copy(alloc)?)),
     }
-    if first != entry {
-        push_entry(alloc, batch, entry)?;
-    }
-    Ok(others)
 }
 
-fn push_for<'a>(
+fn push_for(
     alloc: Global,
     batch: &mut Commands,
-    from: &'a [Entry],
+    from: &mut Rest<'_>,
     entry: &Entry,
-) -> Result<&'a [Entry], NoMemory>
-    requires { IsInKeyOrder from.now }
-    ensures batch { OnOk result (batch.new ≡ batch.old ++ (deletes (below entry.now.key from.now) ++ (if has from.now entry.now then [] else Add entry.now ∷ []))) }
-    ensures left { IfOk result (λ rest. rest.now ≡ above entry.now.key from.now) }
+) -> Result<(), NoMemory>
+    requires { IsInKeyOrder from.old }
+    ensures batch { OnOk result (batch.new ≡ batch.old ++ (deletes (below entry.now.key from.old) ++ (if has from.old entry.now then [] else Add entry.now ∷ []))) }
+    ensures left { OnOk result (from.new ≡ above entry.now.key from.old) }
 {
-    let (gone, rest) = from.split_at(count_before(from, &entry.key));
-    push_deletes(alloc, batch, gone)?;
-    push_add(alloc, batch, rest, entry)
+    push_gone(alloc, batch, from, &entry.key)?;
+    push_add(alloc, batch, from, entry)
 }
 
 /// The commands that lead from the entries of one plan to those of another: a strict delete of each key
@@ -86,9 +85,9 @@ pub fn difference(alloc: Global, from: &Tables, to: &Tables) -> Result<Commands,
     ensures { IfOk result (λ batch. batch ≡ difference from.now to.now) }
 {
     let mut batch = Commands::new(alloc);
-    let mut rest = from.as_slice();
-    for entry in to.as_slice() {
-        rest = push_for(alloc, &mut batch, rest, entry)?;
+    let mut rest = Rest::of(from);
+    for entry in to.iter() {
+        push_for(alloc, &mut batch, &mut rest, entry)?;
     }
     push_deletes(alloc, &mut batch, rest)?;
     Ok(batch)

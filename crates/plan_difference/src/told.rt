@@ -44,8 +44,8 @@ pub fn difference_at(
     let mut batch = Commands::new(alloc);
     // These calls alone tell that the keys and the entries of both plans are in order.
     let _keys = keys.len();
-    let _from = from.as_slice().len();
-    let _to = to.as_slice().len();
+    let _from = from.iter();
+    let _to = to.iter();
     for key in keys {
         push_at(alloc, &mut batch, from, to, key)?;
     }

@@ -161,7 +161,7 @@ pub fn change(
 pub fn write_tables(out: &mut String, alloc: Global, tables: &Tables) -> Result<(), NoMemory> {
     let copy = tables.copy(alloc)?;
     write!(out, "{}", copy.len())?;
-    for entry in copy.as_slice() {
+    for entry in copy.iter() {
         out.push_str("; ")?;
         put_entry(alloc, out, entry)?;
     }

@@ -1,4 +1,4 @@
-use Rattle.std.proofs.Common.{◌≡◌, ◌∙◌, ◌++◌, ◌+◌, suc, ℕ, List, [], ◌∷◌, drop, sym, ap, subst, add-one, drop-cons, if◌then◌else◌}
+use Rattle.std.proofs.Common.{◌∙◌, ◌++◌, List, [], ◌∷◌, sym, ap, subst, if◌then◌else◌}
 use Rattle.std.specs.Ordering.{is_gt}
 use Rattle.std.proofs.lemmas.List.{append_assoc}
 use Rattle.of_match.specs.declared.entry.Command.{Command}
@@ -12,18 +12,16 @@ use Rattle.plan_difference.proofs.merge.difference.Goals as goal
 
 pub loop-entry-preserved : goal.loop-entry-preserved
 loop-entry-preserved c =
-    let e = c.entry-item.result in
-    let rest = c.loop-entry.rest.now in
-    let to = c.as_slice-entry-items.result.now in
-    let i = c.loop-entry.entry-index in
+    let e = c.in-Some.entry.now in
+    let rest = c.loop-entry.rest in
+    let to = c.next.new.self in
     let batch = c.loop-entry.batch in
     let own = if has rest e then [] else Add e ∷ [] in
-    let more = difference (above e.key rest) (drop (i + 1) to) in
-    let next : drop i to ≡ e ∷ drop (i + 1) to = drop-cons to i e c.loop-entry-test.true ∙ ap (λ (x : Entry). x ∷ drop (suc i) to) (sym c.entry-item.is) ∙ ap (λ (n : ℕ). e ∷ drop n to) (sym (add-one i)) in
+    let more = difference (above e.key rest) to in
     record {
-      ordered = subst IsInKeyOrder (sym c.in_ok-rest.ensures.left) (kept_order (λ f. is_gt (key_cmp f.key e.key)) rest c.loop-entry.invariant.ordered);
+      ordered = subst IsInKeyOrder (sym c.in_ok-push_for.ensures.left) (kept_order (λ f. is_gt (key_cmp f.key e.key)) rest c.loop-entry.invariant.ordered);
       made =
-          ap (λ (es : List Entry). c.push_for.new.batch ++ difference es (drop (i + 1) to)) c.in_ok-rest.ensures.left ∙ ap (λ (cs : List Command). cs ++ more) c.in_ok-rest.ensures.batch
+          ap (λ (es : List Entry). c.push_for.new.batch ++ difference es to) c.in_ok-push_for.ensures.left ∙ ap (λ (cs : List Command). cs ++ more) c.in_ok-push_for.ensures.batch
           ∙ append_assoc batch (deletes (below e.key rest) ++ own) more ∙ ap (λ (cs : List Command). batch ++ cs) (append_assoc (deletes (below e.key rest)) own more)
-          ∙ ap (λ (es : List Entry). batch ++ difference rest es) (sym next) ∙ c.loop-entry.invariant.made;
+          ∙ ap (λ (es : List Entry). batch ++ difference rest es) (sym c.in-Some.ensures.steps) ∙ c.loop-entry.invariant.made;
     }

@@ -1,4 +1,4 @@
-use Rattle.std.proofs.Common.{◌≡◌, ◌++◌, drop}
+use Rattle.std.proofs.Common.{◌≡◌, ◌++◌}
 use Rattle.of_match.specs.FlowTables.{IsInKeyOrder}
 use Rattle.plan_difference.specs.Difference.{difference}
 use Rattle.plan_difference.proofs.merge.difference.Given as goal
@@ -7,5 +7,5 @@ use Rattle.plan_difference.proofs.merge.difference.Given as goal
 abbrev pub invariant-loop-entry : goal.invariant-loop-entry
 invariant-loop-entry l = record {
   ordered : IsInKeyOrder l.rest;
-  made : l.batch ++ difference l.rest (drop l.entry-index l.entry-items) ≡ difference l.from l.entry-items;
+  made : l.batch ++ difference l.rest l.entry-iterator ≡ difference l.from l.to;
 }

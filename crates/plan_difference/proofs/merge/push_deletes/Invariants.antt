@@ -1,7 +1,10 @@
-use Rattle.std.proofs.Common.{◌≡◌, ◌++◌, take}
+use Rattle.std.proofs.Common.{◌≡◌, ◌++◌, length}
 use Rattle.plan_difference.specs.Difference.{deletes}
 use Rattle.plan_difference.proofs.merge.push_deletes.Given as goal
 
--- the entries so far
-abbrev pub invariant-loop-entry : goal.invariant-loop-entry
-invariant-loop-entry l = l.batch ≡ l.fn.batch ++ deletes (take l.entry-index l.entries)
+-- the deletes so far, and then those of what is left
+abbrev pub invariant-loop-gone : goal.invariant-loop-gone
+invariant-loop-gone l = l.batch ++ deletes l.from ≡ l.fn.batch ++ deletes l.fn.from
+
+abbrev pub decreases-loop-gone : goal.decreases-loop-gone
+decreases-loop-gone l = length l.from
