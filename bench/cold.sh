@@ -13,7 +13,7 @@ work=$(mktemp -d)
 trap 'rm -rf "$work"' EXIT
 rt=$(command -v rt || echo /opt/rattle/bin/rt)
 reading=(net_base yaml_tree yaml_subset of_match stack_paths conf_types conf_shape conf_resolve conf_rules conf_names conf_limits law_checks conf_check)
-compiling=(packet_way state_check plan_base vlan_compile acl_compile route_compile law_runs plan_units cold_start)
+compiling=(host_list packet_way state_check plan_base vlan_compile acl_compile route_compile law_runs plan_units cold_start)
 laws=(law_tables law_tables law_tables law_tables law_tables law_tables law_entries law_plans law_plans)
 writing=(of_wire of13_codec flow_messages opening_batch)
 libraries=("${reading[@]}" "${compiling[@]}" "${laws[@]}" "${writing[@]}")
@@ -24,7 +24,7 @@ for name in "${libraries[@]}"; do
   cp -a --reflink=auto "$top/crates/$name" "$work/crates/$name"
   grep "^$name:" "$top/crates.txt"
 done >"$work/crates.txt"
-echo "cold_bench: net_base of_match stack_paths conf_types conf_check packet_way state_check cold_start opening_batch" >>"$work/crates.txt"
+echo "cold_bench: net_base of_match stack_paths conf_types conf_check host_list packet_way state_check cold_start opening_batch" >>"$work/crates.txt"
 
 cat >"$work/crates/cold_bench/src/main.rt" <<'PROGRAM'
 //! Reads a configuration of the datapath 1, `a`, and does what the first argument names: `cold`, its cold
@@ -68,8 +68,9 @@ fn read(rt: &HostRuntime) -> io::Result<String> {
 
 /// The entries of the cold start.
 fn start(rt: &HostRuntime, conf: &Conf, hosts: u32) -> io::Result<()> {
-    let now = learned(rt.alloc(), conf, hosts)?;
-    if !is_valid(conf, &now) {
+    let known = learned(rt.alloc(), conf, hosts)?;
+    let now = known.now();
+    if !is_valid(rt.alloc(), conf, &now)? {
         return println!(rt; "no valid state");
     }
     let begun = Instant::now(rt)?;
@@ -111,9 +112,32 @@ PROGRAM
 
 cat >"$work/crates/cold_bench/src/learned.rt" <<'PROGRAM'
 use conf_types::{Conf, Dp, DpIds, HostRec, HostRecs, NeighRec, NeighRecs, UpRec, UpRecs, Vlan};
+use host_list::Hosts;
 use net_base::{DpId, Mac, Moment, NoMemory};
 use packet_way::Now;
 use std::alloc::Global;
+
+/// What is learned, for a state to lend.
+#[derive(Drop)]
+pub struct Learned {
+    running: DpIds,
+    ups: UpRecs,
+    hosts: Hosts,
+    neighbours: NeighRecs,
+}
+
+impl Learned {
+    /// The state of this.
+    pub fn now(&self) -> Now<'_> {
+        Now {
+            moment: Moment(0),
+            running: &self.running,
+            ups: &self.ups,
+            hosts: &self.hosts,
+            neighbours: self.neighbours.as_slice(),
+        }
+    }
+}
 
 /// The datapath with all enabled ports up.
 fn ups(alloc: Global, dp: &Dp) -> Result<UpRecs, NoMemory> {
@@ -127,8 +151,17 @@ fn ups(alloc: Global, dp: &Dp) -> Result<UpRecs, NoMemory> {
     Ok(ups)
 }
 
+/// The hosts of a list; none of one that is too long.
+fn looked_up(alloc: Global, list: &[HostRec]) -> Result<Hosts, NoMemory> {
+    if list.len() < 0x1_0000_0000 {
+        Hosts::from_slice(alloc, list)
+    } else {
+        Ok(Hosts::new(alloc))
+    }
+}
+
 /// A host in each of the VLANs in turn, by the first 16 ports.
-fn hosts(alloc: Global, dp: &Dp, vlans: &[Vlan], count: u32) -> Result<HostRecs, NoMemory> {
+fn hosts(alloc: Global, dp: &Dp, vlans: &[Vlan], count: u32) -> Result<Hosts, NoMemory> {
     let mut hosts = HostRecs::new(alloc);
     for number in 0..count {
         let [a, b, c, d] = number.to_be_bytes();
@@ -143,7 +176,7 @@ fn hosts(alloc: Global, dp: &Dp, vlans: &[Vlan], count: u32) -> Result<HostRecs,
             })?;
         }
     }
-    Ok(hosts)
+    looked_up(alloc, hosts.as_slice())
 }
 
 /// The gateways of a VLAN's routes, each resolved.
@@ -173,21 +206,20 @@ fn neighbours(alloc: Global, conf: &Conf, dp: &Dp, count: u32) -> Result<NeighRe
 }
 
 /// What is learned of the first datapath, which runs: so many hosts, and the gateways if there are any hosts.
-pub fn learned(alloc: Global, conf: &Conf, count: u32) -> Result<Now, NoMemory> {
-    let mut now = Now {
-        moment: Moment(0),
+pub fn learned(alloc: Global, conf: &Conf, count: u32) -> Result<Learned, NoMemory> {
+    let mut known = Learned {
         running: DpIds::new(alloc),
         ups: UpRecs::new(alloc),
-        hosts: HostRecs::new(alloc),
+        hosts: Hosts::new(alloc),
         neighbours: NeighRecs::new(alloc),
     };
     if let Some(dp) = conf.dps().as_slice().first() {
-        now.running.push(dp.id)?;
-        now.ups = ups(alloc, dp)?;
-        now.hosts = hosts(alloc, dp, conf.vlans().as_slice(), count)?;
-        now.neighbours = neighbours(alloc, conf, dp, count)?;
+        known.running.push(dp.id)?;
+        known.ups = ups(alloc, dp)?;
+        known.hosts = hosts(alloc, dp, conf.vlans().as_slice(), count)?;
+        known.neighbours = neighbours(alloc, conf, dp, count)?;
     }
-    Ok(now)
+    Ok(known)
 }
 PROGRAM
 

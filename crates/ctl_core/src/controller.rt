@@ -2,7 +2,7 @@ ghost use Rattle.std.specs.Prelude.{◌≡◌, ◌==◌, ◌&&◌, ◌<◌, fals
 ghost use Rattle.std.specs.List.{list_any};
 ghost use Rattle.std.specs.Option.{option_and_then, option_copied};
 ghost use Rattle.packet_way.specs.Present.{state_of};
-ghost use Rattle.ctl_world.specs.World.{first, is_at_work, now, World as Seen};
+ghost use Rattle.ctl_world.specs.World.{first, is_at_work, now, running, ups, World as Seen};
 ghost use Rattle.ctl_settle.specs.Rest.{rests_until};
 ghost use Rattle.ctl_core.specs.Changes.{latest, turn_changes};
 ghost use Rattle.ctl_core.specs.Turns.{turn};
@@ -12,7 +12,7 @@ ghost use Rattle.ctl_core.specs.Story.{tables_of};
 use crate::hearing::a_configuration_is_valid;
 use crate::known::Known;
 use crate::turns::work;
-use conf_types::{Conf, Dp, Tally};
+use conf_types::{Conf, Dp, DpIds, Tally, UpRecs};
 use ctl_life::{Sayings, make_sayings};
 use ctl_world::laws::what_is_known_first_is_sound;
 use ctl_world::{Conns, Saids, World};
@@ -130,11 +130,26 @@ impl Controller {
         self.known.world.moment.0
     }
 
-    /// The state by which flow entries are made. A spent controller's says nothing.
-    pub fn now(&self) -> Result<Now, NoMemory>
-        ensures { IfOk result (λ made. (w : Seen) → self.now ≡ Some w → state_of made ≡ now w) }
+    /// The datapaths that run, in the order of the configuration. A spent controller's say nothing.
+    pub fn running(&self) -> Result<DpIds, NoMemory>
+        ensures { IfOk result (λ made. (w : Seen) → self.now ≡ Some w → made ≡ running w) }
     {
-        self.known.world.now(self.alloc)
+        self.known.world.running(self.alloc)
+    }
+
+    /// The interfaces that are up, in the order of the configuration. A spent controller's say nothing.
+    pub fn ups(&self) -> Result<UpRecs, NoMemory>
+        ensures { IfOk result (λ made. (w : Seen) → self.now ≡ Some w → made ≡ ups w) }
+    {
+        self.known.world.ups(self.alloc)
+    }
+
+    /// The state by which flow entries are made, where `dps` are the datapaths that run and `ports` the
+    /// interfaces that are up. A spent controller's says nothing.
+    pub fn now<'a>(&'a self, dps: &'a DpIds, ports: &'a UpRecs) -> Now<'a>
+        ensures { (w : Seen) → self.now ≡ Some w → dps.now ≡ running w → ports.now ≡ ups w → state_of result ≡ now w }
+    {
+        self.known.world.now(dps, ports)
     }
 
     /// The entries that a datapath's switch holds once it has done all that was said; `None` exactly where

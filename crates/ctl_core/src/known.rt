@@ -34,7 +34,7 @@ pub(crate) fn settle_anew<T: Tally>(
     ensures until { OnOk result (known.new.until ≡ rests_until known.new.world) }
 {
     settle(alloc, &mut known.world, units)?;
-    known.until = rests_until(alloc, &known.world)?;
+    known.until = rests_until(&known.world);
     Ok(())
 }
 

@@ -22,7 +22,9 @@ fn make_wanted<T: Tally>(
     requires { IsSound world.now }
     ensures { IfOk result (λ made. made ≡ wanted world.now dp) }
 {
-    let now = world.now(alloc)?;
+    let running = world.running(alloc)?;
+    let ups = world.ups(alloc)?;
+    let now = world.now(&running, &ups);
     cold(alloc, &world.conf, &now, dp, units)
 }
 

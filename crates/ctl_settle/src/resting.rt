@@ -1,10 +1,9 @@
-ghost use Rattle.std.specs.Prelude.{◌≡◌, IfOk};
+ghost use Rattle.std.specs.Prelude.{◌≡◌};
 ghost use Rattle.ctl_settle.specs.Rest.{IsAtRest, RestsUntil, host_until, hosts_until, neighbours_until, rests_until};
 
 use conf_types::{Conf, HostRec, NeighRec};
 use ctl_world::World;
-use net_base::{Moment, NoMemory};
-use std::alloc::Global;
+use net_base::Moment;
 
 /// The greatest moment, which never comes.
 const NEVER: u64 = u64::MAX;
@@ -24,12 +23,12 @@ fn host_until(conf: &Conf, now: Moment, host: &HostRec) -> u64
     moment.0
 }
 
-fn hosts_until(conf: &Conf, now: Moment, hosts: &[HostRec]) -> u64
-    ensures { result ≡ hosts_until conf.now now.0 hosts.now }
+fn hosts_until(world: &World) -> u64
+    ensures { result ≡ hosts_until world.now.conf world.now.moment.0 world.now.hosts.hosts }
 {
     let mut least = NEVER;
-    for host in hosts {
-        least = least.min(host_until(conf, now, host));
+    for host in world.hosts.iter() {
+        least = least.min(host_until(&world.conf, world.moment, host));
     }
     least
 }
@@ -47,11 +46,9 @@ fn neighbours_until(neighbours: &[NeighRec]) -> u64
 /// Until which moment a world that rests goes on resting, where nothing but the clock changes: the first
 /// one, in milliseconds, at which a host turns stale or is to be forgotten, or a neighbour is due, and
 /// 2^64 - 1 where there is none.
-pub fn rests_until(alloc: Global, world: &World) -> Result<u64, NoMemory>
-    ensures exact { IfOk result (λ moment. moment ≡ rests_until world.now) }
-    ensures rests { IfOk result (λ moment. IsAtRest world.now → RestsUntil moment world.now) }
+pub fn rests_until(world: &World) -> u64
+    ensures exact { result ≡ rests_until world.now }
+    ensures rests { IsAtRest world.now → RestsUntil result world.now }
 {
-    let hosts = world.hosts.hosts(alloc)?;
-    let first = hosts_until(&world.conf, world.moment, hosts.as_slice());
-    Ok(first.min(neighbours_until(world.neighbours.list())))
+    hosts_until(world).min(neighbours_until(world.neighbours.list()))
 }

@@ -60,14 +60,14 @@ fn note_lost(
 /// The ports of the hosts that don't stand where they may, each once.
 fn lost_ports(
     alloc: Global,
-    hosts: &[HostRec],
+    hosts: &HostTable,
     running: &[DpId],
     ups: &[UpRec],
 ) -> Result<UpRecs, NoMemory>
-    ensures { IfOk result (λ lost. lost ≡ lost_ports running.now ups.now hosts.now) }
+    ensures { IfOk result (λ lost. lost ≡ lost_ports running.now ups.now hosts.now.hosts) }
 {
     let mut lost = UpRecs::new(alloc);
-    for host in hosts {
+    for host in hosts.iter() {
         note_lost(&mut lost, running, ups, host)?;
     }
     Ok(lost)
@@ -90,8 +90,7 @@ fn forget_hosts(
 ) -> Result<(), NoMemory>
     ensures { OnOk result (hosts.new ≡ record hosts.old { hosts = filter (stands running.now ups.now) hosts.old.hosts }) }
 {
-    let listed = hosts.hosts(alloc)?;
-    let lost = lost_ports(alloc, listed.as_slice(), running, ups)?;
+    let lost = lost_ports(alloc, hosts, running, ups)?;
     forget_ports(hosts, lost.as_slice());
     Ok(())
 }

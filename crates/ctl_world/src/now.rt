@@ -8,7 +8,7 @@ ghost use Rattle.ctl_world.specs.World.{has_ports, is_at_work, is_up_by, now, ru
 
 use crate::conns::{Conn, Conns};
 use crate::world::World;
-use conf_types::{Conf, Dp, DpIds, NeighRecs, Port, UpRec, UpRecs};
+use conf_types::{Conf, Dp, DpIds, Port, UpRec, UpRecs};
 use net_base::{DpId, NoMemory};
 use packet_way::Now;
 use std::alloc::Global;
@@ -120,16 +120,17 @@ impl World {
         ups_of(alloc, self.conf.dps().as_slice(), &self.conns)
     }
 
-    /// The state by which flow entries are made.
-    pub fn now(&self, alloc: Global) -> Result<Now, NoMemory>
-        ensures { IfOk result (λ made. state_of made ≡ now self.now) }
+    /// The state by which flow entries are made, where `dps` are the datapaths that run and `ports` the
+    /// interfaces that are up.
+    pub fn now<'a>(&'a self, dps: &'a DpIds, ports: &'a UpRecs) -> Now<'a>
+        ensures { dps.now ≡ running self.now → ports.now ≡ ups self.now → state_of result ≡ now self.now }
     {
-        Ok(Now {
+        Now {
             moment: self.moment,
-            running: self.running(alloc)?,
-            ups: self.ups(alloc)?,
-            hosts: self.hosts.hosts(alloc)?,
-            neighbours: NeighRecs::from_slice(alloc, self.neighbours.list())?,
-        })
+            running: dps,
+            ups: ports,
+            hosts: self.hosts.as_hosts(),
+            neighbours: self.neighbours.list(),
+        }
     }
 }

@@ -7,7 +7,7 @@ ghost use Rattle.host_learn.specs.Table.{first_due, host_of, off_datapath, off_d
 
 use crate::kept::kept_hosts;
 use crate::learn::{Learn, outcome, take_in};
-use conf_types::{Conf, HostRec, HostRecs, UpRec};
+use conf_types::{Conf, HostRec, UpRec};
 use host_list::{Hosts, HostsIter};
 use net_base::{DpId, Mac, Moment, NoMemory, PortNo, Vid};
 use std::alloc::Global;
@@ -81,13 +81,6 @@ impl HostTable {
         ensures { result.now ≡ self.now.hosts }
     {
         &self.hosts
-    }
-
-    /// The hosts in the order of learning.
-    pub fn hosts(&self, alloc: Global) -> Result<HostRecs, NoMemory>
-        ensures { IfOk result (λ made. made ≡ self.now.hosts) }
-    {
-        self.hosts.to_list(alloc)
     }
 
     /// Takes in a packet with this source that came by this port in this VLAN, and answers what

@@ -1,4 +1,3 @@
-pub mod Adds
 pub mod Framed
 pub mod Headline
 pub mod Joined

@@ -2,14 +2,15 @@ ghost use Rattle.std.specs.Prelude.{◌≡◌, IfOk, Some};
 ghost use Rattle.std.specs.List.{flat_map};
 ghost use Rattle.std.specs.Option.{option_copied};
 ghost use Rattle.conf_types.specs.Configuration.{dp_with};
-ghost use Rattle.conf_types.specs.State.{IsValidState};
-ghost use Rattle.packet_way.specs.Present.{state_of};
+ghost use Rattle.cold_start.specs.Cold.{cold};
 ghost use Rattle.opening_batch.specs.Opening.{dp_called, ups_of, nothing_learned, batch_of, opening_of};
 
 use crate::messages::make_opening;
 use cold_start::cold;
-use conf_types::{Conf, Dp, HostRecs, NeighRecs, Tally, UpRec, UpRecs};
+use conf_types::{Conf, Dp, Tally, UpRec, UpRecs};
+use host_list::Hosts;
 use net_base::{Bytes, Items, Moment, NoMemory};
+use of_match::Tables;
 use packet_way::Now;
 use std::alloc::Global;
 
@@ -47,18 +48,28 @@ fn all_ups(alloc: Global, dps: &[Dp]) -> Result<UpRecs, NoMemory>
     Ok(ups)
 }
 
-/// The state of a configuration of which every enabled interface is up and nothing is learned.
-fn nothing_learned(alloc: Global, conf: &Conf) -> Result<Now, NoMemory>
-    ensures value { IfOk result (λ now. state_of now ≡ nothing_learned conf.now) }
-    ensures valid { IfOk result (λ now. IsValidState conf.now (state_of now)) }
+/// The entries of a datapath of a configuration of which every enabled interface is up and nothing is
+/// learned.
+fn first_entries<T: Tally>(
+    alloc: Global,
+    conf: &Conf,
+    dp: &Dp,
+    units: &mut T,
+) -> Result<Tables, NoMemory>
+    requires { dp_with conf.now.dps dp.now.id ≡ Some dp.now }
+    ensures { IfOk result (λ made. made ≡ cold conf.now (nothing_learned conf.now) dp.now) }
 {
-    Ok(Now {
+    let running = Items::new(alloc);
+    let ups = all_ups(alloc, conf.dps().as_slice())?;
+    let hosts = Hosts::new(alloc);
+    let now = Now {
         moment: Moment(0),
-        running: Items::new(alloc),
-        ups: all_ups(alloc, conf.dps().as_slice())?,
-        hosts: HostRecs::new(alloc),
-        neighbours: NeighRecs::new(alloc),
-    })
+        running: &running,
+        ups: &ups,
+        hosts: &hosts,
+        neighbours: &[],
+    };
+    cold(alloc, conf, &now, dp.id, units)
 }
 
 /// The opening batch of a datapath of a configuration.
@@ -66,9 +77,8 @@ fn open_dp<T: Tally>(alloc: Global, conf: &Conf, dp: &Dp, units: &mut T) -> Resu
     requires { dp_with conf.now.dps dp.now.id ≡ Some dp.now }
     ensures { IfOk result (λ batch. batch ≡ batch_of conf.now dp.now) }
 {
-    let now = nothing_learned(alloc, conf)?;
-    let entries = cold(alloc, conf, &now, dp.id, units)?;
-    make_opening(alloc, entries.as_slice())
+    let entries = first_entries(alloc, conf, dp, units)?;
+    make_opening(alloc, &entries)
 }
 
 /// The messages that open the datapath of a name, of which all enabled interfaces are up, as those of

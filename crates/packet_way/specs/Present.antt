@@ -5,8 +5,8 @@ use Rattle.packet_way.specs.declared.now.Now.{Now}
 abbrev pub state_of : Now → State
 state_of now = record {
   moment = now.moment.0;
-  running = now.running;
-  ups = now.ups;
-  hosts = now.hosts;
-  neighbours = now.neighbours;
+  running = now.running.now;
+  ups = now.ups.now;
+  hosts = now.hosts.now;
+  neighbours = now.neighbours.now;
 }

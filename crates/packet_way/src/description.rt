@@ -45,11 +45,11 @@ fn admitting_vlan<'a>(conf: &'a Conf, port: &Port, packet: &Packet) -> Option<&'
 struct Ingress<'a> {
     alloc: Global,
     conf: &'a Conf,
-    learned: &'a Now,
+    learned: &'a Now<'a>,
     paths: &'a Paths,
     dp: &'a Dp,
     port: &'a Port,
-    ghost right: { paths.now ≡ stack_of conf.now learned.now.ups },
+    ghost right: { paths.now ≡ stack_of conf.now learned.now.ups.now },
 }
 
 impl<'a> Ingress<'a> {
@@ -80,7 +80,7 @@ impl<'a> Ingress<'a> {
     fn push_leaving(&self, out: &mut Sents, vlan: &Vlan, packet: &Packet) -> Result<(), NoMemory>
         ensures { OnOk result (out.new ≡ out.old ++ leaving self.now.conf.now (state_of self.now.learned.now) self.now.dp.now self.now.port.now.no vlan.now packet.now) }
     {
-        let hosts = self.learned.hosts.as_slice();
+        let hosts = self.learned.hosts;
         let onward = choose_onward(self.conf, hosts, self.paths, self.dp, vlan.vid, packet.dst);
         self.push_onward(out, vlan, packet, onward)
     }
@@ -114,7 +114,7 @@ impl<'a> Ingress<'a> {
     fn push_by_routing(&self, out: &mut Sents, vlan: &Vlan, packet: &Packet) -> Result<(), NoMemory>
         ensures { OnOk result (out.new ≡ out.old ++ by_routing self.now.conf.now (state_of self.now.learned.now) self.now.dp.now self.now.port.now.no vlan.now packet.now) }
     {
-        let neighbours = self.learned.neighbours.as_slice();
+        let neighbours = self.learned.neighbours;
         let group = self.conf.group_number(self.dp.id);
         let items = route_list(self.alloc, self.conf, neighbours, group, vlan.vid)?;
         let routed = route(self.alloc, items.as_slice(), vlan, packet)?;
@@ -223,7 +223,7 @@ pub fn sends(
     port: PortNo,
     packet: &Packet,
 ) -> Result<Sents, NoMemory>
-    requires { paths.now ≡ stack_of conf.now now.now.ups }
+    requires { paths.now ≡ stack_of conf.now now.now.ups.now }
     ensures { IfOk result (λ made. made ≡ sends conf.now (state_of now.now) dp port packet.now) }
 {
     let mut out = Sents::new(alloc);

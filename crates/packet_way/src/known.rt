@@ -1,12 +1,11 @@
-ghost use Rattle.std.specs.Prelude.{◌≡◌, ◌&&◌, ◌++◌, OnOk};
+ghost use Rattle.std.specs.Prelude.{◌≡◌, ◌++◌, OnOk};
 ghost use Rattle.std.specs.Option.{option_copied};
-ghost use Rattle.conf_types.specs.Lists.{is_same};
-ghost use Rattle.conf_types.specs.State.{is_host_in};
 ghost use Rattle.packet_way.specs.Known.{host_with, onward_to, onward, to_port, to_hop};
 
 use crate::leaving::{push_delivered, push_sent};
 use conf_types::{Conf, Dp, HostRec, Port};
-use net_base::{DpId, Mac, NoMemory, PortNo, Vid};
+use host_list::Hosts;
+use net_base::{Mac, NoMemory, PortNo, Vid};
 use of_match::{Packet, Sents};
 use stack_paths::Paths;
 use std::alloc::Global;
@@ -21,26 +20,17 @@ pub enum Onward {
     Everywhere,
 }
 
-fn is_host(conf: &Conf, host: &HostRec, group: DpId, vid: Vid, mac: Mac) -> bool
-    ensures { result ≡ (is_host_in conf.now group vid host.now && is_same host.now.mac.0 mac.0) }
-{
-    conf.is_host_in(group, vid, host) && host.has_mac(mac)
-}
-
 /// The host of the datapath's group with this address in the VLAN; `None` where there is none.
 pub fn host_with<'a>(
     conf: &Conf,
-    hosts: &'a [HostRec],
+    hosts: &'a Hosts,
     dp: &Dp,
     vid: Vid,
     mac: Mac,
 ) -> Option<&'a HostRec>
     ensures { option_copied result ≡ host_with conf.now hosts.now dp.now vid mac }
 {
-    let group = conf.group_number(dp.id);
-    hosts
-        .iter()
-        .find(|host| is_host(conf, host, group, vid, mac))
+    hosts.get(conf, dp.id, vid, mac)
 }
 
 fn onward_to(paths: &Paths, dp: &Dp, host: &HostRec) -> Onward
@@ -59,7 +49,7 @@ fn onward_to(paths: &Paths, dp: &Dp, host: &HostRec) -> Onward
 #[tactic(auto, unfolding(crate::specs::Known::onward))]
 pub(crate) fn choose_onward(
     conf: &Conf,
-    hosts: &[HostRec],
+    hosts: &Hosts,
     paths: &Paths,
     dp: &Dp,
     vid: Vid,

@@ -1,6 +1,6 @@
 //! All that holds of a valid state.
 
-ghost use Rattle.std.specs.Prelude.{◌≡◌, ◌↔◌, true, IsTrue, is_some};
+ghost use Rattle.std.specs.Prelude.{◌≡◌, ◌↔◌, true, IfOk, IsTrue, is_some};
 ghost use Rattle.std.specs.List.{AllByRecursion};
 ghost use Rattle.conf_types.specs.Configuration.{port_at};
 ghost use Rattle.conf_types.specs.Groups.{IsDp};
@@ -8,9 +8,10 @@ ghost use Rattle.conf_types.specs.State.{IsValidState};
 ghost use Rattle.packet_way.specs.Present.{state_of};
 
 use crate::{hosts, neighbours};
-use conf_types::{Conf, MOST_HOSTS, UpRec};
-use net_base::DpId;
+use conf_types::{Conf, HostRec, MOST_HOSTS, UpRec};
+use net_base::{DpId, NoMemory};
 use packet_way::Now;
+use std::alloc::Global;
 
 /// At most so many neighbours are kept.
 const MOST_NEIGHBOURS: usize = 2048;
@@ -27,12 +28,12 @@ fn are_ports(conf: &Conf, ups: &[UpRec]) -> bool
     ups.iter().all(|up| conf.port(up.dp, up.port).is_some())
 }
 
-/// Whether the state is valid for the configuration.
-pub fn is_valid(conf: &Conf, now: &Now) -> bool
+/// Whether the state is valid, whose hosts stand in a slice.
+fn is_valid_with(conf: &Conf, now: &Now, all: &[HostRec]) -> bool
+    requires { all.now ≡ now.now.hosts.now }
     ensures { (result ≡ true) ↔ IsValidState conf.now (state_of now.now) }
 {
-    let all = now.hosts.as_slice();
-    let known = now.neighbours.as_slice();
+    let known = now.neighbours;
     let dps = conf.dps().as_slice();
     if !are_dps(conf, now.running.as_slice()) || !are_ports(conf, now.ups.as_slice()) {
         return false;
@@ -50,4 +51,12 @@ pub fn is_valid(conf: &Conf, now: &Now) -> bool
         return false;
     }
     known.len() <= MOST_NEIGHBOURS
+}
+
+/// Whether the state is valid for the configuration.
+pub fn is_valid(alloc: Global, conf: &Conf, now: &Now) -> Result<bool, NoMemory>
+    ensures { IfOk result (λ valid. (valid ≡ true) ↔ IsValidState conf.now (state_of now.now)) }
+{
+    let hosts = now.hosts.to_list(alloc)?;
+    Ok(is_valid_with(conf, now, hosts.as_slice()))
 }

@@ -62,7 +62,7 @@ pub fn answer(
         return Ok(None);
     };
     let hosts = table.as_hosts();
-    let list = table.hosts(alloc)?;
+    let list = hosts.to_list(alloc)?;
     let slow = Listed::new(list.as_slice());
     let mut out = counts(alloc, conf, hosts, &place)?;
     let listed = counts(alloc, conf, &slow, &place)?;

@@ -1,7 +1,8 @@
-use Rattle.std.proofs.Common.{◌≡◌, take}
-use Rattle.ctl_settle.specs.Rest.{hosts_until}
+use Rattle.std.proofs.Common.{◌≡◌, min}
+use Rattle.std.specs.List.{fold}
+use Rattle.ctl_settle.specs.Rest.{host_until, hosts_until}
 use Rattle.ctl_settle.proofs.resting.hosts_until.Given as goal
 
--- the least of the hosts so far
+-- the least so far and those of the hosts that are left
 abbrev pub invariant-loop-host : goal.invariant-loop-host
-invariant-loop-host l = l.least ≡ hosts_until l.conf l.now.0 (take l.host-index l.hosts)
+invariant-loop-host l = fold (λ least h. min least (host_until l.world.conf l.world.moment.0 h)) l.least l.host-iterator ≡ hosts_until l.world.conf l.world.moment.0 l.world.hosts.hosts

@@ -1,13 +1,13 @@
-use Rattle.std.proofs.Common.{append_assoc}
-use Rattle.opening_batch.proofs.Adds.{adds-drop, xid_after-drop}
+use Rattle.std.proofs.Common.{◌++◌, ◌∙◌, List, ap, sym, append_assoc}
+use Rattle.of_match.specs.declared.entry.Entry.{Entry}
+use Rattle.opening_batch.specs.Messages.{adds, xid_after}
 use Rattle.opening_batch.proofs.messages.put_adds.Goals as goal
 
 pub loop-entry-preserved : goal.loop-entry-preserved
 loop-entry-preserved c =
-    let i = c.loop-entry.entry-index in
-    let es = c.args.entries.now in
-    let e = c.entry-item.result in
+    let xid = c.loop-entry.xid in
+    let next = sym c.in-Some.ensures.steps in
     record {
-      bytes = rw (c.in_ok-encode.ensures.ok, c.in_ok-message.ensures, c.xid_behind-xid.ensures, append_assoc, ← adds-drop c.loop-entry.xid i es e c.loop-entry-test.true c.entry-item.is) c.loop-entry.invariant.bytes;
-      xid = rw (c.xid_behind-xid.ensures, ← xid_after-drop c.loop-entry.xid i es e c.loop-entry-test.true) c.loop-entry.invariant.xid;
+      bytes = rw (c.in_ok-encode.ensures.ok, c.in_ok-message.ensures, c.xid_behind-xid.ensures, append_assoc) (ap (λ (es : List Entry). c.loop-entry.out ++ adds xid es) next ∙ c.loop-entry.invariant.bytes);
+      xid = rw c.xid_behind-xid.ensures (ap (xid_after xid) next ∙ c.loop-entry.invariant.xid);
     }
