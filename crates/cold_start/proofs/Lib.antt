@@ -2,7 +2,7 @@ pub mod Lists
 pub mod Groups
 pub mod Permuted
 pub mod Sorted
-pub mod Stable
+pub mod AtKey
 pub mod Owners
 pub mod Distinct
 pub mod Units

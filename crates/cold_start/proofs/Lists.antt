@@ -108,12 +108,3 @@ all_pass p (x ∷ xs) = by (p x) refl (all_pass p xs)
     by : (b : Bool) → p x ≡ b → AllByRecursion (λ y. p y ≡ true) (filter p xs) → AllByRecursion (λ y. p y ≡ true) (cond b (x ∷ filter p xs) (filter p xs))
     by true e more = (e, more)
     by false e more = more
-
--- one member more that is kept, or not
-pub kept_yes : {A : Type 0} (p : A → Bool) (xs : List A) (i : ℕ) (x : A) → i < length xs → x ≡ get_or xs i x → p x ≡ true → filter p (take i xs) ++ x ∷ [] ≡ filter p (take (i + 1) xs)
-kept_yes p xs i x lt is passes =
-    sym (ap (filter p) (take_more xs i x lt) ∙ filter-append p (take i xs) (get_or xs i x ∷ []) ∙ ap (λ y. filter p (take i xs) ++ filter p (y ∷ [])) (sym is) ∙ ap (λ b. filter p (take i xs) ++ cond b (x ∷ []) []) passes)
-
-pub kept_no : {A : Type 0} (p : A → Bool) (xs : List A) (i : ℕ) (x : A) → i < length xs → x ≡ get_or xs i x → p x ≡ false → filter p (take i xs) ≡ filter p (take (i + 1) xs)
-kept_no p xs i x lt is fails =
-    sym (ap (filter p) (take_more xs i x lt) ∙ filter-append p (take i xs) (get_or xs i x ∷ []) ∙ ap (λ y. filter p (take i xs) ++ filter p (y ∷ [])) (sym is) ∙ ap (λ b. filter p (take i xs) ++ cond b (x ∷ []) []) fails ∙ append-nil (filter p (take i xs)))

@@ -10,6 +10,7 @@ ghost use Rattle.packet_way.specs.Present.{state_of};
 ghost use Rattle.plan_units.specs.Units.{is_of_group, hosts_of};
 
 use conf_types::{Conf, Dp, DpIds, HostRec, HostRecs};
+use host_list::Hosts;
 use net_base::{DpId, Items, Mac, NoMemory, Vid};
 use packet_way::{Now, host_with};
 use std::alloc::Global;
@@ -33,11 +34,11 @@ fn has_id(ids: &[DpId], id: DpId) -> bool
     ids.iter().any(|other| *other == id)
 }
 
-fn hosts_on(alloc: Global, hosts: &[HostRec], ids: &[DpId]) -> Result<HostRecs, NoMemory>
+fn hosts_on(alloc: Global, hosts: &Hosts, ids: &[DpId]) -> Result<HostRecs, NoMemory>
     ensures { IfOk result (λ made. made ≡ filter (λ h. list_any (λ id. id.0 == h.dp.0) ids.now) hosts.now) }
 {
     let mut made = Items::new(alloc);
-    for host in hosts {
+    for host in hosts.iter() {
         if has_id(ids, host.dp) {
             made.push(*host)?;
         }
@@ -51,13 +52,13 @@ pub(crate) fn hosts_of(alloc: Global, conf: &Conf, now: &Now, dp: &Dp) -> Result
     ensures { IfOk result (λ made. made ≡ hosts_of conf.now (state_of now.now) dp.now) }
 {
     let ids = dps_in(alloc, conf, conf.group_number(dp.id))?;
-    hosts_on(alloc, now.hosts.as_slice(), ids.as_slice())
+    hosts_on(alloc, now.hosts, ids.as_slice())
 }
 
 /// The host of a datapath's group with this address in the VLAN; `None` exactly where there is none.
 pub(crate) fn find_host<'a>(
     conf: &Conf,
-    hosts: &'a [HostRec],
+    hosts: &'a Hosts,
     dp: &Dp,
     vid: Vid,
     mac: Mac,

@@ -7,12 +7,13 @@ ghost use Rattle.cold_start.specs.Members.{port_by, vlan_by, host_by};
 use crate::append::append;
 use acl_compile::{port_acl_entries, vlan_acl_entries};
 use conf_types::{Conf, Dp, HostRec, Port, Tally, Vlan};
+use host_list::Hosts;
 use net_base::{Moment, NoMemory};
 use of_match::Entries;
 use route_compile::vip_entries;
 use stack_paths::Paths;
 use std::alloc::Global;
-use vlan_compile::{admit_entries, dst_entries, flood_entries, miss_entries, src_entries};
+use vlan_compile::{admit_entries, counted_miss_entries, dst_entries, flood_entries, src_entries};
 
 /// Of an interface: its ACLs, what it admits, and sources that aren't known there.
 pub(crate) fn port_entries<T: Tally>(
@@ -20,7 +21,7 @@ pub(crate) fn port_entries<T: Tally>(
     conf: &Conf,
     dp: &Dp,
     port: &Port,
-    hosts: &[HostRec],
+    hosts: &Hosts,
     units: &mut T,
 ) -> Result<Entries, NoMemory>
     ensures entries { IfOk result (λ made. made ≡ port_by conf.now dp.now hosts.now port.now) }
@@ -30,7 +31,7 @@ pub(crate) fn port_entries<T: Tally>(
     let mut made = port_acl_entries(alloc, conf, dp, port, units)?;
     let admitted = admit_entries(alloc, conf, dp, port, units)?;
     append(&mut made, admitted)?;
-    let missed = miss_entries(alloc, conf, dp, port, hosts, units)?;
+    let missed = counted_miss_entries(alloc, conf, dp, port, hosts, units)?;
     append(&mut made, missed)?;
     Ok(made)
 }

@@ -16,6 +16,7 @@ use crate::fixed::fixed_entries;
 use crate::hosts::hosts_of;
 use crate::members::{host_entries, port_entries, vlan_entries};
 use conf_types::{Conf, Dp, HostRec, NeighRec, Tally, Vlan};
+use host_list::Hosts;
 use net_base::{Moment, NoMemory};
 use of_match::Entries;
 use packet_way::{Now, make_paths};
@@ -29,7 +30,7 @@ fn push_ports<T: Tally>(
     all: &mut Entries,
     conf: &Conf,
     dp: &Dp,
-    hosts: &[HostRec],
+    hosts: &Hosts,
     units: &mut T,
 ) -> Result<(), NoMemory>
     ensures entries { OnOk result (all.new ≡ all.old ++ flat_map (port_by conf.now dp.now hosts.now) dp.now.ports) }
@@ -127,12 +128,11 @@ pub(crate) fn plan_entries<T: Tally>(
     let hosts = hosts_of(alloc, conf, now, dp)?;
     let hosts = hosts.as_slice();
     let vlans = conf.vlans().as_slice();
-    let neighbours = now.neighbours.as_slice();
     units.tick();
     let mut all = fixed_entries(alloc, conf, dp)?;
-    push_ports(alloc, &mut all, conf, dp, now.hosts.as_slice(), units)?;
+    push_ports(alloc, &mut all, conf, dp, now.hosts, units)?;
     push_vlans(alloc, &mut all, conf, dp, vlans, &paths, units)?;
     push_hosts(alloc, &mut all, conf, dp, hosts, now.moment, &paths, units)?;
-    push_routes(alloc, &mut all, conf, dp, vlans, neighbours, units)?;
+    push_routes(alloc, &mut all, conf, dp, vlans, now.neighbours, units)?;
     Ok(all)
 }

@@ -43,7 +43,7 @@ fn of_port<T: Tally>(
     ensures least { OnOk result (RisesAtLeast 1 (T.count units.old) (T.count units.new)) }
 {
     match dp.port(no) {
-        Some(port) => port_entries(alloc, conf, dp, port, now.hosts.as_slice(), units),
+        Some(port) => port_entries(alloc, conf, dp, port, now.hosts, units),
         None => Ok(no_entries(alloc, units)),
     }
 }
@@ -57,7 +57,7 @@ fn of_vlan<T: Tally>(
     vid: Vid,
     units: &mut T,
 ) -> Result<Entries, NoMemory>
-    requires { IfSome paths (λ paths. paths.now ≡ stack_of conf.now now.now.ups) }
+    requires { IfSome paths (λ paths. paths.now ≡ stack_of conf.now now.now.ups.now) }
     ensures entries { IfOk result (λ made. made ≡ entries conf.now (state_of now.now) dp.now (unit_case.Vlan vid)) }
     ensures most { RisesAtMost 3 (T.count units.old) (T.count units.new) }
     ensures least { OnOk result (RisesAtLeast 1 (T.count units.old) (T.count units.new)) }
@@ -84,12 +84,12 @@ fn of_host<T: Tally>(
     mac: Mac,
     units: &mut T,
 ) -> Result<Entries, NoMemory>
-    requires { IfSome paths (λ paths. paths.now ≡ stack_of conf.now now.now.ups) }
+    requires { IfSome paths (λ paths. paths.now ≡ stack_of conf.now now.now.ups.now) }
     ensures entries { IfOk result (λ made. made ≡ entries conf.now (state_of now.now) dp.now (unit_case.Host vid mac)) }
     ensures most { RisesAtMost 3 (T.count units.old) (T.count units.new) }
     ensures least { OnOk result (RisesAtLeast 1 (T.count units.old) (T.count units.new)) }
 {
-    let Some(host) = find_host(conf, now.hosts.as_slice(), dp, vid, mac) else {
+    let Some(host) = find_host(conf, now.hosts, dp, vid, mac) else {
         return Ok(no_entries(alloc, units));
     };
     match paths {
@@ -114,7 +114,7 @@ fn of_routes<T: Tally>(
     ensures least { OnOk result (RisesAtLeast 1 (T.count units.old) (T.count units.new)) }
 {
     match conf.vlan(vid) {
-        Some(vlan) => fib_entries(alloc, conf, dp, vlan, now.neighbours.as_slice(), units),
+        Some(vlan) => fib_entries(alloc, conf, dp, vlan, now.neighbours, units),
         None => Ok(no_entries(alloc, units)),
     }
 }
@@ -147,7 +147,7 @@ pub fn unit_entries_with<T: Tally>(
     unit: &Unit,
     units: &mut T,
 ) -> Result<Entries, NoMemory>
-    requires { IfSome paths (λ paths. paths.now ≡ stack_of conf.now now.now.ups) }
+    requires { IfSome paths (λ paths. paths.now ≡ stack_of conf.now now.now.ups.now) }
     ensures entries { IfOk result (λ made. made ≡ entries_at conf.now (state_of now.now) dp unit.now) }
     ensures most { RisesAtMost 3 (T.count units.old) (T.count units.new) }
     ensures least { OnOk result (RisesAtLeast 1 (T.count units.old) (T.count units.new)) }

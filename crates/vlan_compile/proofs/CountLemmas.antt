@@ -1,7 +1,8 @@
 -- Hosts are counted by VLAN, and what is found of them once serves for each VLAN of a port.
-use Rattle.std.proofs.Common.{◌≡◌, ℕ, ◌+◌, ◌^◌, ◌<◌, ◌≤◌, ◌==◌, ◌&&◌, ◌||◌, Bool, true, false, cond, Some, List, [], ◌∷◌, map, filter, length, take, set, get_or, refl, ap, sym, ◌∙◌, subst, arith}
+use Rattle.std.proofs.Common.{◌≡◌, ℕ, nat_lt, ◌+◌, ◌^◌, ◌<◌, ◌≤◌, ◌==◌, ◌&&◌, ◌||◌, Bool, true, false, cond, Some, List, [], ◌∷◌, map, filter, length, take, set, get_or, refl, ap, sym, ◌∙◌, arith}
 use Rattle.std.specs.List.{list_any, count_by, find}
 use Rattle.std.proofs.lemmas.Bool.{eqb-true, eqb-false}
+use Rattle.std.proofs.lemmas.Bool.Decides.{nat_tests}
 use Rattle.std.proofs.lemmas.List.{get_or-set_same, get_or-set_other, length-take-le}
 use Rattle.std.proofs.lemmas.List.Sums.{length-filter, count_by_more_yes, count_by_more_no, count_by-le-length}
 use Rattle.net_base.specs.declared.numbers.DpId.{DpId}
@@ -86,3 +87,17 @@ miss-is conf hosts d i learned h v =
 
 pub misses_are : (conf : Configuration) (hosts : List HostRec) (d : Dp) (i : Port) (learned : Learned) → AreLearned conf d i hosts learned → (vs : List Vlan) → map (miss_by learned i) vs ≡ map (miss conf hosts d i) vs
 misses_are conf hosts d i learned h vs = map_same _ _ (miss-is conf hosts d i learned h) vs
+
+-- ---- by counts
+
+some_kept : {X : Type 0} (p : X → Bool) (xs : List X) → nat_lt 0 (length (filter p xs)) ≡ list_any p xs
+some_kept p [] = refl
+some_kept p (x ∷ xs) = by (p x) (some_kept p xs)
+  where
+    by : (b : Bool) → nat_lt 0 (length (filter p xs)) ≡ list_any p xs → nat_lt 0 (length (cond b (x ∷ filter p xs) (filter p xs))) ≡ (b || list_any p xs)
+    by true more = grind (arith, nat_tests)
+    by false more = more
+
+-- there is one exactly where they are more than none
+pub some_counted : {X : Type 0} (p : X → Bool) (xs : List X) → nat_lt 0 (count_by p xs) ≡ list_any p xs
+some_counted p xs = ap (nat_lt 0) (sym (length-filter p xs)) ∙ some_kept p xs

@@ -1,5 +1,5 @@
 -- What a port's entries need of the hosts, so that it is found once.
-use Rattle.std.specs.Prelude.{◌≡◌, ◌==◌, ◌&&◌, ◌||◌, ℕ, Bool, Some, None, List, [], ◌∷◌, length, filter, count_by, nat_le, slice_index, vec_len, if◌then◌else◌}
+use Rattle.std.specs.Prelude.{◌≡◌, ◌==◌, ◌&&◌, ◌||◌, ℕ, Bool, Some, None, List, [], ◌∷◌, length, filter, count_by, nat_le, slice_index, if◌then◌else◌}
 use Rattle.std.specs.List.{AllByRecursion, list_any}
 use Rattle.net_base.specs.declared.numbers.DpId.{DpId}
 use Rattle.of_match.specs.declared.action.Instr.{Instr}
@@ -40,11 +40,15 @@ pub record AreLearned (conf : Configuration) (d : Dp) (i : Port) (hosts : List H
 abbrev pub is_full_by : Learned → Port → Vlan → Bool
 is_full_by learned i v = nat_le i.max_hosts (length learned.here) || nat_le v.max_hosts (slice_index learned.in_group.items v.vid) || learned.is_full
 
-abbrev pub missed_by : Learned → Port → Vlan → List Instr
-missed_by learned i v =
-    if i.permanent_learn && list_any (λ h. h.vid == v.vid) learned.here then leads_to [] None
-    else if is_full_by learned i v then leads_to [] (Some Ipv4Route)
+-- where the port keeps the host that it has, and where no further host may be learned
+abbrev pub missed_if : Bool → Bool → List Instr
+missed_if keeps full =
+    if keeps then leads_to [] None
+    else if full then leads_to [] (Some Ipv4Route)
     else leads_to (to_controller ∷ []) (Some Ipv4Route)
 
+abbrev pub miss_if : Port → Vlan → Bool → Bool → Entry
+miss_if i v keeps full = entry Source 10 (in_port i.no ∷ vid_field v.vid ∷ []) (missed_if keeps full)
+
 abbrev pub miss_by : Learned → Port → Vlan → Entry
-miss_by learned i v = entry Source 10 (in_port i.no ∷ vid_field v.vid ∷ []) (missed_by learned i v)
+miss_by learned i v = miss_if i v (i.permanent_learn && list_any (λ h. h.vid == v.vid) learned.here) (is_full_by learned i v)

@@ -3,6 +3,7 @@
 #![tactic(auto)]
 
 mod admissions;
+mod counted;
 mod destinations;
 mod flood;
 mod floods;
@@ -14,6 +15,7 @@ mod targets;
 mod vlans;
 
 pub use admissions::admit_entries;
+pub use counted::counted_miss_entries;
 pub use destinations::dst_entries;
 pub use flood::{Flood, Ingress};
 pub use floods::flood_entries;

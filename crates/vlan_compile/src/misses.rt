@@ -1,7 +1,7 @@
 ghost use Rattle.std.specs.Prelude.{◌≡◌, ◌++◌, map, vec_len, IfOk, OnOk};
 ghost use Rattle.conf_types.specs.Count.{counted};
 ghost use Rattle.vlan_compile.specs.Vlans.{tagged_vlans, vlans_of};
-ghost use Rattle.vlan_compile.specs.Counts.{missed_by, miss_by};
+ghost use Rattle.vlan_compile.specs.Counts.{missed_if, miss_if, miss_by};
 ghost use Rattle.vlan_compile.specs.Misses.{misses};
 
 use crate::learned::{Learned, find_learned};
@@ -13,21 +13,36 @@ use plan_base::{Table, in_port, leads_to, make_entry, to_controller, vid_field};
 use std::alloc::Global;
 
 /// What becomes of a packet whose source isn't known.
-fn missed(alloc: Global, learned: &Learned, port: &Port, vlan: &Vlan) -> Result<Instrs, NoMemory>
-    requires { vec_len learned.now.in_group ≡ 4096 }
-    ensures { IfOk result (λ made. made ≡ missed_by learned.now port.now vlan.now) }
+fn missed(alloc: Global, keeps: bool, is_full: bool) -> Result<Instrs, NoMemory>
+    ensures { IfOk result (λ made. made ≡ missed_if keeps is_full) }
 {
     let mut actions = Actions::new(alloc);
-    if port.permanent_learn && learned.has_host(vlan.vid) {
+    if keeps {
         return leads_to(alloc, actions, None);
     }
-    if !learned.is_full(port, vlan) {
+    if !is_full {
         actions.push(to_controller())?;
     }
     leads_to(alloc, actions, Some(Table::Ipv4Route))
 }
 
+/// The entry of a VLAN of a port: whether the port keeps the host that it has there, and whether no further
+/// host may be learned.
 pub(crate) fn make_miss(
+    alloc: Global,
+    port: &Port,
+    vlan: &Vlan,
+    keeps: bool,
+    is_full: bool,
+) -> Result<Entry, NoMemory>
+    ensures { IfOk result (λ made. made ≡ miss_if port.now vlan.now keeps is_full) }
+{
+    let fields = [in_port(port.no), vid_field(vlan.vid)];
+    let instrs = missed(alloc, keeps, is_full)?;
+    make_entry(alloc, Table::Source, 10, &fields, instrs)
+}
+
+fn learned_miss(
     alloc: Global,
     learned: &Learned,
     port: &Port,
@@ -36,9 +51,8 @@ pub(crate) fn make_miss(
     requires { vec_len learned.now.in_group ≡ 4096 }
     ensures { IfOk result (λ made. made ≡ miss_by learned.now port.now vlan.now) }
 {
-    let fields = [in_port(port.no), vid_field(vlan.vid)];
-    let instrs = missed(alloc, learned, port, vlan)?;
-    make_entry(alloc, Table::Source, 10, &fields, instrs)
+    let keeps = port.permanent_learn && learned.has_host(vlan.vid);
+    make_miss(alloc, port, vlan, keeps, learned.is_full(port, vlan))
 }
 
 /// The entries of the VLANs whose packets have a tag at the port.
@@ -54,7 +68,7 @@ fn push_tagged(
 {
     for vid in port.tagged.as_slice() {
         if let Some(vlan) = conf.vlan(*vid) {
-            made.push(make_miss(alloc, learned, port, vlan)?)?;
+            made.push(learned_miss(alloc, learned, port, vlan)?)?;
         }
     }
     Ok(())
@@ -71,7 +85,7 @@ fn make_misses(
 {
     let mut made = Entries::new(alloc);
     if let Some(vlan) = native_vlan(conf, port) {
-        made.push(make_miss(alloc, learned, port, vlan)?)?;
+        made.push(learned_miss(alloc, learned, port, vlan)?)?;
     }
     push_tagged(alloc, &mut made, conf, learned, port)?;
     Ok(made)

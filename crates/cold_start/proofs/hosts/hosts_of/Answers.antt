@@ -14,10 +14,8 @@ returns c =
     let state = state_of c.args.now.now in
     let d = c.args.dp.now in
     let on : List DpId → List HostRec → List HostRec = λ ids hosts. filter (λ h. list_any (λ id. id.0 == h.dp.0) ids) hosts in
-    let hosts = c.as_slice.result.now in
-    let ids = c.as_slice-2.result.now in
-    let same : on ids hosts ≡ hosts_of conf state d =
-    ap (on ids) c.as_slice.ensures
-    ∙ ap (λ (l : List DpId). on l state.hosts) (c.as_slice-2.ensures ∙ c.in_ok-ids.ensures ∙ ap (ids_in conf) c.group_number.ensures)
+    let ids = c.as_slice.result.now in
+    let same : on ids state.hosts ≡ hosts_of conf state d =
+    ap (λ (l : List DpId). on l state.hosts) (c.as_slice.ensures ∙ c.in_ok-ids.ensures ∙ ap (ids_in conf) c.group_number.ensures)
     ∙ hosts_are conf state d c.requires in
-    IfOk-weaker c.hosts_on.result (λ (made : List HostRec). made ≡ on ids hosts) (λ (made : List HostRec). made ≡ hosts_of conf state d) (λ made is. is ∙ same) c.hosts_on.ensures
+    IfOk-weaker c.hosts_on.result (λ (made : List HostRec). made ≡ on ids state.hosts) (λ (made : List HostRec). made ≡ hosts_of conf state d) (λ made is. is ∙ same) c.hosts_on.ensures

@@ -1,7 +1,8 @@
-use Rattle.std.proofs.Common.{◌≡◌, ◌==◌, take, filter}
+use Rattle.std.proofs.Common.{◌≡◌, ◌==◌, ◌++◌, filter}
 use Rattle.std.specs.List.{list_any}
 use Rattle.cold_start.proofs.hosts.hosts_on.Given as goal
 
--- those so far that stand on one of the datapaths
+-- those so far that stand on one of the datapaths, and then those that are left
 abbrev pub invariant-loop-host : goal.invariant-loop-host
-invariant-loop-host l = l.made ≡ filter (λ h. list_any (λ id. id.0 == h.dp.0) l.ids) (take l.host-index l.hosts)
+invariant-loop-host l =
+    l.made ++ filter (λ h. list_any (λ id. id.0 == h.dp.0) l.ids) l.host-iterator ≡ filter (λ h. list_any (λ id. id.0 == h.dp.0) l.ids) l.hosts

@@ -6,4 +6,4 @@ use Rattle.cold_start.proofs.tables.add_all.Given as goal
 
 -- what is added so far, and then what is left to add, is all of it
 abbrev pub invariant-loop-entry : goal.invariant-loop-entry
-invariant-loop-entry l = after_all l.tables (map Add (into_iter_items l.entry-iterator)) ≡ after_all [] (map Add l.fn.entries.items)
+invariant-loop-entry l = after_all l.tables (map Add (into_iter_items l.entry-iterator)) ≡ after_all [] (map Add l.fn.entries)

@@ -11,4 +11,4 @@ plan_entries-requires-clause-dp g c = own_id c.args.conf.now.dps c.args.dp c.in-
 pub returns-clause-tables : goal.returns-clause-tables
 returns-clause-tables g c =
     let same = tabled c.args.conf.now (state_of c.args.now.now) c.args.dp c.in-Some.dp.now _ c.in-Some.ensures.found c.in_ok-all.ensures.entries in
-    subst (λ l. IfOk c.sorted_tables.result (λ made. made ≡ l)) same c.sorted_tables.ensures
+    subst (λ l. IfOk c.add_all.result (λ made. made ≡ l)) same c.add_all.ensures

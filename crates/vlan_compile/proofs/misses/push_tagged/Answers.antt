@@ -1,4 +1,4 @@
-use Rattle.std.proofs.Common.{◌≡◌, ◌++◌, ◌∙◌, ℕ, List, [], ◌∷◌, Some, sym, ap}
+use Rattle.std.proofs.Common.{◌≡◌, ◌++◌, ◌∙◌, ℕ, List, [], ◌∷◌, sym, ap}
 use Rattle.std.specs.List.{filter_map}
 use Rattle.std.specs.Option.{option_map, option_copied}
 use Rattle.std.proofs.lemmas.List.{take_all}
@@ -8,7 +8,7 @@ use Rattle.conf_types.proofs.Taken.{one_kept, none_kept}
 use Rattle.vlan_compile.specs.Counts.{miss_by}
 use Rattle.vlan_compile.proofs.Mapped.{map-filter_map}
 use Rattle.vlan_compile.proofs.misses.push_tagged.Goals as goal
-use Rattle.vlan_compile.proofs.misses.push_tagged.Goals.{in-Some+in_ok-make_miss+in_ok-push, in_default}
+use Rattle.vlan_compile.proofs.misses.push_tagged.Goals.{in-Some+in_ok-learned_miss+in_ok-push, in_default}
 
 -- the entry of the VLAN, or none, is added
 pub loop-vid-preserved : goal.loop-vid-preserved
@@ -17,8 +17,8 @@ loop-vid-preserved c =
     let h = λ (vid : ℕ). option_map make (vlan_with c.args.conf.now.vlans vid) in
     let xs = c.as_slice-vid-items.result.now in
     elim c.match-vlan.branch [
-      | in-Some+in_ok-make_miss+in_ok-push w ↦
-          let added : c.match-vlan.made ≡ c.loop-vid.made ++ make w.in-Some.vlan.now ∷ [] = cc (w.made-is, w.in_ok-push.ensures.ok, w.in_ok-make_miss.ensures) in
+      | in-Some+in_ok-learned_miss+in_ok-push w ↦
+          let added : c.match-vlan.made ≡ c.loop-vid.made ++ make w.in-Some.vlan.now ∷ [] = cc (w.made-is, w.in_ok-push.ensures.ok, w.in_ok-learned_miss.ensures) in
           added ∙ one_kept h xs c.loop-vid.vid-index c.vid-item.result c.loop-vid-test.true c.vid-item.is c.args.made.now c.loop-vid.made c.loop-vid.invariant (make w.in-Some.vlan.now) (ap (option_map make) (sym c.vlan.ensures ∙ ap option_copied w.in-Some.is))
       | in_default w ↦ w.made-is
           ∙ none_kept h xs c.loop-vid.vid-index c.vid-item.result c.loop-vid-test.true c.vid-item.is c.args.made.now c.loop-vid.made c.loop-vid.invariant (ap (option_map make) (sym c.vlan.ensures ∙ ap option_copied w.in_default.is))
