@@ -8,3 +8,4 @@ pub mod Agrees
 pub mod Facts
 pub mod PortVlans
 pub mod Copies
+pub mod Order

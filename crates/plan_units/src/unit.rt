@@ -1,7 +1,7 @@
 use net_base::{Mac, PortNo, Vid};
 
 /// A part of a datapath's plan.
-#[derive(Clone, Copy, Debug, PartialEq, Eq)]
+#[derive(Clone, Copy, Debug, PartialEq, Eq, PartialOrd, Ord)]
 pub enum Unit {
     /// What stands once.
     Dp,

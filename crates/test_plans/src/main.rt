@@ -1,17 +1,18 @@
 //! Cases of plans: the entries of a cold start, what is sent by them, and the commands that lead from one state
-//! or configuration to the next. Each line of the input is a case, and is printed with its answer where it
-//! asks for one; an empty line, and one that begins with `#`, is printed as it is.
+//! or configuration to the next. Each line of the input is a case, and is printed with its answer where it asks
+//! for one; an empty line, and one that begins with `#`, is printed as it is.
 #![tactic(auto)]
 
 use conf_check::conf_of_bytes;
 use conf_types::Conf;
+use learned::Learned;
 use net_base::{Moment, NoMemory};
-use packet_way::Now;
 use std::alloc::Global;
 use std::str::SplitWhitespace;
 use std::{io, mem};
 use test_lines::{Answers, answered};
 
+mod learned;
 mod named;
 mod plan;
 mod sent;
@@ -23,9 +24,9 @@ mod units;
 #[derive(Drop)]
 struct Bench {
     conf: Conf,
-    now: Now,
+    now: Learned,
     last_conf: Conf,
-    last_now: Now,
+    last_now: Learned,
 }
 
 /// A configuration without a datapath.
@@ -88,16 +89,22 @@ fn answer(
         "cold" => plan::cold_start(
             alloc,
             &bench.conf,
-            &bench.now,
+            &bench.now.now(),
             dp,
             test_words::number(words),
         )?,
-        "sends" => sent::sent(alloc, &bench.conf, &bench.now, dp, words)?,
-        "event" => plan::event(alloc, &bench.conf, &bench.last_now, &bench.now, dp)?,
+        "sends" => sent::sent(alloc, &bench.conf, &bench.now.now(), dp, words)?,
+        "event" => plan::event(
+            alloc,
+            &bench.conf,
+            &bench.last_now.now(),
+            &bench.now.now(),
+            dp,
+        )?,
         "reload" => plan::reload(
             alloc,
-            (&bench.last_conf, &bench.last_now),
-            (&bench.conf, &bench.now),
+            (&bench.last_conf, &bench.last_now.now()),
+            (&bench.conf, &bench.now.now()),
             dp,
         )?,
         _ => return Ok(None),

@@ -7,16 +7,17 @@ ghost use Rattle.law_units.specs.declared.change.Change.TheVariants as change;
 ghost use Rattle.law_units.specs.Reach.{AreNamed};
 ghost use Rattle.test_plans.specs.Named.{names};
 
-use conf_types::{Conf, HostRec, NeighRec, UpRec};
+use conf_types::{Conf, NeighRec, UpRec};
+use host_list::Hosts;
 use net_base::{DpId, Items, NoMemory};
 use packet_way::Now;
 use std::alloc::Global;
 use warm_plan::Change;
 
-fn name_hosts(out: &mut Items<Change>, conf: &Conf, hosts: &[HostRec]) -> Result<(), NoMemory>
+fn name_hosts(out: &mut Items<Change>, conf: &Conf, hosts: &Hosts) -> Result<(), NoMemory>
     ensures { OnOk result (out.new ≡ out.old ++ map (λ h. change.Host (group_of conf.now h.dp) h.vid h.mac) hosts.now) }
 {
-    for host in hosts {
+    for host in hosts.iter() {
         out.push(Change::Host {
             group: conf.group_number(host.dp),
             vid: host.vid,
@@ -63,10 +64,10 @@ fn name_neighbours(out: &mut Items<Change>, neighbours: &[NeighRec]) -> Result<(
 fn name_state(out: &mut Items<Change>, conf: &Conf, now: &Now) -> Result<(), NoMemory>
     ensures { OnOk result (out.new ≡ out.old ++ names conf.now (state_of now.now)) }
 {
-    name_hosts(out, conf, now.hosts.as_slice())?;
+    name_hosts(out, conf, now.hosts)?;
     name_ports(out, now.ups.as_slice())?;
     name_dps(out, now.running.as_slice())?;
-    name_neighbours(out, now.neighbours.as_slice())?;
+    name_neighbours(out, now.neighbours)?;
     Ok(())
 }
 

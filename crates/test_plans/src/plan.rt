@@ -17,7 +17,7 @@ use test_words::{put_command, put_entry};
 use warm_plan::Warm;
 
 /// The answer where a state isn't valid for its configuration.
-const NO_STATE: &str = "no valid state";
+pub const NO_STATE: &str = "no valid state";
 
 /// Whether an entry is one of the table that is asked for, or none is named.
 fn is_asked(entry: &Entry, table: Option<u64>) -> bool {
@@ -30,7 +30,7 @@ fn is_asked(entry: &Entry, table: Option<u64>) -> bool {
 /// The entries of a table, or all where none is named.
 fn entries(alloc: Global, tables: &Tables, table: Option<u64>) -> Result<String, NoMemory> {
     let mut out = format!(in alloc; "entries")?;
-    for entry in tables.as_slice() {
+    for entry in tables.iter() {
         if is_asked(entry, table) {
             out.push_str("\n    ")?;
             put_entry(alloc, &mut out, entry)?;
@@ -47,7 +47,7 @@ pub fn cold_start(
     dp: DpId,
     table: Option<u64>,
 ) -> Result<String, NoMemory> {
-    if !is_valid(conf, now) {
+    if !is_valid(alloc, conf, now)? {
         return format!(in alloc; "{NO_STATE}");
     }
     let tables = cold(alloc, conf, now, dp, &mut Units::new())?;
@@ -74,7 +74,7 @@ pub fn event(
     now: &Now,
     dp: DpId,
 ) -> Result<String, NoMemory> {
-    if !is_valid(conf, before) || !is_valid(conf, now) {
+    if !is_valid(alloc, conf, before)? || !is_valid(alloc, conf, now)? {
         return format!(in alloc; "{NO_STATE}");
     }
     let mut units = Units::new();
@@ -92,7 +92,7 @@ pub fn reload(
     (conf, now): (&Conf, &Now),
     dp: DpId,
 ) -> Result<String, NoMemory> {
-    if !is_valid(before, state) || !is_valid(conf, now) {
+    if !is_valid(alloc, before, state)? || !is_valid(alloc, conf, now)? {
         return format!(in alloc; "{NO_STATE}");
     }
     let mut units = Units::new();

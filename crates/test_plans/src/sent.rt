@@ -82,7 +82,7 @@ pub fn sent(
         out.push_str("no case")?;
         return Ok(out);
     };
-    if !is_valid(conf, now) {
+    if !is_valid(alloc, conf, now)? {
         out.push_str("no valid state")?;
         return Ok(out);
     }

@@ -1,8 +1,9 @@
 //! A state, line by line.
 
-use conf_types::{Conf, Dp, DpIds, HostRec, HostRecs, NeighRec, NeighRecs, UpRec, UpRecs};
+use crate::learned::Learned;
+use conf_types::{Conf, Dp, DpIds, HostRec, NeighRec, NeighRecs, UpRec, UpRecs};
+use host_list::Hosts;
 use net_base::{DpId, Moment, NoMemory, PortNo};
-use packet_way::Now;
 use std::alloc::Global;
 use std::str::SplitWhitespace;
 use test_words::{dp_id, ip4, mac, moment, port_no, vid};
@@ -36,14 +37,14 @@ fn all_enabled(alloc: Global, conf: &Conf) -> Result<UpRecs, NoMemory> {
 }
 
 /// The state in which all datapaths run, all enabled ports are up, and nothing is learned.
-pub fn nothing_learned(alloc: Global, conf: &Conf, moment: Moment) -> Result<Now, NoMemory> {
+pub fn nothing_learned(alloc: Global, conf: &Conf, moment: Moment) -> Result<Learned, NoMemory> {
     let running = all_dps(alloc, conf)?;
     let ups = all_enabled(alloc, conf)?;
-    Ok(Now {
+    Ok(Learned {
         moment,
         running,
         ups,
-        hosts: HostRecs::new(alloc),
+        hosts: Hosts::new(alloc),
         neighbours: NeighRecs::new(alloc),
     })
 }
@@ -92,7 +93,7 @@ fn neighbour(words: &mut SplitWhitespace<'_>) -> Option<NeighRec> {
 /// Takes in what a line tells; `false` where it tells nothing.
 pub fn tell(
     alloc: Global,
-    now: &mut Now,
+    now: &mut Learned,
     name: &str,
     words: &mut SplitWhitespace<'_>,
 ) -> Result<bool, NoMemory> {
@@ -101,7 +102,7 @@ pub fn tell(
             let Some(host) = host(words) else {
                 return Ok(false);
             };
-            now.hosts.push(host)?;
+            now.push_host(&host)?;
         }
         "neighbour" => {
             let Some(neighbour) = neighbour(words) else {

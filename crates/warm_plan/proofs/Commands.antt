@@ -1,5 +1,5 @@
 -- What tables hold after deletes and adds.
-use Rattle.std.proofs.Common.{◌≡◌, ℕ, zero, suc, ◌+◌, ◌<◌, ◌⊎◌, inl, inr, Bool, true, false, cond, length, get_or, take, List, [], ◌∷◌, ◌++◌, map, filter, refl, sym, ap, ◌∙◌, subst, arith, true≢false}
+use Rattle.std.proofs.Common.{◌≡◌, ℕ, zero, suc, ◌+◌, ◌<◌, ◌⊎◌, inl, inr, Bool, true, length, get_or, take, List, [], ◌∷◌, ◌++◌, map, filter, refl, sym, ap, ◌∙◌, subst, arith, true≢false}
 use Rattle.std.specs.Prelude.{Contains}
 use Rattle.std.specs.List.{AllByRecursion, flat_map}
 use Rattle.std.specs.declared.cmp.Ordering.{Ordering}
@@ -20,11 +20,10 @@ use Rattle.conf_types.specs.Configuration.{Configuration}
 use Rattle.conf_types.specs.State.{State}
 use Rattle.law_runs.specs.Members.{head_of, tail_of, of_all, all_by, all_filtered, in_front, behind, in_filtered}
 use Rattle.plan_base.specs.Accepted.{HaveDistinctKeys}
-use Rattle.plan_base.proofs.Each.{all_from, all_append, all_of_append, before_append, before_of_append}
+use Rattle.plan_base.proofs.Each.{all_append}
 use Rattle.plan_units.specs.declared.unit.Unit.{Unit as PlanUnit}
 use Rattle.plan_units.specs.Units.{entries}
-use Rattle.warm_plan.specs.declared.plan.Part.{Part}
-use Rattle.warm_plan.specs.Parts.{keys_in, without, without_parts, with_units}
+use Rattle.warm_plan.specs.Parts.{without, with_units}
 
 -- ---- members, by how a list is made
 
@@ -145,16 +144,11 @@ of_with (f ∷ es) t e c = elim (of_with es (after t (Add f)) e c) [
     at (inl same) = inr (subst (λ (x : Entry). Contains (f ∷ es) x) same (head_of f es))
     at (inr held) = inl held
 
--- ---- by parts and by units
+-- ---- by units
 
 after_joined : (t : List Entry) (xs ys : List Command) → after_all t (xs ++ ys) ≡ after_all (after_all t xs) ys
 after_joined t [] ys = refl
 after_joined t (x ∷ xs) ys = after_joined (after t x) xs ys
-
-pub parts_joined : (t : List Entry) (parts : List Part) → without_parts t parts ≡ without t (keys_in parts)
-parts_joined t [] = refl
-parts_joined t (p ∷ parts) =
-    parts_joined (without t p.keys) parts ∙ sym (after_joined t (map DeleteStrict p.keys) (map DeleteStrict (keys_in parts))) ∙ ap (after_all t) (sym (map-append DeleteStrict p.keys (keys_in parts)))
 
 module _ (conf : Configuration) (now : State) (d : Dp) where
   pub units_joined : (t : List Entry) (us : List PlanUnit) → with_units conf now d t us ≡ with t (flat_map (entries conf now d) us)
@@ -172,30 +166,6 @@ module _ (conf : Configuration) (now : State) (d : Dp) where
   pub units_more : (t : List Entry) (us : List PlanUnit) (i : ℕ) (u : PlanUnit) → i < length us → u ≡ get_or us i u → after_all (with_units conf now d t (take i us)) (map Add (entries conf now d u)) ≡ with_units conf now d t (take (i + 1) us)
   units_more t us i u lt is =
       sym (ap (with_units conf now d t) (take_more us i u lt) ∙ with_units_joined t (take i us) (get_or us i u ∷ []) ∙ ap (λ (w : PlanUnit). with (with_units conf now d t (take i us)) (entries conf now d w)) (sym is))
-
--- ---- no two with one key
-
-one_kept : {A : Type 0} (f : A → List Entry) (p : A → Bool) (P : Entry → Type 0) (y : A) (ys : List A) (b : Bool) → AllByRecursion P (f y) → AllByRecursion P (flat_map f (filter p ys))
-    → AllByRecursion P (flat_map f (cond b (y ∷ filter p ys) (filter p ys)))
-one_kept f p P y ys true here more = all_append P (f y) (flat_map f (filter p ys)) here more
-one_kept f p P y ys false here more = more
-
-fewer : {A : Type 0} (f : A → List Entry) (p : A → Bool) (P : Entry → Type 0) (ys : List A) → AllByRecursion P (flat_map f ys) → AllByRecursion P (flat_map f (filter p ys))
-fewer f p P [] all = tt
-fewer f p P (y ∷ ys) all = let parts = all_of_append P (f y) (flat_map f ys) all in one_kept f p P y ys (p y) parts.0 (fewer f p P ys parts.1)
-
-pub fewer_distinct : {A : Type 0} (f : A → List Entry) (p : A → Bool) (xs : List A) → HaveDistinctKeys (flat_map f xs) → HaveDistinctKeys (flat_map f (filter p xs))
-fewer_distinct f p [] h = tt
-fewer_distinct {A = A} f p (x ∷ xs) h =
-    let parts = before_of_append (λ (e g : Entry). e.key ≡ g.key → ⊥) (f x) (flat_map f xs) h in
-    by (p x) parts (fewer_distinct f p xs parts.1)
-  where
-    by : (b : Bool) → HaveDistinctKeys (f x) × HaveDistinctKeys (flat_map f xs) × AllByRecursion (λ e. AllByRecursion (λ g. e.key ≡ g.key → ⊥) (flat_map f xs)) (f x)
-        → HaveDistinctKeys (flat_map f (filter p xs)) → HaveDistinctKeys (flat_map f (cond b (x ∷ filter p xs) (filter p xs)))
-    by true parts more =
-        before_append (λ e g. e.key ≡ g.key → ⊥) (f x) (flat_map f (filter p xs)) parts.0 more
-        (all_from {P = λ (e : Entry). AllByRecursion (λ g. e.key ≡ g.key → ⊥) (flat_map f xs)} {Q = λ (e : Entry). AllByRecursion (λ g. e.key ≡ g.key → ⊥) (flat_map f (filter p xs))} (λ e all. fewer f p (λ g. e.key ≡ g.key → ⊥) xs all) (f x) parts.2)
-    by false parts more = more
 
 -- ---- entries in key order are told by their members
 

@@ -1,6 +1,11 @@
 pub mod Commands
+pub mod Kept
 pub mod Made
 pub mod Remade
 pub mod Reaching
+pub mod Longer
+pub mod Listed
+pub mod TakenOut
+pub mod Standing
 pub mod Settings
 pub mod Telling

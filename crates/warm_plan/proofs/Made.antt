@@ -3,6 +3,7 @@ use Rattle.std.proofs.Common.{◌≡◌, Some, List, [], map, sym, ap, subst, �
 use Rattle.std.specs.Prelude.{Contains}
 use Rattle.std.specs.List.{AllByRecursion, flat_map}
 use Rattle.std.proofs.lemmas.List.Sorted.{Contains-permutation, IsPermutation-sym}
+use Rattle.std.proofs.lemmas.Option.{same_Some}
 use Rattle.of_match.specs.declared.entry.Command.TheVariants.{Add}
 use Rattle.of_match.specs.declared.entry.Entry.{Entry}
 use Rattle.of_match.specs.declared.entry.Key.{Key}
@@ -10,15 +11,15 @@ use Rattle.of_match.specs.Settled.{after_all}
 use Rattle.conf_types.specs.declared.datapath.Dp.{Dp}
 use Rattle.conf_types.specs.Configuration.{Configuration}
 use Rattle.conf_types.specs.State.{State}
-use Rattle.law_runs.specs.Members.{of_all, all_by, all_mapped, in_flat, in_mapped}
+use Rattle.law_runs.specs.Members.{of_all, all_mapped, in_flat, in_mapped}
 use Rattle.plan_units.specs.declared.unit.Unit.{Unit as PlanUnit}
 use Rattle.plan_units.specs.Laws.{IsSetting, HasAddresses}
 use Rattle.plan_units.specs.Units.{entries, plan}
 use Rattle.cold_start.specs.Cold.{cold, units_of}
 use Rattle.law_units.specs.Owner.{owner}
-use Rattle.warm_plan.specs.declared.plan.Part.{Part}
-use Rattle.warm_plan.specs.Parts.{keys_of, keys_in, ArePartsOf, part_of, with_units}
+use Rattle.warm_plan.specs.Parts.{keys_of, ArePartsOf, parts_with, with_units}
 use Rattle.warm_plan.proofs.Commands.{of_flat, units_joined}
+use Rattle.warm_plan.proofs.Kept.{with_all, with_own}
 
 abbrev pub IsOwned : PlanUnit → Key → Type 0
 IsOwned u k = owner k ≡ Some u
@@ -64,12 +65,12 @@ module _ (owned : (conf : Configuration) (now : State) (d : Dp) → HasAddresses
   unfolding cold
   all_made = units_joined conf now d [] (units_of conf now d) ∙ ap (λ (es : List Entry). after_all [] (map Add es)) (sym (whole conf now d setting))
 
-  pub all_parts : ArePartsOf (map (part_of conf now d) (units_of conf now d)) (cold conf now d)
+  pub all_parts : ArePartsOf (parts_with conf now d (λ _. []) (units_of conf now d)) (cold conf now d)
   all_parts = record {
-    own = all_mapped (λ (p : Part). AllByRecursion (λ k. owner k ≡ Some p.unit) p.keys) (part_of conf now d) (units_of conf now d)
-        (all_by (λ u. AllByRecursion (IsOwned u) (keys_of (entries conf now d u))) (units_of conf now d) (λ u c. part_owned u));
-    whole = all_by (λ (e : Entry). Contains (keys_in (map (part_of conf now d) (units_of conf now d))) e.key) (cold conf now d) (λ e c.
+    own = with_all conf now d (λ u keys. AllByRecursion (IsOwned u) keys) part_owned (units_of conf now d) (λ _. []) (λ u. tt);
+    whole = λ e c w own.
         let of = of_cold e c in
-        in_flat (λ (p : Part). p.keys) (map (part_of conf now d) (units_of conf now d)) (part_of conf now d of.unit) e.key
-        (in_mapped (part_of conf now d) (units_of conf now d) of.unit of.listed) (key_in_part of.unit e of.here));
+        let unit : of.unit ≡ w = same_Some of.unit w (sym (owner_of of.unit e of.here) ∙ own) in
+        subst (λ (u : PlanUnit). Contains (parts_with conf now d (λ _. []) (units_of conf now d) u) e.key) unit
+        (subst (λ (ks : List Key). Contains ks e.key) (sym (with_own conf now d (units_of conf now d) (λ _. []) of.unit of.listed)) (key_in_part of.unit e of.here));
   }

@@ -1,11 +1,11 @@
 -- A plan that is made, and made again, of the datapath with an identifier.
-use Rattle.std.proofs.Common.{◌≡◌, ℕ, ◌*◌, length, Bool, false, Some, List, [], map, filter, sym, ap, subst, ◌∙◌}
+use Rattle.std.proofs.Common.{◌≡◌, ℕ, ◌*◌, ◌≤◌, length, Bool, true, false, Some, List, [], ◌++◌, map, filter, sym, ap, subst, ◌∙◌, arith}
+use Rattle.std.specs.Prelude.{Contains}
 use Rattle.std.specs.Option.{option_map_or}
 use Rattle.net_base.specs.declared.numbers.DpId.{DpId}
 use Rattle.of_match.specs.declared.entry.Entry.{Entry}
 use Rattle.of_match.specs.declared.entry.Key.{Key}
 use Rattle.conf_types.specs.declared.datapath.Dp.{Dp}
-use Rattle.conf_types.specs.declared.state.HostRec.{HostRec}
 use Rattle.conf_types.specs.Configuration.{Configuration, dp_with}
 use Rattle.conf_types.specs.State.{State}
 use Rattle.plan_units.specs.declared.unit.Unit.{Unit as PlanUnit}
@@ -16,12 +16,17 @@ use Rattle.cold_start.proofs.Groups.{own_id}
 use Rattle.law_units.specs.declared.change.Change.{Change}
 use Rattle.law_units.specs.Reach.{AreNamed}
 use Rattle.law_units.specs.Reached.{is_reached}
+use Rattle.law_runs.specs.Members.{of_all, all_by, in_filtered}
 use Rattle.warm_plan.specs.declared.effect.Effect.{Effect}
-use Rattle.warm_plan.specs.declared.plan.Part.{Part}
-use Rattle.warm_plan.specs.Effects.{effect_of, reached_by}
-use Rattle.warm_plan.specs.Kept.{Kept, IsSound, IsWarm, reached_at}
-use Rattle.warm_plan.specs.Parts.{ArePartsOf, with_units, without_parts, entries_again, parts_again}
+use Rattle.warm_plan.specs.Effects.{effect_of, reached_by, all_units_by, named_units}
+use Rattle.warm_plan.specs.Kept.{Kept, ArePlaces, IsSound, IsWarm, reached_at}
+use Rattle.warm_plan.specs.Once.{AreOnce}
+use Rattle.warm_plan.specs.Parts.{ArePartsOf, AreReached, AreTakenOut, parts_without, without_units, parts_with, with_units}
+use Rattle.warm_plan.specs.Places.{Places, places_of}
+use Rattle.warm_plan.proofs.Listed.{listed_reached, reached_listed}
+use Rattle.warm_plan.proofs.Longer.{no_longer}
 use Rattle.warm_plan.proofs.Reaching.{same_reach}
+use Rattle.warm_plan.proofs.TakenOut.{are_out}
 
 pub setting_of : (conf : Configuration) (now : State) (id : DpId) (d : Dp) → dp_with conf.dps id ≡ Some d → IsSound conf now → IsSetting conf now d
 setting_of conf now id d is sound = record { valid = sound.valid; state = sound.state; addresses = sound.addresses; is_dp = own_id conf.dps id d is }
@@ -37,53 +42,72 @@ reached_are conf old new id d changes is = ap (λ o. option_map_or (λ (e : Dp).
 
 -- ---- the test is that of the reach
 
-module _ (conf : Configuration) (d : Dp) (old new : State) (changes : List Change) (hosts hosts_now : List HostRec) (stood : old.hosts ≡ hosts) (stand : hosts_now ≡ new.hosts) where
-  pub same_test : (effects : List Effect) → effects ≡ map (effect_of conf d hosts hosts_now) changes → ◌≡◌ {A = PlanUnit → Bool} (reached_by conf d effects) (is_reached conf old new d changes)
-  same_test effects are = ap (reached_by conf d) (are ∙ (λ i. map (effect_of conf d (sym stood i) (stand i)) changes)) ∙ same_reach conf d old new changes
+module _ (conf : Configuration) (d : Dp) (old new : State) (changes : List Change) (stood : Places) (was : stood ≡ places_of conf d old.hosts) where
+  same_test : (effects : List Effect) → effects ≡ map (effect_of conf d stood new.hosts) changes → ◌≡◌ {A = PlanUnit → Bool} (reached_by conf d effects) (is_reached conf old new d changes)
+  same_test effects are = ap (reached_by conf d) (are ∙ (λ i. map (effect_of conf d (was i) new.hosts) changes)) ∙ same_reach conf d old new changes
 
-  pub same_units : (effects : List Effect) → effects ≡ map (effect_of conf d hosts hosts_now) changes → (all made : List PlanUnit) → all ≡ units_of conf new d → made ≡ filter (reached_by conf d effects) all
-      → made ≡ filter (is_reached conf old new d changes) (units_of conf new d)
-  same_units effects are all made units is = is ∙ (λ i. filter (same_test effects are i) (units i))
+  pub are_reached : (effects : List Effect) → effects ≡ map (effect_of conf d stood new.hosts) changes → (us : List PlanUnit) → AreOnce us (all_units_by conf d new.hosts effects) → AreReached conf old new d changes us
+  are_reached effects are us once = record {
+    once = once.once;
+    reached = all_by (λ u. is_reached conf old new d changes u ≡ true) us (λ u c. sym (ap (λ (r : PlanUnit → Bool). r u) (same_test effects are)) ∙ (of u c).0);
+    listed = all_by (Contains (units_of conf new d)) us (λ u c. (of u c).1);
+    whole = λ u c reached. ((once.same u).1) (reached_listed conf new d effects u c (ap (λ (r : PlanUnit → Bool). r u) (same_test effects are) ∙ reached));
+  }
+    where
+      of : (u : PlanUnit) → Contains us u → (reached_by conf d effects u ≡ true) × Contains (units_of conf new d) u
+      of u c = listed_reached conf new d effects u (((once.same u).0) c)
 
-  pub counted_again : (id : DpId) → dp_with conf.dps id ≡ Some d → (effects : List Effect) → effects ≡ map (effect_of conf d hosts hosts_now) changes → (all made : List PlanUnit) → all ≡ units_of conf new d
-      → made ≡ filter (reached_by conf d effects) all → (before after : ℕ) → RisesAtMost (3 * length made) before after → RisesAtMost (3 * length (reached_at conf old new id changes)) before after
-  counted_again id at effects are all made units is before after most =
-      subst (λ (us : List PlanUnit). RisesAtMost (3 * length us) before after) (same_units effects are all made units is ∙ sym (reached_are conf old new id d changes at)) most
+  pub are_taken_out : (effects : List Effect) → effects ≡ map (effect_of conf d stood new.hosts) changes → AreNamed conf old new changes → (again : List PlanUnit) → AreReached conf old new d changes again
+      → AreTakenOut conf old new d changes (named_units effects ++ again)
+  are_taken_out effects are named again into =
+      are_out conf d old new changes named stood effects are (λ u. ap (λ (r : PlanUnit → Bool). r u) (same_test effects are)) again into
+
+  -- no more are made than are reached
+  pub counted_again : (id : DpId) → dp_with conf.dps id ≡ Some d → (made : List PlanUnit) → AreReached conf old new d changes made → (before after : ℕ)
+      → RisesAtMost (3 * length made) before after → RisesAtMost (3 * length (reached_at conf old new id changes)) before after
+  counted_again id at made are before after most =
+      subst (λ (us : List PlanUnit). RisesAtMost (3 * length us) before after) (sym (reached_are conf old new id d changes at)) (omega (arith, most, fewer))
+    where
+      fewer : length made ≤ length (filter (is_reached conf old new d changes) (units_of conf new d))
+      fewer =
+          no_longer made (filter (is_reached conf old new d changes) (units_of conf new d)) are.once
+          (λ u c. in_filtered (is_reached conf old new d changes) (units_of conf new d) u (of_all (Contains (units_of conf new d)) made are.listed u c) (of_all (λ w. is_reached conf old new d changes w ≡ true) made are.reached u c))
 
 -- ---- made again
 
-module _ (wanted_law : (conf : Configuration) (old new : State) (d : Dp) (changes : List Change) (parts : List Part)
-    → IsSetting conf old d → IsSetting conf new d → AreNamed conf old new changes → ArePartsOf parts (cold conf old d) → entries_again conf old new d changes parts ≡ cold conf new d)
-    (parts_law : (conf : Configuration) (old new : State) (d : Dp) (changes : List Change) (parts : List Part)
-    → IsSetting conf old d → IsSetting conf new d → AreNamed conf old new changes → ArePartsOf parts (cold conf old d) → ArePartsOf (parts_again conf old new d changes parts) (cold conf new d))
+module _ (wanted_law : (conf : Configuration) (old new : State) (d : Dp) (changes : List Change) (parts : PlanUnit → List Key) (gone again : List PlanUnit)
+    → IsSetting conf old d → IsSetting conf new d → AreNamed conf old new changes → ArePartsOf parts (cold conf old d)
+    → AreTakenOut conf old new d changes gone → AreReached conf old new d changes again → with_units conf new d (without_units parts (cold conf old d) gone) again ≡ cold conf new d)
+    (parts_law : (conf : Configuration) (old new : State) (d : Dp) (changes : List Change) (parts : PlanUnit → List Key) (gone again : List PlanUnit)
+    → IsSetting conf old d → IsSetting conf new d → AreNamed conf old new changes → ArePartsOf parts (cold conf old d)
+    → AreTakenOut conf old new d changes gone → AreReached conf old new d changes again → ArePartsOf (parts_with conf new d (parts_without parts gone) again) (cold conf new d))
     (conf : Configuration) (old new : State) (id : DpId) (d : Dp) (is : dp_with conf.dps id ≡ Some d) (so : IsSound conf old) (sn : IsSound conf new)
-    (changes : List Change) (named : AreNamed conf old new changes) (parts : List Part) (wanted : List Entry) (warm : wanted ≡ cold_at conf old id) (are : ArePartsOf parts wanted) where
-  abbrev reached : PlanUnit → Bool
-  reached = is_reached conf old new d changes
-
+    (changes : List Change) (named : AreNamed conf old new changes) (parts : PlanUnit → List Key) (wanted : List Entry) (warm : wanted ≡ cold_at conf old id) (are : ArePartsOf parts wanted)
+    (gone again : List PlanUnit) (out : AreTakenOut conf old new d changes gone) (into : AreReached conf old new d changes again) where
   was : wanted ≡ cold conf old d
   was = warm ∙ cold_is conf old id d is
 
   were : ArePartsOf parts (cold conf old d)
   were = subst (ArePartsOf parts) was are
 
-  pub wanted_again : with_units conf new d (without_parts wanted (filter (λ p. reached p.unit) parts)) (filter reached (units_of conf new d)) ≡ cold_at conf new id
+  pub wanted_again : with_units conf new d (without_units parts wanted gone) again ≡ cold_at conf new id
   wanted_again =
-      ap (λ (t : List Entry). with_units conf new d (without_parts t (filter (λ p. reached p.unit) parts)) (filter reached (units_of conf new d))) was
-      ∙ wanted_law conf old new d changes parts (setting_of conf old id d is so) (setting_of conf new id d is sn) named were ∙ sym (cold_is conf new id d is)
+      ap (λ (t : List Entry). with_units conf new d (without_units parts t gone) again) was
+      ∙ wanted_law conf old new d changes parts gone again (setting_of conf old id d is so) (setting_of conf new id d is sn) named were out into ∙ sym (cold_is conf new id d is)
 
-  pub parts_are_again : ArePartsOf (parts_again conf old new d changes parts) (cold_at conf new id)
+  pub parts_are_again : ArePartsOf (parts_with conf new d (parts_without parts gone) again) (cold_at conf new id)
   parts_are_again =
-      subst (ArePartsOf (parts_again conf old new d changes parts)) (sym (cold_is conf new id d is))
-      (parts_law conf old new d changes parts (setting_of conf old id d is so) (setting_of conf new id d is sn) named were)
+      subst (ArePartsOf (parts_with conf new d (parts_without parts gone) again)) (sym (cold_is conf new id d is))
+      (parts_law conf old new d changes parts gone again (setting_of conf old id d is so) (setting_of conf new id d is sn) named were out into)
 
 -- ---- what was kept, after an event
 
-pub kept_again : (k : Kept) (hosts : List HostRec) (parts : List Part) (touched : List Key) (stood : List Entry) → IsWarm k hosts parts touched stood → k.is_spent ≡ false → (conf : Configuration) → conf ≡ k.conf
-    → (new : State) (changes : List Change) → AreNamed conf k.state new changes → (made : List Entry) (made_parts : List Part)
-    → ((before : State) → before.hosts ≡ hosts → IsSound conf before → AreNamed conf before new changes
+pub kept_again : (k : Kept) (stood : Places) (parts : PlanUnit → List Key) (touched : List Key) (made_before : List Entry) → IsWarm k stood parts touched made_before → k.is_spent ≡ false → (conf : Configuration) → conf ≡ k.conf
+    → (new : State) (changes : List Change) → AreNamed conf k.state new changes → (made : List Entry) (made_parts : PlanUnit → List Key)
+    → ((before : State) → ArePlaces conf before k.dp stood → IsSound conf before → AreNamed conf before new changes
     → k.wanted ≡ cold_at conf before k.dp → ArePartsOf parts k.wanted → (made ≡ cold_at conf new k.dp) × ArePartsOf made_parts made)
     → (made ≡ cold_at conf new k.dp) × ArePartsOf made_parts made
-kept_again k hosts parts touched stood warm fresh conf same new changes named made made_parts by =
+kept_again k stood parts touched made_before warm fresh conf same new changes named made made_parts by =
     let index = warm.indexed fresh in
-    by k.state (sym index.stand) (subst (λ (c : Configuration). IsSound c k.state) (sym same) index.sound) named (warm.kept.warm fresh ∙ ap (λ (c : Configuration). cold_at c k.state k.dp) (sym same)) index.keyed
+    by k.state (subst (λ (c : Configuration). ArePlaces c k.state k.dp stood) (sym same) index.stand) (subst (λ (c : Configuration). IsSound c k.state) (sym same) index.sound) named
+    (warm.kept.warm fresh ∙ ap (λ (c : Configuration). cold_at c k.state k.dp) (sym same)) index.keyed

@@ -18,7 +18,7 @@ use Rattle.of_match.specs.FlowTables.{IsInKeyOrder, entry_at, below, above, afte
 use Rattle.of_match.specs.KeyOrder.{key_cmp}
 use Rattle.of_match.specs.KeyLaws.{key_total, exact_keys}
 use Rattle.of_match.specs.Settled.{after_all, Settles}
-use Rattle.cold_start.proofs.Stable.{added_at}
+use Rattle.cold_start.proofs.AtKey.{added_at}
 use Rattle.plan_difference.specs.Difference.{difference, AreAllTold}
 use Rattle.warm_plan.specs.Touched.{KeepTold}
 

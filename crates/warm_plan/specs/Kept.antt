@@ -1,11 +1,11 @@
 -- A datapath's plan that is kept, as contracts see it.
-use Rattle.std.specs.Prelude.{◌≡◌, Bool, false, List, [], filter}
+use Rattle.std.specs.Prelude.{◌≡◌, Bool, false, Some, List, [], filter}
 use Rattle.std.specs.Option.{option_map_or}
 use Rattle.net_base.specs.declared.numbers.DpId.{DpId}
 use Rattle.of_match.specs.declared.entry.Entry.{Entry}
 use Rattle.of_match.specs.declared.entry.Key.{Key}
 use Rattle.of_match.specs.FlowTables.{IsInKeyOrder}
-use Rattle.conf_types.specs.declared.state.HostRec.{HostRec}
+use Rattle.conf_types.specs.declared.datapath.Dp.{Dp}
 use Rattle.conf_types.specs.Configuration.{Configuration, dp_with}
 use Rattle.conf_types.specs.State.{State, IsValidState}
 use Rattle.conf_types.specs.Valid.{IsValid}
@@ -15,8 +15,8 @@ use Rattle.cold_start.specs.Cold.{cold_at, units_of}
 use Rattle.plan_difference.specs.Difference.{AreAllTold}
 use Rattle.law_units.specs.declared.change.Change.{Change}
 use Rattle.law_units.specs.Reached.{is_reached}
-use Rattle.warm_plan.specs.declared.plan.Part.{Part}
 use Rattle.warm_plan.specs.Parts.{ArePartsOf}
+use Rattle.warm_plan.specs.Places.{Places, places_of}
 
 pub record Kept : Type 0 where
   pub dp : DpId
@@ -49,14 +49,18 @@ pub record IsSound (conf : Configuration) (now : State) : Type 0 where
   pub state : IsValidState conf now
   pub addresses : HasAddresses now
 
--- the hosts of the state, and the keys of each unit's entries
-pub record IsIndexed (conf : Configuration) (now : State) (wanted : List Entry) (hosts : List HostRec) (parts : List Part) : Type 0 where
+-- where the hosts of a state stand, and what they fill; of the datapath with an identifier
+abbrev pub ArePlaces : Configuration → State → DpId → Places → Type 0
+ArePlaces conf now id stood = (d : Dp) → dp_with conf.dps id ≡ Some d → stood ≡ places_of conf d now.hosts
+
+-- the places of the hosts of the state, and the keys of each unit's entries
+pub record IsIndexed (conf : Configuration) (now : State) (id : DpId) (wanted : List Entry) (stood : Places) (parts : PlanUnit → List Key) : Type 0 where
   pub sound : IsSound conf now
-  pub stand : hosts ≡ now.hosts
+  pub stand : ArePlaces conf now id stood
   pub keyed : ArePartsOf parts wanted
 
 -- these keys tell where the entries that were made differ from what was sent
-pub record IsWarm (k : Kept) (hosts : List HostRec) (parts : List Part) (touched : List Key) (made : List Entry) : Type 0 where
+pub record IsWarm (k : Kept) (stood : Places) (parts : PlanUnit → List Key) (touched : List Key) (made : List Entry) : Type 0 where
   pub kept : IsKept k
-  pub indexed : k.is_spent ≡ false → IsIndexed k.conf k.state k.wanted hosts parts
+  pub indexed : k.is_spent ≡ false → IsIndexed k.conf k.state k.dp k.wanted stood parts
   pub told : k.is_spent ≡ false → AreAllTold touched k.sent made

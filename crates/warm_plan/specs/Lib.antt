@@ -1,4 +1,7 @@
+pub mod Units
+pub mod Places
 pub mod Effects
+pub mod Once
 pub mod Parts
 pub mod Kept
 pub mod Touched

@@ -6,18 +6,20 @@ ghost use Rattle.packet_way.specs.Present.{state_of};
 ghost use Rattle.cold_start.specs.Cold.{cold_at, units_at};
 ghost use Rattle.cold_start.specs.Counts.{RisesAtMost, RisesAtLeast};
 ghost use Rattle.law_units.specs.Reach.{AreNamed};
-ghost use Rattle.warm_plan.specs.Kept.{IsSound, reached_at};
+ghost use Rattle.warm_plan.specs.Kept.{ArePlaces, IsSound, reached_at};
 ghost use Rattle.plan_difference.specs.Difference.{AreAllTold};
-ghost use Rattle.warm_plan.specs.Parts.{ArePartsOf};
+ghost use Rattle.warm_plan.specs.Parts.{ArePartsOf, keys_at};
+ghost use Rattle.warm_plan.specs.Places.{kept_places};
 ghost use Rattle.warm_plan.specs.Touched.{KeepTold};
 
 use crate::effect::effects;
 use crate::laws;
 use crate::plan::Plan;
-use crate::reaches::reached;
+use crate::reaches::{named_units, reached};
 use crate::sound::is_sound;
+use crate::stood::Stood;
 use crate::units::units_of;
-use conf_types::{Conf, HostRec, Tally};
+use conf_types::{Conf, Tally};
 use law_units::Change;
 use net_base::{DpId, NoMemory};
 use of_match::Tables;
@@ -37,7 +39,7 @@ pub(crate) fn make_whole<T: Tally>(
     requires { IsValidState conf.now (state_of now.now) }
     ensures sound { IsSound conf.now (state_of now.now) }
     ensures wanted { IfOk result (λ made. made.wanted ≡ cold_at conf.now (state_of now.now) dp) }
-    ensures parts { IfOk result (λ made. ArePartsOf made.parts made.wanted) }
+    ensures parts { IfOk result (λ made. ArePartsOf (keys_at made.parts) made.wanted) }
     ensures told { IfOk result (λ made. AreAllTold made.touched.keys sent.now made.wanted) }
     ensures most { RisesAtMost (3 * length (units_at conf.now (state_of now.now) dp)) (T.count units.old) (T.count units.new) }
     ensures least { OnOk result (RisesAtLeast (length (units_at conf.now (state_of now.now) dp)) (T.count units.old) (T.count units.new)) }
@@ -53,26 +55,26 @@ pub(crate) fn make_whole<T: Tally>(
     Ok(plan)
 }
 
-/// Makes again the units that changes reach, so that the plan of a state with these hosts becomes that of this
-/// state. For each at most three units of work are counted.
+/// Makes again the units that changes reach, so that the plan of a state whose hosts stood so becomes that of
+/// this state. For each at most three units of work are counted.
 pub(crate) fn make_again<T: Tally>(
     plan: &mut Plan,
     alloc: Global,
     conf: &Conf,
     now: &Now,
     dp: DpId,
-    hosts: &[HostRec],
+    stood: &Stood,
     changes: &[Change],
     units: &mut T,
 ) -> Result<(), NoMemory>
     requires { IsValidState conf.now (state_of now.now) }
     ensures sound { IsSound conf.now (state_of now.now) }
-    ensures warm { OnOk result ((before : State) → before.hosts ≡ hosts.now → IsSound conf.now before
+    ensures warm { OnOk result ((before : State) → ArePlaces conf.now before dp (kept_places stood.now) → IsSound conf.now before
         → AreNamed conf.now before (state_of now.now) changes.now
-        → plan.old.wanted ≡ cold_at conf.now before dp → ArePartsOf plan.old.parts plan.old.wanted
-        → (plan.new.wanted ≡ cold_at conf.now (state_of now.now) dp) × ArePartsOf plan.new.parts plan.new.wanted) }
+        → plan.old.wanted ≡ cold_at conf.now before dp → ArePartsOf (keys_at plan.old.parts) plan.old.wanted
+        → (plan.new.wanted ≡ cold_at conf.now (state_of now.now) dp) × ArePartsOf (keys_at plan.new.parts) plan.new.wanted) }
     ensures told { OnOk result (KeepTold plan.old.touched.keys plan.old.wanted plan.new.touched.keys plan.new.wanted) }
-    ensures most { (before : State) → before.hosts ≡ hosts.now
+    ensures most { (before : State) → ArePlaces conf.now before dp (kept_places stood.now)
         → RisesAtMost (3 * length (reached_at conf.now before (state_of now.now) dp changes.now)) (T.count units.old) (T.count units.new) }
 {
     is_sound(conf, now);
@@ -80,10 +82,11 @@ pub(crate) fn make_again<T: Tally>(
         return Ok(());
     };
     laws::what_is_made_again_is_the_cold_start();
-    let effects = effects(alloc, conf, dp, hosts, now.hosts.as_slice(), changes)?;
-    let all = units_of(alloc, conf, now, dp)?;
-    let again = reached(alloc, conf, dp, effects.as_slice(), all.as_slice())?;
-    plan.drop_reached(alloc, conf, dp, effects.as_slice())?;
+    let effects = effects(alloc, conf, dp, stood, now.hosts, changes)?;
+    let again = reached(alloc, conf, dp, now.hosts, effects.as_slice())?;
+    let mut gone = named_units(alloc, effects.as_slice())?;
+    gone.append(again.as_slice())?;
+    plan.drop_units(alloc, gone.as_slice())?;
     plan.make(alloc, conf, now, dp, again.as_slice(), units)?;
     Ok(())
 }

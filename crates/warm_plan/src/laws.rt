@@ -1,20 +1,21 @@
 //! What holds of the definitions. A function's contract is the law, and its body is at most a call of the
 //! laws that it rests on.
 
-ghost use Rattle.std.specs.Prelude.{◌≡◌, List, [], false, map};
+ghost use Rattle.std.specs.Prelude.{◌≡◌, List, [], false};
 ghost use Rattle.of_match.specs.declared.entry.Entry.{Entry};
+ghost use Rattle.of_match.specs.declared.entry.Key.{Key};
 ghost use Rattle.of_match.specs.Settled.{Settles};
 ghost use Rattle.conf_types.specs.declared.datapath.Dp.{Dp};
 ghost use Rattle.conf_types.specs.Configuration.{Configuration};
 ghost use Rattle.conf_types.specs.State.{State};
 ghost use Rattle.plan_difference.specs.Difference.{difference};
+ghost use Rattle.plan_units.specs.declared.unit.Unit.{Unit};
 ghost use Rattle.plan_units.specs.Laws.{IsSetting};
 ghost use Rattle.cold_start.specs.Cold.{cold, cold_at, units_of};
 ghost use Rattle.law_units.specs.declared.change.Change.{Change};
 ghost use Rattle.law_units.specs.Reach.{AreNamed};
-ghost use Rattle.warm_plan.specs.declared.plan.Part.{Part};
 ghost use Rattle.warm_plan.specs.Kept.{Kept, IsKept};
-ghost use Rattle.warm_plan.specs.Parts.{ArePartsOf, part_of, with_units, entries_again, parts_again};
+ghost use Rattle.warm_plan.specs.Parts.{ArePartsOf, AreReached, AreTakenOut, parts_without, without_units, parts_with, with_units};
 
 /// A switch that holds what it was sent, and does the commands that are taken, in any order, then holds
 /// the cold start of what was handed in last (OpenFlow 1.3, 6.2).
@@ -30,7 +31,7 @@ pub(crate) fn all_units_make_the_cold_start()
     ensures wanted { (conf : Configuration) (now : State) (d : Dp) → IsSetting conf now d
         → with_units conf now d [] (units_of conf now d) ≡ cold conf now d }
     ensures parts { (conf : Configuration) (now : State) (d : Dp) → IsSetting conf now d
-        → ArePartsOf (map (part_of conf now d) (units_of conf now d)) (cold conf now d) }
+        → ArePartsOf (parts_with conf now d (λ _. []) (units_of conf now d)) (cold conf now d) }
 {
     law_units::laws::each_entry_of_a_unit_is_owned_by_it();
     law_units::laws::the_units_of_a_datapath_make_its_cold_start();
@@ -38,15 +39,18 @@ pub(crate) fn all_units_make_the_cold_start()
     cold_start::laws::a_cold_start_is_the_plan_in_key_order();
 }
 
-/// Where of a cold start the entries of the units that changes reach are taken out, and those that these units
-/// have now are added, it becomes the cold start of now; and so do its parts.
+/// Where of a cold start the entries of the units that changes reach in the state before are taken out, and
+/// those of the units that they reach in the state of now are added, it becomes the cold start of now; and so do
+/// its parts.
 pub(crate) fn what_is_made_again_is_the_cold_start()
-    ensures wanted { (conf : Configuration) (old new : State) (d : Dp) (changes : List Change) (parts : List Part)
+    ensures wanted { (conf : Configuration) (old new : State) (d : Dp) (changes : List Change) (parts : Unit → List Key) (gone again : List Unit)
         → IsSetting conf old d → IsSetting conf new d → AreNamed conf old new changes → ArePartsOf parts (cold conf old d)
-        → entries_again conf old new d changes parts ≡ cold conf new d }
-    ensures parts { (conf : Configuration) (old new : State) (d : Dp) (changes : List Change) (parts : List Part)
+        → AreTakenOut conf old new d changes gone → AreReached conf old new d changes again
+        → with_units conf new d (without_units parts (cold conf old d) gone) again ≡ cold conf new d }
+    ensures parts { (conf : Configuration) (old new : State) (d : Dp) (changes : List Change) (parts : Unit → List Key) (gone again : List Unit)
         → IsSetting conf old d → IsSetting conf new d → AreNamed conf old new changes → ArePartsOf parts (cold conf old d)
-        → ArePartsOf (parts_again conf old new d changes parts) (cold conf new d) }
+        → AreTakenOut conf old new d changes gone → AreReached conf old new d changes again
+        → ArePartsOf (parts_with conf new d (parts_without parts gone) again) (cold conf new d) }
 {
     law_units::laws::each_entry_of_a_unit_is_owned_by_it();
     law_units::laws::the_units_of_a_datapath_make_its_cold_start();

@@ -1,6 +1,6 @@
 //! The entries of a datapath, and the keys of each unit's.
 
-ghost use Rattle.std.specs.Prelude.{◌≡◌, ◌++◌, ◌*◌, Some, [], ◌∷◌, map, filter, not, length, IfOk, IfSome, OnOk};
+ghost use Rattle.std.specs.Prelude.{◌≡◌, ◌*◌, Some, [], map, length, IfOk, IfSome, OnOk};
 ghost use Rattle.of_match.specs.declared.entry.Command.TheVariants.{Add};
 ghost use Rattle.of_match.specs.Settled.{after_all};
 ghost use Rattle.conf_types.specs.Configuration.{dp_with};
@@ -8,13 +8,12 @@ ghost use Rattle.packet_way.specs.Known.{stack_of};
 ghost use Rattle.packet_way.specs.Present.{state_of};
 ghost use Rattle.plan_units.specs.Units.{entries};
 ghost use Rattle.cold_start.specs.Counts.{RisesAtMost, RisesAtLeast};
-ghost use Rattle.warm_plan.specs.Effects.{reached_by};
 ghost use Rattle.plan_difference.specs.Difference.{AreAllTold};
-ghost use Rattle.warm_plan.specs.Parts.{keys_of, without_parts, part_of, with_units};
+ghost use Rattle.warm_plan.specs.Parts.{keys_of, keys_at, AreSameParts, parts_without, without, without_units, parts_with, with_units};
+ghost use Rattle.warm_plan.specs.Units.{put};
 ghost use Rattle.warm_plan.specs.Touched.{KeepTold, wanted_of};
 
-use crate::effect::Effect;
-use crate::reaches::{is_linked, is_reached};
+use crate::reaches::is_linked;
 use crate::touched::{Touched, add_all, all_touched, bring, remove_all};
 use cold_start::unit_entries_with;
 use conf_types::{Conf, Dp, Tally};
@@ -24,19 +23,13 @@ use packet_way::{Now, make_paths};
 use plan_units::Unit;
 use stack_paths::Paths;
 use std::alloc::Global;
-use std::mem;
+use std::collections::BTreeMap;
 
 /// Keys of entries.
 pub(crate) type Keys = Items<Key>;
 
-/// A unit, and the keys of its entries.
-#[derive(Debug, Drop)]
-pub(crate) struct Part {
-    pub(crate) unit: Unit,
-    pub(crate) keys: Keys,
-}
-
-pub(crate) type Parts = Items<Part>;
+/// The keys of each unit's entries.
+pub(crate) type Parts = BTreeMap<Unit, Keys>;
 
 /// The entries that a switch is to hold, the keys of each unit's, and those at which they may differ from what it
 /// was sent.
@@ -57,29 +50,22 @@ fn keys_of(alloc: Global, entries: &[Entry]) -> Result<Keys, NoMemory>
     Ok(keys)
 }
 
-/// Takes out the entries of the parts whose units are reached, and hands back the other parts.
-fn take_out(
-    alloc: Global,
-    tables: &mut Tables,
-    touched: &mut Touched,
-    parts: Parts,
-    conf: &Conf,
-    dp: &Dp,
-    effects: &[Effect],
-) -> Result<Parts, NoMemory>
-    ensures parts { IfOk result (λ kept. kept ≡ filter (λ p. not (reached_by conf.now dp.now effects.now p.unit)) parts) }
-    ensures tables { OnOk result (tables.new ≡ without_parts tables.old (filter (λ p. reached_by conf.now dp.now effects.now p.unit) parts)) }
-    ensures told { OnOk result (KeepTold touched.old.keys tables.old touched.new.keys tables.new) }
+/// Takes out the keys of a unit; none where they aren't kept.
+fn take_keys(alloc: Global, parts: &mut Parts, unit: &Unit) -> Keys
+    ensures keys { result ≡ keys_at parts.old unit.now }
+    ensures parts { AreSameParts (keys_at parts.new) (put (keys_at parts.old) unit.now []) }
 {
-    let mut kept = Items::new(alloc);
-    for part in parts.into_vec() {
-        if is_reached(conf, dp, effects, &part.unit) {
-            remove_all(tables, touched, part.keys)?;
-        } else {
-            kept.push(part)?;
-        }
+    match parts.remove(unit) {
+        Some(keys) => keys,
+        None => Items::new(alloc),
     }
-    Ok(kept)
+}
+
+fn put_keys(parts: &mut Parts, unit: Unit, keys: Keys) -> Result<(), NoMemory>
+    ensures { OnOk result (AreSameParts (keys_at parts.new) (put (keys_at parts.old) unit keys)) }
+{
+    parts.insert(unit, keys)?;
+    Ok(())
 }
 
 /// The paths of a state's stack, where one of the units hangs on them.
@@ -89,7 +75,7 @@ fn paths_for(
     now: &Now,
     made: &[Unit],
 ) -> Result<Option<Paths>, NoMemory>
-    ensures { IfOk result (λ made. IfSome made (λ paths. paths ≡ stack_of conf.now now.now.ups)) }
+    ensures { IfOk result (λ made. IfSome made (λ paths. paths ≡ stack_of conf.now now.now.ups.now)) }
 {
     if !made.iter().any(|unit| is_linked(unit)) {
         return Ok(None);
@@ -101,13 +87,13 @@ fn paths_for(
 impl Plan {
     /// No entry, where these were sent.
     pub(crate) fn new(alloc: Global, sent: &Tables) -> Result<Plan, NoMemory>
-        ensures parts { IfOk result (λ made. made.parts ≡ []) }
+        ensures parts { IfOk result (λ made. AreSameParts (keys_at made.parts) (λ _. [])) }
         ensures wanted { IfOk result (λ made. made.wanted ≡ []) }
         ensures told { IfOk result (λ made. AreAllTold made.touched.keys sent.now made.wanted) }
     {
-        let touched = all_touched(alloc, sent.as_slice())?;
+        let touched = all_touched(alloc, sent)?;
         Ok(Plan {
-            parts: Items::new(alloc),
+            parts: BTreeMap::new(alloc),
             wanted: Tables::new(alloc),
             touched,
         })
@@ -121,7 +107,7 @@ impl Plan {
         is_taken: bool,
     ) -> Result<(), NoMemory>
         requires { AreAllTold self.old.touched.keys sent.now self.old.wanted }
-        ensures parts { self.new.parts ≡ self.old.parts }
+        ensures parts { AreSameParts (keys_at self.new.parts) (keys_at self.old.parts) }
         ensures wanted { OnOk result (self.new.wanted ≡ wanted_of is_taken sent.now self.old.wanted) }
         ensures told { OnOk result (AreAllTold self.new.touched.keys sent.now self.new.wanted) }
     {
@@ -131,28 +117,24 @@ impl Plan {
         Ok(())
     }
 
-    /// Takes out the entries of each unit that is reached.
-    pub(crate) fn drop_reached(
-        &mut self,
-        alloc: Global,
-        conf: &Conf,
-        dp: &Dp,
-        effects: &[Effect],
-    ) -> Result<(), NoMemory>
-        ensures parts { OnOk result (self.new.parts ≡ filter (λ p. not (reached_by conf.now dp.now effects.now p.unit)) self.old.parts) }
-        ensures wanted { OnOk result (self.new.wanted ≡ without_parts self.old.wanted (filter (λ p. reached_by conf.now dp.now effects.now p.unit) self.old.parts)) }
+    fn drop_one(&mut self, alloc: Global, unit: &Unit) -> Result<(), NoMemory>
+        ensures parts { OnOk result (AreSameParts (keys_at self.new.parts) (put (keys_at self.old.parts) unit.now [])) }
+        ensures wanted { OnOk result (self.new.wanted ≡ without self.old.wanted (keys_at self.old.parts unit.now)) }
         ensures told { OnOk result (KeepTold self.old.touched.keys self.old.wanted self.new.touched.keys self.new.wanted) }
     {
-        let parts = mem::replace(&mut self.parts, Items::new(alloc));
-        self.parts = take_out(
-            alloc,
-            &mut self.wanted,
-            &mut self.touched,
-            parts,
-            conf,
-            dp,
-            effects,
-        )?;
+        let keys = take_keys(alloc, &mut self.parts, unit);
+        remove_all(&mut self.wanted, &mut self.touched, keys)
+    }
+
+    /// Takes out the entries of these units.
+    pub(crate) fn drop_units(&mut self, alloc: Global, gone: &[Unit]) -> Result<(), NoMemory>
+        ensures parts { OnOk result (AreSameParts (keys_at self.new.parts) (parts_without (keys_at self.old.parts) gone.now)) }
+        ensures wanted { OnOk result (self.new.wanted ≡ without_units (keys_at self.old.parts) self.old.wanted gone.now) }
+        ensures told { OnOk result (KeepTold self.old.touched.keys self.old.wanted self.new.touched.keys self.new.wanted) }
+    {
+        for unit in gone {
+            self.drop_one(alloc, unit)?;
+        }
         Ok(())
     }
 
@@ -167,8 +149,8 @@ impl Plan {
         units: &mut T,
     ) -> Result<(), NoMemory>
         requires dp { dp_with conf.now.dps dp.now.id ≡ Some dp.now }
-        requires paths { IfSome paths (λ paths. paths.now ≡ stack_of conf.now now.now.ups) }
-        ensures parts { OnOk result (self.new.parts ≡ self.old.parts ++ part_of conf.now (state_of now.now) dp.now unit ∷ []) }
+        requires paths { IfSome paths (λ paths. paths.now ≡ stack_of conf.now now.now.ups.now) }
+        ensures parts { OnOk result (AreSameParts (keys_at self.new.parts) (put (keys_at self.old.parts) unit (keys_of (entries conf.now (state_of now.now) dp.now unit)))) }
         ensures wanted { OnOk result (self.new.wanted ≡ after_all self.old.wanted (map Add (entries conf.now (state_of now.now) dp.now unit))) }
         ensures told { OnOk result (KeepTold self.old.touched.keys self.old.wanted self.new.touched.keys self.new.wanted) }
         ensures most { RisesAtMost 3 (T.count units.old) (T.count units.new) }
@@ -176,7 +158,7 @@ impl Plan {
     {
         let made = unit_entries_with(alloc, conf, now, paths, dp.id, &unit, units)?;
         let keys = keys_of(alloc, made.as_slice())?;
-        self.parts.push(Part { unit, keys })?;
+        put_keys(&mut self.parts, unit, keys)?;
         add_all(alloc, &mut self.wanted, &mut self.touched, made)?;
         Ok(())
     }
@@ -194,7 +176,7 @@ impl Plan {
         units: &mut T,
     ) -> Result<(), NoMemory>
         requires { dp_with conf.now.dps dp.now.id ≡ Some dp.now }
-        ensures parts { OnOk result (self.new.parts ≡ self.old.parts ++ map (part_of conf.now (state_of now.now) dp.now) made.now) }
+        ensures parts { OnOk result (AreSameParts (keys_at self.new.parts) (parts_with conf.now (state_of now.now) dp.now (keys_at self.old.parts) made.now)) }
         ensures wanted { OnOk result (self.new.wanted ≡ with_units conf.now (state_of now.now) dp.now self.old.wanted made.now) }
         ensures told { OnOk result (KeepTold self.old.touched.keys self.old.wanted self.new.touched.keys self.new.wanted) }
         ensures most { RisesAtMost (3 * length made.now) (T.count units.old) (T.count units.new) }

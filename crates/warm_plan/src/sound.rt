@@ -8,7 +8,7 @@ ghost use Rattle.conf_types.specs.State.{IsValidState};
 ghost use Rattle.packet_way.specs.Present.{state_of};
 ghost use Rattle.warm_plan.specs.Kept.{IsSound};
 
-use conf_types::{Conf, HostRec, NeighRec};
+use conf_types::{Conf, NeighRec};
 use net_base::Mac;
 use of_match::Tables;
 use packet_way::Now;
@@ -20,14 +20,6 @@ fn first_byte(mac: Mac) -> u8
     let bytes = mac.0;
     let slice = &bytes[..];
     slice[0]
-}
-
-fn of_hosts(hosts: &[HostRec])
-    ensures { AllByRecursion (λ h. IsSixBytes h.mac.0) hosts.now }
-{
-    for host in hosts {
-        let _first = first_byte(host.mac);
-    }
 }
 
 fn of_neighbour(neighbour: &NeighRec)
@@ -52,13 +44,13 @@ pub(crate) fn is_sound(conf: &Conf, now: &Now)
     ensures { IsSound conf.now (state_of now.now) }
 {
     let _dps = conf.dps();
-    of_hosts(now.hosts.as_slice());
-    of_neighbours(now.neighbours.as_slice());
+    now.hosts.are_sound();
+    of_neighbours(now.neighbours);
 }
 
 /// The entries are in key order, also where memory ran out as they were changed.
 pub(crate) fn are_ordered(tables: &Tables)
     ensures { IsInKeyOrder tables.now }
 {
-    let _entries = tables.as_slice();
+    let _entries = tables.iter();
 }

@@ -20,12 +20,12 @@ use std::collections::BTreeSet;
 /// Keys at which entries were added or taken out.
 pub(crate) type Touched = BTreeSet<Key>;
 
-/// The keys of these entries.
-pub(crate) fn all_touched(alloc: Global, entries: &[Entry]) -> Result<Touched, NoMemory>
-    ensures { IfOk result (λ touched. AllByRecursion (λ e. Contains touched.keys e.key) entries.now) }
+/// The keys of these tables.
+pub(crate) fn all_touched(alloc: Global, tables: &Tables) -> Result<Touched, NoMemory>
+    ensures { IfOk result (λ touched. AllByRecursion (λ e. Contains touched.keys e.key) tables.now) }
 {
     let mut touched = BTreeSet::new(alloc);
-    for entry in entries {
+    for entry in tables.iter() {
         let key = entry.key.copy(alloc)?;
         touched.insert(key)?;
     }

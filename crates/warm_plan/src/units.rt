@@ -6,7 +6,8 @@ ghost use Rattle.packet_way.specs.Present.{state_of};
 ghost use Rattle.plan_units.specs.declared.unit.Unit.TheVariants as unit;
 ghost use Rattle.cold_start.specs.Cold.{units_of};
 
-use conf_types::{Conf, Dp, HostRec, Port, Vlan};
+use conf_types::{Conf, Dp, HostRec, HostRecs, Port, Vlan};
+use host_list::Hosts;
 use net_base::{DpId, Items, NoMemory};
 use packet_way::Now;
 use plan_units::Unit;
@@ -21,7 +22,7 @@ fn push_ports(out: &mut Items<Unit>, ports: &[Port]) -> Result<(), NoMemory>
     Ok(())
 }
 
-fn push_vlans(out: &mut Items<Unit>, vlans: &[Vlan]) -> Result<(), NoMemory>
+pub(crate) fn push_vlans(out: &mut Items<Unit>, vlans: &[Vlan]) -> Result<(), NoMemory>
     ensures { OnOk result (out.new ≡ out.old ++ map (λ v. unit.Vlan v.vid) vlans.now) }
 {
     for vlan in vlans {
@@ -30,7 +31,7 @@ fn push_vlans(out: &mut Items<Unit>, vlans: &[Vlan]) -> Result<(), NoMemory>
     Ok(())
 }
 
-fn push_hosts(out: &mut Items<Unit>, hosts: &[HostRec]) -> Result<(), NoMemory>
+pub(crate) fn push_hosts(out: &mut Items<Unit>, hosts: &[HostRec]) -> Result<(), NoMemory>
     ensures { OnOk result (out.new ≡ out.old ++ map (λ h. unit.Host h.vid h.mac) hosts.now) }
 {
     for host in hosts {
@@ -49,19 +50,21 @@ fn push_routes(out: &mut Items<Unit>, vlans: &[Vlan]) -> Result<(), NoMemory>
 }
 
 /// The hosts of the group with this number.
-fn hosts_in(
+pub(crate) fn hosts_in(
     alloc: Global,
     conf: &Conf,
-    hosts: &[HostRec],
+    hosts: &Hosts,
     group: DpId,
-) -> Result<Vec<HostRec>, NoMemory>
-    ensures { IfOk result (λ made. made.items ≡ filter (λ h. (group_of conf.now h.dp).0 == group.0) hosts.now) }
+) -> Result<HostRecs, NoMemory>
+    ensures { IfOk result (λ made. made ≡ filter (λ h. (group_of conf.now h.dp).0 == group.0) hosts.now) }
 {
-    hosts
-        .iter()
-        .filter(|host| conf.group_number(host.dp) == group)
-        .copied()
-        .collect(alloc)
+    let mut made = Items::new(alloc);
+    for host in hosts.iter() {
+        if conf.group_number(host.dp) == group {
+            made.push(*host)?;
+        }
+    }
+    Ok(made)
 }
 
 /// The units of a datapath, each once.
@@ -73,7 +76,7 @@ pub(crate) fn units_of(
 ) -> Result<Items<Unit>, NoMemory>
     ensures { IfOk result (λ made. made ≡ units_of conf.now (state_of now.now) dp.now) }
 {
-    let hosts = hosts_in(alloc, conf, now.hosts.as_slice(), conf.group_number(dp.id))?;
+    let hosts = hosts_in(alloc, conf, now.hosts, conf.group_number(dp.id))?;
     let vlans = conf.vlans().as_slice();
     let mut made = Items::new(alloc);
     made.push(Unit::Dp)?;

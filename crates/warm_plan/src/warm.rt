@@ -11,10 +11,12 @@ ghost use Rattle.warm_plan.specs.Kept.{reached_at};
 
 use crate::again::{make_again, make_whole};
 use crate::plan::Plan;
+use crate::seen::Seen;
 use crate::sound::are_ordered;
-use conf_types::{Conf, HostRecs, Tally};
+use crate::stood::Stood;
+use conf_types::{Conf, Tally};
 use law_units::Change;
-use net_base::{DpId, NoMemory, TryCopy};
+use net_base::{DpId, NoMemory};
 use of_match::{Commands, Tables};
 use packet_way::Now;
 use plan_difference::difference_at;
@@ -29,9 +31,9 @@ use std::snapshot::Snapshot;
 pub struct Warm {
     dp: DpId,
     conf: Snapshot<Conf>,
-    state: Snapshot<Now>,
-    /// The hosts of that state.
-    hosts: HostRecs,
+    state: Seen,
+    /// What is kept of the hosts of that state.
+    stood: Stood,
     plan: Plan,
     sent: Tables,
     /// All was taken, so that what is wanted is what was sent, and the plan's entries are behind.
@@ -40,15 +42,16 @@ pub struct Warm {
 }
 
 impl Model for Warm {
-    ghost use Rattle.packet_way.specs.Present.{state_of};
     ghost use Rattle.warm_plan.specs.Kept.{Kept, IsWarm};
+    ghost use Rattle.warm_plan.specs.Parts.{keys_at};
+    ghost use Rattle.warm_plan.specs.Places.{kept_places};
     ghost use Rattle.warm_plan.specs.Touched.{wanted_of};
 
     ghost Value = { Kept };
 
-    ghost view = { λ w. record { dp = w.dp; conf = w.conf.value; state = state_of w.state.value; sent = w.sent; wanted = wanted_of w.is_taken w.sent w.plan.wanted; is_spent = w.spent } };
+    ghost view = { λ w. record { dp = w.dp; conf = w.conf.value; state = w.state; sent = w.sent; wanted = wanted_of w.is_taken w.sent w.plan.wanted; is_spent = w.spent } };
 
-    ghost invariant = { λ w. IsWarm (record { dp = w.dp; conf = w.conf.value; state = state_of w.state.value; sent = w.sent; wanted = wanted_of w.is_taken w.sent w.plan.wanted; is_spent = w.spent }) w.hosts w.plan.parts w.plan.touched.keys w.plan.wanted };
+    ghost invariant = { λ w. IsWarm (record { dp = w.dp; conf = w.conf.value; state = w.state; sent = w.sent; wanted = wanted_of w.is_taken w.sent w.plan.wanted; is_spent = w.spent }) (kept_places w.stood) (keys_at w.plan.parts) w.plan.touched.keys w.plan.wanted };
 }
 
 impl Warm {
@@ -77,8 +80,8 @@ impl Warm {
         Ok(Warm {
             dp,
             conf: Snapshot::of(conf),
-            state: Snapshot::of(now),
-            hosts: now.hosts.copy(alloc)?,
+            state: Seen::of(now),
+            stood: Stood::of(alloc, conf, now, dp)?,
             plan: make_whole(alloc, conf, now, dp, &sent, units)?,
             sent,
             is_taken: false,
@@ -111,7 +114,7 @@ impl Warm {
     {
         let was_spent = self.spent;
         self.spent = true;
-        self.state = Snapshot::of(now);
+        self.state = Seen::of(now);
         if was_spent {
             return Err(AllocError);
         }
@@ -119,20 +122,19 @@ impl Warm {
         self.is_taken = false;
         are_ordered(&self.plan.wanted);
         renewed?;
-        let hosts = self.hosts.as_slice();
         let made = make_again(
             &mut self.plan,
             alloc,
             conf,
             now,
             self.dp,
-            hosts,
+            &self.stood,
             changes,
             units,
         );
         are_ordered(&self.plan.wanted);
         made?;
-        self.hosts = now.hosts.copy(alloc)?;
+        self.stood.follow(alloc, conf, now, self.dp, changes)?;
         self.spent = false;
         Ok(())
     }
@@ -161,13 +163,13 @@ impl Warm {
         let was_spent = self.spent;
         self.spent = true;
         self.conf = Snapshot::of(next);
-        self.state = Snapshot::of(now);
+        self.state = Seen::of(now);
         if was_spent {
             return Err(AllocError);
         }
         self.plan = make_whole(alloc, next, now, self.dp, &self.sent, units)?;
         self.is_taken = false;
-        self.hosts = now.hosts.copy(alloc)?;
+        self.stood = Stood::of(alloc, next, now, self.dp)?;
         self.spent = false;
         Ok(())
     }

@@ -18,7 +18,7 @@ joined out a b d e one two three all of_a of_b of_d of_e =
 pub returns : goal.returns
 returns c =
     let conf = c.args.conf.now in
-    joined _ _ _ _ _ _ _ _ _ (c.in_ok-name_hosts.ensures ∙ ap (λ (l : List HostRec). c.args.out.now ++ map (λ (h : HostRec). change.Host (group_of conf h.dp) h.vid h.mac) l) c.as_slice.ensures)
-    (c.in_ok-name_ports.ensures ∙ ap (λ (l : List UpRec). c.name_hosts.new.out ++ map (λ (up : UpRec). change.Port up.dp up.port) l) c.as_slice-2.ensures)
-    (c.in_ok-name_dps.ensures ∙ ap (λ (l : List DpId). c.name_ports.new.out ++ map change.Dp l) c.as_slice-3.ensures)
-    (c.in_ok-name_neighbours.ensures ∙ ap (λ (l : List NeighRec). c.name_dps.new.out ++ map (λ (n : NeighRec). change.Neighbour n.group n.vid n.ip) l) c.as_slice-4.ensures)
+    joined _ _ _ _ _ _ _ _ _ c.in_ok-name_hosts.ensures
+    (c.in_ok-name_ports.ensures ∙ ap (λ (l : List UpRec). c.name_hosts.new.out ++ map (λ (up : UpRec). change.Port up.dp up.port) l) c.as_slice.ensures)
+    (c.in_ok-name_dps.ensures ∙ ap (λ (l : List DpId). c.name_ports.new.out ++ map change.Dp l) c.as_slice-2.ensures)
+    c.in_ok-name_neighbours.ensures

@@ -1,12 +1,12 @@
-use Rattle.std.proofs.Common.{◌∙◌, ◌++◌, ◌*◌, List, [], map, length, sym, ap, subst}
+use Rattle.std.proofs.Common.{◌≡◌, ◌∙◌, ◌*◌, List, [], length, sym, ap, subst}
 use Rattle.of_match.specs.declared.entry.Entry.{Entry}
+use Rattle.of_match.specs.declared.entry.Key.{Key}
 use Rattle.packet_way.specs.Present.{state_of}
 use Rattle.plan_units.specs.declared.unit.Unit.{Unit as PlanUnit}
 use Rattle.cold_start.specs.Cold.{units_of}
 use Rattle.cold_start.specs.Counts.{RisesAtMost, RisesAtLeast}
 use Rattle.cold_start.proofs.Groups.{own_id}
-use Rattle.warm_plan.specs.declared.plan.Part.{Part}
-use Rattle.warm_plan.specs.Parts.{ArePartsOf, part_of, with_units}
+use Rattle.warm_plan.specs.Parts.{ArePartsOf, keys_at, parts_with, with_units}
 use Rattle.warm_plan.proofs.Settings.{setting_of, cold_is, units_are}
 use Rattle.warm_plan.proofs.again.make_whole.Goals as goal
 
@@ -32,9 +32,11 @@ returns-clause-parts g c =
     let setting = setting_of conf state c.args.dp d is c.is_sound.ensures in
     let units = c.as_slice.ensures ∙ c.in_ok-all.ensures in
     let wanted = c.in_ok-make.ensures.wanted ∙ ap (λ (t : List Entry). with_units conf state d t c.as_slice.result.now) c.in_ok-plan.ensures.wanted ∙ ap (with_units conf state d []) units ∙ c.all_units_make_the_cold_start.ensures.wanted conf state d setting in
-    let parts = c.in_ok-make.ensures.parts ∙ ap (λ (ps : List Part). ps ++ map (part_of conf state d) c.as_slice.result.now) c.in_ok-plan.ensures.parts ∙ ap (map (part_of conf state d)) units in
-    subst (λ (ps : List Part). ArePartsOf ps c.make.new.self.wanted) (sym parts)
-    (subst (ArePartsOf (map (part_of conf state d) (units_of conf state d))) (sym wanted) (c.all_units_make_the_cold_start.ensures.parts conf state d setting))
+    let none : ◌≡◌ {A = PlanUnit → List Key} (keys_at c.in_ok-plan.plan.parts) (λ _. []) = λ i u. c.in_ok-plan.ensures.parts u i in
+    let parts : ◌≡◌ {A = PlanUnit → List Key} (keys_at c.make.new.self.parts) (parts_with conf state d (λ _. []) (units_of conf state d)) =
+    (λ i u. c.in_ok-make.ensures.parts u i) ∙ (λ i. parts_with conf state d (none i) (units i)) in
+    subst (λ (ps : PlanUnit → List Key). ArePartsOf ps c.make.new.self.wanted) (sym parts)
+    (subst (ArePartsOf (parts_with conf state d (λ _. []) (units_of conf state d))) (sym wanted) (c.all_units_make_the_cold_start.ensures.parts conf state d setting))
 
 pub returns-clause-told : goal.returns-clause-told
 returns-clause-told g c = c.in_ok-make.ensures.told c.args.sent.now c.in_ok-plan.ensures.told

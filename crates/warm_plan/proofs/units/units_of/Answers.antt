@@ -20,10 +20,10 @@ pub returns : goal.returns
 unfolding units_of
 returns c =
     let conf = c.args.conf.now in
-    let hosts = c.as_slice-3.ensures.value ∙ c.in_ok-hosts.ensures ∙ (λ i. filter (λ (h : HostRec). (group_of conf h.dp).0 == (c.group_number.ensures i).0) (c.as_slice.ensures i)) in
+    let hosts = c.as_slice-2.ensures ∙ c.in_ok-hosts.ensures ∙ (λ i. filter (λ (h : HostRec). (group_of conf h.dp).0 == (c.group_number.ensures i).0) c.args.now.now.hosts.now) in
     let vlans = c.as_slice-vlans.ensures ∙ c.vlans.ensures.lists in
     joined _ _ _ _ _ _ _ _ _ (c.in_ok-push.ensures.ok ∙ ap (λ (l : List PlanUnit). l ++ unit.Dp ∷ []) c.new-made.ensures)
-    (c.in_ok-push_ports.ensures ∙ ap (λ (l : List Port). c.push.new.self ++ map (λ (i : Port). unit.Port i.no) l) c.as_slice-2.ensures)
+    (c.in_ok-push_ports.ensures ∙ ap (λ (l : List Port). c.push.new.self ++ map (λ (i : Port). unit.Port i.no) l) c.as_slice.ensures)
     (c.in_ok-push_vlans.ensures ∙ ap (λ (l : List Vlan). c.push_ports.new.out ++ map (λ (v : Vlan). unit.Vlan v.vid) l) vlans)
     (c.in_ok-push_hosts.ensures ∙ ap (λ (l : List HostRec). c.push_vlans.new.out ++ map (λ (h : HostRec). unit.Host h.vid h.mac) l) hosts)
     (c.in_ok-push_routes.ensures ∙ ap (λ (l : List Vlan). c.push_hosts.new.out ++ map (λ (v : Vlan). unit.Route v.vid) l) vlans)
