@@ -1,7 +1,6 @@
-//! The controller as a hub drives it, and its replay of a recording.
+//! The controller as a hub drives it.
 #![tactic(auto)]
 
-pub mod replay;
 mod steered;
 
 pub use steered::Steered;

@@ -6,19 +6,22 @@ use Rattle.std.specs.Prelude.{IsErrOf}
 use Rattle.fg_outside.specs.Contents.{Contents}
 use Rattle.fg_outside.specs.Counts.{Rose}
 use Rattle.fg_outside.specs.Wrote.{appended, AppendsFront}
-use Rattle.fg_outside.proofs.CountLemmas.{Rose-later, Rose-since}
+use Rattle.fg_outside.proofs.CountLemmas.{Rose-since}
 use Rattle.fg_outside.proofs.SinkLemmas.{appended-append, appended-nil, AppendsFront-none, AppendsFront-first, AppendsFront-second}
 use Rattle.conf_types.specs.Configuration.{Configuration}
 use Rattle.conf_gather.specs.declared.refused.LoadRefused.{LoadRefused}
-use Rattle.conf_gather.specs.Gathered.{Held}
-use Rattle.conf_load.specs.Loaded.{loaded}
 use Rattle.conf_gather.specs.declared.refused.LoadRefused.TheVariants.{Read, Yaml, Conf, IncludeTwice, IncludeDepth, Absent, Memory}
+use Rattle.conf_gather.specs.Files.{ReadsFiles}
+use Rattle.conf_gather.specs.Gathered.{Held}
+use Rattle.conf_gather.specs.Gives.{Fails}
+use Rattle.conf_load.specs.Loaded.{loaded}
 use Rattle.faucet_top.specs.declared.deliver.Status.{Status}
 use Rattle.faucet_top.specs.declared.deliver.Status.TheVariants as statuses
 use Rattle.faucet_top.specs.Answer.{Answer, Load, refusal, json_line, check_step, check_answer}
 use Rattle.faucet_top.specs.Ends.{Ends, refused_status}
 use Rattle.faucet_top.specs.Given.{Loads, LoadsBy, Delivers, Checks, GoesOn}
 use Rattle.faucet_top.specs.Status.{number_of_status}
+use Rattle.faucet_top.proofs.ReadLemmas.{refused_by}
 
 abbrev pub File : Type 0
 File = List ℕ × Load
@@ -28,30 +31,33 @@ File = List ℕ × Load
 pub memory_loads : {A : Type 0} (given : Held → List ℕ → Result A LoadRefused) (contents : Option Contents) (absence fault : Type 0) (refused name : List ℕ) → LoadsBy given contents absence fault refused name (Err Memory)
 memory_loads given contents absence fault refused name = record { told = λ held told. tt; absent = λ file is. absurd cc; unread = λ file is. absurd cc; named = λ file is. elim is [ inl none ↦ absurd cc | inr failed ↦ absurd cc ] }
 
--- the file that a refusal names is the one that was refused
-pub loads_named : {A : Type 0} (made : Result A LoadRefused) (refused : List ℕ) → ((file : List ℕ) → IsErrOf made (Absent file) → refused ≡ file) → ((file : List ℕ) → IsErrOf made (Read file) → refused ≡ file)
-    → (file : List ℕ) → IsErrOf made (Absent file) ⊎ IsErrOf made (Read file) → refused ≡ file
-loads_named made refused absent unread file (inl is) = absent file is
-loads_named made refused absent unread file (inr is) = unread file is
+-- a file that gave a configuration was refused by no read, whatever was counted
+pub accepted_loads : {A : Type 0} (given : Held → List ℕ → Result A LoadRefused) (contents : Option Contents) (absence fault : Type 0) (refused name : List ℕ) (conf : A)
+    → ((held : Contents) → contents ≡ Some held → given (held 0) name ≡ Ok conf) → LoadsBy given contents absence fault refused name (Ok conf)
+accepted_loads given contents absence fault refused name conf told = record { told = told; absent = λ file is. absurd cc; unread = λ file is. absurd cc; named = λ file is. elim is [ inl none ↦ absurd cc | inr failed ↦ absurd cc ] }
+
+-- a refusal is the same with another thing in the place of what wasn't given
+err_as : {A B : Type 0} (why cause : LoadRefused) → IsErrOf {T = B} (Err why) cause → IsErrOf {T = A} (Err why) cause
+err_as why cause is = ap (λ (e : LoadRefused). Err e) (refused_by why cause is)
+
+-- a file was refused, of which this or more would have been given; the file that the refusal names is the one that was refused
+pub refused_loads : {A B F : Type 0} (given : Held → List ℕ → Result A LoadRefused) (contents : F → Option Contents) (faults absences : F → ℕ) (refused : F → List ℕ) (old new : F) (name : List ℕ) (why : LoadRefused)
+    → ((held : Contents) → contents old ≡ Some held → Fails why (given (held 0) name)) → ReadsFiles {Y = B} contents faults absences refused old new (Err why)
+    → LoadsBy given (contents old) (Rose (absences old) (absences new)) (Rose (faults old) (faults new)) (refused new) name (Err why)
+refused_loads given contents faults absences refused old new name why told files = record {
+  told = told;
+  absent = λ file is. files.absent file (err_as why (Absent file) is);
+  unread = λ file is. files.read file (err_as why (Read file) is);
+  named = λ file is. elim is [ inl none ↦ files.absent_file file (err_as why (Absent file) none) | inr failed ↦ files.unread_file file (err_as why (Read file) failed) ];
+}
 
 -- what was counted by a part of a call was counted by the whole
-module _ {A : Type 0} (given : Held → List ℕ → Result A LoadRefused) (contents : Option Contents) (absence fault absence2 fault2 : Type 0) (f : absence → absence2) (g : fault → fault2) where
-  later : (refused name : List ℕ) (made : Result A LoadRefused) → LoadsBy given contents absence fault refused name made → LoadsBy given contents absence2 fault2 refused name made
-  later refused name made loads = record { told = loads.told; absent = λ file is. f (loads.absent file is); unread = λ file is. g (loads.unread file is); named = loads.named }
-
-  -- a file that gave a configuration was refused by no read, whichever was refused since
-  pub accepted_later : (refused refused2 name : List ℕ) (conf : A) → LoadsBy given contents absence fault refused name (Ok conf) → LoadsBy given contents absence2 fault2 refused2 name (Ok conf)
-  accepted_later refused refused2 name conf loads = record {
-    told = loads.told;
-    absent = λ file is. f (loads.absent file is);
-    unread = λ file is. g (loads.unread file is);
-    named = λ file is. elim is [ inl none ↦ absurd cc | inr failed ↦ absurd cc ];
-  }
-
-module _ (contents : Option Contents) (absence fault absence2 fault2 : Type 0) (f : absence → absence2) (g : fault → fault2) where
-  pub each_later : (refused : List ℕ) (files : List File) → AllByRecursion (λ file. Loads contents absence fault refused file.0 file.1) files → AllByRecursion (λ file. Loads contents absence2 fault2 refused file.0 file.1) files
-  each_later refused [] all = tt
-  each_later refused (file ∷ files) all = (later loaded contents absence fault absence2 fault2 f g refused file.0 file.1 all.0, each_later refused files all.1)
+module _ (contents : Option Contents) (absence fault absence2 fault2 : Type 0) (f : absence → absence2) (g : fault → fault2) (refused : List ℕ) where
+  each_later : (files : List File) → AllByRecursion (λ file. Loads contents absence fault refused file.0 file.1) files → AllByRecursion (λ file. Loads contents absence2 fault2 refused file.0 file.1) files
+  each_later [] all = tt
+  each_later (file ∷ files) all =
+      let loads = all.0 in
+      (record { told = loads.told; absent = λ name is. f (loads.absent name is); unread = λ name is. g (loads.unread name is); named = loads.named }, each_later files all.1)
 
 -- ---- one file
 
@@ -59,7 +65,7 @@ module _ (name : List ℕ) (o0 o1 e0 e1 : Option (List ℕ)) (m0 m1 n0 n1 : ℕ)
   abbrev Line : LoadRefused → Status → Type 0
   Line why ended = Ends (refused_status why) (refusal name why).err e0 e1 n0 n1 ended
 
-  line_delivered : (a : Answer) (status ended : Status) → a.out ≡ [] → a.status ≡ number_of_status status → Ends status a.err e0 e1 n0 n1 ended → Delivers a (number_of_status ended) o0 o0 e0 e1 m0 m0 n0 n1
+  pub line_delivered : (a : Answer) (status ended : Status) → a.out ≡ [] → a.status ≡ number_of_status status → Ends status a.err e0 e1 n0 n1 ended → Delivers a (number_of_status ended) o0 o0 e0 e1 m0 m0 n0 n1
   line_delivered a status ended none is (inl whole) = inl (ap number_of_status whole.0 ∙ sym is, sym (appended-nil o0) ∙ ap (λ l. appended o0 l) (sym none), whole.1, refl, whole.2)
   line_delivered a status ended none is (inr front) = inr (ap number_of_status front.0, AppendsFront-none o0 a.out, front.1, inr front.2)
 
@@ -92,16 +98,15 @@ module _ (contents : Option Contents) (a0 a1 a2 f0 f1 f2 : ℕ) (o0 o1 o2 e0 e1 
 
   -- a file whose line was written, and the others
   pub next_checked : (status : ℕ) (made : Load) → Loads contents (Rose a0 a1) (Rose f0 f1) refused1 name made → GoesOn name made None o0 o1 e0 e1 m0 m1 n0 n1
-      → a0 ≤ a1 → a1 ≤ a2 → f0 ≤ f1 → f1 ≤ f2
+      → a0 ≤ a1 → f0 ≤ f1
       → Checks contents (Rose a1 a2) (Rose f1 f2) refused2 names status o1 o2 e1 e2 m1 m2 n1 n2 → Checks contents (Rose a0 a2) (Rose f0 f2) refused2 (name ∷ names) status o0 o2 e0 e2 m0 m2 n0 n2
-  next_checked status made loads (conf, is, line, quiet, outs, errs) le_a le_b le_f le_g (files, (are, all), delivers) = (
+  next_checked status made loads (conf, is, line, quiet, outs, errs) le_a le_f (files, (are, all), delivers) = (
     (name, made) ∷ files,
     (
       ap (λ ns. name ∷ ns) are,
       (
         subst (λ (l : Load). Loads contents (Rose a0 a2) (Rose f0 f2) refused2 name l) (sym is)
-            (accepted_later loaded contents (Rose a0 a1) (Rose f0 f1) (Rose a0 a2) (Rose f0 f2) (λ r. Rose-later a0 a1 a2 r le_b) (λ r. Rose-later f0 f1 f2 r le_g) refused1 refused2 name conf
-            (subst (λ (l : Load). Loads contents (Rose a0 a1) (Rose f0 f1) refused1 name l) is loads)),
+            (accepted_loads loaded contents (Rose a0 a2) (Rose f0 f2) refused2 name conf (subst (λ (l : Load). Loads contents (Rose a0 a1) (Rose f0 f1) refused1 name l) is loads).told),
         each_later contents (Rose a1 a2) (Rose f1 f2) (Rose a0 a2) (Rose f0 f2) (λ r. Rose-since a0 a1 a2 le_a r) (λ r. Rose-since f0 f1 f2 le_f r) refused2 files all,
       ),
     ),

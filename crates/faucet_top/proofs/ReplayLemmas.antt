@@ -1,6 +1,5 @@
 -- From the reply to a run over a recording to what its status says.
 use Rattle.std.proofs.Common.{◌≡◌, ◌≢◌, ℕ, ◌⊎◌, inl, inr, List, [], ◌++◌, Option, Some, None, unwrap_or, Result, Ok, Err, refl, sym, ap, subst, ◌∙◌, arith}
-use Rattle.std.proofs.lemmas.List.{append-nil}
 use Rattle.fg_outside.specs.Contents.{Contents}
 use Rattle.fg_outside.specs.Wrote.{appended}
 use Rattle.fg_outside.specs.declared.hub.Happening.{Happening}
@@ -11,11 +10,8 @@ use Rattle.conf_gather.specs.declared.refused.LoadRefused.TheVariants.{Read, Yam
 use Rattle.conf_gather.specs.Gathered.{Held}
 use Rattle.conf_load.specs.Loaded.{loaded}
 use Rattle.law_stories.specs.Right.{IsRight}
-use Rattle.recording.specs.declared.record.Record.{Record}
 use Rattle.recording.specs.declared.refused.RecordRefused.{RecordRefused}
-use Rattle.recording.specs.Recording.{Records}
-use Rattle.recording.specs.Refused.{IsRefused}
-use Rattle.recording.specs.Turns.{turns}
+use Rattle.recording.specs.Written.{written_records}
 use Rattle.ctl_world.specs.World.{first}
 use Rattle.gauge_load.specs.Loaded.{gauge_of}
 use Rattle.gauge_poll.specs.Monitoring.{Monitor, begun, lines_of as gauge_lines}
@@ -23,14 +19,15 @@ use Rattle.hub_drive.specs.declared.replay.Replayed.{Replayed}
 use Rattle.hub_drive.specs.declared.replay.Replayed.TheVariants as replayed
 use Rattle.hub_drive.specs.declared.sayings.Outlet.{Outlet}
 use Rattle.hub_drive.specs.declared.sayings.Outlet.TheVariants as outlets
-use Rattle.hub_drive.specs.Driving.{closings_of, lines_of, out_of}
+use Rattle.hub_drive.specs.Driving.{out_of}
 use Rattle.hub_drive.specs.Machine.{Workings}
 use Rattle.hub_drive.specs.Replay.{Replays}
 use Rattle.ctl_drive.specs.Controller.{controller}
+use Rattle.ctl_drive.specs.Driving.{records_of}
 use Rattle.gauge_drive.specs.Gauge.{ended_lines, monitor}
 use Rattle.faucet_top.specs.Answer.{Answer, GaugeLoad, Load, refusal, last_line}
 use Rattle.faucet_top.specs.Ends.{status_after}
-use Rattle.faucet_top.specs.Given.{GaugeLoads, Loads, LoadsBy, GoesByFile, RepliesGauge, RepliesReplay, RepliesRun, StatusFor, IsRunStatus, IsLoadedStatus, IsReplayed, IsReplayedTo, IsWatched, IsWatchedTo}
+use Rattle.faucet_top.specs.Given.{GaugeLoads, Loads, LoadsBy, GoesByFile, RepliesGauge, RepliesReplay, RepliesRun, StatusFor, IsRun, IsRunStatus, IsLoadedStatus, IsReplayed, IsWatched}
 use Rattle.faucet_top.specs.Status.{number_of_status}
 use Rattle.faucet_top.proofs.RefusalLemmas.{IsInner, refusal_inner, refusal_undone, refusal_unread_record, refusal_unread}
 
@@ -41,6 +38,28 @@ number_after end = number_of_status (status_after end)
 -- ends with different numbers differ
 pub ends_differ : (x y : Replayed) → (number_after x ≡ number_after y → ⊥) → x ≡ y → ⊥
 ends_differ x y other is = other (ap number_after is)
+
+-- a recording that is read is there
+read_there : (refused : Option RecordRefused) → replayed.Read refused ≡ replayed.Unread → ⊥
+read_there None = ends_differ (replayed.Read None) replayed.Unread (λ e. omega arith)
+read_there (Some refused) = ends_differ (replayed.Read (Some refused)) replayed.Unread (λ e. omega arith)
+
+-- the ends with these numbers
+end_done : (end : Replayed) → number_after end ≡ 0 → end ≡ replayed.Read None
+end_done (replayed.Read None) s = refl
+end_done (replayed.Read (Some refused)) s = absurd (omega (arith, s))
+end_done replayed.Unread s = absurd (omega (arith, s))
+end_done replayed.Spent s = absurd (omega (arith, s))
+end_done replayed.WriteFault s = absurd (omega (arith, s))
+end_done replayed.Memory s = absurd (omega (arith, s))
+
+end_refused : (end : Replayed) → number_after end ≡ 5 → (refused : RecordRefused) × (end ≡ replayed.Read (Some refused))
+end_refused (replayed.Read None) s = absurd (omega (arith, s))
+end_refused (replayed.Read (Some refused)) s = (refused, refl)
+end_refused replayed.Unread s = absurd (omega (arith, s))
+end_refused replayed.Spent s = absurd (omega (arith, s))
+end_refused replayed.WriteFault s = absurd (omega (arith, s))
+end_refused replayed.Memory s = absurd (omega (arith, s))
 
 -- ---- its status
 
@@ -159,164 +178,71 @@ module _ (held : Contents) (absence fault : Type 0) where
 
   -- ---- at status 0, and at status 5
 
-  module _ {S : Type 0} (works : Workings S) (outlet : Outlet) (recording : List ℕ) (w : S) (o0 o1 e0 e1 : Option (List ℕ)) where
-    -- the recording was taken in whole, and this was written of its story; or up to a refused record
-    pub record RanWhole : Type 0 where
-      pub bytes : List ℕ
-      pub records : List Record
-      pub story : List Happening
-      pub file : held 0 recording ≡ Some bytes
-      pub whole : Records bytes records
-      pub told : story ≡ turns records (closings_of works 0 w story)
-      pub out : o1 ≡ appended o0 (out_of works outlet w story)
-      pub err : e1 ≡ appended e0 (lines_of works w story)
+  module _ {S : Type 0} (works : Workings S) (outlet : Outlet) (recording : List ℕ) (w : S) (prints : List Happening → List ℕ) (are : (story : List Happening) → out_of works outlet w story ≡ prints story) (o0 o1 e0 e1 : Option (List ℕ)) where
+    abbrev Ran : Option RecordRefused → Type 0
+    Ran refused = IsRun works w prints recording refused (held 0) o0 o1 e0 e1
 
-    pub record RanTo : Type 0 where
-      pub bytes : List ℕ
-      pub records : List Record
-      pub refused : RecordRefused
-      pub story : List Happening
-      pub file : held 0 recording ≡ Some bytes
-      pub refuses : IsRefused bytes records refused.number refused.cause
-      pub told : story ≡ turns records (closings_of works 0 w story)
-      pub out : o1 ≡ appended o0 (out_of works outlet w story)
-      pub err : e1 ≡ appended e0 (lines_of works w story ++ last_line recording (replayed.Read (Some refused)))
-
-    module _ (out lines : List ℕ) (wrote : o1 ≡ appended o0 out) where
-      end_done : (end : Replayed) → Wrote works outlet recording w out lines end → GoesByFile (Some held) recording fault end → (file : Option (List ℕ)) → held 0 recording ≡ file
-          → number_after end ≡ 0 → e1 ≡ appended e0 (lines ++ last_line recording end) → RanWhole
-      end_done (replayed.Read None) replays by_file None is s said =
-          absurd (ends_differ (replayed.Read None) replayed.Unread (λ e. omega arith) (by_file.missing (ap (λ (f : Option (List ℕ)). Some f) is)))
-      end_done (replayed.Read None) (story, writes, told) by_file (Some bytes) is s said =
-          let tells = told bytes (ap (λ (f : Option (List ℕ)). Some f) is) in
-          record {
-            bytes = bytes;
-            records = tells.records;
-            story = story;
-            file = is;
-            whole = tells.whole refl;
-            told = tells.told;
-            out = wrote ∙ ap (λ (o : Option (List ℕ)). appended o0 (unwrap_or o [])) writes.out;
-            err = said ∙ ap (λ (l : List ℕ). appended e0 l) (append-nil lines) ∙ ap (λ (o : Option (List ℕ)). appended e0 (unwrap_or o [])) writes.err;
-          }
-      end_done (replayed.Read (Some refused)) replays by_file file is s said = absurd (omega (arith, s))
-      end_done replayed.Unread replays by_file file is s said = absurd (omega (arith, s))
-      end_done replayed.Spent replays by_file file is s said = absurd (omega (arith, s))
-      end_done replayed.WriteFault replays by_file file is s said = absurd (omega (arith, s))
-      end_done replayed.Memory replays by_file file is s said = absurd (omega (arith, s))
-
-      end_refused : (end : Replayed) → Wrote works outlet recording w out lines end → GoesByFile (Some held) recording fault end → (file : Option (List ℕ)) → held 0 recording ≡ file
-          → number_after end ≡ 5 → e1 ≡ appended e0 (lines ++ last_line recording end) → RanTo
-      end_refused (replayed.Read None) replays by_file file is s said = absurd (omega (arith, s))
-      end_refused (replayed.Read (Some refused)) replays by_file None is s said =
-          absurd (ends_differ (replayed.Read (Some refused)) replayed.Unread (λ e. omega arith) (by_file.missing (ap (λ (f : Option (List ℕ)). Some f) is)))
-      end_refused (replayed.Read (Some refused)) (story, writes, told) by_file (Some bytes) is s said =
-          let tells = told bytes (ap (λ (f : Option (List ℕ)). Some f) is) in
-          record {
-            bytes = bytes;
-            records = tells.records;
-            refused = refused;
-            story = story;
-            file = is;
-            refuses = tells.refuses refused refl;
-            told = tells.told;
-            out = wrote ∙ ap (λ (o : Option (List ℕ)). appended o0 (unwrap_or o [])) writes.out;
-            err = said ∙ ap (λ (o : Option (List ℕ)). appended e0 (unwrap_or o [] ++ last_line recording (replayed.Read (Some refused)))) writes.err;
-          }
-      end_refused replayed.Unread replays by_file file is s said = absurd (omega (arith, s))
-      end_refused replayed.Spent replays by_file file is s said = absurd (omega (arith, s))
-      end_refused replayed.WriteFault replays by_file file is s said = absurd (omega (arith, s))
-      end_refused replayed.Memory replays by_file file is s said = absurd (omega (arith, s))
+    read_so : (out lines : List ℕ) → o1 ≡ appended o0 out → (refused : Option RecordRefused) → Wrote works outlet recording w out lines (replayed.Read refused) → GoesByFile (Some held) recording fault (replayed.Read refused)
+        → (file : Option (List ℕ)) → held 0 recording ≡ file → e1 ≡ appended e0 (lines ++ last_line recording (replayed.Read refused)) → Ran refused
+    read_so out lines wrote refused replays by_file None is said = absurd (read_there refused (by_file.missing (ap (λ (f : Option (List ℕ)). Some f) is)))
+    read_so out lines wrote refused (story, writes, told) by_file (Some bytes) is said = record {
+      bytes = bytes;
+      story = story;
+      file = is;
+      told = told bytes (ap (λ (f : Option (List ℕ)). Some f) is);
+      out = wrote ∙ ap (λ (o : Option (List ℕ)). appended o0 (unwrap_or o [])) writes.out ∙ ap (λ (l : List ℕ). appended o0 l) (are story);
+      err = said ∙ ap (λ (o : Option (List ℕ)). appended e0 (unwrap_or o [] ++ last_line recording (replayed.Read refused))) writes.err;
+    }
 
     module _ (a : Answer) (wrote : o1 ≡ appended o0 a.out) (said : e1 ≡ appended e0 a.err) where
-      run_done : RepliesRun works outlet (Some held) absence fault recording w a → a.status ≡ 0 → RanWhole
-      run_done (end, out, lines, unfailed, replays, by_file, is) s =
-          end_done out lines (wrote ∙ ap (λ (b : Answer). appended o0 b.out) is) end replays by_file (held 0 recording) refl
-          (sym (ap (λ (b : Answer). b.status) is) ∙ s) (said ∙ ap (λ (b : Answer). appended e0 b.err) is)
+      run_read : (replies : RepliesRun works outlet (Some held) absence fault recording w a) → (refused : Option RecordRefused) → replies.0 ≡ replayed.Read refused → Ran refused
+      run_read (end, out, lines, unfailed, replays, by_file, is) refused read =
+          read_so out lines (wrote ∙ ap (λ (b : Answer). appended o0 b.out) is) refused
+          (subst (λ (r : Replayed). Wrote works outlet recording w out lines r) read replays) (subst (λ (r : Replayed). GoesByFile (Some held) recording fault r) read by_file) (held 0 recording) refl
+          (said ∙ ap (λ (b : Answer). appended e0 b.err) is ∙ ap (λ (r : Replayed). appended e0 (lines ++ last_line recording r)) read)
 
-      run_refused : RepliesRun works outlet (Some held) absence fault recording w a → a.status ≡ 5 → RanTo
-      run_refused (end, out, lines, unfailed, replays, by_file, is) s =
-          end_refused out lines (wrote ∙ ap (λ (b : Answer). appended o0 b.out) is) end replays by_file (held 0 recording) refl
-          (sym (ap (λ (b : Answer). b.status) is) ∙ s) (said ∙ ap (λ (b : Answer). appended e0 b.err) is)
+      run_done : RepliesRun works outlet (Some held) absence fault recording w a → a.status ≡ 0 → Ran None
+      run_done replies s = run_read replies None (end_done replies.0 (sym (ap (λ (b : Answer). b.status) replies.6) ∙ s))
+
+      run_refused : RepliesRun works outlet (Some held) absence fault recording w a → a.status ≡ 5 → (refused : RecordRefused) × Ran (Some refused)
+      run_refused replies s =
+          let five = end_refused replies.0 (sym (ap (λ (b : Answer). b.status) replies.6) ∙ s) in
+          (five.0, run_read replies (Some five.0) five.1)
 
   module _ (refused config recording : List ℕ) (o0 o1 e0 e1 : Option (List ℕ)) (a : Answer) (wrote : o1 ≡ appended o0 a.out) (said : e1 ≡ appended e0 a.err) where
     module _ (valid : (held : Held) (name : List ℕ) (conf : Configuration) → loaded held name ≡ Ok conf → IsValid conf)
         (right : (conf : Configuration) (story : List Happening) → IsValid conf → IsRight conf story) where
+      abbrev ControllerRan : Configuration → Option RecordRefused → Type 0
+      ControllerRan conf at = IsRun controller (first conf) (λ story. written_records (records_of (first conf) story)) recording at (held 0) o0 o1 e0 e1
+
+      replayed_right : (conf : Configuration) (at : Option RecordRefused) → loaded (held 0) config ≡ Ok conf → ControllerRan conf at → IsReplayed config recording at (held 0) o0 o1 e0 e1
+      replayed_right conf at accepted run = record { conf = conf; accepted = accepted; run = run; right = λ front is_front. right conf front (valid (held 0) config conf accepted) }
+
       pub replay_done : (made : Load) → Loads (Some held) absence fault refused config made → RepliesReplay (Some held) absence fault config recording made a
-          → a.status ≡ 0 → IsReplayed config recording (held 0) o0 o1 e0 e1
+          → a.status ≡ 0 → IsReplayed config recording None (held 0) o0 o1 e0 e1
       replay_done (Err why) loads is s = absurd (refusal_undone config why (sym (ap (λ (b : Answer). b.status) is) ∙ s))
       replay_done (Ok conf) loads replies s =
-          let ran = run_done controller outlets.Records recording (first conf) o0 o1 e0 e1 a wrote said replies s in
-          let accepted = loads.told held refl in
-          record {
-            conf = conf;
-            bytes = ran.bytes;
-            records = ran.records;
-            story = ran.story;
-            accepted = accepted;
-            file = ran.file;
-            whole = ran.whole;
-            told = ran.told;
-            out = ran.out;
-            err = ran.err;
-            right = λ front is_front. right conf front (valid (held 0) config conf accepted);
-          }
+          let ran : ControllerRan conf None = run_done controller outlets.Records recording (first conf) (λ story. written_records (records_of (first conf) story)) (λ story. refl) o0 o1 e0 e1 a wrote said replies s in
+          replayed_right conf None (loads.told held refl) ran
 
       pub replay_refused : (made : Load) → Loads (Some held) absence fault refused config made → RepliesReplay (Some held) absence fault config recording made a
-          → a.status ≡ 5 → IsReplayedTo config recording (held 0) o0 o1 e0 e1
+          → a.status ≡ 5 → (why : RecordRefused) × IsReplayed config recording (Some why) (held 0) o0 o1 e0 e1
       replay_refused (Err why) loads is s = absurd (refusal_unread_record config why (sym (ap (λ (b : Answer). b.status) is) ∙ s))
       replay_refused (Ok conf) loads replies s =
-          let ran = run_refused controller outlets.Records recording (first conf) o0 o1 e0 e1 a wrote said replies s in
-          let accepted = loads.told held refl in
-          record {
-            conf = conf;
-            bytes = ran.bytes;
-            records = ran.records;
-            refused = ran.refused;
-            story = ran.story;
-            accepted = accepted;
-            file = ran.file;
-            refuses = ran.refuses;
-            told = ran.told;
-            out = ran.out;
-            err = ran.err;
-            right = λ front is_front. right conf front (valid (held 0) config conf accepted);
-          }
+          let ran : (why : RecordRefused) × ControllerRan conf (Some why) = run_refused controller outlets.Records recording (first conf) (λ story. written_records (records_of (first conf) story)) (λ story. refl) o0 o1 e0 e1 a wrote said replies s in
+          (ran.0, replayed_right conf (Some ran.0) (loads.told held refl) ran.1)
 
     module _ (lines_are : (k : Monitor) (story : List Happening) → out_of monitor outlets.Nowhere k story ≡ ended_lines (gauge_lines k story)) where
       pub gauge_done : (made : GaugeLoad) → GaugeLoads (Some held) absence fault refused config made → RepliesGauge (Some held) absence fault config recording made a
-          → a.status ≡ 0 → IsWatched config recording (held 0) o0 o1 e0 e1
+          → a.status ≡ 0 → IsWatched config recording None (held 0) o0 o1 e0 e1
       gauge_done (Err why) loads is s = absurd (refusal_undone config why (sym (ap (λ (b : Answer). b.status) is) ∙ s))
       gauge_done (Ok conf) loads replies s =
-          let ran = run_done monitor outlets.Nowhere recording (begun conf) o0 o1 e0 e1 a wrote said replies s in
-          record {
-            conf = conf;
-            bytes = ran.bytes;
-            records = ran.records;
-            story = ran.story;
-            accepted = loads.told held refl;
-            file = ran.file;
-            whole = ran.whole;
-            told = ran.told;
-            out = ran.out ∙ ap (λ (l : List ℕ). appended o0 l) (lines_are (begun conf) ran.story);
-            err = ran.err;
-          }
+          let ran = run_done monitor outlets.Nowhere recording (begun conf) (λ story. ended_lines (gauge_lines (begun conf) story)) (lines_are (begun conf)) o0 o1 e0 e1 a wrote said replies s in
+          record { conf = conf; accepted = loads.told held refl; run = ran }
 
       pub gauge_refused : (made : GaugeLoad) → GaugeLoads (Some held) absence fault refused config made → RepliesGauge (Some held) absence fault config recording made a
-          → a.status ≡ 5 → IsWatchedTo config recording (held 0) o0 o1 e0 e1
+          → a.status ≡ 5 → (why : RecordRefused) × IsWatched config recording (Some why) (held 0) o0 o1 e0 e1
       gauge_refused (Err why) loads is s = absurd (refusal_unread_record config why (sym (ap (λ (b : Answer). b.status) is) ∙ s))
       gauge_refused (Ok conf) loads replies s =
-          let ran = run_refused monitor outlets.Nowhere recording (begun conf) o0 o1 e0 e1 a wrote said replies s in
-          record {
-            conf = conf;
-            bytes = ran.bytes;
-            records = ran.records;
-            refused = ran.refused;
-            story = ran.story;
-            accepted = loads.told held refl;
-            file = ran.file;
-            refuses = ran.refuses;
-            told = ran.told;
-            out = ran.out ∙ ap (λ (l : List ℕ). appended o0 l) (lines_are (begun conf) ran.story);
-            err = ran.err;
-          }
+          let ran = run_refused monitor outlets.Nowhere recording (begun conf) (λ story. ended_lines (gauge_lines (begun conf) story)) (lines_are (begun conf)) o0 o1 e0 e1 a wrote said replies s in
+          (ran.0, record { conf = conf; accepted = loads.told held refl; run = ran.1 })

@@ -13,6 +13,7 @@ use Rattle.conf_load.specs.Loaded.{loaded}
 use Rattle.gauge_conf.specs.declared.gauge.GaugeConf.{GaugeConf}
 use Rattle.gauge_load.specs.Loaded.{gauge_of}
 use Rattle.gauge_poll.specs.Monitoring.{begun}
+use Rattle.command_line.specs.declared.meaning.Job.{Job}
 use Rattle.command_line.specs.declared.meaning.Job.TheVariants.{Gauge, Replay}
 use Rattle.ctl_world.specs.World.{first}
 use Rattle.hub_drive.specs.declared.replay.Replayed.{Replayed}
@@ -31,9 +32,9 @@ use Rattle.faucet_top.specs.declared.deliver.Status.{Status}
 use Rattle.faucet_top.specs.declared.deliver.Status.TheVariants as statuses
 use Rattle.faucet_top.specs.Answer.{Answer, out_of_memory, refusal, last_line}
 use Rattle.faucet_top.specs.Ends.{Ends, status_after}
-use Rattle.faucet_top.specs.Given.{GaugeLoads, Loads, GoesByFile, BreaksOff, Delivers, Gives, RepliesRun}
+use Rattle.faucet_top.specs.Given.{GaugeLoads, Loads, GoesByFile, BreaksOff, Delivers, Gives, GivesRun, RepliesJob, RepliesRun}
 use Rattle.faucet_top.specs.Status.{number_of_status}
-use Rattle.faucet_top.proofs.CheckLemmas.{accepted_later}
+use Rattle.faucet_top.proofs.CheckLemmas.{accepted_loads, line_delivered}
 use Rattle.faucet_top.proofs.ReplayLemmas.{number_after, ends_differ}
 
 -- ---- what is written on two streams, by what would be on empty ones
@@ -154,19 +155,6 @@ write_fault_or_not replayed.Spent = inr (ends_differ replayed.Spent replayed.Wri
 write_fault_or_not replayed.WriteFault = inl refl
 write_fault_or_not replayed.Memory = inr (ends_differ replayed.Memory replayed.WriteFault (λ e. omega arith))
 
--- what was counted by a part of a call was counted by the whole
-module _ {S : Type 0} (works : Workings S) (outlet : Outlet) (w : S) (contents : Option Contents) (name : List ℕ) (o0 o1 e0 e1 : Option (List ℕ)) (a0 a1 a2 f0 f1 f2 : ℕ) (le_a : a0 ≤ a1) (le_f : f0 ≤ f1) where
-  replays_since : (end : Replayed) → Replays works outlet contents name (Rose a1 a2) (Rose f1 f2) w o0 o1 e0 e1 end → Replays works outlet contents name (Rose a0 a2) (Rose f0 f2) w o0 o1 e0 e1 end
-  replays_since (replayed.Read refused) replays = replays
-  replays_since replayed.Unread (story, writes, so_far, cause) =
-      (story, writes, so_far, elim cause [ inl rose ↦ inl (Rose-since a0 a1 a2 le_a rose) | inr rose ↦ inr (Rose-since f0 f1 f2 le_f rose) ])
-  replays_since replayed.Spent replays = replays
-  replays_since replayed.WriteFault replays = replays
-  replays_since replayed.Memory replays = replays
-
-  file_since : (end : Replayed) → GoesByFile contents name (Rose f1 f2) end → GoesByFile contents name (Rose f0 f2) end
-  file_since end by_file = record { missing = by_file.missing; there = λ bytes is ends. Rose-since f0 f1 f2 le_f (by_file.there bytes is ends) }
-
 -- a replay whose write failed goes by the file as one whose memory ran out does
 file_at_front : (contents : Option Contents) (name : List ℕ) (fault : Type 0) → GoesByFile contents name fault replayed.WriteFault → GoesByFile contents name fault replayed.Memory
 file_at_front contents name fault by_file = record {
@@ -174,69 +162,88 @@ file_at_front contents name fault by_file = record {
   there = λ bytes is ends. absurd (ends_differ replayed.Memory replayed.Unread (λ e. omega arith) ends);
 }
 
-module _ {S : Type 0} (works : Workings S) (outlet : Outlet) (w : S) (contents : Option Contents) (a0 a1 a2 f0 f1 f2 : ℕ) (o0 o1 e0 e1 e2 : Option (List ℕ)) (m0 m1 n0 n1 n2 : ℕ) (recording : List ℕ) (end : Replayed) (ended : Status)
-    (le_a : a0 ≤ a1) (le_f : f0 ≤ f1) (le_n : n1 ≤ n2) (by_file : GoesByFile contents recording (Rose f1 f2) end)
-    (ends : Ends (status_after end) (last_line recording end) e1 e2 n1 n2 ended) where
-  -- a reply to the run was delivered
+module _ {S : Type 0} (works : Workings S) (outlet : Outlet) (w : S) (contents : Option Contents) (absence fault : Type 0) (o0 o1 e0 e1 e2 : Option (List ℕ)) (m0 m1 n0 n1 n2 : ℕ) (recording : List ℕ) (end : Replayed) (ended : Status)
+    (le_n : n1 ≤ n2) (by_file : GoesByFile contents recording fault end) (ends : Ends (status_after end) (last_line recording end) e1 e2 n1 n2 ended) where
   abbrev RunGiven : Type 0
-  RunGiven = (a : Answer) × RepliesRun works outlet contents (Rose a0 a2) (Rose f0 f2) recording w a × Delivers a (number_of_status ended) o0 o1 e0 e2 m0 m1 n0 n2
+  RunGiven = GivesRun works outlet contents absence fault recording w (number_of_status ended) o0 o1 e0 e2 m0 m1 n0 n2
 
-  since_all : GoesByFile contents recording (Rose f0 f2) end
-  since_all = file_since works outlet w contents recording o0 o1 e0 e1 a0 a1 a2 f0 f1 f2 le_a le_f end by_file
-
-  whole_given : end ≢ replayed.WriteFault → WritesThat works outlet w contents recording (Rose a0 a2) (Rose f0 f2) o0 o1 e0 e1 end → m1 ≡ m0 → n1 ≡ n0 → RunGiven
+  whole_given : end ≢ replayed.WriteFault → WritesThat works outlet w contents recording absence fault o0 o1 e0 e1 end → m1 ≡ m0 → n1 ≡ n0 → RunGiven
   whole_given unfailed (out, lines, writes, wrote, said) outs errs = (
     record { out = out; err = lines ++ last_line recording end; status = number_after end },
-    (end, out, lines, unfailed, writes, since_all, refl),
+    inl (end, out, lines, unfailed, writes, by_file, refl),
     line_behind o0 o1 e0 e1 e2 m0 m1 n0 n1 n2 out lines (last_line recording end) (status_after end) ended wrote said outs errs ends,
   )
 
-  front_given : end ≡ replayed.WriteFault → WritesFrontOfThat works outlet w contents recording (Rose a0 a2) (Rose f0 f2) o0 o1 e0 e1 → Rose m0 m1 ⊎ Rose n0 n1 → RunGiven
+  front_given : end ≡ replayed.WriteFault → WritesFrontOfThat works outlet w contents recording absence fault o0 o1 e0 e1 → Rose m0 m1 ⊎ Rose n0 n1 → RunGiven
   front_given is (out, lines, writes, front, line_front) rose = (
     record { out = out; err = lines ++ out_of_memory.err; status = 8 },
-    (
+    inl (
       replayed.Memory,
       out,
       lines,
       ends_differ replayed.Memory replayed.WriteFault (λ e. omega arith),
       writes,
-      file_at_front contents recording (Rose f0 f2) (subst (λ (r : Replayed). GoesByFile contents recording (Rose f0 f2) r) is since_all),
+      file_at_front contents recording fault (subst (λ (r : Replayed). GoesByFile contents recording fault r) is by_file),
       refl,
     ),
     inr (nothing_behind o0 o1 e0 e1 e2 m0 m1 n0 n1 n2 out lines out_of_memory.err 8 ended front line_front rose le_n
         (subst (λ (r : Replayed). Ends (status_after r) (last_line recording r) e1 e2 n1 n2 ended) is ends)),
   )
 
-  pub run_given : Replays works outlet contents recording (Rose a1 a2) (Rose f1 f2) w o0 o1 e0 e1 end → (end ≡ replayed.WriteFault → Rose m0 m1 ⊎ Rose n0 n1)
+  pub run_given : Replays works outlet contents recording absence fault w o0 o1 e0 e1 end → (end ≡ replayed.WriteFault → Rose m0 m1 ⊎ Rose n0 n1)
       → (end ≢ replayed.WriteFault → (m1 ≡ m0) × (n1 ≡ n0)) → RunGiven
   run_given replays failed kept =
-      let since = replays_since works outlet w contents recording o0 o1 e0 e1 a0 a1 a2 f0 f1 f2 le_a le_f end replays in
       elim (write_fault_or_not end) [
         | inl is ↦ front_given is
-            (wrote_front works outlet w contents recording (Rose a0 a2) (Rose f0 f2) o0 o1 e0 e1 (subst (λ (r : Replayed). Replays works outlet contents recording (Rose a0 a2) (Rose f0 f2) w o0 o1 e0 e1 r) is since)) (failed is)
-        | inr unfailed ↦ whole_given unfailed (wrote_that works outlet w contents recording (Rose a0 a2) (Rose f0 f2) o0 o1 e0 e1 end unfailed since) (kept unfailed).0 (kept unfailed).1
+            (wrote_front works outlet w contents recording absence fault o0 o1 e0 e1 (subst (λ (r : Replayed). Replays works outlet contents recording absence fault w o0 o1 e0 e1 r) is replays)) (failed is)
+        | inr unfailed ↦ whole_given unfailed (wrote_that works outlet w contents recording absence fault o0 o1 e0 e1 end unfailed replays) (kept unfailed).0 (kept unfailed).1
       ]
+
+-- memory ran out before the run began
+pub memory_run : {S : Type 0} (works : Workings S) (outlet : Outlet) (w : S) (contents : Option Contents) (absence fault : Type 0) (o e0 e1 : Option (List ℕ)) (m n0 n1 : ℕ) (recording : List ℕ) (ended : Status)
+    → Ends statuses.Memory out_of_memory.err e0 e1 n0 n1 ended → GivesRun works outlet contents absence fault recording w (number_of_status ended) o o e0 e1 m m n0 n1
+memory_run works outlet w contents absence fault o e0 e1 m n0 n1 recording ended ends = (out_of_memory, inr refl, line_delivered [] o o e0 e1 m m n0 n1 out_of_memory statuses.Memory ended refl refl ends)
 
 -- ---- by what the file gave
 
-module _ (contents : Option Contents) (a0 a1 a2 f0 f1 f2 : ℕ) (le_b : a1 ≤ a2) (le_g : f1 ≤ f2) (refused1 refused2 : List ℕ) (status : ℕ) (o0 o1 e0 e1 : Option (List ℕ)) (m0 m1 n0 n1 : ℕ) (config recording : List ℕ) where
-  pub replay_given : (conf : Configuration) → Loads contents (Rose a0 a1) (Rose f0 f1) refused1 config (Ok conf)
-      → ((a : Answer) × RepliesRun controller outlets.Records contents (Rose a0 a2) (Rose f0 f2) recording (first conf) a × Delivers a status o0 o1 e0 e1 m0 m1 n0 n1)
-      → Gives (Some (Replay config recording)) contents (Rose a0 a2) (Rose f0 f2) refused2 status o0 o1 e0 e1 m0 m1 n0 n1
-  replay_given conf loads (a, replies, delivers) = (
-    a,
-    inl (Ok conf, accepted_later loaded contents (Rose a0 a1) (Rose f0 f1) (Rose a0 a2) (Rose f0 f2) (λ r. Rose-later a0 a1 a2 r le_b) (λ r. Rose-later f0 f1 f2 r le_g) refused1 refused2 config conf loads, replies),
-    delivers,
-  )
+-- what was counted by a part of a call was counted by the whole
+module _ {S : Type 0} (works : Workings S) (outlet : Outlet) (w : S) (contents : Option Contents) (name : List ℕ) (a0 a1 a2 f0 f1 f2 : ℕ) (le_a : a0 ≤ a1) (le_f : f0 ≤ f1) where
+  replays_since : (o0 o1 e0 e1 : Option (List ℕ)) (end : Replayed) → Replays works outlet contents name (Rose a1 a2) (Rose f1 f2) w o0 o1 e0 e1 end → Replays works outlet contents name (Rose a0 a2) (Rose f0 f2) w o0 o1 e0 e1 end
+  replays_since o0 o1 e0 e1 (replayed.Read refused) replays = replays
+  replays_since o0 o1 e0 e1 replayed.Unread (story, writes, so_far, cause) =
+      (story, writes, so_far, elim cause [ inl rose ↦ inl (Rose-since a0 a1 a2 le_a rose) | inr rose ↦ inr (Rose-since f0 f1 f2 le_f rose) ])
+  replays_since o0 o1 e0 e1 replayed.Spent replays = replays
+  replays_since o0 o1 e0 e1 replayed.WriteFault replays = replays
+  replays_since o0 o1 e0 e1 replayed.Memory replays = replays
 
-  pub gauge_given : (conf : GaugeConf) → GaugeLoads contents (Rose a0 a1) (Rose f0 f1) refused1 config (Ok conf)
-      → ((a : Answer) × RepliesRun monitor outlets.Nowhere contents (Rose a0 a2) (Rose f0 f2) recording (begun conf) a × Delivers a status o0 o1 e0 e1 m0 m1 n0 n1)
-      → Gives (Some (Gauge config recording)) contents (Rose a0 a2) (Rose f0 f2) refused2 status o0 o1 e0 e1 m0 m1 n0 n1
-  gauge_given conf loads (a, replies, delivers) = (
-    a,
-    inl (Ok conf, accepted_later gauge_of contents (Rose a0 a1) (Rose f0 f1) (Rose a0 a2) (Rose f0 f2) (λ r. Rose-later a0 a1 a2 r le_b) (λ r. Rose-later f0 f1 f2 r le_g) refused1 refused2 config conf loads, replies),
-    delivers,
-  )
+  file_since : (end : Replayed) → GoesByFile contents name (Rose f1 f2) end → GoesByFile contents name (Rose f0 f2) end
+  file_since end by_file = record { missing = by_file.missing; there = λ bytes is ends. Rose-since f0 f1 f2 le_f (by_file.there bytes is ends) }
+
+  pub run_since : (a : Answer) → RepliesRun works outlet contents (Rose a1 a2) (Rose f1 f2) name w a → RepliesRun works outlet contents (Rose a0 a2) (Rose f0 f2) name w a
+  run_since a (end, out, lines, unfailed, replays, by_file, is) = (end, out, lines, unfailed, replays_since (Some []) (Some out) (Some []) (Some lines) end replays, file_since end by_file, is)
+
+module _ (contents : Option Contents) (a0 a1 a2 f0 f1 f2 : ℕ) (le_a : a0 ≤ a1) (le_f : f0 ≤ f1) (refused : List ℕ) (status : ℕ) (o0 o1 e0 e1 : Option (List ℕ)) (m0 m1 n0 n1 : ℕ) (config recording : List ℕ) where
+  -- the reply to a run is that to a job that is so replied to
+  job_given : {S : Type 0} (works : Workings S) (outlet : Outlet) (w : S) (job : Job)
+      → ((a : Answer) → RepliesRun works outlet contents (Rose a0 a2) (Rose f0 f2) recording w a → RepliesJob (Some job) contents (Rose a0 a2) (Rose f0 f2) refused a)
+      → GivesRun works outlet contents (Rose a1 a2) (Rose f1 f2) recording w status o0 o1 e0 e1 m0 m1 n0 n1
+      → Gives (Some job) contents (Rose a0 a2) (Rose f0 f2) refused status o0 o1 e0 e1 m0 m1 n0 n1
+  job_given works outlet w job by (a, inl replies, delivers) = (a, inl (by a (run_since works outlet w contents recording a0 a1 a2 f0 f1 f2 le_a le_f a replies)), delivers)
+  job_given works outlet w job by (a, inr memory, delivers) = (a, inr memory, delivers)
+
+  pub replay_given : (conf : Configuration) → ((held : Contents) → contents ≡ Some held → loaded (held 0) config ≡ Ok conf)
+      → GivesRun controller outlets.Records contents (Rose a1 a2) (Rose f1 f2) recording (first conf) status o0 o1 e0 e1 m0 m1 n0 n1
+      → Gives (Some (Replay config recording)) contents (Rose a0 a2) (Rose f0 f2) refused status o0 o1 e0 e1 m0 m1 n0 n1
+  replay_given conf told gives =
+      job_given controller outlets.Records (first conf) (Replay config recording)
+      (λ a replies. (Ok conf, accepted_loads loaded contents (Rose a0 a2) (Rose f0 f2) refused config conf told, replies)) gives
+
+  pub gauge_given : (conf : GaugeConf) → ((held : Contents) → contents ≡ Some held → gauge_of (held 0) config ≡ Ok conf)
+      → GivesRun monitor outlets.Nowhere contents (Rose a1 a2) (Rose f1 f2) recording (begun conf) status o0 o1 e0 e1 m0 m1 n0 n1
+      → Gives (Some (Gauge config recording)) contents (Rose a0 a2) (Rose f0 f2) refused status o0 o1 e0 e1 m0 m1 n0 n1
+  gauge_given conf told gives =
+      job_given monitor outlets.Nowhere (begun conf) (Gauge config recording)
+      (λ a replies. (Ok conf, accepted_loads gauge_of contents (Rose a0 a2) (Rose f0 f2) refused config conf told, replies)) gives
 
 module _ (contents : Option Contents) (absence fault : Type 0) (refused : List ℕ) (o0 o1 e0 e1 : Option (List ℕ)) (m0 m1 n0 n1 : ℕ) (config recording : List ℕ) (why : LoadRefused) (status : ℕ) (delivers : Delivers (refusal config why) status o0 o1 e0 e1 m0 m1 n0 n1) where
   -- the configuration was refused, and that was the whole reply

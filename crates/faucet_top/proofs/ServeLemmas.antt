@@ -27,10 +27,9 @@ use Rattle.faucet_top.specs.declared.deliver.Status.{Status}
 use Rattle.faucet_top.specs.declared.deliver.Status.TheVariants as statuses
 use Rattle.faucet_top.specs.Answer.{Answer, Load, served_line}
 use Rattle.faucet_top.specs.Ends.{Ends, status_served}
-use Rattle.faucet_top.specs.Given.{BreaksOff, Delivers, Loads}
+use Rattle.faucet_top.specs.Given.{BreaksOff, Delivers}
 use Rattle.faucet_top.specs.Serving.{ServesUntil, served_answer}
 use Rattle.faucet_top.specs.Status.{number_of_status}
-use Rattle.faucet_top.proofs.ReadLemmas.{refused_by}
 use Rattle.faucet_top.proofs.ReplyLemmas.{line_behind, nothing_behind}
 
 -- ---- loading with the text
@@ -64,9 +63,14 @@ gives_conf (Err (IncludeDepth name)) given fails = ap conf_in fails
 gives_conf (Err (Absent name)) given fails = ap conf_in fails
 gives_conf (Err Memory) given fails = tt
 
+-- what files give with the text of the document
+abbrev Told : Option Contents → (name : List ℕ) → WithText → Type 0
+Told contents name made = (held : Contents) → contents ≡ Some held → load.Gives made (loaded_with_text (held 0) name)
+
 -- what is given with the text is what is given
-told_conf : (held : Held) (name : List ℕ) (made : WithText) → load.Gives made (loaded_with_text held name) → load.Gives (conf_in made) (loaded held name)
-told_conf held name made gives = subst (λ (l : Load). load.Gives (conf_in made) l) (loaded_alone (gathered held name)) (gives_conf made (loaded_with_text held name) gives)
+pub told_alone : (contents : Option Contents) (name : List ℕ) (made : WithText) → Told contents name made → (held : Contents) → contents ≡ Some held → load.Gives (conf_in made) (loaded (held 0) name)
+told_alone contents name made told held is =
+    subst (λ (l : Load). load.Gives (conf_in made) l) (loaded_alone (gathered (held 0) name)) (gives_conf made (loaded_with_text (held 0) name) (told held is))
 
 the_text : (c : Load) (text : List ℕ) (x : Configuration × List ℕ) → (c >>= λ conf. Ok (conf, text)) ≡ Ok x → text ≡ x.1
 the_text (Ok conf) text x is = ap text_in is
@@ -79,32 +83,6 @@ gathered_with main (Err e) x is = absurd cc
 -- the text is that of the gathered document
 pub told_text : (held : Held) (name : List ℕ) (x : Configuration × List ℕ) → loaded_with_text held name ≡ Ok x → text_of held name ≡ Some x.1
 told_text held name x is = gathered_with _ (gathered held name) x is
-
--- a refusal is the same with another thing in the place of what wasn't given
-err_as : {A B : Type 0} (why cause : LoadRefused) → IsErrOf {T = B} (Err why) cause → IsErrOf {T = A} (Err why) cause
-err_as why cause is = ap (λ (e : LoadRefused). Err e) (refused_by why cause is)
-
-module _ (contents : Option Contents) (absence fault : Type 0) (refused name : List ℕ) where
-  abbrev Told : WithText → Type 0
-  Told made = (held : Contents) → contents ≡ Some held → load.Gives made (loaded_with_text (held 0) name)
-
-  pub loads_refused : (why : LoadRefused) → Told (Err why) → ((file : List ℕ) → IsErrOf {T = Configuration × List ℕ} (Err why) (Absent file) → absence) → ((file : List ℕ) → IsErrOf {T = Configuration × List ℕ} (Err why) (Read file) → fault)
-      → ((file : List ℕ) → IsErrOf {T = Configuration × List ℕ} (Err why) (Absent file) → refused ≡ file) → ((file : List ℕ) → IsErrOf {T = Configuration × List ℕ} (Err why) (Read file) → refused ≡ file)
-      → Loads contents absence fault refused name (Err why)
-  loads_refused why told absent read absent_file read_file = record {
-    told = λ held is. told_conf (held 0) name (Err why) (told held is);
-    absent = λ file is. absent file (err_as why (Absent file) is);
-    unread = λ file is. read file (err_as why (Read file) is);
-    named = λ file is. elim is [ inl none ↦ absent_file file (err_as why (Absent file) none) | inr failed ↦ read_file file (err_as why (Read file) failed) ];
-  }
-
-  pub loads_accepted : (x : Configuration × List ℕ) → Told (Ok x) → Loads contents absence fault refused name (Ok x.0)
-  loads_accepted x told = record {
-    told = λ held is. told_conf (held 0) name (Ok x) (told held is);
-    absent = λ file is. absurd cc;
-    unread = λ file is. absurd cc;
-    named = λ file is. elim is [ inl none ↦ absurd cc | inr failed ↦ absurd cc ];
-  }
 
 -- ---- files that hold the same
 

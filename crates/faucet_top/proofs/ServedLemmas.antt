@@ -21,6 +21,7 @@ use Rattle.law_stories.specs.Right.{IsRight}
 use Rattle.gauge_conf.specs.declared.gauge.GaugeConf.{GaugeConf}
 use Rattle.gauge_load.specs.Loaded.{gauge_of}
 use Rattle.gauge_poll.specs.Monitoring.{Monitor, lines_of as gauge_lines}
+use Rattle.recording.specs.declared.refused.RecordRefused.{RecordRefused}
 use Rattle.hub_drive.specs.declared.sayings.Outlet.TheVariants as outlets
 use Rattle.hub_drive.specs.Driving.{out_of}
 use Rattle.gauge_drive.specs.Gauge.{ended_lines, monitor}
@@ -31,7 +32,7 @@ use Rattle.ctl_drive.specs.Driving.{lines_of}
 use Rattle.ctl_serve.specs.Served.{Ended, Served}
 use Rattle.faucet_top.specs.Answer.{Answer, GaugeLoad, Load, out_of_memory, refusal}
 use Rattle.faucet_top.specs.Ends.{status_served}
-use Rattle.faucet_top.specs.Given.{AreAccepted, BreaksOff, Delivers, Gives, IsLoadedStatus, IsOpened, IsReplayed, IsReplayedTo, IsServeStatus, IsStatusOf, IsWatched, IsWatchedTo, Loads, StatusFor}
+use Rattle.faucet_top.specs.Given.{AreAccepted, BreaksOff, Delivers, Gives, IsLoadedStatus, IsOpened, IsReplayed, IsServeStatus, IsStatusOf, IsWatched, Loads, StatusFor}
 use Rattle.faucet_top.specs.Any.{GivesAny}
 use Rattle.faucet_top.specs.Serving.{IsItsEnd, IsLocal, IsServed, RepliesServe, ServesUntil, UnservedAnswer, served_answer}
 use Rattle.faucet_top.specs.Watching.{IsHubWatched}
@@ -358,11 +359,11 @@ module _ {H F : Type 0} (may : H → HubStep → H → Type 0) (contents : F →
 
     module _ (valid : (held : Held) (name : List ℕ) (conf : Configuration) → loaded held name ≡ Ok conf → IsValid conf)
         (right : (conf : Configuration) (story : List Happening) → IsValid conf → IsRight conf story) where
-      pub replayed : (config recording : List ℕ) (held : Contents) → job ≡ Some (Replay config recording) → contents files0 ≡ Some held → status ≡ 0 → IsReplayed config recording (held 0) o0 o1 e0 e1
+      pub replayed : (config recording : List ℕ) (held : Contents) → job ≡ Some (Replay config recording) → contents files0 ≡ Some held → status ≡ 0 → IsReplayed config recording None (held 0) o0 o1 e0 e1
       replayed config recording held is told_so s =
           by.replayed job (contents files0) absence fault refused status o0 o1 e0 e1 m0 m1 n0 n1 (ours_where (λ c events reload_ms listen other. absurd cc, λ c events listen other. absurd cc)) valid right config recording held is told_so s
 
-      pub refused_record : (config recording : List ℕ) (held : Contents) → job ≡ Some (Replay config recording) → contents files0 ≡ Some held → status ≡ 5 → IsReplayedTo config recording (held 0) o0 o1 e0 e1
+      pub refused_record : (config recording : List ℕ) (held : Contents) → job ≡ Some (Replay config recording) → contents files0 ≡ Some held → status ≡ 5 → (why : RecordRefused) × IsReplayed config recording (Some why) (held 0) o0 o1 e0 e1
       refused_record config recording held is told_so s =
           by.refused_record job (contents files0) absence fault refused status o0 o1 e0 e1 m0 m1 n0 n1 (ours_where (λ c events reload_ms listen other. absurd cc, λ c events listen other. absurd cc)) valid right config recording held is told_so s
 
@@ -374,11 +375,11 @@ module _ {H F : Type 0} (may : H → HubStep → H → Type 0) (contents : F →
 
     module _ (recorded : (k : Monitor) (story : List Happening) → out_of monitor outlets.Nowhere k story ≡ ended_lines (gauge_lines k story))
         (served_lines : (k : Monitor) (story : List Happening) → out_of monitor outlets.Hub k story ≡ ended_lines (gauge_lines k story)) where
-      pub watched : (config recording : List ℕ) (held : Contents) → job ≡ Some (Gauge config recording) → contents files0 ≡ Some held → status ≡ 0 → IsWatched config recording (held 0) o0 o1 e0 e1
+      pub watched : (config recording : List ℕ) (held : Contents) → job ≡ Some (Gauge config recording) → contents files0 ≡ Some held → status ≡ 0 → IsWatched config recording None (held 0) o0 o1 e0 e1
       watched config recording held is told_so s =
           by.watched job (contents files0) absence fault refused status o0 o1 e0 e1 m0 m1 n0 n1 (ours_where (λ c events reload_ms listen other. absurd cc, λ c events listen other. absurd cc)) recorded config recording held is told_so s
 
-      pub watched_to : (config recording : List ℕ) (held : Contents) → job ≡ Some (Gauge config recording) → contents files0 ≡ Some held → status ≡ 5 → IsWatchedTo config recording (held 0) o0 o1 e0 e1
+      pub watched_to : (config recording : List ℕ) (held : Contents) → job ≡ Some (Gauge config recording) → contents files0 ≡ Some held → status ≡ 5 → (why : RecordRefused) × IsWatched config recording (Some why) (held 0) o0 o1 e0 e1
       watched_to config recording held is told_so s =
           by.watched_to job (contents files0) absence fault refused status o0 o1 e0 e1 m0 m1 n0 n1 (ours_where (λ c events reload_ms listen other. absurd cc, λ c events listen other. absurd cc)) recorded config recording held is told_so s
 

@@ -5,7 +5,6 @@ use Rattle.std.proofs.lemmas.List.{append_assoc}
 use Rattle.fg_outside.specs.Contents.{Contents}
 use Rattle.fg_outside.specs.Counts.{Rose}
 use Rattle.fg_outside.specs.Wrote.{appended}
-use Rattle.fg_outside.proofs.SinkLemmas.{appended-nil, AppendsFront-none}
 use Rattle.fg_outside.specs.declared.hub.Happening.{Happening}
 use Rattle.conf_types.specs.Configuration.{Configuration}
 use Rattle.conf_types.specs.Valid.{IsValid}
@@ -19,6 +18,7 @@ use Rattle.opening_batch.specs.Opened.{Opens}
 use Rattle.opening_batch.specs.Opening.{opening_of}
 use Rattle.law_stories.specs.Right.{IsRight}
 use Rattle.gauge_poll.specs.Monitoring.{Monitor, lines_of as gauge_lines}
+use Rattle.recording.specs.declared.refused.RecordRefused.{RecordRefused}
 use Rattle.hub_drive.specs.declared.sayings.Outlet.TheVariants as outlets
 use Rattle.hub_drive.specs.Driving.{out_of}
 use Rattle.gauge_drive.specs.Gauge.{ended_lines, monitor}
@@ -26,8 +26,9 @@ use Rattle.faucet_top.specs.declared.deliver.Status.{Status}
 use Rattle.faucet_top.specs.declared.deliver.Status.TheVariants as statuses
 use Rattle.faucet_top.specs.Answer.{Answer, Load, usage, out_of_memory, refusal, behind_bytes, json_line, check_step, check_answer, planned, plan_answer, job_answer}
 use Rattle.faucet_top.specs.Ends.{Ends}
-use Rattle.faucet_top.specs.Given.{Loads, RepliesJob, Replies, AnswersSoFar, Delivers, Gives, Checks, StatusFor, IsStatusOf, AreAccepted, IsOpened, IsReplayed, IsReplayedTo, IsWatched, IsWatchedTo}
+use Rattle.faucet_top.specs.Given.{Loads, RepliesJob, Replies, AnswersSoFar, Delivers, Gives, Checks, StatusFor, IsStatusOf, AreAccepted, IsOpened, IsReplayed, IsWatched}
 use Rattle.faucet_top.specs.Status.{number_of_status}
+use Rattle.faucet_top.proofs.CheckLemmas.{line_delivered}
 use Rattle.faucet_top.proofs.RefusalLemmas.{IsInner, refusal_inner, refusal_undone, refusal_unread}
 use Rattle.faucet_top.proofs.ReplayLemmas.{gauge_done, gauge_inner, gauge_refused, gauge_told, gauge_unread, replay_inner, replay_unread, replay_told, replay_done, replay_refused}
 
@@ -318,14 +319,14 @@ module _ (job : Option Job) (contents : Option Contents) (absence fault : Type 0
   module _ (valid : (held : Held) (name : List ℕ) (conf : Configuration) → loaded held name ≡ Ok conf → IsValid conf)
       (right : (conf : Configuration) (story : List Happening) → IsValid conf → IsRight conf story) where
     pub replayed : (config recording : List ℕ) (held : Contents) → job ≡ Some (Replay config recording) → contents ≡ Some held → status ≡ 0
-        → IsReplayed config recording (held 0) o0 o1 e0 e1
+        → IsReplayed config recording None (held 0) o0 o1 e0 e1
     replayed config recording held is told s =
         let done = at 0 s (λ e. omega (arith, e)) in
         let reply = done_reply held told done.0 (Some (Replay config recording)) is in
         replay_done held absence fault refused config recording o0 o1 e0 e1 gives.0 done.1 done.2 valid right reply.0 reply.1 reply.2 done.0
 
     pub refused_record : (config recording : List ℕ) (held : Contents) → job ≡ Some (Replay config recording) → contents ≡ Some held → status ≡ 5
-        → IsReplayedTo config recording (held 0) o0 o1 e0 e1
+        → (why : RecordRefused) × IsReplayed config recording (Some why) (held 0) o0 o1 e0 e1
     refused_record config recording held is told s =
         let five = at 5 s (λ e. omega (arith, e)) in
         let reply = job_reply held told 5 five.0 (λ e. omega arith) (Some (Replay config recording)) is in
@@ -333,14 +334,14 @@ module _ (job : Option Job) (contents : Option Contents) (absence fault : Type 0
 
   module _ (lines_are : (k : Monitor) (story : List Happening) → out_of monitor outlets.Nowhere k story ≡ ended_lines (gauge_lines k story)) where
     pub watched : (config recording : List ℕ) (held : Contents) → job ≡ Some (Gauge config recording) → contents ≡ Some held → status ≡ 0
-        → IsWatched config recording (held 0) o0 o1 e0 e1
+        → IsWatched config recording None (held 0) o0 o1 e0 e1
     watched config recording held is told s =
         let done = at 0 s (λ e. omega (arith, e)) in
         let reply = done_reply held told done.0 (Some (Gauge config recording)) is in
         gauge_done held absence fault refused config recording o0 o1 e0 e1 gives.0 done.1 done.2 lines_are reply.0 reply.1 reply.2 done.0
 
     pub watched_to : (config recording : List ℕ) (held : Contents) → job ≡ Some (Gauge config recording) → contents ≡ Some held → status ≡ 5
-        → IsWatchedTo config recording (held 0) o0 o1 e0 e1
+        → (why : RecordRefused) × IsWatched config recording (Some why) (held 0) o0 o1 e0 e1
     watched_to config recording held is told s =
         let five = at 5 s (λ e. omega (arith, e)) in
         let reply = job_reply held told 5 five.0 (λ e. omega arith) (Some (Gauge config recording)) is in
@@ -349,26 +350,14 @@ module _ (job : Option Job) (contents : Option Contents) (absence fault : Type 0
 -- ---- the reply that was given
 
 module _ (contents : Option Contents) (absence fault : Type 0) (refused : List ℕ) (o0 o1 e0 e1 : Option (List ℕ)) (m0 m1 n0 n1 : ℕ) where
-  -- a line on standard error was the whole reply
-  pub line_given : (job : Option Job) (a : Answer) (status ended : Status) → Replies job contents absence fault refused a → a.out ≡ [] → a.status ≡ number_of_status status → Ends status a.err e0 e1 n0 n1 ended
-      → Gives job contents absence fault refused (number_of_status ended) o0 o0 e0 e1 m0 m0 n0 n1
-  line_given job a status ended reply none is ends = (
-    a,
-    reply,
-    elim ends [
-      | inl whole ↦ inl (ap number_of_status whole.0 ∙ sym is, sym (appended-nil o0) ∙ ap (λ l. appended o0 l) (sym none), whole.1, refl, whole.2)
-      | inr front ↦ inr (ap number_of_status front.0, AppendsFront-none o0 a.out, front.1, inr front.2)
-    ],
-  )
-
+  -- the line of usage was the whole reply
   pub usage_given : (job : Option Job) (ended : Status) → job ≡ None → Ends statuses.Usage usage.err e0 e1 n0 n1 ended
       → Gives job contents absence fault refused (number_of_status ended) o0 o0 e0 e1 m0 m0 n0 n1
-  usage_given job ended none ends =
-      line_given job usage statuses.Usage ended (inl (subst (λ (j : Option Job). RepliesJob j contents absence fault refused usage) (sym none) refl)) refl refl ends
-
-  pub memory_given : (job : Option Job) (ended : Status) → Ends statuses.Memory out_of_memory.err e0 e1 n0 n1 ended
-      → Gives job contents absence fault refused (number_of_status ended) o0 o0 e0 e1 m0 m0 n0 n1
-  memory_given job ended ends = line_given job out_of_memory statuses.Memory ended (inr refl) refl refl ends
+  usage_given job ended none ends = (
+    usage,
+    inl (subst (λ (j : Option Job). RepliesJob j contents absence fault refused usage) (sym none) refl),
+    line_delivered [] o0 o0 e0 e1 m0 m0 n0 n1 usage statuses.Usage ended refl refl ends,
+  )
 
   pub plan_given : (status : ℕ) (config dp : List ℕ) (made : Result (Option (List ℕ)) LoadRefused) → ((load : Load) × Loads contents absence fault refused config load × (made ≡ planned dp load))
       → Delivers (plan_answer config dp made) status o0 o1 e0 e1 m0 m1 n0 n1 → Gives (Some (Plan config dp)) contents absence fault refused status o0 o1 e0 e1 m0 m1 n0 n1

@@ -16,11 +16,8 @@ use Rattle.gauge_load.specs.Loaded.{gauge_of}
 use Rattle.command_line.specs.declared.meaning.Job.{Job}
 use Rattle.command_line.specs.declared.meaning.Job.TheVariants.{Check, Gauge, GaugeServe, Plan, Replay, Serve}
 use Rattle.opening_batch.specs.Opened.{Opens}
-use Rattle.recording.specs.declared.record.Record.{Record}
 use Rattle.recording.specs.declared.refused.RecordRefused.{RecordRefused}
-use Rattle.recording.specs.Recording.{Records}
-use Rattle.recording.specs.Refused.{IsRefused}
-use Rattle.recording.specs.Turns.{Closing, turns}
+use Rattle.recording.specs.Turns.{Closing}
 use Rattle.recording.specs.Written.{written_records}
 use Rattle.ctl_world.specs.World.{first}
 use Rattle.law_stories.specs.Right.{IsRight}
@@ -32,8 +29,7 @@ use Rattle.hub_drive.specs.Machine.{Workings}
 use Rattle.hub_drive.specs.Replay as runs
 use Rattle.hub_drive.specs.Replay.{IsStoryOf, IsStorySoFar}
 use Rattle.ctl_drive.specs.Controller.{controller}
-use Rattle.ctl_drive.specs.Driving.{lines_of, records_of}
-use Rattle.ctl_drive.specs.Replay.{closed_in}
+use Rattle.ctl_drive.specs.Driving.{records_of}
 use Rattle.gauge_drive.specs.Gauge.{ended_lines, monitor}
 use Rattle.hub_drive.specs.declared.replay.Replayed.{Replayed}
 use Rattle.hub_drive.specs.declared.replay.Replayed.TheVariants as replayed
@@ -127,6 +123,12 @@ Gives job contents absence fault refused status out_old out_new err_old err_new 
 
 -- ---- parts of a run
 
+-- a reply to a run over a recording was delivered, or that memory ran out before it began
+abbrev pub GivesRun : {S : Type 0} → Workings S → Outlet → Option Contents → (absence fault : Type 0) → (recording : List ℕ) → S → (status : ℕ) → (out_old out_new err_old err_new : Option (List ℕ)) → (out_faults_old out_faults_new err_faults_old err_faults_new : ℕ) → Type 0
+GivesRun works outlet contents absence fault recording w status out_old out_new err_old err_new out_faults_old out_faults_new err_faults_old err_faults_new =
+    (a : Answer) × (RepliesRun works outlet contents absence fault recording w a ⊎ (a ≡ out_of_memory))
+    × Delivers a status out_old out_new err_old err_new out_faults_old out_faults_new err_faults_old err_faults_new
+
 -- files of these names were loaded in order, and the answer delivered
 abbrev pub Checks : Option Contents → (absence fault : Type 0) → (refused : List ℕ) → (names : List (List ℕ)) → (status : ℕ) → (out_old out_new err_old err_new : Option (List ℕ)) → (out_faults_old out_faults_new err_faults_old err_faults_new : ℕ) → Type 0
 Checks contents absence fault refused names status out_old out_new err_old err_new out_faults_old out_faults_new err_faults_old err_faults_new =
@@ -194,62 +196,25 @@ pub record IsOpened (config dp : List ℕ) (held : Held) (before after : Option 
   pub written : after ≡ appended before batch
   pub opens : Opens conf dp batch
 
--- The configuration is accepted and the recording whole, and what was written is what its controller says of the story that
--- the recording tells, where the controller closes what it closes; and all that is right.
-pub record IsReplayed (config recording : List ℕ) (held : Held) (out_old out_new err_old err_new : Option (List ℕ)) : Type 0 where
+-- The recording is whole, or this record of it is refused. What was written is what a machine prints of the story that the records before
+-- tell, where the machine closes what it closes, and its lines; and behind these the line that says which record is refused.
+pub record IsRun {S : Type 0} (works : Workings S) (w : S) (prints : List Happening → List ℕ) (recording : List ℕ) (refused : Option RecordRefused) (held : Held) (out_old out_new err_old err_new : Option (List ℕ)) : Type 0 where
+  pub bytes : List ℕ
+  pub story : List Happening
+  pub file : held recording ≡ Some bytes
+  pub told : IsStoryOf bytes story (closings_of works 0 w story) refused
+  pub out : out_new ≡ appended out_old (prints story)
+  pub err : err_new ≡ appended err_old (hub_lines works w story ++ last_line recording (replayed.Read refused))
+
+-- The configuration is accepted, and its controller was run so over the recording, with its records as what is printed; and all that is right.
+pub record IsReplayed (config recording : List ℕ) (refused : Option RecordRefused) (held : Held) (out_old out_new err_old err_new : Option (List ℕ)) : Type 0 where
   pub conf : Configuration
-  pub bytes : List ℕ
-  pub records : List Record
-  pub story : List Happening
   pub accepted : loaded held config ≡ Ok conf
-  pub file : held recording ≡ Some bytes
-  pub whole : Records bytes records
-  pub told : story ≡ turns records (closed_in conf story)
-  pub out : out_new ≡ appended out_old (written_records (records_of (first conf) story))
-  pub err : err_new ≡ appended err_old (lines_of (first conf) story)
-  pub right : (front : List Happening) → IsFront front story → IsRight conf front
+  pub run : IsRun controller (first conf) (λ story. written_records (records_of (first conf) story)) recording refused held out_old out_new err_old err_new
+  pub right : (front : List Happening) → IsFront front run.story → IsRight conf front
 
--- The configuration is accepted, and a record of the recording is refused: the same of the records before it, and the line that
--- says so behind.
-pub record IsReplayedTo (config recording : List ℕ) (held : Held) (out_old out_new err_old err_new : Option (List ℕ)) : Type 0 where
-  pub conf : Configuration
-  pub bytes : List ℕ
-  pub records : List Record
-  pub refused : RecordRefused
-  pub story : List Happening
-  pub accepted : loaded held config ≡ Ok conf
-  pub file : held recording ≡ Some bytes
-  pub refuses : IsRefused bytes records refused.number refused.cause
-  pub told : story ≡ turns records (closed_in conf story)
-  pub out : out_new ≡ appended out_old (written_records (records_of (first conf) story))
-  pub err : err_new ≡ appended err_old (lines_of (first conf) story ++ last_line recording (replayed.Read (Some refused)))
-  pub right : (front : List Happening) → IsFront front story → IsRight conf front
-
--- Gauge's configuration is accepted and the recording whole, and what was written are the lines that Gauge gives of the story that the
--- recording tells, where Gauge closes what it closes, and the lines of closings.
-pub record IsWatched (config recording : List ℕ) (held : Held) (out_old out_new err_old err_new : Option (List ℕ)) : Type 0 where
+-- Gauge's configuration is accepted, and its Gauge was run so over the recording, with its lines as what is printed.
+pub record IsWatched (config recording : List ℕ) (refused : Option RecordRefused) (held : Held) (out_old out_new err_old err_new : Option (List ℕ)) : Type 0 where
   pub conf : GaugeConf
-  pub bytes : List ℕ
-  pub records : List Record
-  pub story : List Happening
   pub accepted : gauge_of held config ≡ Ok conf
-  pub file : held recording ≡ Some bytes
-  pub whole : Records bytes records
-  pub told : story ≡ turns records (closings_of monitor 0 (begun conf) story)
-  pub out : out_new ≡ appended out_old (ended_lines (gauge_lines (begun conf) story))
-  pub err : err_new ≡ appended err_old (hub_lines monitor (begun conf) story)
-
--- Gauge's configuration is accepted, and a record of the recording is refused: the same of the records before it, and the line that
--- says so behind.
-pub record IsWatchedTo (config recording : List ℕ) (held : Held) (out_old out_new err_old err_new : Option (List ℕ)) : Type 0 where
-  pub conf : GaugeConf
-  pub bytes : List ℕ
-  pub records : List Record
-  pub refused : RecordRefused
-  pub story : List Happening
-  pub accepted : gauge_of held config ≡ Ok conf
-  pub file : held recording ≡ Some bytes
-  pub refuses : IsRefused bytes records refused.number refused.cause
-  pub told : story ≡ turns records (closings_of monitor 0 (begun conf) story)
-  pub out : out_new ≡ appended out_old (ended_lines (gauge_lines (begun conf) story))
-  pub err : err_new ≡ appended err_old (hub_lines monitor (begun conf) story ++ last_line recording (replayed.Read (Some refused)))
+  pub run : IsRun monitor (begun conf) (λ story. ended_lines (gauge_lines (begun conf) story)) recording refused held out_old out_new err_old err_new

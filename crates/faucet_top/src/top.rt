@@ -11,7 +11,8 @@ ghost use Rattle.faucet_top.specs.Answer.{out_of_memory};
 ghost use Rattle.gauge_conf.specs.declared.gauge.GaugeConf.{GaugeConf};
 ghost use Rattle.gauge_load.specs.Loaded.{gauge_of};
 ghost use Rattle.faucet_top.specs.Any.{GivesAny};
-ghost use Rattle.faucet_top.specs.Given.{AreAccepted, Gives, IsOpened, IsReplayed, IsReplayedTo, IsStatus, IsStatusOf, IsWatched, IsWatchedTo, StatusFor};
+ghost use Rattle.faucet_top.specs.Given.{AreAccepted, Gives, IsOpened, IsReplayed, IsStatus, IsStatusOf, IsWatched, StatusFor};
+ghost use Rattle.recording.specs.declared.refused.RecordRefused.{RecordRefused};
 ghost use Rattle.hub_drive.specs.declared.drive.Drove.{Drove};
 ghost use Rattle.faucet_top.specs.Ends.{status_served};
 ghost use Rattle.faucet_top.specs.Serving.{IsItsEnd, IsLocal, IsServed, LooksOnce};
@@ -19,15 +20,21 @@ ghost use Rattle.faucet_top.specs.Watching.{IsHubWatched};
 ghost use Rattle.faucet_top.specs.Status.{number_of_status};
 
 use crate::check::check_files;
-use crate::deliver::{Status, deliver_out_of_memory, deliver_plan, deliver_usage};
-use crate::gauge::{watch_recording, watch_switches};
+use crate::deliver::{Status, deliver_out_of_memory, deliver_plan, deliver_refusal, deliver_usage};
+use crate::gauge::watch_switches;
 use crate::plan::make_plan;
-use crate::replay::replay_recording;
+use crate::replay::run_recording;
 use crate::serve::{Pace, serve_switches};
+use crate::units::Units;
 use command_line::{Job, read_words};
 use conf_load::laws::a_loaded_configuration_is_valid;
+use conf_load::load;
+use ctl_drive::Steered;
 use fg_outside::{Files, Hub, Sink};
+use gauge_drive::DrivenGauge;
 use gauge_drive::laws::what_is_printed_are_the_lines;
+use gauge_load::load_gauge;
+use hub_drive::Outlet;
 use law_stories::whatever_happens_is_right;
 use net_base::Names;
 use opening_batch::laws::an_opening_batch_opens_the_datapath;
@@ -64,12 +71,20 @@ fn do_job<F: Files, O: Sink, E: Sink>(
             let status = deliver_plan(out, err, config.as_str(), dp.as_str(), made);
             (status, files)
         }
-        Job::Replay { config, recording } => {
-            replay_recording(alloc, files, config.as_str(), recording, out, err)
-        }
-        Job::Gauge { config, recording } => {
-            watch_recording(alloc, config.as_str(), recording, files, out, err)
-        }
+        Job::Replay { config, recording } => match load(alloc, &mut files, config.as_str()) {
+            Ok(conf) => {
+                let machine = Steered::new(alloc, conf, Units::new());
+                run_recording(alloc, machine, Outlet::Records, recording, files, out, err)
+            }
+            Err(why) => (deliver_refusal(err, config.as_str(), &why), files),
+        },
+        Job::Gauge { config, recording } => match load_gauge(alloc, &mut files, config.as_str()) {
+            Ok(conf) => {
+                let machine = DrivenGauge::new(alloc, conf);
+                run_recording(alloc, machine, Outlet::Nowhere, recording, files, out, err)
+            }
+            Err(why) => (deliver_refusal(err, config.as_str(), &why), files),
+        },
         Job::Serve { .. } => unreachable!(),
         Job::GaugeServe { .. } => unreachable!(),
     }
@@ -266,9 +281,9 @@ pub fn faucet<F: Files, H: Hub, O: Sink, E: Sink>(
     // exactly what the controller says of its story; and all that is right, of each front of that story. At status
     // 5 the same of the records before the refused one.
     ensures replayed { (config recording : List ℕ) (held : Contents) → meaning words.now ≡ Some (Replay config recording) → F.contents files ≡ Some held
-        → result.0 ≡ 0 → IsReplayed config recording (held 0) (O.wrote out.old) (O.wrote out.new) (E.wrote err.old) (E.wrote err.new) }
+        → result.0 ≡ 0 → IsReplayed config recording None (held 0) (O.wrote out.old) (O.wrote out.new) (E.wrote err.old) (E.wrote err.new) }
     ensures refused_record { (config recording : List ℕ) (held : Contents) → meaning words.now ≡ Some (Replay config recording) → F.contents files ≡ Some held
-        → result.0 ≡ 5 → IsReplayedTo config recording (held 0) (O.wrote out.old) (O.wrote out.new) (E.wrote err.old) (E.wrote err.new) }
+        → result.0 ≡ 5 → (refused : RecordRefused) × IsReplayed config recording (Some refused) (held 0) (O.wrote out.old) (O.wrote out.new) (E.wrote err.old) (E.wrote err.new) }
 
     // `serve`, the headline: where the hub said that it is done (0), where it failed (6) and where N turns were taken, each
     // of which gave a happening (7), between the first N happenings of the hub's story with the reloads of the looks, where it
@@ -288,9 +303,9 @@ pub fn faucet<F: Files, H: Hub, O: Sink, E: Sink>(
     // `gauge`: at status 0 the recording was taken in whole, and what stands on `out` and `err` is exactly what Gauge gives
     // of its story. At status 5 the same of the records before the refused one.
     ensures watched { (config recording : List ℕ) (held : Contents) → meaning words.now ≡ Some (Gauge config recording) → F.contents files ≡ Some held
-        → result.0 ≡ 0 → IsWatched config recording (held 0) (O.wrote out.old) (O.wrote out.new) (E.wrote err.old) (E.wrote err.new) }
+        → result.0 ≡ 0 → IsWatched config recording None (held 0) (O.wrote out.old) (O.wrote out.new) (E.wrote err.old) (E.wrote err.new) }
     ensures watched_to { (config recording : List ℕ) (held : Contents) → meaning words.now ≡ Some (Gauge config recording) → F.contents files ≡ Some held
-        → result.0 ≡ 5 → IsWatchedTo config recording (held 0) (O.wrote out.old) (O.wrote out.new) (E.wrote err.old) (E.wrote err.new) }
+        → result.0 ≡ 5 → (refused : RecordRefused) × IsWatched config recording (Some refused) (held 0) (O.wrote out.old) (O.wrote out.new) (E.wrote err.old) (E.wrote err.new) }
 
     // `gauge-serve`: where the hub said that it is done (0), where it failed (6) and where N turns were taken, each of which gave a
     // happening (7), the hub was told what Gauge says of these, and what stands on `out` and `err` is exactly what it gives of them.

@@ -1,9 +1,7 @@
-//! Gauge as a hub drives it: on a recording, and on the switches of a hub.
+//! Gauge as a hub drives it.
 #![tactic(auto)]
 
 mod driven;
 pub mod laws;
-mod run;
 
 pub use driven::DrivenGauge;
-pub use run::{replay, serve};

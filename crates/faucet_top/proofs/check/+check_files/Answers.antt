@@ -12,7 +12,7 @@ returns-in-None-clause-checked g t c =
     let front = front_name c.args.names.now c.name-item.result c.in-len1-up.len_at_least c.name-item.is in
     let did = c.in-None.ensures.checked in
     let ours = next_checked (g.F.Files.contents c.args.files.now) _ _ _ _ _ _ _ _ _ _ _ _ _ _ _ _ _ _ _ _ c.name-item.result _ (number_of_status c.check_files.result) did.0 did.1 did.2
-    c.in-None.ensures.absences c.check_files.ensures.absences c.in-None.ensures.faults c.check_files.ensures.faults (rw c.in-None.ensures.contents at c.check_files.ensures.checked) in
+    c.in-None.ensures.absences c.in-None.ensures.faults (rw c.in-None.ensures.contents at c.check_files.ensures.checked) in
     subst (λ names. Checks (g.F.Files.contents c.args.files.now) (Rose (g.F.Files.absences c.args.files.now) (g.F.Files.absences c.check_files.new.files)) (Rose (g.F.Files.faults c.args.files.now) (g.F.Files.faults c.check_files.new.files)) (g.F.Files.refused c.check_files.new.files) names
     (number_of_status c.check_files.result) (g.O.Sink.wrote c.args.out.now) (g.O.Sink.wrote c.check_files.new.out) (g.E.Sink.wrote c.args.err.now) (g.E.Sink.wrote c.check_files.new.err)
     (g.O.Sink.faults c.args.out.now) (g.O.Sink.faults c.check_files.new.out) (g.E.Sink.faults c.args.err.now) (g.E.Sink.faults c.check_files.new.err)) (sym front) ours

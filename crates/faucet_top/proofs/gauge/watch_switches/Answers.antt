@@ -1,8 +1,8 @@
-use Rattle.std.proofs.Common.{inl, inr, Ok, Err, refl, ap, sym, ◌∙◌}
-use Rattle.fg_outside.proofs.CountLemmas.{Rose-later}
+use Rattle.std.proofs.Common.{inl, inr, refl}
 use Rattle.conf_gather.specs.declared.refused.LoadRefused.TheVariants.{Read}
 use Rattle.gauge_load.specs.Loaded.{gauge_of}
-use Rattle.faucet_top.proofs.CheckLemmas.{loads_named, refused}
+use Rattle.gauge_poll.specs.Monitoring.{begun}
+use Rattle.faucet_top.proofs.CheckLemmas.{accepted_loads, refused, refused_loads}
 use Rattle.faucet_top.proofs.ReadLemmas.{no_read_refused, refused_by}
 use Rattle.faucet_top.proofs.WatchLemmas.{hub_given}
 use Rattle.faucet_top.proofs.gauge.watch_switches.Goals as goal
@@ -13,7 +13,7 @@ returns-in-Err-clause-replies g c = (
   inl (
     inr (
       c.in-Err.why,
-      record { told = c.in-Err.ensures.told; absent = c.in-Err.ensures.files.absent; unread = c.in-Err.ensures.files.read; named = loads_named (Err c.in-Err.why) _ c.in-Err.ensures.files.absent_file c.in-Err.ensures.files.unread_file },
+      refused_loads gauge_of _ _ _ _ _ _ _ c.in-Err.why c.in-Err.ensures.told c.in-Err.ensures.files,
       refl,
     ),
     refl,
@@ -23,11 +23,11 @@ returns-in-Err-clause-replies g c = (
 
 pub returns-clause-replies : goal.returns-clause-replies
 returns-clause-replies g c =
-    let did = c.serve-drove.ensures in
-    hub_given g.H.Hub.may (g.F.Files.contents c.args.files.now) _ _ _ c.args.config.now c.args.events c.args.hub.now c.serve-drove.new.hub _ _ _ _ _ _ _ _ _ _ c.in-Ok.conf c.serve-drove.result c.deliver_served.result
+    let did = c.drive-drove.ensures in
+    hub_given g.H.Hub.may (g.F.Files.contents c.args.files.now) _ _ _ c.args.config.now c.args.events c.args.hub.now c.drive-drove.new.hub _ _ _ _ _ _ _ _ _ _ c.in-Ok.conf c.drive-drove.result c.deliver_served.result
     c.deliver_served.ensures.faults
-    (record { told = c.in-Ok.ensures.told; absent = c.in-Ok.ensures.files.absent; unread = c.in-Ok.ensures.files.read; named = loads_named (Ok c.in-Ok.conf) _ c.in-Ok.ensures.files.absent_file c.in-Ok.ensures.files.unread_file })
-    c.deliver_served.ensures.ends did.serves did.write_fault did.no_write_fault
+    (accepted_loads gauge_of _ _ _ _ _ c.in-Ok.conf c.in-Ok.ensures.told)
+    c.deliver_served.ensures.ends (did.drove (begun c.in-Ok.conf) c.new-machine.ensures) did.write_fault did.no_write_fault
 
 pub returns-in-Err-clause-no_read_fault : goal.returns-in-Err-clause-no_read_fault
 returns-in-Err-clause-no_read_fault g c = λ unread written.

@@ -1,0 +1,21 @@
+use Rattle.faucet_top.proofs.ReadLemmas.{no_read_replayed}
+use Rattle.faucet_top.proofs.ReplyLemmas.{memory_run, run_given}
+use Rattle.faucet_top.proofs.replay.run_recording.Goals as goal
+
+pub returns-in_default-clause-gives : goal.returns-in_default-clause-gives
+returns-in_default-clause-gives g c = λ w stands.
+    memory_run g.M.Machine.runs.works c.args.outlet w (g.F.Files.contents c.args.files) _ _ (g.O.Sink.wrote c.args.out.now) _ _ (g.O.Sink.faults c.args.out.now) _ _ c.args.recording.now
+    c.deliver_out_of_memory.result c.deliver_out_of_memory.ensures.ends
+
+pub returns-clause-gives : goal.returns-clause-gives
+returns-clause-gives g c = λ w stands.
+    let did = c.replay-replayed.ensures in
+    run_given g.M.Machine.runs.works c.args.outlet w (g.F.Files.contents c.args.files) _ _ _ _ _ _ _ _ _ _ _ _ c.args.recording.now c.replay-replayed.result.0 c.deliver_replayed.result
+    c.deliver_replayed.ensures.faults
+    (record { missing = rw c.in-Ok.ensures at did.missing; there = rw c.in-Ok.ensures at did.there })
+    (rw c.as_str.ensures at c.deliver_replayed.ensures.ends)
+    (rw c.in-Ok.ensures at (did.replayed w stands)) did.write_fault did.no_write_fault
+
+pub returns-clause-no_read_fault : goal.returns-clause-no_read_fault
+returns-clause-no_read_fault g c = λ unread written below.
+    c.replay-replayed.ensures.no_fault (no_read_replayed _ _ _ _ _ c.deliver_replayed.result unread written c.replay-replayed.result.0 c.deliver_replayed.ensures.ends) below
