@@ -6,6 +6,8 @@ The answers are worked out here, from the rules, with none of the program's code
 import struct
 import sys
 
+from wire_cases import MESSAGES, is_message, lying
+
 COUNTERS = ["rx_packets", "tx_packets", "rx_bytes", "tx_bytes", "rx_dropped", "tx_dropped", "rx_errors", "tx_errors",
             "rx_frame_err", "rx_over_err", "rx_crc_err", "collisions"]
 
@@ -130,7 +132,7 @@ class Gauge:
         if version != 4 and kind == 0 and conn.stage == "greeting":
             self.send(number, 1, bytes(4), xid)
             self.end(number, "WrongVersion")
-        elif version != 4 or (kind == 19 and body[:2] == b"\0\4" and len(body) % 112 != 8):
+        elif version != 4 or not is_message(kind, body):
             self.end(number, "BadFrame")
         elif kind == 1:
             self.end(number, "SwitchError", "SwitchError %d %d" % struct.unpack(">HH", body[:4]))
@@ -388,6 +390,19 @@ def cases():
     c.do("moment 10000", "moment 3000")
     c.run(1, 1)
     c.do("moment 5000", "moment 19999", "moment 20000")
+
+    # each message with a length that lies: one too small, and one too large with a byte more; before the HELLO, before the features and
+    # behind them
+    stages = [("the HELLO", []), ("the features", [HELLO]), ("nothing", [HELLO, features(1)])]
+    for title, setup in stages:
+        c.begin(f"a length one too small, and one too large, where a switch has yet to say {title}", one, states)
+        number = 0
+        for _, message in MESSAGES:
+            for pieces in ([lying(message, -1)], [lying(message, 1), b"\0"]):
+                number += 1
+                c.do(f"open {number}")
+                c.heard(number, *setup, *pieces)
+                c.do(f"end {number}")
     return c
 
 

@@ -1,0 +1,224 @@
+"""Runs the program on what is made of real input by chance: see hostile.sh, which calls it.
+
+hostile.py PROGRAM EXAMPLES FOLDER COUNT SEED   FOLDER is an empty folder for files
+"""
+import atexit
+import collections
+import glob
+import os
+import random
+import resource
+import socket
+import statistics
+import struct
+import subprocess
+import sys
+import time
+
+PROGRAM, EXAMPLES, FOLDER = sys.argv[1:4]
+COUNT, SEED = int(sys.argv[4]), int(sys.argv[5])
+CONFIGURATION = f"{EXAMPLES}/quick-start/faucet.yaml"
+RECORDING = f"{EXAMPLES}/quick-start/switch.rec"
+PORT = 7655
+MOST_MEMORY = 64 * 1024  # KB
+
+# ---- what chance makes
+
+
+def turned(chance, data):
+    for _ in range(1 + chance.randrange(8)):
+        data[chance.randrange(len(data))] ^= 1 << chance.randrange(8)
+
+
+def cut(chance, data):
+    del data[chance.randrange(len(data)):]
+
+
+def dropped(chance, data):
+    at = chance.randrange(len(data))
+    del data[at:at + 1 + chance.randrange(16)]
+
+
+def repeated(chance, data):
+    at, times = chance.randrange(len(data)), 1 + chance.randrange(4)
+    data[at:at] = data[at:at + 1 + chance.randrange(64)] * times
+
+
+def moved(chance, data):
+    at, to = chance.randrange(len(data)), chance.randrange(len(data))
+    piece = data[at:at + 1 + chance.randrange(64)]
+    data[to:to] = piece
+
+
+def numbered(chance, data):
+    """Two or four bytes become a number at an edge, as lengths are."""
+    size = chance.choice((2, 4))
+    at = chance.randrange(len(data))
+    data[at:at + size] = chance.choice((0, 1, 7, 8, 9, 255, 65_535, 65_536, 2 ** 31, 2 ** 32 - 1)).to_bytes(8, "big")[8 - size:]
+
+
+def mutated(chance, data):
+    data = bytearray(data)
+    for _ in range(1 + chance.randrange(3)):
+        if data:
+            chance.choice((turned, cut, dropped, repeated, moved, numbered))(chance, data)
+    return bytes(data)
+
+
+# ---- runs that end by themselves
+
+
+def run(words):
+    """The status, the seconds and the memory in KB of a run."""
+    start = time.time()
+    process = subprocess.Popen([PROGRAM] + words, stdout=subprocess.DEVNULL, stderr=subprocess.DEVNULL)
+    try:
+        _, status, usage = os.wait4(process.pid, 0)
+    except BaseException:
+        process.kill()
+        raise
+    return os.waitstatus_to_exitcode(status), time.time() - start, usage.ru_maxrss
+
+
+def kept(kind, number, data):
+    """The name of a file beside the caller with what a run was made on."""
+    name = f"{kind}-{SEED}-{number}"
+    with open(name, "wb") as file:
+        file.write(data)
+    return name
+
+
+def runs(kind, sources, words_of, statuses, chance):
+    counts, times, most, slowest, holds = collections.Counter(), [], 0, (0, 0, b""), True
+    name = f"{FOLDER}/{kind}"
+    for number in range(COUNT):
+        data = mutated(chance, sources[number % len(sources)])
+        with open(name, "wb") as file:
+            file.write(data)
+        status, seconds, memory = run(words_of(name))
+        counts[status] += 1
+        times.append(seconds)
+        most, slowest = max(most, memory), max(slowest, (seconds, number, data))
+        if status not in statuses or memory > MOST_MEMORY:
+            holds = False
+            print(f"{kind} {number}: status {status}, {memory} KB; see {kept(kind, number, data)}")
+    median = statistics.median(times)
+    if slowest[0] > max(10 * median, 1):
+        holds = False
+        print(f"{kind} {slowest[1]}: {slowest[0]:.2f} s; see {kept(kind, slowest[1], slowest[2])}")
+    ways = ", ".join(f"{count} with {status}" for status, count in sorted(counts.items()))
+    print(f"{kind}: {COUNT} runs, {ways}; median {1000 * median:.1f} ms, longest {1000 * slowest[0]:.1f} ms, at most {most} KB")
+    return holds
+
+
+def files(pattern):
+    return [open(name, "rb").read() for name in sorted(glob.glob(pattern, recursive=True))]
+
+
+# ---- streams
+
+
+def spoken(recording):
+    """The bytes that a recording's connections brought, in order."""
+    said, rest = b"", recording
+    while rest:
+        kind, length = rest[8], struct.unpack("!I", rest[13:17])[0]
+        if kind == 2:
+            said += rest[17:17 + length]
+        rest = rest[17 + length:]
+    return said
+
+
+def connect():
+    return socket.create_connection(("127.0.0.1", PORT), timeout=10)
+
+
+def is_answered(switch):
+    """Whether an echo request of a connection is answered. What comes before is passed over."""
+    switch.sendall(struct.pack("!BBHI", 4, 2, 8, 77))
+    came = b""
+    while True:
+        while len(came) >= 8 and len(came) >= struct.unpack("!H", came[2:4])[0]:
+            length = struct.unpack("!H", came[2:4])[0]
+            if came[1] == 3 and came[4:8] == struct.pack("!I", 77):
+                return True
+            came = came[length:]
+        piece = switch.recv(1 << 16)
+        if not piece:
+            return False
+        came += piece
+
+
+def send(stream, chance):
+    """Says a stream in pieces, and reads what is there; whether the other side ended it."""
+    with connect() as stranger:
+        stranger.settimeout(0.02)
+        try:
+            while stream:
+                length = 1 + chance.randrange(2000)
+                stranger.sendall(stream[:length])
+                stream = stream[length:]
+            while stranger.recv(1 << 16):
+                pass
+            return True
+        except socket.timeout:
+            return False
+        except OSError:
+            return True
+
+
+def streams(chance):
+    words = [PROGRAM, "serve", CONFIGURATION, "--events", "1000000000", "--listen", f"127.0.0.1:{PORT}"]
+    server = subprocess.Popen(words, stdout=subprocess.DEVNULL, stderr=open(f"{FOLDER}/said", "w"))
+
+    def end():
+        if server.poll() is None:
+            server.kill()
+        server.wait()
+
+    atexit.register(end)
+    switch = None
+    for _ in range(100):
+        try:
+            switch = connect()
+            break
+        except OSError:
+            time.sleep(0.1)
+    # it says its HELLO alone, so that the datapath is free for those who say what the recording's switch said
+    switch.sendall(struct.pack("!BBHI", 4, 0, 8, 1))
+    if not is_answered(switch):
+        return False
+    stream = spoken(open(RECORDING, "rb").read())
+    ended = slow = 0
+    for number in range(COUNT):
+        ended += send(mutated(chance, stream), chance)
+        if number % 100 == 0:
+            start = time.time()
+            if not is_answered(switch):
+                print(f"stream {number}: the switch isn't answered")
+                return False
+            slow = max(slow, time.time() - start)
+    if server.poll() is not None:
+        print(f"serve ended with status {server.returncode}")
+        return False
+    answered = is_answered(switch)
+    status = open(f"/proc/{server.pid}/status").read()
+    memory = int(status.split("VmHWM:")[1].split()[0])
+    print(f"streams: {COUNT}, of which serve ended {ended}; slowest answer to the switch {1000 * slow:.1f} ms, at most {memory} KB")
+    return answered and memory <= MOST_MEMORY
+
+
+def main():
+    resource.setrlimit(resource.RLIMIT_CORE, (0, 0))
+    chance = random.Random(SEED)
+    print(f"seed {SEED}, {COUNT} of each")
+    holds = [
+        runs("file", files(f"{EXAMPLES}/**/*.yaml"), lambda name: ["check", name], (0, 2, 3), chance),
+        runs("recording", files(f"{EXAMPLES}/**/*.rec"), lambda name: ["replay", CONFIGURATION, name], (0, 5), chance),
+        streams(chance),
+    ]
+    return 0 if all(holds) else 1
+
+
+if __name__ == "__main__":
+    sys.exit(main())

@@ -1,0 +1,6 @@
+//! That whole lists of turns of a controller and of a Gauge return, that a reload which is refused changes nothing of
+//! what comes, and that a Gauge passes every reload over.
+#![tactic(auto)]
+
+pub mod laws;
+pub mod stories;
