@@ -15,97 +15,96 @@ use crate::append::append;
 use crate::fixed::fixed_entries;
 use crate::hosts::hosts_of;
 use crate::members::{host_entries, port_entries, vlan_entries};
-use conf_types::{Conf, Dp, HostRec, NeighRec, Tally, Vlan};
-use host_list::Hosts;
-use net_base::{Moment, NoMemory};
+use conf_types::{Conf, Dp, HostRec, Tally, Vlan};
+use net_base::NoMemory;
 use of_match::Entries;
 use packet_way::{Now, make_paths};
 use route_compile::fib_entries;
 use stack_paths::Paths;
 use std::alloc::Global;
 
-#[tactic(auto, using(crate::proofs::Lists::flat_more))]
-fn push_ports<T: Tally>(
+/// The datapath whose entries are made, and what they hang on.
+#[derive(Drop)]
+struct Making<'a> {
     alloc: Global,
-    all: &mut Entries,
-    conf: &Conf,
-    dp: &Dp,
-    hosts: &Hosts,
-    units: &mut T,
-) -> Result<(), NoMemory>
-    ensures entries { OnOk result (all.new ≡ all.old ++ flat_map (port_by conf.now dp.now hosts.now) dp.now.ports) }
-    ensures most { RisesAtMost (3 * length dp.now.ports) (T.count units.old) (T.count units.new) }
-    ensures least { OnOk result (RisesAtLeast (length dp.now.ports) (T.count units.old) (T.count units.new)) }
-{
-    for port in dp.ports.as_slice() {
-        let made = port_entries(alloc, conf, dp, port, hosts, units)?;
-        append(all, made)?;
-    }
-    Ok(())
+    conf: &'a Conf,
+    learned: &'a Now<'a>,
+    paths: &'a Paths,
+    dp: &'a Dp,
 }
 
-#[tactic(auto, using(crate::proofs::Lists::flat_more))]
-fn push_vlans<T: Tally>(
-    alloc: Global,
-    all: &mut Entries,
-    conf: &Conf,
-    dp: &Dp,
-    vlans: &[Vlan],
-    paths: &Paths,
-    units: &mut T,
-) -> Result<(), NoMemory>
-    ensures entries { OnOk result (all.new ≡ all.old ++ flat_map (vlan_by conf.now dp.now paths.now) vlans.now) }
-    ensures most { RisesAtMost (3 * length vlans.now) (T.count units.old) (T.count units.new) }
-    ensures least { OnOk result (RisesAtLeast (length vlans.now) (T.count units.old) (T.count units.new)) }
-{
-    for vlan in vlans {
-        let made = vlan_entries(alloc, conf, dp, vlan, paths, units)?;
-        append(all, made)?;
+impl<'a> Making<'a> {
+    #[tactic(auto, using(crate::proofs::Lists::flat_more))]
+    fn push_ports<T: Tally>(&self, all: &mut Entries, units: &mut T) -> Result<(), NoMemory>
+        ensures entries { OnOk result (all.new ≡ all.old ++ flat_map (port_by self.now.conf.now self.now.dp.now self.now.learned.now.hosts.now) self.now.dp.now.ports) }
+        ensures most { RisesAtMost (3 * length self.now.dp.now.ports) (T.count units.old) (T.count units.new) }
+        ensures least { OnOk result (RisesAtLeast (length self.now.dp.now.ports) (T.count units.old) (T.count units.new)) }
+    {
+        for port in self.dp.ports.as_slice() {
+            let hosts = self.learned.hosts;
+            let made = port_entries(self.alloc, self.conf, self.dp, port, hosts, units)?;
+            append(all, made)?;
+        }
+        Ok(())
     }
-    Ok(())
-}
 
-#[tactic(auto, using(crate::proofs::Lists::flat_more))]
-fn push_hosts<T: Tally>(
-    alloc: Global,
-    all: &mut Entries,
-    conf: &Conf,
-    dp: &Dp,
-    hosts: &[HostRec],
-    moment: Moment,
-    paths: &Paths,
-    units: &mut T,
-) -> Result<(), NoMemory>
-    ensures entries { OnOk result (all.new ≡ all.old ++ flat_map (host_by conf.now dp.now moment.0 paths.now) hosts.now) }
-    ensures most { RisesAtMost (3 * length hosts.now) (T.count units.old) (T.count units.new) }
-    ensures least { OnOk result (RisesAtLeast (length hosts.now) (T.count units.old) (T.count units.new)) }
-{
-    for host in hosts {
-        let made = host_entries(alloc, conf, dp, host, moment, paths, units)?;
-        append(all, made)?;
+    #[tactic(auto, using(crate::proofs::Lists::flat_more))]
+    fn push_vlans<T: Tally>(
+        &self,
+        all: &mut Entries,
+        vlans: &[Vlan],
+        units: &mut T,
+    ) -> Result<(), NoMemory>
+        ensures entries { OnOk result (all.new ≡ all.old ++ flat_map (vlan_by self.now.conf.now self.now.dp.now self.now.paths.now) vlans.now) }
+        ensures most { RisesAtMost (3 * length vlans.now) (T.count units.old) (T.count units.new) }
+        ensures least { OnOk result (RisesAtLeast (length vlans.now) (T.count units.old) (T.count units.new)) }
+    {
+        for vlan in vlans {
+            let made = vlan_entries(self.alloc, self.conf, self.dp, vlan, self.paths, units)?;
+            append(all, made)?;
+        }
+        Ok(())
     }
-    Ok(())
-}
 
-#[tactic(auto, using(crate::proofs::Lists::flat_more))]
-fn push_routes<T: Tally>(
-    alloc: Global,
-    all: &mut Entries,
-    conf: &Conf,
-    dp: &Dp,
-    vlans: &[Vlan],
-    neighbours: &[NeighRec],
-    units: &mut T,
-) -> Result<(), NoMemory>
-    ensures entries { OnOk result (all.new ≡ all.old ++ flat_map (fib conf.now neighbours.now dp.now) vlans.now) }
-    ensures most { RisesAtMost (3 * length vlans.now) (T.count units.old) (T.count units.new) }
-    ensures least { OnOk result (RisesAtLeast (length vlans.now) (T.count units.old) (T.count units.new)) }
-{
-    for vlan in vlans {
-        let made = fib_entries(alloc, conf, dp, vlan, neighbours, units)?;
-        append(all, made)?;
+    #[tactic(auto, using(crate::proofs::Lists::flat_more))]
+    fn push_hosts<T: Tally>(
+        &self,
+        all: &mut Entries,
+        hosts: &[HostRec],
+        units: &mut T,
+    ) -> Result<(), NoMemory>
+        ensures entries { OnOk result (all.new ≡ all.old ++ flat_map (host_by self.now.conf.now self.now.dp.now self.now.learned.now.moment.0 self.now.paths.now) hosts.now) }
+        ensures most { RisesAtMost (3 * length hosts.now) (T.count units.old) (T.count units.new) }
+        ensures least { OnOk result (RisesAtLeast (length hosts.now) (T.count units.old) (T.count units.new)) }
+    {
+        let moment = self.learned.moment;
+        for host in hosts {
+            let made = host_entries(
+                self.alloc, self.conf, self.dp, host, moment, self.paths, units,
+            )?;
+            append(all, made)?;
+        }
+        Ok(())
     }
-    Ok(())
+
+    #[tactic(auto, using(crate::proofs::Lists::flat_more))]
+    fn push_routes<T: Tally>(
+        &self,
+        all: &mut Entries,
+        vlans: &[Vlan],
+        units: &mut T,
+    ) -> Result<(), NoMemory>
+        ensures entries { OnOk result (all.new ≡ all.old ++ flat_map (fib self.now.conf.now self.now.learned.now.neighbours.now self.now.dp.now) vlans.now) }
+        ensures most { RisesAtMost (3 * length vlans.now) (T.count units.old) (T.count units.new) }
+        ensures least { OnOk result (RisesAtLeast (length vlans.now) (T.count units.old) (T.count units.new)) }
+    {
+        let neighbours = self.learned.neighbours;
+        for vlan in vlans {
+            let made = fib_entries(self.alloc, self.conf, self.dp, vlan, neighbours, units)?;
+            append(all, made)?;
+        }
+        Ok(())
+    }
 }
 
 /// All entries of a datapath. For each of its units at least one unit of work is counted where they are
@@ -130,9 +129,16 @@ pub(crate) fn plan_entries<T: Tally>(
     let vlans = conf.vlans().as_slice();
     units.tick();
     let mut all = fixed_entries(alloc, conf, dp)?;
-    push_ports(alloc, &mut all, conf, dp, now.hosts, units)?;
-    push_vlans(alloc, &mut all, conf, dp, vlans, &paths, units)?;
-    push_hosts(alloc, &mut all, conf, dp, hosts, now.moment, &paths, units)?;
-    push_routes(alloc, &mut all, conf, dp, vlans, now.neighbours, units)?;
+    let making = Making {
+        alloc,
+        conf,
+        learned: now,
+        paths: &paths,
+        dp,
+    };
+    making.push_ports(&mut all, units)?;
+    making.push_vlans(&mut all, vlans, units)?;
+    making.push_hosts(&mut all, hosts, units)?;
+    making.push_routes(&mut all, vlans, units)?;
     Ok(all)
 }

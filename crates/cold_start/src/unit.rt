@@ -30,92 +30,82 @@ fn no_entries<T: Tally>(alloc: Global, units: &mut T) -> Entries
     Entries::new(alloc)
 }
 
-fn of_port<T: Tally>(
+/// A datapath of which the entries of units are made, and what they hang on: the paths of the state's stack,
+/// where they are at hand.
+#[derive(Drop)]
+struct Making<'a> {
     alloc: Global,
-    conf: &Conf,
-    now: &Now,
-    dp: &Dp,
-    no: PortNo,
-    units: &mut T,
-) -> Result<Entries, NoMemory>
-    ensures entries { IfOk result (λ made. made ≡ entries conf.now (state_of now.now) dp.now (unit_case.Port no)) }
-    ensures most { RisesAtMost 3 (T.count units.old) (T.count units.new) }
-    ensures least { OnOk result (RisesAtLeast 1 (T.count units.old) (T.count units.new)) }
-{
-    match dp.port(no) {
-        Some(port) => port_entries(alloc, conf, dp, port, now.hosts, units),
-        None => Ok(no_entries(alloc, units)),
-    }
+    conf: &'a Conf,
+    learned: &'a Now<'a>,
+    paths: Option<&'a Paths>,
+    dp: &'a Dp,
 }
 
-fn of_vlan<T: Tally>(
-    alloc: Global,
-    conf: &Conf,
-    now: &Now,
-    paths: Option<&Paths>,
-    dp: &Dp,
-    vid: Vid,
-    units: &mut T,
-) -> Result<Entries, NoMemory>
-    requires { IfSome paths (λ paths. paths.now ≡ stack_of conf.now now.now.ups.now) }
-    ensures entries { IfOk result (λ made. made ≡ entries conf.now (state_of now.now) dp.now (unit_case.Vlan vid)) }
-    ensures most { RisesAtMost 3 (T.count units.old) (T.count units.new) }
-    ensures least { OnOk result (RisesAtLeast 1 (T.count units.old) (T.count units.new)) }
-{
-    let Some(vlan) = conf.vlan(vid) else {
-        return Ok(no_entries(alloc, units));
-    };
-    match paths {
-        Some(paths) => vlan_entries(alloc, conf, dp, vlan, paths, units),
-        None => {
-            let paths = make_paths(alloc, conf, now.ups.as_slice())?;
-            vlan_entries(alloc, conf, dp, vlan, &paths, units)
+impl<'a> Making<'a> {
+    fn of_port<T: Tally>(&self, no: PortNo, units: &mut T) -> Result<Entries, NoMemory>
+        ensures entries { IfOk result (λ made. made ≡ entries self.now.conf.now (state_of self.now.learned.now) self.now.dp.now (unit_case.Port no)) }
+        ensures most { RisesAtMost 3 (T.count units.old) (T.count units.new) }
+        ensures least { OnOk result (RisesAtLeast 1 (T.count units.old) (T.count units.new)) }
+    {
+        let hosts = self.learned.hosts;
+        match self.dp.port(no) {
+            Some(port) => port_entries(self.alloc, self.conf, self.dp, port, hosts, units),
+            None => Ok(no_entries(self.alloc, units)),
         }
     }
-}
 
-fn of_host<T: Tally>(
-    alloc: Global,
-    conf: &Conf,
-    now: &Now,
-    paths: Option<&Paths>,
-    dp: &Dp,
-    vid: Vid,
-    mac: Mac,
-    units: &mut T,
-) -> Result<Entries, NoMemory>
-    requires { IfSome paths (λ paths. paths.now ≡ stack_of conf.now now.now.ups.now) }
-    ensures entries { IfOk result (λ made. made ≡ entries conf.now (state_of now.now) dp.now (unit_case.Host vid mac)) }
-    ensures most { RisesAtMost 3 (T.count units.old) (T.count units.new) }
-    ensures least { OnOk result (RisesAtLeast 1 (T.count units.old) (T.count units.new)) }
-{
-    let Some(host) = find_host(conf, now.hosts, dp, vid, mac) else {
-        return Ok(no_entries(alloc, units));
-    };
-    match paths {
-        Some(paths) => host_entries(alloc, conf, dp, host, now.moment, paths, units),
-        None => {
-            let paths = make_paths(alloc, conf, now.ups.as_slice())?;
-            host_entries(alloc, conf, dp, host, now.moment, &paths, units)
+    fn of_vlan<T: Tally>(&self, vid: Vid, units: &mut T) -> Result<Entries, NoMemory>
+        requires { IfSome self.now.paths (λ paths. paths.now ≡ stack_of self.now.conf.now self.now.learned.now.ups.now) }
+        ensures entries { IfOk result (λ made. made ≡ entries self.now.conf.now (state_of self.now.learned.now) self.now.dp.now (unit_case.Vlan vid)) }
+        ensures most { RisesAtMost 3 (T.count units.old) (T.count units.new) }
+        ensures least { OnOk result (RisesAtLeast 1 (T.count units.old) (T.count units.new)) }
+    {
+        let Some(vlan) = self.conf.vlan(vid) else {
+            return Ok(no_entries(self.alloc, units));
+        };
+        let paths = self.paths;
+        match paths {
+            Some(paths) => vlan_entries(self.alloc, self.conf, self.dp, vlan, paths, units),
+            None => {
+                let paths = make_paths(self.alloc, self.conf, self.learned.ups.as_slice())?;
+                vlan_entries(self.alloc, self.conf, self.dp, vlan, &paths, units)
+            }
         }
     }
-}
 
-fn of_routes<T: Tally>(
-    alloc: Global,
-    conf: &Conf,
-    now: &Now,
-    dp: &Dp,
-    vid: Vid,
-    units: &mut T,
-) -> Result<Entries, NoMemory>
-    ensures entries { IfOk result (λ made. made ≡ entries conf.now (state_of now.now) dp.now (unit_case.Route vid)) }
-    ensures most { RisesAtMost 3 (T.count units.old) (T.count units.new) }
-    ensures least { OnOk result (RisesAtLeast 1 (T.count units.old) (T.count units.new)) }
-{
-    match conf.vlan(vid) {
-        Some(vlan) => fib_entries(alloc, conf, dp, vlan, now.neighbours, units),
-        None => Ok(no_entries(alloc, units)),
+    fn of_host<T: Tally>(&self, vid: Vid, mac: Mac, units: &mut T) -> Result<Entries, NoMemory>
+        requires { IfSome self.now.paths (λ paths. paths.now ≡ stack_of self.now.conf.now self.now.learned.now.ups.now) }
+        ensures entries { IfOk result (λ made. made ≡ entries self.now.conf.now (state_of self.now.learned.now) self.now.dp.now (unit_case.Host vid mac)) }
+        ensures most { RisesAtMost 3 (T.count units.old) (T.count units.new) }
+        ensures least { OnOk result (RisesAtLeast 1 (T.count units.old) (T.count units.new)) }
+    {
+        let hosts = self.learned.hosts;
+        let Some(host) = find_host(self.conf, hosts, self.dp, vid, mac) else {
+            return Ok(no_entries(self.alloc, units));
+        };
+        let moment = self.learned.moment;
+        let paths = self.paths;
+        match paths {
+            Some(paths) => {
+                host_entries(self.alloc, self.conf, self.dp, host, moment, paths, units)
+            }
+            None => {
+                let paths = make_paths(self.alloc, self.conf, self.learned.ups.as_slice())?;
+                host_entries(self.alloc, self.conf, self.dp, host, moment, &paths, units)
+            }
+        }
+    }
+
+    fn of_routes<T: Tally>(&self, vid: Vid, units: &mut T) -> Result<Entries, NoMemory>
+        ensures entries { IfOk result (λ made. made ≡ entries self.now.conf.now (state_of self.now.learned.now) self.now.dp.now (unit_case.Route vid)) }
+        ensures most { RisesAtMost 3 (T.count units.old) (T.count units.new) }
+        ensures least { OnOk result (RisesAtLeast 1 (T.count units.old) (T.count units.new)) }
+    {
+        let neighbours = self.learned.neighbours;
+        match self.conf.vlan(vid) {
+            Some(vlan) => fib_entries(self.alloc, self.conf, self.dp, vlan, neighbours, units),
+            None => Ok(no_entries(self.alloc, units)),
+        }
     }
 }
 
@@ -155,14 +145,21 @@ pub fn unit_entries_with<T: Tally>(
     let Some(dp) = conf.dp(dp) else {
         return Ok(no_entries(alloc, units));
     };
+    let making = Making {
+        alloc,
+        conf,
+        learned: now,
+        paths,
+        dp,
+    };
     match unit {
         Unit::Dp => {
             units.tick();
             fixed_entries(alloc, conf, dp)
         }
-        Unit::Port(no) => of_port(alloc, conf, now, dp, *no, units),
-        Unit::Vlan(vid) => of_vlan(alloc, conf, now, paths, dp, *vid, units),
-        Unit::Host(vid, mac) => of_host(alloc, conf, now, paths, dp, *vid, *mac, units),
-        Unit::Route(vid) => of_routes(alloc, conf, now, dp, *vid, units),
+        Unit::Port(no) => making.of_port(*no, units),
+        Unit::Vlan(vid) => making.of_vlan(*vid, units),
+        Unit::Host(vid, mac) => making.of_host(*vid, *mac, units),
+        Unit::Route(vid) => making.of_routes(*vid, units),
     }
 }

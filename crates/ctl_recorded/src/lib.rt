@@ -4,4 +4,4 @@
 
 mod run;
 
-pub use run::{RecordedEnd, serve_recorded};
+pub use run::{RecordedEnd, RecordedService, serve_recorded};

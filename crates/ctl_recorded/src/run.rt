@@ -28,6 +28,19 @@ pub enum RecordedEnd {
     BrokeOff,
 }
 
+/// What is served, and what takes the recording of it.
+#[derive(Debug, Drop)]
+pub struct RecordedService<H, F, S> {
+    /// The configuration that the controller begins with.
+    pub conf: Conf,
+    /// The hub, and the file that is followed.
+    pub watch: Watch<H, F>,
+    /// What takes the recording.
+    pub sink: S,
+    /// The most turns that are taken.
+    pub most: u64,
+}
+
 /// What serving came to, where the recording is broken or not.
 fn ended_by(drove: Drove, is_broken: bool) -> RecordedEnd
     ensures { result ≡ ended_by drove is_broken }
@@ -47,31 +60,28 @@ fn ended_by(drove: Drove, is_broken: bool) -> RecordedEnd
 /// the hub, the files and the sink back.
 pub fn serve_recorded<H: Hub, F: Files, S: Sink, O: Sink, E: Sink, T: Tally + Drop>(
     alloc: Global,
-    conf: Conf,
-    watch: Watch<H, F>,
-    sink: S,
-    most: u64,
+    service: RecordedService<H, F, S>,
     out: &mut O,
     err: &mut E,
     units: T,
 ) -> (RecordedEnd, H, F, S)
     // The story is that of the hub with the reloads of the looks between, the hub is told what the controller says of it, and
     // the sink took a recording of it.
-    ensures serves { (name text : List ℕ) (every : ℕ) → IsBegun watch name text every
-        → ServesRecorded H.may F.contents F.faults name text every most conf (hub_in watch) result.1 (files_in watch) result.2 (S.wrote sink) (S.wrote result.3)
+    ensures serves { (name text : List ℕ) (every : ℕ) → IsBegun service.watch name text every
+        → ServesRecorded H.may F.contents F.faults name text every service.most service.conf (hub_in service.watch) result.1 (files_in service.watch) result.2 (S.wrote service.sink) (S.wrote result.3)
         (StandsTo (E.wrote err.old) (E.wrote err.new) result.0) result.0 }
     ensures out { O.wrote out.new ≡ O.wrote out.old }
 
-    ensures hub_fault { result.0 ≡ RecordedEnd.By Drove.HubFault → Rose (H.faults (hub_in watch)) (H.faults result.1) }
-    ensures no_hub_fault { result.0 ≢ RecordedEnd.By Drove.HubFault → H.faults result.1 ≡ H.faults (hub_in watch) }
+    ensures hub_fault { result.0 ≡ RecordedEnd.By Drove.HubFault → Rose (H.faults (hub_in service.watch)) (H.faults result.1) }
+    ensures no_hub_fault { result.0 ≢ RecordedEnd.By Drove.HubFault → H.faults result.1 ≡ H.faults (hub_in service.watch) }
     ensures write_fault { result.0 ≡ RecordedEnd.By Drove.WriteFault → Rose (O.faults out.old) (O.faults out.new) ⊎ Rose (E.faults err.old) (E.faults err.new) }
     ensures no_write_fault { result.0 ≢ RecordedEnd.By Drove.WriteFault → (O.faults out.new ≡ O.faults out.old) × (E.faults err.new ≡ E.faults err.old) }
 
     // Hub, files and sink are handed back.
-    ensures hub_faults { H.faults (hub_in watch) ≤ H.faults result.1 }
-    ensures files_faults { F.faults (files_in watch) ≤ F.faults result.2 }
-    ensures absences { F.absences (files_in watch) ≤ F.absences result.2 }
-    ensures sink_faults { S.faults sink ≤ S.faults result.3 }
+    ensures hub_faults { H.faults (hub_in service.watch) ≤ H.faults result.1 }
+    ensures files_faults { F.faults (files_in service.watch) ≤ F.faults result.2 }
+    ensures absences { F.absences (files_in service.watch) ≤ F.absences result.2 }
+    ensures sink_faults { S.faults service.sink ≤ S.faults result.3 }
     ensures out_faults { O.faults out.old ≤ O.faults out.new }
     ensures err_faults { E.faults err.old ≤ E.faults err.new }
 {
@@ -82,6 +92,12 @@ pub fn serve_recorded<H: Hub, F: Files, S: Sink, O: Sink, E: Sink, T: Tally + Dr
     a_way_is_recorded::<Watch<H, F>, S>();
     a_whole_recording_counts_the_hubs_faults::<Watch<H, F>, S>();
     the_hub_goes_along::<Watch<H, F>, S>();
+    let RecordedService {
+        conf,
+        watch,
+        sink,
+        most,
+    } = service;
     let mut recorded = RecordingHub::new(alloc, watch, sink);
     let machine = Steered::new(alloc, conf, units);
     let drove = drive(alloc, machine, &mut recorded, Outlet::Hub, most, out, err);

@@ -8,7 +8,7 @@ ghost use Rattle.recorded_top.specs.RecordedAnswer.{RepliesRecorded};
 use crate::deliver::deliver_recorded;
 use command_line::RecordedServe;
 use conf_load::load_with_text;
-use ctl_recorded::serve_recorded;
+use ctl_recorded::{RecordedService, serve_recorded};
 use faucet_top::{Status, Units, deliver_out_of_memory, deliver_refusal};
 use fg_outside::{Files, Hub, Sink};
 use net_base::TryCopy;
@@ -55,16 +55,13 @@ pub fn serve_and_record<F: Files, H: Hub, S: Sink, O: Sink, E: Sink>(
         return (deliver_out_of_memory(err), files, hub, sink);
     };
     let watch = Watch::new(alloc, hub, files, name, text, job.reload_ms);
-    let (end, hub, files, sink) = serve_recorded(
-        alloc,
+    let service = RecordedService {
         conf,
         watch,
         sink,
-        job.events,
-        out,
-        err,
-        Units::new(),
-    );
+        most: job.events,
+    };
+    let (end, hub, files, sink) = serve_recorded(alloc, service, out, err, Units::new());
     let status = deliver_recorded(err, job.record_file.as_str(), end);
     (status, files, hub, sink)
 }

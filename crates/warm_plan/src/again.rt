@@ -55,38 +55,52 @@ pub(crate) fn make_whole<T: Tally>(
     Ok(plan)
 }
 
+/// The state that the plan of a datapath is made again for, and what may differ in it.
+#[derive(Drop)]
+pub(crate) struct Event<'a> {
+    pub(crate) conf: &'a Conf,
+    pub(crate) learned: &'a Now<'a>,
+    pub(crate) dp: DpId,
+    pub(crate) changes: &'a [Change],
+}
+
 /// Makes again the units that changes reach, so that the plan of a state whose hosts stood so becomes that of
 /// this state. For each at most three units of work are counted.
 pub(crate) fn make_again<T: Tally>(
     plan: &mut Plan,
     alloc: Global,
-    conf: &Conf,
-    now: &Now,
-    dp: DpId,
+    event: &Event,
     stood: &Stood,
-    changes: &[Change],
     units: &mut T,
 ) -> Result<(), NoMemory>
-    requires { IsValidState conf.now (state_of now.now) }
-    ensures sound { IsSound conf.now (state_of now.now) }
-    ensures warm { OnOk result ((before : State) → ArePlaces conf.now before dp (kept_places stood.now) → IsSound conf.now before
-        → AreNamed conf.now before (state_of now.now) changes.now
-        → plan.old.wanted ≡ cold_at conf.now before dp → ArePartsOf (keys_at plan.old.parts) plan.old.wanted
-        → (plan.new.wanted ≡ cold_at conf.now (state_of now.now) dp) × ArePartsOf (keys_at plan.new.parts) plan.new.wanted) }
+    requires { IsValidState event.now.conf.now (state_of event.now.learned.now) }
+    ensures sound { IsSound event.now.conf.now (state_of event.now.learned.now) }
+    ensures warm { OnOk result ((before : State) → ArePlaces event.now.conf.now before event.now.dp (kept_places stood.now) → IsSound event.now.conf.now before
+        → AreNamed event.now.conf.now before (state_of event.now.learned.now) event.now.changes.now
+        → plan.old.wanted ≡ cold_at event.now.conf.now before event.now.dp → ArePartsOf (keys_at plan.old.parts) plan.old.wanted
+        → (plan.new.wanted ≡ cold_at event.now.conf.now (state_of event.now.learned.now) event.now.dp) × ArePartsOf (keys_at plan.new.parts) plan.new.wanted) }
     ensures told { OnOk result (KeepTold plan.old.touched.keys plan.old.wanted plan.new.touched.keys plan.new.wanted) }
-    ensures most { (before : State) → ArePlaces conf.now before dp (kept_places stood.now)
-        → RisesAtMost (3 * length (reached_at conf.now before (state_of now.now) dp changes.now)) (T.count units.old) (T.count units.new) }
+    ensures most { (before : State) → ArePlaces event.now.conf.now before event.now.dp (kept_places stood.now)
+        → RisesAtMost (3 * length (reached_at event.now.conf.now before (state_of event.now.learned.now) event.now.dp event.now.changes.now)) (T.count units.old) (T.count units.new) }
 {
-    is_sound(conf, now);
-    let Some(dp) = conf.dp(dp) else {
+    is_sound(event.conf, event.learned);
+    let Some(dp) = event.conf.dp(event.dp) else {
         return Ok(());
     };
     laws::what_is_made_again_is_the_cold_start();
-    let effects = effects(alloc, conf, dp, stood, now.hosts, changes)?;
-    let again = reached(alloc, conf, dp, now.hosts, effects.as_slice())?;
+    let hosts = event.learned.hosts;
+    let effects = effects(alloc, event.conf, dp, stood, hosts, event.changes)?;
+    let again = reached(alloc, event.conf, dp, hosts, effects.as_slice())?;
     let mut gone = named_units(alloc, effects.as_slice())?;
     gone.append(again.as_slice())?;
     plan.drop_units(alloc, gone.as_slice())?;
-    plan.make(alloc, conf, now, dp, again.as_slice(), units)?;
+    plan.make(
+        alloc,
+        event.conf,
+        event.learned,
+        dp,
+        again.as_slice(),
+        units,
+    )?;
     Ok(())
 }

@@ -84,6 +84,17 @@ fn paths_for(
     Ok(Some(paths))
 }
 
+/// The datapath whose units are made, and what their entries hang on. The paths are those of the state's
+/// stack, where a unit hangs on them.
+#[derive(Drop)]
+struct Making<'a> {
+    alloc: Global,
+    conf: &'a Conf,
+    learned: &'a Now<'a>,
+    paths: Option<&'a Paths>,
+    dp: &'a Dp,
+}
+
 impl Plan {
     /// No entry, where these were sent.
     pub(crate) fn new(alloc: Global, sent: &Tables) -> Result<Plan, NoMemory>
@@ -140,38 +151,42 @@ impl Plan {
 
     fn make_one<T: Tally>(
         &mut self,
-        alloc: Global,
-        conf: &Conf,
-        now: &Now,
-        paths: Option<&Paths>,
-        dp: &Dp,
+        making: &Making,
         unit: Unit,
         units: &mut T,
     ) -> Result<(), NoMemory>
-        requires dp { dp_with conf.now.dps dp.now.id ≡ Some dp.now }
-        requires paths { IfSome paths (λ paths. paths.now ≡ stack_of conf.now now.now.ups.now) }
-        ensures parts { OnOk result (AreSameParts (keys_at self.new.parts) (put (keys_at self.old.parts) unit (keys_of (entries conf.now (state_of now.now) dp.now unit)))) }
-        ensures wanted { OnOk result (self.new.wanted ≡ after_all self.old.wanted (map Add (entries conf.now (state_of now.now) dp.now unit))) }
+        requires dp { dp_with making.now.conf.now.dps making.now.dp.now.id ≡ Some making.now.dp.now }
+        requires paths { IfSome making.now.paths (λ paths. paths.now ≡ stack_of making.now.conf.now making.now.learned.now.ups.now) }
+        ensures parts { OnOk result (AreSameParts (keys_at self.new.parts) (put (keys_at self.old.parts) unit (keys_of (entries making.now.conf.now (state_of making.now.learned.now) making.now.dp.now unit)))) }
+        ensures wanted { OnOk result (self.new.wanted ≡ after_all self.old.wanted (map Add (entries making.now.conf.now (state_of making.now.learned.now) making.now.dp.now unit))) }
         ensures told { OnOk result (KeepTold self.old.touched.keys self.old.wanted self.new.touched.keys self.new.wanted) }
         ensures most { RisesAtMost 3 (T.count units.old) (T.count units.new) }
         ensures least { OnOk result (RisesAtLeast 1 (T.count units.old) (T.count units.new)) }
     {
-        let made = unit_entries_with(alloc, conf, now, paths, dp.id, &unit, units)?;
-        let keys = keys_of(alloc, made.as_slice())?;
+        let made = unit_entries_with(
+            making.alloc,
+            making.conf,
+            making.learned,
+            making.paths,
+            making.dp.id,
+            &unit,
+            units,
+        )?;
+        let keys = keys_of(making.alloc, made.as_slice())?;
         put_keys(&mut self.parts, unit, keys)?;
-        add_all(alloc, &mut self.wanted, &mut self.touched, made)?;
+        add_all(making.alloc, &mut self.wanted, &mut self.touched, made)?;
         Ok(())
     }
 
     /// Adds the entries of these units. For each at least one unit of work is counted where they are made,
     /// and at most three.
     #[tactic(auto, using(crate::proofs::Commands::units_more))]
-    pub(crate) fn make<T: Tally>(
+    pub(crate) fn make<'a, T: Tally>(
         &mut self,
         alloc: Global,
-        conf: &Conf,
-        now: &Now,
-        dp: &Dp,
+        conf: &'a Conf,
+        now: &'a Now<'a>,
+        dp: &'a Dp,
         made: &[Unit],
         units: &mut T,
     ) -> Result<(), NoMemory>
@@ -184,8 +199,15 @@ impl Plan {
     {
         let known = paths_for(alloc, conf, now, made)?;
         let paths = known.as_ref();
+        let making = Making {
+            alloc,
+            conf,
+            learned: now,
+            paths,
+            dp,
+        };
         for unit in made {
-            self.make_one(alloc, conf, now, paths, dp, *unit, units)?;
+            self.make_one(&making, *unit, units)?;
         }
         Ok(())
     }

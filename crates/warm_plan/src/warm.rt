@@ -9,7 +9,7 @@ ghost use Rattle.cold_start.specs.Counts.{RisesAtMost, RisesAtLeast};
 ghost use Rattle.law_units.specs.Reach.{AreNamed};
 ghost use Rattle.warm_plan.specs.Kept.{reached_at};
 
-use crate::again::{make_again, make_whole};
+use crate::again::{Event, make_again, make_whole};
 use crate::plan::Plan;
 use crate::seen::Seen;
 use crate::sound::are_ordered;
@@ -92,12 +92,12 @@ impl Warm {
     /// Takes another state of the same configuration, which differs from the last one at most in what
     /// `changes` names. Want of memory spends the plan, and a spent one answers nothing else. At most
     /// three units of work are counted for each unit of the datapath that the changes reach.
-    pub fn event<T: Tally>(
+    pub fn event<'a, T: Tally>(
         &mut self,
         alloc: Global,
-        conf: &Conf,
-        now: &Now,
-        changes: &[Change],
+        conf: &'a Conf,
+        now: &'a Now<'a>,
+        changes: &'a [Change],
         units: &mut T,
     ) -> Result<(), NoMemory>
         requires same { conf.now ≡ self.old.conf }
@@ -122,16 +122,13 @@ impl Warm {
         self.is_taken = false;
         are_ordered(&self.plan.wanted);
         renewed?;
-        let made = make_again(
-            &mut self.plan,
-            alloc,
+        let event = Event {
             conf,
-            now,
-            self.dp,
-            &self.stood,
+            learned: now,
+            dp: self.dp,
             changes,
-            units,
-        );
+        };
+        let made = make_again(&mut self.plan, alloc, &event, &self.stood, units);
         are_ordered(&self.plan.wanted);
         made?;
         self.stood.follow(alloc, conf, now, self.dp, changes)?;

@@ -12,15 +12,15 @@ use Rattle.warm_plan.proofs.Settings.{are_reached, are_taken_out, counted_again,
 use Rattle.warm_plan.proofs.again.make_again.Goals as goal
 
 pub make-requires : goal.make-requires
-make-requires g c = own_id c.args.conf.now.dps c.args.dp c.in-Some.dp.now (sym c.in-Some.ensures.found)
+make-requires g c = own_id c.args.event.now.conf.now.dps c.args.event.now.dp c.in-Some.dp.now (sym c.in-Some.ensures.found)
 
 pub returns-clause-warm : goal.returns-clause-warm
 returns-clause-warm g c = λ before places sound named warm are.
-    let conf = c.args.conf.now in
-    let state = state_of c.args.now.now in
+    let conf = c.args.event.now.conf.now in
+    let state = state_of c.args.event.now.learned.now in
     let d = c.in-Some.dp.now in
     let is = sym c.in-Some.ensures.found in
-    let changes = c.args.changes.now in
+    let changes = c.args.event.now.changes.now in
     let plan = c.args.plan.now in
     let gone = c.as_slice-4.result.now in
     let again = c.as_slice-5.result.now in
@@ -39,11 +39,11 @@ returns-clause-warm g c = λ before places sound named warm are.
     (λ i u. c.in_ok-make.ensures.parts u i) ∙ ap (λ (p : PlanUnit → List Key). parts_with conf state d p again) left in
     let wanted =
     c.in_ok-make.ensures.wanted ∙ ap (λ t. with_units conf state d t again) c.in_ok-drop_units.ensures.wanted
-    ∙ wanted_again c.what_is_made_again_is_the_cold_start.ensures.wanted c.what_is_made_again_is_the_cold_start.ensures.parts conf before state c.args.dp d is sound c.is_sound.ensures changes named parts plan.wanted warm are gone again out into in (
+    ∙ wanted_again c.what_is_made_again_is_the_cold_start.ensures.wanted c.what_is_made_again_is_the_cold_start.ensures.parts conf before state c.args.event.now.dp d is sound c.is_sound.ensures changes named parts plan.wanted warm are gone again out into in (
       wanted,
       subst (λ (ps : PlanUnit → List Key). ArePartsOf ps c.make.new.self.wanted) (sym now_parts)
           (subst (ArePartsOf (parts_with conf state d (parts_without parts gone) again)) (sym wanted)
-          (parts_are_again c.what_is_made_again_is_the_cold_start.ensures.wanted c.what_is_made_again_is_the_cold_start.ensures.parts conf before state c.args.dp d is sound c.is_sound.ensures changes named parts plan.wanted warm are gone again out into)),
+          (parts_are_again c.what_is_made_again_is_the_cold_start.ensures.wanted c.what_is_made_again_is_the_cold_start.ensures.parts conf before state c.args.event.now.dp d is sound c.is_sound.ensures changes named parts plan.wanted warm are gone again out into)),
     )
 
 pub returns-clause-told : goal.returns-clause-told
@@ -54,13 +54,13 @@ returns-clause-most g c = λ before places.
     let d = c.in-Some.dp.now in
     let again = c.as_slice-5.result.now in
     let effects = c.in_ok-effects.effects.items in
-    let once = subst (λ (es : List Effect). AreOnce again (all_units_by c.args.conf.now d (state_of c.args.now.now).hosts es)) c.as_slice.ensures.value (subst (λ (us : List PlanUnit). AreOnce us (all_units_by c.args.conf.now d (state_of c.args.now.now).hosts c.as_slice.result.now)) (sym c.as_slice-5.ensures.value) c.in_ok-again.ensures) in
-    counted_again c.args.conf.now d before (state_of c.args.now.now) c.args.changes.now (kept_places c.args.stood.now) (places d (sym c.in-Some.ensures.found)) c.args.dp (sym c.in-Some.ensures.found) again (are_reached c.args.conf.now d before (state_of c.args.now.now) c.args.changes.now (kept_places c.args.stood.now) (places d (sym c.in-Some.ensures.found)) effects c.in_ok-effects.ensures again once) (g.T.Tally.count c.args.units.now) (g.T.Tally.count c.make.new.units) c.in_ok-make.ensures.most
+    let once = subst (λ (es : List Effect). AreOnce again (all_units_by c.args.event.now.conf.now d (state_of c.args.event.now.learned.now).hosts es)) c.as_slice.ensures.value (subst (λ (us : List PlanUnit). AreOnce us (all_units_by c.args.event.now.conf.now d (state_of c.args.event.now.learned.now).hosts c.as_slice.result.now)) (sym c.as_slice-5.ensures.value) c.in_ok-again.ensures) in
+    counted_again c.args.event.now.conf.now d before (state_of c.args.event.now.learned.now) c.args.event.now.changes.now (kept_places c.args.stood.now) (places d (sym c.in-Some.ensures.found)) c.args.event.now.dp (sym c.in-Some.ensures.found) again (are_reached c.args.event.now.conf.now d before (state_of c.args.event.now.learned.now) c.args.event.now.changes.now (kept_places c.args.stood.now) (places d (sym c.in-Some.ensures.found)) effects c.in_ok-effects.ensures again once) (g.T.Tally.count c.args.units.now) (g.T.Tally.count c.make.new.units) c.in_ok-make.ensures.most
 
 pub returns-in_err-make-clause-most : goal.returns-in_err-make-clause-most
 returns-in_err-make-clause-most g c = λ before places.
     let d = c.in-Some.dp.now in
     let again = c.as_slice-5.result.now in
     let effects = c.in_ok-effects.effects.items in
-    let once = subst (λ (es : List Effect). AreOnce again (all_units_by c.args.conf.now d (state_of c.args.now.now).hosts es)) c.as_slice.ensures.value (subst (λ (us : List PlanUnit). AreOnce us (all_units_by c.args.conf.now d (state_of c.args.now.now).hosts c.as_slice.result.now)) (sym c.as_slice-5.ensures.value) c.in_ok-again.ensures) in
-    counted_again c.args.conf.now d before (state_of c.args.now.now) c.args.changes.now (kept_places c.args.stood.now) (places d (sym c.in-Some.ensures.found)) c.args.dp (sym c.in-Some.ensures.found) again (are_reached c.args.conf.now d before (state_of c.args.now.now) c.args.changes.now (kept_places c.args.stood.now) (places d (sym c.in-Some.ensures.found)) effects c.in_ok-effects.ensures again once) (g.T.Tally.count c.args.units.now) (g.T.Tally.count c.make.new.units) c.in_err-make.ensures.most
+    let once = subst (λ (es : List Effect). AreOnce again (all_units_by c.args.event.now.conf.now d (state_of c.args.event.now.learned.now).hosts es)) c.as_slice.ensures.value (subst (λ (us : List PlanUnit). AreOnce us (all_units_by c.args.event.now.conf.now d (state_of c.args.event.now.learned.now).hosts c.as_slice.result.now)) (sym c.as_slice-5.ensures.value) c.in_ok-again.ensures) in
+    counted_again c.args.event.now.conf.now d before (state_of c.args.event.now.learned.now) c.args.event.now.changes.now (kept_places c.args.stood.now) (places d (sym c.in-Some.ensures.found)) c.args.event.now.dp (sym c.in-Some.ensures.found) again (are_reached c.args.event.now.conf.now d before (state_of c.args.event.now.learned.now) c.args.event.now.changes.now (kept_places c.args.stood.now) (places d (sym c.in-Some.ensures.found)) effects c.in_ok-effects.ensures again once) (g.T.Tally.count c.args.units.now) (g.T.Tally.count c.make.new.units) c.in_err-make.ensures.most

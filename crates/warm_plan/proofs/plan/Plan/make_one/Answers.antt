@@ -14,10 +14,10 @@ use Rattle.warm_plan.proofs.plan.Plan.make_one.Goals as goal
 pub returns-clause-parts : goal.returns-clause-parts
 returns-clause-parts g c = λ w.
     let unit = c.args.unit in
-    let made = c.in_ok-made.ensures.entries ∙ ap (λ o. option_map_or (λ (d : Dp). entries c.args.conf.now (state_of c.args.now.now) d unit) o []) c.requires.dp in
+    let made = c.in_ok-made.ensures.entries ∙ ap (λ o. option_map_or (λ (d : Dp). entries c.args.making.now.conf.now (state_of c.args.making.now.learned.now) d unit) o []) c.requires.dp in
     c.in_ok-put_keys.ensures w ∙ ap (λ (ks : List Key). put (keys_at c.args.self.now.parts) unit ks w) (c.in_ok-keys.ensures ∙ ap keys_of (c.as_slice.ensures ∙ made))
 
 pub returns-clause-wanted : goal.returns-clause-wanted
 returns-clause-wanted g c =
-    let made = c.in_ok-made.ensures.entries ∙ ap (λ o. option_map_or (λ (d : Dp). entries c.args.conf.now (state_of c.args.now.now) d c.args.unit) o []) c.requires.dp in
+    let made = c.in_ok-made.ensures.entries ∙ ap (λ o. option_map_or (λ (d : Dp). entries c.args.making.now.conf.now (state_of c.args.making.now.learned.now) d c.args.unit) o []) c.requires.dp in
     c.in_ok-add_all.ensures.tables ∙ ap (λ (es : List Entry). after_all c.args.self.now.wanted (map Add es)) made

@@ -15,7 +15,7 @@ use Rattle.packet_way.specs.Known.{stack_of}
 use Rattle.packet_way.specs.Present.{state_of}
 use Rattle.plan_units.specs.Units.{of_host, hosts_of}
 use Rattle.cold_start.specs.Members.{host_by}
-use Rattle.cold_start.proofs.unit.of_host.Goals as goal
+use Rattle.cold_start.proofs.unit.Making.of_host.Goals as goal
 
 -- by the paths of the state, the entries of the host that is found
 by_paths : (conf : Configuration) (now : State) (d : Dp) (paths : Stack) (h : HostRec) (found : Option HostRec)
@@ -24,9 +24,9 @@ by_paths conf now d paths h found right here = ap (λ (s : Stack). host_by conf 
 
 pub returns-in-Some-paths-clause-entries : goal.returns-in-Some-paths-clause-entries
 returns-in-Some-paths-clause-entries g c =
-    let conf = c.args.conf.now in
-    let state = state_of c.args.now.now in
-    let d = c.args.dp.now in
+    let conf = c.args.self.now.conf.now in
+    let state = state_of c.args.self.now.learned.now in
+    let d = c.args.self.now.dp.now in
     let h = c.in-Some.host.now in
     let paths = c.in-Some-paths.paths.now in
     let is_host : HostRec → Bool = λ x. x.vid == c.args.vid && is_same x.mac.0 c.args.mac.0 in
@@ -36,9 +36,9 @@ returns-in-Some-paths-clause-entries g c =
 
 pub returns-in_ok-paths-in-None-clause-entries : goal.returns-in_ok-paths-in-None-clause-entries
 returns-in_ok-paths-in-None-clause-entries g c =
-    let conf = c.args.conf.now in
-    let state = state_of c.args.now.now in
-    let d = c.args.dp.now in
+    let conf = c.args.self.now.conf.now in
+    let state = state_of c.args.self.now.learned.now in
+    let d = c.args.self.now.dp.now in
     let h = c.in-Some.host.now in
     let paths = c.in_ok-paths-in-None.paths in
     let is_host : HostRec → Bool = λ x. x.vid == c.args.vid && is_same x.mac.0 c.args.mac.0 in

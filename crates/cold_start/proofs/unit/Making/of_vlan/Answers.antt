@@ -9,13 +9,13 @@ use Rattle.packet_way.specs.Known.{stack_of}
 use Rattle.packet_way.specs.Present.{state_of}
 use Rattle.plan_units.specs.Units.{of_vlan}
 use Rattle.cold_start.specs.Members.{vlan_by}
-use Rattle.cold_start.proofs.unit.of_vlan.Goals as goal
+use Rattle.cold_start.proofs.unit.Making.of_vlan.Goals as goal
 
 pub returns-in_ok-paths-in-None-clause-entries : goal.returns-in_ok-paths-in-None-clause-entries
 returns-in_ok-paths-in-None-clause-entries g c =
-    let conf = c.args.conf.now in
-    let state = state_of c.args.now.now in
-    let d = c.args.dp.now in
+    let conf = c.args.self.now.conf.now in
+    let state = state_of c.args.self.now.learned.now in
+    let d = c.args.self.now.dp.now in
     let v = c.in-Some.vlan.now in
     let paths = c.in_ok-paths-in-None.paths in
     let here : Some v ≡ vlan_with conf.vlans c.args.vid = c.in-Some.ensures in
