@@ -11,7 +11,7 @@ count_actions (Apply actions ∷ more) = length actions + count_actions more
 count_actions (Goto table ∷ more) = count_actions more
 
 pub record IsShort (e : Entry) : Type 0 where
-  -- table 0xff stands for all of them (OpenFlow 1.3, 7.3.4.1, OFPTT_ALL)
-  pub table : e.key.table < 0xff
+  -- one of the nine, and so not 0xff, which stands for all of them (OpenFlow 1.3, 7.3.4.1, OFPTT_ALL)
+  pub table : e.key.table < 9
   pub fields : length e.key.fields ≤ 64
   pub actions : count_actions e.instrs ≤ 2000

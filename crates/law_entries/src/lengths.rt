@@ -8,7 +8,7 @@ ghost use Rattle.plan_units.specs.Laws.{IsSetting};
 ghost use Rattle.plan_units.specs.Units.{plan};
 ghost use Rattle.law_entries.specs.Short.{IsShort};
 
-/// Each entry of a plan stands in one table, and has at most 64 fields and 2,000 actions. Each field of a match and each action takes at
+/// Each entry of a plan stands in one of the nine tables, and has at most 64 fields and 2,000 actions. Each field of a match and each action takes at
 /// most 16 bytes (OpenFlow 1.3, 7.2.3.2 and 7.2.5), and an entry that a switch accepts has at most two
 /// instructions. So a FLOW_MOD that adds the entry has fewer than the 65,535 bytes that the length in the header
 /// of a message can say (7.1).

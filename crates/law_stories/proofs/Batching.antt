@@ -124,9 +124,10 @@ module _ (P : Way) (past : List Said) (number : ℕ) (c : Conn) (before : Told) 
       (λ n d differs h. (λ own. absurd (differs own), h.1))
       holds
 
-  -- what holds of the connection once the batch is said and noted
+  -- what holds of the connection once the batch, which isn't empty, is said and noted
   abbrev pub Leaves : List Command → List Entry → Type 0
-  Leaves commands entries = (xid : ℕ) (more : Told) → AreOf commands more → EndsIn (before ++ more) xid → P number c.session.state.stage (Some xid) entries (before ++ more)
+  Leaves commands entries =
+      (xid : ℕ) (more : Told) → (commands ≡ [] → ⊥) → AreOf commands more → EndsIn (before ++ more) xid → P number c.session.state.stage (Some xid) entries (before ++ more)
 
   pub said_batch_to : (commands : List Command) (entries : List Entry) (w : World) → conn_with w.conns number ≡ Some c → tables_said number (past ++ w.said) ≡ before → Leaves commands entries
       → Holds P past w.conns w.said → Holds P past (say_batch number commands entries w).conns (say_batch number commands entries w).said
@@ -139,7 +140,7 @@ module _ (P : Way) (past : List Said) (number : ℕ) (c : Conn) (before : Told) 
       subst (λ (s : Stage). P number s d.session.state.awaited entries t) (sym it.stands)
       (subst (λ (a : Option ℕ). P number c.session.state.stage a entries t) (sym it.awaits)
       (subst (P number c.session.state.stage (Some it.xid) entries) (sym it.is)
-      (own it.xid it.more it.said (subst (λ (s : Told). EndsIn s it.xid) it.is it.ends)))))
+      (own it.xid it.more (λ none. absurd (cc)) it.said (subst (λ (s : Told). EndsIn s it.xid) it.is it.ends)))))
       (λ n d differs h. h.1 differs)
       (barrier_to (m ∷ more) v1 (each_more [] (m ∷ more) w (begun w some told_before holds)))
 

@@ -30,7 +30,7 @@ bytes_taken zero bytes all = tt
 bytes_taken (suc n) [] all = tt
 bytes_taken (suc n) (b ∷ bytes) all = (all.0, bytes_taken n bytes all.1)
 
-bytes_left : (n : ℕ) (bytes : List ℕ) → AreBytes bytes → AreBytes (drop n bytes)
+pub bytes_left : (n : ℕ) (bytes : List ℕ) → AreBytes bytes → AreBytes (drop n bytes)
 bytes_left zero bytes all = all
 bytes_left (suc n) [] all = tt
 bytes_left (suc n) (b ∷ bytes) all = bytes_left n bytes all.1

@@ -55,7 +55,7 @@ module _ (cold_order : (conf : Configuration) (state : State) (d : Dp) → IsInK
   batch_fits : (dp : DpId) (w : World) → AreOrdered w.conns → AllByRecursion IsLow (wanted w dp) → is_running (running w) dp ≡ true → AreFit past w → AreFit past (batch dp w)
   batch_fits dp w ordered low runs fit =
       batch_to FitsEach past dp w ordered.0
-      (λ c is waits h xid more said ends.
+      (λ c is waits h xid more some said ends.
       let stage : c.session.state.stage ≡ Running = running_stage w dp c runs is in
       let t : Told = tables_said c.number (past ++ w.said) in
       let before : IsNoting c.session.state.awaited c.sent t = subst (λ (s : Stage). Fits s c.session.state.awaited c.sent t) stage h in
@@ -96,6 +96,7 @@ module _ (cold_order : (conf : Configuration) (state : State) (d : Dp) → IsInK
       pub more : Told
       pub is : t ≡ before ++ more
       pub said : AreOf (difference c.sent goal) more
+      pub any : difference c.sent goal ≡ [] → ⊥
       pub awaits : is_some awaited ≡ true
       pub free : c.session.state.awaited ≡ None
       pub reached : sent ≡ goal
@@ -137,19 +138,21 @@ module _ (cold_order : (conf : Configuration) (state : State) (d : Dp) → IsInK
         let is = batch_batched cold_order id v stands in
         batches_seen dps (batch id v) is.alike.ordered (is.alike.numbers dp ∙ number) (batched_wanted v (batch id v) is dp ∙ to)
         (batch_to SeenEach past id v stands.0
-        (λ d at waits h xid more said ends own. one d at waits own (h own) xid more said)
+        (λ d at waits h xid more some said ends own. one d at waits own (h own) xid more some said)
         holds)
       where
         one : (d : Conn) → conn_of v.conns id ≡ Some d → is_some d.session.state.awaited ≡ false → d.number ≡ c.number → Seen d.session.state.awaited d.sent (tables_said d.number (past ++ v.said))
-            → (xid : ℕ) (more : Told) → AreOf (difference d.sent (wanted v id)) more → Seen (Some xid) (wanted v id) (tables_said d.number (past ++ v.said) ++ more)
-        one d at waits own (inr told) xid more said = absurd (true≢false (sym told.awaits ∙ waits))
-        one d at waits own (inl still) xid more said =
+            → (xid : ℕ) (more : Told) → (difference d.sent (wanted v id) ≡ [] → ⊥) → AreOf (difference d.sent (wanted v id)) more
+            → Seen (Some xid) (wanted v id) (tables_said d.number (past ++ v.said) ++ more)
+        one d at waits own (inr told) xid more any said = absurd (true≢false (sym told.awaits ∙ waits))
+        one d at waits own (inl still) xid more any said =
             let same : id ≡ dp = only_it v stands number id d at own in
             let wants : wanted v id ≡ goal = ap (wanted v) same ∙ to in
             inr (record {
               more = more;
               is = ap (λ (t : Told). t ++ more) still.0;
               said = subst (λ (es : List Entry). AreOf (difference es goal) more) still.1 (subst (λ (es : List Entry). AreOf (difference d.sent es) more) wants said);
+              any = subst (λ (es : List Entry). difference es goal ≡ [] → ⊥) still.1 (subst (λ (es : List Entry). difference d.sent es ≡ [] → ⊥) wants any);
               awaits = refl;
               free = sym still.2 ∙ has_none d.session.state.awaited waits;
               reached = wants;

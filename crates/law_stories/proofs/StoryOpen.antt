@@ -50,7 +50,7 @@ on_more number opened (told.Closing conn cause ∷ said) more on rest = (on.0, o
 on_more number opened (told.Line text ∷ said) more on rest = on_more number opened said more on rest
 
 -- what is open where one was closed
-left_open : (number : ℕ) (conns : List Conn) (n : ℕ) → (if number == n then false else is_open conns n) ≡ is_open (without number conns) n
+pub left_open : (number : ℕ) (conns : List Conn) (n : ℕ) → (if number == n then false else is_open conns n) ≡ is_open (without number conns) n
 left_open number conns n =
     elim (cases_Bool (number == n)) [
       | inl is ↦

@@ -36,7 +36,7 @@ use Rattle.law_stories.proofs.StoryWalks.{any_pieces, story_kept, story_seen}
 use Rattle.law_stories.proofs.Ways.{OnConn}
 
 -- of the connection of a datapath that runs, what was said leads to what was noted
-noting_of : (past : List Said) (w : World) → AreOrdered w.conns → AreFit past w → (dp : DpId) (c : Conn) → is_running (running w) dp ≡ true → conn_of w.conns dp ≡ Some c
+pub noting_of : (past : List Said) (w : World) → AreOrdered w.conns → AreFit past w → (dp : DpId) (c : Conn) → is_running (running w) dp ≡ true → conn_of w.conns dp ≡ Some c
     → IsNoting c.session.state.awaited c.sent (tables_said c.number (past ++ w.said))
 noting_of past w ordered fit dp c runs is =
     let t : Told = tables_said c.number (past ++ w.said) in
@@ -47,7 +47,7 @@ noted_of : (w : World) (all : List Said) → IsTold all (record w { said = [] })
 noted_of w all told dp c runs is =
     subst (λ (s : List Said). LeadsTo (tables_said c.number s) c.sent) (append-nil all) (noting_of all (record w { said = [] }) told.0.0.1 told.1 dp c runs is).leads
 
-ends_of : (stage : Stage) (awaited : Option ℕ) (sent : List Entry) (t : Told) (xid : ℕ) → Fits stage awaited sent t → has_ports stage ≡ true → awaited ≡ Some xid → EndsIn t xid
+pub ends_of : (stage : Stage) (awaited : Option ℕ) (sent : List Entry) (t : Told) (xid : ℕ) → Fits stage awaited sent t → has_ports stage ≡ true → awaited ≡ Some xid → EndsIn t xid
 ends_of Greeting awaited sent t xid fits ports waits = absurd (true≢false (sym ports))
 ends_of Features awaited sent t xid fits ports waits = absurd (true≢false (sym ports))
 ends_of Ports awaited sent t xid fits ports waits = absurd (true≢false (sym ports))

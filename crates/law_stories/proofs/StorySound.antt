@@ -54,7 +54,7 @@ module _ (numbers : (w : World) → AreByNumber w.conns → AreInKeyOrder w.conn
   order : Keeps (Stands IsValid)
   order = keeps_order numbers keys IsValid (λ text next is. text_valid (read_of text) next is)
 
-  keeps_sound : Keeps StandsSound
+  pub keeps_sound : Keeps StandsSound
   keeps_sound = record {
     unsaid = λ w holds. (holds.0, record { valid = holds.1.valid; hosts = holds.1.hosts; neighbours = holds.1.neighbours });
     opens = λ number w shut holds. (order.opens number w shut holds.0, settle_sound (open_conn number w) (open_sound number w holds.1));

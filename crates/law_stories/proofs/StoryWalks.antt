@@ -30,7 +30,7 @@ OnPiece B (happenings.Closed number cause) = Unit {0}
 OnPiece B (happenings.Moment moment) = Unit {0}
 OnPiece B (happenings.Reload text) = Unit {0}
 
-any_piece : (h : Happening) → OnPiece (λ piece. Unit {0}) h
+pub any_piece : (h : Happening) → OnPiece (λ piece. Unit {0}) h
 any_piece (happenings.Opened number) = tt
 any_piece (happenings.Heard number piece) = tt
 any_piece (happenings.Closed number cause) = tt
@@ -55,12 +55,12 @@ pub record Walks (B : List ℕ → Type 0) (J : List Said → World → Type 0) 
   pub settles : (past : List Said) (w : World) → J past w → J past (settle w)
 
 module _ (B : List ℕ → Type 0) (J : List Said → World → Type 0) (walks : Walks B J) (past : List Said) where
-  front_kept : (number : ℕ) (w : World) → J past w → (f : Front) → front (unread number w) ≡ f → J past (hear_front f number (read number w))
+  pub front_kept : (number : ℕ) (w : World) → J past w → (f : Front) → front (unread number w) ≡ f → J past (hear_front f number (read number w))
   front_kept number w holds Part is = walks.reads past number w holds
   front_kept number w holds (Frame frame) is = walks.settles past (hear_frame (says frame) number (read number w)) (walks.hears past frame number w is holds)
   front_kept number w holds Bad is = walks.settles past (hear_frame None number (read number w)) (walks.fails past number w is holds)
 
-  next_kept : (number : ℕ) (w : World) → J past w → J past (hear_next number w)
+  pub next_kept : (number : ℕ) (w : World) → J past w → J past (hear_next number w)
   next_kept number w holds = front_kept number w holds (front (unread number w)) refl
 
   frames_kept : (most number : ℕ) (w : World) → J past w → J past (hear_frames most number w)
@@ -83,7 +83,7 @@ module _ (B : List ℕ → Type 0) (J : List Said → World → Type 0) (walks :
   end_kept : (cause : EndCause) (number : ℕ) (w : World) → J past w → J past (settle (ended (closing_for cause) number w))
   end_kept cause number w holds = walks.settles past (ended (closing_for cause) number w) (walks.ends past (closing_for cause) number w holds)
 
-  work_kept : (h : Happening) (w : World) → OnPiece B h → J past w → J past (work h w)
+  pub work_kept : (h : Happening) (w : World) → OnPiece B h → J past w → J past (work h w)
   work_kept (happenings.Opened number) w such holds = open_kept number w holds (is_open w.conns number) refl
   work_kept (happenings.Heard number piece) w such holds =
       elim (is_open w.conns number) as (λ b. J past (if b then hear number piece w else w)) [ true ↦ hear_kept number piece w such holds | false ↦ holds ]

@@ -174,7 +174,7 @@ module _ (number_len : NumberLen) (fields_len : FieldsLen) (match_len : MatchLen
           };
           fits = frame_fits (add_of e) short.fields (few_bytes e flow.instrs short.actions);
         };
-        table = lt-ltb e.key.table 0xff short.table;
+        table = lt-ltb e.key.table 0xff (let nine : e.key.table < 9 = short.table in omega arith);
       }
 
   pub all_added : (es : List Entry) → AllByRecursion IsFlowEntry es → AllByRecursion IsShort es → AllByRecursion IsAdded es

@@ -1,0 +1,13 @@
+pub mod Batches
+pub mod Follows
+pub mod Fronts
+pub mod Meets
+pub mod Moments
+pub mod Plain
+pub mod Probes
+pub mod Runs
+pub mod Seen
+pub mod Silent
+pub mod Steps
+pub mod Turns
+pub mod Unread
