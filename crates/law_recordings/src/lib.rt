@@ -4,12 +4,14 @@
 
 pub mod bytes;
 
-ghost use Rattle.std.specs.Prelude.{◌≡◌, ℕ, List, Option, None};
+ghost use Rattle.std.specs.Prelude.{◌≡◌, ◌++◌, ◌∷◌, [], ℕ, List, Option, None};
 ghost use Rattle.fg_outside.specs.declared.hub.Happening.{Happening};
+ghost use Rattle.fg_outside.specs.declared.hub.Happening.TheVariants.{Moment};
 ghost use Rattle.conf_types.specs.Configuration.{Configuration};
+ghost use Rattle.recording.specs.declared.kind.RecordKind.TheVariants.{Moment as OfMoment};
 ghost use Rattle.recording.specs.declared.record.Record.{Record};
 ghost use Rattle.recording.specs.Recording.{Records};
-ghost use Rattle.recording.specs.Turns.{turns};
+ghost use Rattle.recording.specs.Turns.{Closing, turns};
 ghost use Rattle.hub_drive.specs.Replay.{IsStoryOf};
 ghost use Rattle.ctl_drive.specs.Replay.{WritesAll, closed_in};
 ghost use Rattle.law_recordings.specs.Cuts.{SameButCuts, WritesTheSame};
@@ -19,6 +21,11 @@ pub fn records_tell_one_story()
     ensures some { (conf : Configuration) (records : List Record) → (story : List Happening) × (story ≡ turns records (closed_in conf story)) }
     ensures one { (conf : Configuration) (records : List Record) (story other : List Happening)
         → story ≡ turns records (closed_in conf story) → other ≡ turns records (closed_in conf other) → story ≡ other }
+{}
+
+/// A record of a moment gives exactly one turn, which shows that moment, whatever the last moment was.
+pub fn a_record_of_a_moment_gives_one_turn()
+    ensures { (records : List Record) (r : Record) (closes : List Closing) → r.kind ≡ OfMoment → turns (records ++ r ∷ []) closes ≡ turns records closes ++ Moment r.moment ∷ [] }
 {}
 
 /// Of the stories of records that are the same but for where bytes are cut, the same is written.

@@ -1,0 +1,12 @@
+pub mod Among
+pub mod Apart
+pub mod Frames
+pub mod Heard
+pub mod Kept
+pub mod Less
+pub mod PacketHosts
+pub mod Reloaded
+pub mod SameAt
+pub mod Standing
+pub mod Turned
+pub mod Walks

@@ -1,0 +1,14 @@
+pub mod Behind
+pub mod Caused
+pub mod Each
+pub mod Ears
+pub mod Fixed
+pub mod Leads
+pub mod Lined
+pub mod Numbers
+pub mod Opened
+pub mod Packets
+pub mod Silences
+pub mod Speaking
+pub mod Tables
+pub mod Walk

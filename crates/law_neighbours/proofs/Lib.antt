@@ -1,0 +1,6 @@
+pub mod Answered
+pub mod Asked
+pub mod Outs
+pub mod Quietly
+pub mod Told
+pub mod Tried
