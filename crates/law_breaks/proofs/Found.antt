@@ -19,19 +19,24 @@ use Rattle.law_checks.proofs.Members.{IsIn, all_joined, some_of, of_mapped}
 use Rattle.law_documents.specs.Forms.{IsOwn}
 use Rattle.law_documents.proofs.Leads.{Reaches, onward, there, of_places}
 use Rattle.law_documents.proofs.Told.{each_of}
-use Rattle.law_breaks.specs.Found.{PathBreaks, PathsBreak, ByKey, StandsBefore, Repeats, IsItemOf}
+use Rattle.law_breaks.specs.Found.{PathBreaks, PathsBreak, ToldAs, ByKey, StandsBefore, Repeats, IsItemOf}
 
 -- ---- faults
 
 module _ (t : Tree) (Broken : List (List ℕ) → Tree → Type 0) where
-  pub found : (cause : ConfCause) (site : List (List ℕ)) → Reaches t site (Broken site) → PathBreaks t Broken (fault cause site)
+  pub told_if : (test : Bool) (cause : ConfCause) (site : List (List ℕ)) → (test ≡ true → Reaches t site (Broken site)) → PathsBreak t (ToldAs cause Broken) (fault_if test cause site)
+  told_if true cause site r = let f = r refl in ((site, refl, f.0, f.1, (refl, f.2)), tt)
+  told_if false cause site r = tt
+
+module _ (t : Tree) (Broken : ConfCause → List (List ℕ) → Tree → Type 0) where
+  pub found : (cause : ConfCause) (site : List (List ℕ)) → Reaches t site (Broken cause site) → PathBreaks t Broken (fault cause site)
   found cause site r = (site, refl, r.0, r.1, r.2)
 
-  pub found_if : (test : Bool) (cause : ConfCause) (site : List (List ℕ)) → (test ≡ true → Reaches t site (Broken site)) → PathsBreak t Broken (fault_if test cause site)
+  pub found_if : (test : Bool) (cause : ConfCause) (site : List (List ℕ)) → (test ≡ true → Reaches t site (Broken cause site)) → PathsBreak t Broken (fault_if test cause site)
   found_if true cause site r = (found cause site (r refl), tt)
   found_if false cause site r = tt
 
-  pub found_of : (cause : Option ConfCause) (site : List (List ℕ)) → ((c : ConfCause) → cause ≡ Some c → Reaches t site (Broken site)) → PathsBreak t Broken (fault_if_some cause site)
+  pub found_of : (cause : Option ConfCause) (site : List (List ℕ)) → ((c : ConfCause) → cause ≡ Some c → Reaches t site (Broken c site)) → PathsBreak t Broken (fault_if_some cause site)
   found_of None site r = tt
   found_of (Some cause) site r = (found cause site (r cause refl), tt)
 

@@ -3,3 +3,4 @@ mod Names
 mod Routing
 mod Limits
 mod Ports
+mod Causes

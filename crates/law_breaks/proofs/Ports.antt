@@ -45,9 +45,9 @@ use Rattle.law_documents.specs.Forms.{IsScalar}
 use Rattle.law_documents.proofs.Leads.{Reaches, onward, there, HasKey, given, in_list, in_key, in_option, in_several}
 use Rattle.law_documents.proofs.Parts.{IsPart, dp_leads, acl_leads}
 use Rattle.law_documents.proofs.Ports.{PortAt, actions_lead, field_leads}
-use Rattle.law_breaks.specs.Found.{PathBreaks, PathsBreak}
+use Rattle.law_breaks.specs.Found.{PathBreaks, PathsBreak, ToldAs}
 use Rattle.law_breaks.specs.Ports.{IsAttached, IsNoTarget, NamesNoTarget, LacksPrerequisite, IsOfInterface, IsNoMirrorable, IsUsed, IsWrongMirror, IsNoFarEnd, IsFree, IsWrongStack}
-use Rattle.law_breaks.proofs.Found.{found_if, found_of, each, both, contains, item_of, IsBelow, below_below, itself, each_below, option_below, several_below, each_interface, some_is}
+use Rattle.law_breaks.proofs.Found.{told_if, found_if, found_of, each, both, contains, item_of, IsBelow, below_below, itself, each_below, option_below, several_below, each_interface, some_is}
 
 -- ---- what the tests say
 
@@ -78,21 +78,21 @@ module _ (conf : Configuration) (d : Dp) where
           let p = and_parts (is_in name s.0.acls) (has_edge_member d s.0.vid) s.2 in
           inr (s.0, contains conf.vlans s.0 s.1, contains s.0.acls name (named_in s.0.acls name p.0), p.1)
 
-  no_target : (ref : PortRef) (c : ConfCause) → wrong_target ref d ≡ Some c → IsNoTarget d ref
+  no_target : (ref : PortRef) (c : ConfCause) → wrong_target ref d ≡ Some c → IsNoTarget c d ref
   no_target ref c is = by (port_named d ref) refl is
     where
-      of_port : (p : Port) → port_named d ref ≡ Some p → (b : Bool) → is_some p.stack ≡ b → (if b then Some (Conflict 8) else None) ≡ Some c → IsNoTarget d ref
-      of_port p here true end e = inr (p, here, end)
+      of_port : (p : Port) → port_named d ref ≡ Some p → (b : Bool) → is_some p.stack ≡ b → (if b then Some (Conflict 8) else None) ≡ Some c → IsNoTarget c d ref
+      of_port p here true end e = inr (sym (same_Some (Conflict 8) c e), (p, here, end))
       of_port p here false end e = absurd (none-some c e)
 
-      by : (r : Option Port) → port_named d ref ≡ r → option_map_or (λ p. if is_some p.stack then Some (Conflict 8) else None) r (Some Unresolved) ≡ Some c → IsNoTarget d ref
-      by None here e = inl here
+      by : (r : Option Port) → port_named d ref ≡ r → option_map_or (λ p. if is_some p.stack then Some (Conflict 8) else None) r (Some Unresolved) ≡ Some c → IsNoTarget c d ref
+      by None here e = inl (sym (same_Some Unresolved c e), here)
       by (Some p) here e = of_port p here (is_some p.stack) refl e
 
-  on_it : (name : List ℕ) (ref : PortRef) (c : ConfCause) → IsIn (wrong_on conf name ref d) c → IsAttached conf d name × IsNoTarget d ref
+  on_it : (name : List ℕ) (ref : PortRef) (c : ConfCause) → IsIn (wrong_on conf name ref d) c → IsAttached conf d name × IsNoTarget c d ref
   on_it name ref c i = by (is_attached conf d name) refl i
     where
-      by : (b : Bool) → is_attached conf d name ≡ b → IsIn (if b then to_list (wrong_target ref d) else []) c → IsAttached conf d name × IsNoTarget d ref
+      by : (b : Bool) → is_attached conf d name ≡ b → IsIn (if b then to_list (wrong_target ref d) else []) c → IsAttached conf d name × IsNoTarget c d ref
       by true is j = (attached name is, no_target ref c (some_is (wrong_target ref d) c j))
       by false is j = absurd j
 
@@ -164,11 +164,11 @@ module _ (t : Tree) (raw : RawConf) (says : Says t raw) where
 
     -- ---- rule 9
 
-    lacking : PathsBreak t (LacksPrerequisite o) (lacking_fields r)
-    lacking = each t (LacksPrerequisite o) (lacking_field r.0 (map (λ g. g.field) r.1.fields)) r.1.fields (λ f i.
+    lacking : PathsBreak t (ToldAs (Conflict 9) (LacksPrerequisite o)) (lacking_fields r)
+    lacking = each t (ToldAs (Conflict 9) (LacksPrerequisite o)) (lacking_field r.0 (map (λ g. g.field) r.1.fields)) r.1.fields (λ f i.
         let site = r.0 ++ codes "rule" ∷ f.key ∷ [] in
         let has = has_prerequisite f.field.id (map (λ (g : RawField). g.field) r.1.fields) in
-        found_if t (LacksPrerequisite o) (not has) (Conflict 9) site (λ is.
+        told_if t (LacksPrerequisite o) (not has) (Conflict 9) site (λ is.
         there t site (λ v. IsScalar (out-Tree v)) (LacksPrerequisite o site) (field_leads t r here f i) (λ u scalar. record {
           acl = a;
           is_acl = contains o.acls a c;
@@ -187,7 +187,7 @@ module _ (t : Tree) (raw : RawConf) (says : Says t raw) where
     target item at below = found_of t (NamesNoTarget o conf) (first (wrong_targets conf a.name item.1)) item.0 (λ cause is.
         let m = of_flat (wrong_on conf a.name item.1) conf.dps cause (first_in (wrong_targets conf a.name item.1) cause is) in
         let on = on_it conf m.0 a.name item.1 cause m.2 in
-        there t item.0 (λ v. PortAt v item.1) (NamesNoTarget o conf item.0) at (λ u names. record {
+        there t item.0 (λ v. PortAt v item.1) (NamesNoTarget o conf cause item.0) at (λ u names. record {
           acl = a;
           is_acl = contains o.acls a c;
           below = below.0;
@@ -236,8 +236,8 @@ module _ (t : Tree) (raw : RawConf) (says : Says t raw) where
   pub rule8 : PathsBreak t (NamesNoTarget (ordered raw) (resolved (ordered raw))) (wrong_acl_ports (ordered raw) (resolved (ordered raw)))
   rule8 = each t (NamesNoTarget o conf) (wrong_acl conf) o.acls (λ a c. each t (NamesNoTarget o conf) (wrong_rule conf a) (rules_at a) (wrong a c))
 
-  pub rule9 : PathsBreak t (LacksPrerequisite (ordered raw)) (lacking_rules (ordered raw))
-  rule9 = each t (LacksPrerequisite o) lacking_of_acl o.acls (λ a c. each t (LacksPrerequisite o) lacking_fields (rules_at a) (lacking a c))
+  pub rule9 : PathsBreak t (ToldAs (Conflict 9) (LacksPrerequisite (ordered raw))) (lacking_rules (ordered raw))
+  rule9 = each t (ToldAs (Conflict 9) (LacksPrerequisite o)) lacking_of_acl o.acls (λ a c. each t (ToldAs (Conflict 9) (LacksPrerequisite o)) lacking_fields (rules_at a) (lacking a c))
 
   -- ---- rules 10 and 11
 
@@ -259,23 +259,24 @@ module _ (t : Tree) (raw : RawConf) (says : Says t raw) where
     mirror : Reaches t (port_site d p) (HasKey (codes "mirror") (p.mirror ≡ several.List []) (λ v. IsOneOrList PortAt v p.mirror))
     mirror = there t (port_site d p) (IsPart PortSays p) (HasKey (codes "mirror") (p.mirror ≡ several.List []) (λ v. IsOneOrList PortAt v p.mirror)) part (λ u h. (h.1.0, h.1.1, h.1.2.mirror))
 
-    abbrev Wrong : PortRef → Type 0
-    Wrong ref = (number_named d ref ≡ None) ⊎ ((number : ℕ) × (number_named d ref ≡ Some number) × IsNoMirrorable (dp_of (ordered raw) d) (port_of (ordered raw) d p) number)
+    abbrev Wrong : ConfCause → PortRef → Type 0
+    Wrong cause ref = ((cause ≡ Unresolved) × (number_named d ref ≡ None))
+        ⊎ ((cause ≡ Conflict 10) × ((number : ℕ) × (number_named d ref ≡ Some number) × IsNoMirrorable (dp_of (ordered raw) d) (port_of (ordered raw) d p) number))
 
-    wrong_mirrored_is : (ref : PortRef) (cause : ConfCause) → mirrored_cause d (dp_of (ordered raw) d) (port_of (ordered raw) d p) ref ≡ Some cause → Wrong ref
+    wrong_mirrored_is : (ref : PortRef) (cause : ConfCause) → mirrored_cause d (dp_of (ordered raw) d) (port_of (ordered raw) d p) ref ≡ Some cause → Wrong cause ref
     wrong_mirrored_is ref cause is = by (number_named d ref) refl is
       where
-        of_number : (n : ℕ) → number_named d ref ≡ Some n → (b : Bool) → is_mirrorable (dp_of (ordered raw) d) (port_of (ordered raw) d p) n ≡ b → (if b then None else Some (Conflict 10)) ≡ Some cause → Wrong ref
+        of_number : (n : ℕ) → number_named d ref ≡ Some n → (b : Bool) → is_mirrorable (dp_of (ordered raw) d) (port_of (ordered raw) d p) n ≡ b → (if b then None else Some (Conflict 10)) ≡ Some cause → Wrong cause ref
         of_number n stands true may e = absurd (none-some cause e)
-        of_number n stands false may e = inr (n, stands, no_mirrorable (dp_of o d) port n may)
+        of_number n stands false may e = inr (sym (same_Some (Conflict 10) cause e), (n, stands, no_mirrorable (dp_of o d) port n may))
 
-        by : (r : Option ℕ) → number_named d ref ≡ r → option_map_or (λ number. if is_mirrorable (dp_of (ordered raw) d) (port_of (ordered raw) d p) number then None else Some (Conflict 10)) r (Some Unresolved) ≡ Some cause → Wrong ref
-        by None stands e = inl stands
+        by : (r : Option ℕ) → number_named d ref ≡ r → option_map_or (λ number. if is_mirrorable (dp_of (ordered raw) d) (port_of (ordered raw) d p) number then None else Some (Conflict 10)) r (Some Unresolved) ≡ Some cause → Wrong cause ref
+        by None stands e = inl (sym (same_Some Unresolved cause e), stands)
         by (Some n) stands e = of_number n stands (is_mirrorable (dp_of o d) port n) refl e
 
     mirrored : (item : List (List ℕ) × PortRef) → IsIn (items_at (under (port_site d p) (codes "mirror")) p.mirror) item → PathsBreak t (IsWrongMirror o) (wrong_mirrored (at o d p) item)
     mirrored item i = found_of t (IsWrongMirror o) (mirrored_cause d (dp_of o d) port item.1) item.0 (λ cause is.
-        there t item.0 (λ v. PortAt v item.1) (IsWrongMirror o item.0) (in_several t (port_site d p) (codes "mirror") PortAt p.mirror mirror item i) (λ u names. inl (record {
+        there t item.0 (λ v. PortAt v item.1) (IsWrongMirror o cause item.0) (in_several t (port_site d p) (codes "mirror") PortAt p.mirror mirror item i) (λ u names. inl (record {
           at = of_interface (codes "mirror") item.0 (several_below mirrors_at p.mirror item i);
           ref = item.1;
           is_item = contains (items_of p.mirror) item.1 (is_value (items_at mirrors_at p.mirror) (items_of p.mirror) (values_of mirrors_at p.mirror) item i);
@@ -293,30 +294,34 @@ module _ (t : Tree) (raw : RawConf) (says : Says t raw) where
         (each t (IsWrongMirror o) (wrong_mirrored (at o d p)) (items_at mirrors_at p.mirror) mirrored)
         (found_if t (IsWrongMirror o) (not (length port.mirror == 0) && is_used port) (Conflict 10) mirrors_at (λ is.
         let q = and_parts (not (length port.mirror == 0)) (is_used port) is in
-        onward t (port_site d p) (HasKey (codes "mirror") (p.mirror ≡ several.List []) (λ v. IsOneOrList PortAt v p.mirror)) (codes "mirror" ∷ []) (IsWrongMirror o mirrors_at) mirror (λ u h.
-        there u (codes "mirror" ∷ []) (λ v. IsOneOrList PortAt v p.mirror) (IsWrongMirror o mirrors_at) (given u (codes "mirror") (λ v. IsOneOrList PortAt v p.mirror) (p.mirror ≡ several.List []) h (mirrors_some q.0)) (λ v m. inr (record {
-          at = of_interface (codes "mirror") mirrors_at (itself mirrors_at);
-          mirrors = not_nil port.mirror q.0;
-          used = used port q.1;
-        })))))
+        onward t (port_site d p) (HasKey (codes "mirror") (p.mirror ≡ several.List []) (λ v. IsOneOrList PortAt v p.mirror)) (codes "mirror" ∷ []) (IsWrongMirror o (Conflict 10) mirrors_at) mirror (λ u h.
+        there u (codes "mirror" ∷ []) (λ v. IsOneOrList PortAt v p.mirror) (IsWrongMirror o (Conflict 10) mirrors_at) (given u (codes "mirror") (λ v. IsOneOrList PortAt v p.mirror) (p.mirror ≡ several.List []) h (mirrors_some q.0)) (λ v m. inr (
+          refl,
+          record {
+            at = of_interface (codes "mirror") mirrors_at (itself mirrors_at);
+            mirrors = not_nil port.mirror q.0;
+            used = used port q.1;
+          },
+        )))))
 
     -- ---- rule 11
 
     abbrev stack_at : List (List ℕ)
     stack_at = under (port_site d p) (codes "stack")
 
-    abbrev NoEnd : RawStackEnd → Type 0
-    NoEnd end = (far_end (ordered raw).dps end ≡ None) ⊎ ((far : StackEnd) × (far_end (ordered raw).dps end ≡ Some far) × (IsNoFarEnd (resolved (ordered raw)) (dp_of (ordered raw) d) (port_of (ordered raw) d p) far ⊎ (IsFree (port_of (ordered raw) d p) → ⊥)))
+    abbrev NoEnd : ConfCause → RawStackEnd → Type 0
+    NoEnd cause end = ((cause ≡ Unresolved) × (far_end (ordered raw).dps end ≡ None))
+        ⊎ ((cause ≡ Conflict 11) × ((far : StackEnd) × (far_end (ordered raw).dps end ≡ Some far) × (IsNoFarEnd (resolved (ordered raw)) (dp_of (ordered raw) d) (port_of (ordered raw) d p) far ⊎ (IsFree (port_of (ordered raw) d p) → ⊥))))
 
-    wrong_end_is : (end : RawStackEnd) (cause : ConfCause) → stack_cause (ordered raw) (resolved (ordered raw)) (dp_of (ordered raw) d) (port_of (ordered raw) d p) end ≡ Some cause → NoEnd end
+    wrong_end_is : (end : RawStackEnd) (cause : ConfCause) → stack_cause (ordered raw) (resolved (ordered raw)) (dp_of (ordered raw) d) (port_of (ordered raw) d p) end ≡ Some cause → NoEnd cause end
     wrong_end_is end cause is = by (far_end (ordered raw).dps end) refl is
       where
-        of_far : (far : StackEnd) → far_end (ordered raw).dps end ≡ Some far → (b : Bool) → is_right_end (resolved (ordered raw)) (dp_of (ordered raw) d) (port_of (ordered raw) d p) far ≡ b → (if b then None else Some (Conflict 11)) ≡ Some cause → NoEnd end
+        of_far : (far : StackEnd) → far_end (ordered raw).dps end ≡ Some far → (b : Bool) → is_right_end (resolved (ordered raw)) (dp_of (ordered raw) d) (port_of (ordered raw) d p) far ≡ b → (if b then None else Some (Conflict 11)) ≡ Some cause → NoEnd cause end
         of_far far stands true right e = absurd (none-some cause e)
-        of_far far stands false right e = inr (far, stands, no_far_end conf (dp_of o d) port far right)
+        of_far far stands false right e = inr (sym (same_Some (Conflict 11) cause e), (far, stands, no_far_end conf (dp_of o d) port far right))
 
-        by : (r : Option StackEnd) → far_end (ordered raw).dps end ≡ r → option_map_or (λ far. if is_right_end (resolved (ordered raw)) (dp_of (ordered raw) d) (port_of (ordered raw) d p) far then None else Some (Conflict 11)) r (Some Unresolved) ≡ Some cause → NoEnd end
-        by None stands e = inl stands
+        by : (r : Option StackEnd) → far_end (ordered raw).dps end ≡ r → option_map_or (λ far. if is_right_end (resolved (ordered raw)) (dp_of (ordered raw) d) (port_of (ordered raw) d p) far then None else Some (Conflict 11)) r (Some Unresolved) ≡ Some cause → NoEnd cause end
+        by None stands e = inl (sym (same_Some Unresolved cause e), stands)
         by (Some far) stands e = of_far far stands (is_right_end conf (dp_of o d) port far) refl e
 
     stack : (end : RawStackEnd) → p.stack ≡ Some end → Reaches t (under (port_site d p) (codes "stack")) (λ v. IsMap StackEndSays v end)
@@ -329,7 +334,7 @@ module _ (t : Tree) (raw : RawConf) (says : Says t raw) where
     stacks = each t (IsWrongStack o conf) (λ end. fault_if_some (stack_cause o conf (dp_of o d) port end) stack_at) (to_list p.stack) (λ end i.
         let is = some_is p.stack end i in
         found_of t (IsWrongStack o conf) (stack_cause o conf (dp_of o d) port end) stack_at (λ cause wrong.
-        there t stack_at (λ v. IsMap StackEndSays v end) (IsWrongStack o conf stack_at) (stack end is) (λ u says. record {
+        there t stack_at (λ v. IsMap StackEndSays v end) (IsWrongStack o conf cause stack_at) (stack end is) (λ u says. record {
           at = of_interface (codes "stack") stack_at (itself stack_at);
           end = end;
           stack = is;

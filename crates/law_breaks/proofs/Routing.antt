@@ -32,9 +32,9 @@ use Rattle.law_documents.proofs.Leads.{Reaches, onward, there, needed, behind_ea
 use Rattle.law_documents.proofs.Parts.{router_leads}
 use Rattle.law_documents.proofs.Routing.{of_zip_behind, route_leads, vip_at, route_at}
 use Rattle.law_documents.proofs.Vlans.{VlanAt, routed_leads}
-use Rattle.law_breaks.specs.Found.{PathsBreak}
+use Rattle.law_breaks.specs.Found.{PathsBreak, ToldAs}
 use Rattle.law_breaks.specs.Routing.{AreRouted, Meets, Overlap, OverlapsVip, RoutesAgain, IsOfRoute, IsWrongRoute, RepeatsRoute}
-use Rattle.law_breaks.proofs.Found.{found_if, each, both, contains, split, split_zip, before_it, item_of, some_is}
+use Rattle.law_breaks.proofs.Found.{told_if, each, both, contains, split, split_zip, before_it, item_of, some_is}
 
 -- ---- what the tests say
 
@@ -115,15 +115,15 @@ module _ (t : Tree) (raw : RawConf) (says : Says t raw) where
 
   -- ---- rule 12
 
-  pub rule12 : PathsBreak t (OverlapsVip (ordered raw) (resolved (ordered raw))) (overlapping_vips (ordered raw) (resolved (ordered raw)))
-  rule12 = each t (OverlapsVip o its_conf) (overlapping_of_vlan its_conf) (vlans_behind o its_conf) (λ v i.
+  pub rule12 : PathsBreak t (ToldAs (Conflict 12) (OverlapsVip (ordered raw) (resolved (ordered raw)))) (overlapping_vips (ordered raw) (resolved (ordered raw)))
+  rule12 = each t (ToldAs (Conflict 12) (OverlapsVip o its_conf)) (overlapping_of_vlan its_conf) (vlans_behind o its_conf) (λ v i.
       let z = of_zip_behind (λ (v : PlacedVlan). vlan_of v.vlan) [] o.vlans v i in
       let site = under v.0.site (codes "faucet_vips") in
-      each t (OverlapsVip o its_conf) (overlapping_vip its_conf v.1) (each_at site (with_earlier [] v.1.1.vips)) (λ vip j.
+      each t (ToldAs (Conflict 12) (OverlapsVip o its_conf)) (overlapping_vip its_conf v.1) (each_at site (with_earlier [] v.1.1.vips)) (λ vip j.
       let here : IsIn (each_at site (with_earlier [] v.0.vlan.vips)) vip = subst (λ (w : Vlan). IsIn (each_at site (with_earlier [] w.vips)) vip) (sym z.1) j in
       let it : List (List ℕ) × Net4 = (vip.0, vip.1.1) in
       let among = behind_earlier site [] v.0.vlan.vips vip here in
-      found_if t (OverlapsVip o its_conf) (overlaps_earlier its_conf v.1 vip.1) (Conflict 12) vip.0 (λ is.
+      told_if t (OverlapsVip o its_conf) (overlaps_earlier its_conf v.1 vip.1) (Conflict 12) vip.0 (λ is.
       there t vip.0 (λ w. IsNetwork w vip.1.1) (OverlapsVip o its_conf vip.0) (vip_at t raw says v.0 z.0 it among) (λ u spelled. record {
         placed = v.0;
         is_vlan = contains o.vlans v.0 z.0;
@@ -135,13 +135,13 @@ module _ (t : Tree) (raw : RawConf) (says : Says t raw) where
 
   -- ---- rule 13
 
-  pub rule13 : PathsBreak t (RoutesAgain (ordered raw)) (shared_vlans (ordered raw) (resolved (ordered raw)))
-  rule13 = each t (RoutesAgain o) (shared_of_router o) (zip o.routers (with_earlier [] its_conf.routers)) (λ r i.
+  pub rule13 : PathsBreak t (ToldAs (Conflict 13) (RoutesAgain (ordered raw))) (shared_vlans (ordered raw) (resolved (ordered raw)))
+  rule13 = each t (ToldAs (Conflict 13) (RoutesAgain o)) (shared_of_router o) (zip o.routers (with_earlier [] its_conf.routers)) (λ r i.
       let z = of_zip_behind (router_of o) [] o.routers r i in
       let s = split_zip (router_of o) [] o.routers r i in
-      each t (RoutesAgain o) (routed_twice o r.1.0) (routed_at r.0) (λ item j.
-      each t (RoutesAgain o) (λ vid. fault_if (list_any (is_in_router vid) r.1.0) (Conflict 13) item.0) (to_list (vid_of o.vlans item.1)) (λ vid k.
-      found_if t (RoutesAgain o) (list_any (is_in_router vid) r.1.0) (Conflict 13) item.0 (λ is.
+      each t (ToldAs (Conflict 13) (RoutesAgain o)) (routed_twice o r.1.0) (routed_at r.0) (λ item j.
+      each t (ToldAs (Conflict 13) (RoutesAgain o)) (λ vid. fault_if (list_any (is_in_router vid) r.1.0) (Conflict 13) item.0) (to_list (vid_of o.vlans item.1)) (λ vid k.
+      told_if t (RoutesAgain o) (list_any (is_in_router vid) r.1.0) (Conflict 13) item.0 (λ is.
       let e = some_of (is_in_router vid) r.1.0 is in
       let m = of_mapped (router_of o) s.0 e.0 (subst (λ (l : List Router). IsIn l e.0) (sym s.3) e.1) in
       let named = of_kept (vid_of o.vlans) m.0.vlans vid (of_once _ vid (is_one_of (router_of o m.0).vlans vid (ap (λ (w : Router). is_among w.vlans vid) m.2 ∙ e.2))) in
@@ -172,12 +172,12 @@ module _ (t : Tree) (raw : RawConf) (says : Says t raw) where
     gw_found : Reaches t (route_site r.0 (codes "ip_gw")) (λ w. IsAddress w r.1.gw)
     gw_found = onward t (under r.0 (codes "route")) (λ u. IsMap RouteSays u r.1) (codes "ip_gw" ∷ []) (λ w. IsAddress w r.1.gw) at_route (λ u m. needed u (codes "ip_gw") (λ w. IsAddress w r.1.gw) m.0 m.1 m.2.gw)
 
-    wrong : PathsBreak t (IsWrongRoute o its_conf) (wrong_route its_conf (vlan_of v.vlan) r)
+    wrong : PathsBreak t (ToldAs (Conflict 14) (IsWrongRoute o its_conf)) (wrong_route its_conf (vlan_of v.vlan) r)
     wrong =
-        both t (IsWrongRoute o its_conf)
+        both t (ToldAs (Conflict 14) (IsWrongRoute o its_conf))
         (fault_if (leads_inside its_conf v.vlan.vid r.1.dst) (Conflict 14) (route_site r.0 (codes "ip_dst")))
         (fault_if (not (is_neighbour_address v.vlan.vips r.1.gw.0)) (Conflict 14) (route_site r.0 (codes "ip_gw")))
-        (found_if t (IsWrongRoute o its_conf) (leads_inside its_conf v.vlan.vid r.1.dst) (Conflict 14) (route_site r.0 (codes "ip_dst")) (λ is.
+        (told_if t (IsWrongRoute o its_conf) (leads_inside its_conf v.vlan.vid r.1.dst) (Conflict 14) (route_site r.0 (codes "ip_dst")) (λ is.
         let s = some_of (lies_in r.1.dst) (vips_in its_conf (routing_set its_conf v.vlan.vid)) is in
         there t (route_site r.0 (codes "ip_dst")) (λ w. IsNetwork w r.1.dst) (IsWrongRoute o its_conf (route_site r.0 (codes "ip_dst"))) dst_found (λ u spelled. inl (record {
           at = of_route (codes "ip_dst");
@@ -186,30 +186,30 @@ module _ (t : Tree) (raw : RawConf) (says : Says t raw) where
           is_vip = contains (vips_in its_conf (routing_set its_conf v.vlan.vid)) s.0 s.1;
           inside = inside r.1.dst s.0 s.2;
         }))))
-        (found_if t (IsWrongRoute o its_conf) (not (is_neighbour_address v.vlan.vips r.1.gw.0)) (Conflict 14) (route_site r.0 (codes "ip_gw")) (λ is.
+        (told_if t (IsWrongRoute o its_conf) (not (is_neighbour_address v.vlan.vips r.1.gw.0)) (Conflict 14) (route_site r.0 (codes "ip_gw")) (λ is.
         there t (route_site r.0 (codes "ip_gw")) (λ w. IsAddress w r.1.gw) (IsWrongRoute o its_conf (route_site r.0 (codes "ip_gw"))) gw_found (λ u spelled. inr (record {
           at = of_route (codes "ip_gw");
           spelled = spelled;
           no_neighbour = not-true (is_neighbour_address v.vlan.vips r.1.gw.0) is;
         }))))
 
-  pub rule14 : PathsBreak t (IsWrongRoute (ordered raw) (resolved (ordered raw))) (wrong_routes (ordered raw) (resolved (ordered raw)))
-  rule14 = each t (IsWrongRoute o its_conf) (wrong_routes_of its_conf) (vlans_of o its_conf) (λ v i.
+  pub rule14 : PathsBreak t (ToldAs (Conflict 14) (IsWrongRoute (ordered raw) (resolved (ordered raw)))) (wrong_routes (ordered raw) (resolved (ordered raw)))
+  rule14 = each t (ToldAs (Conflict 14) (IsWrongRoute o its_conf)) (wrong_routes_of its_conf) (vlans_of o its_conf) (λ v i.
       let z = of_zipped (λ (v : PlacedVlan). vlan_of v.vlan) o.vlans v i in
-      each t (IsWrongRoute o its_conf) (wrong_route its_conf v.1) (each_at (under v.0.site (codes "routes")) v.1.routes) (λ r j.
-      subst (λ (w : Vlan). PathsBreak t (IsWrongRoute o its_conf) (wrong_route its_conf w r)) z.1
+      each t (ToldAs (Conflict 14) (IsWrongRoute o its_conf)) (wrong_route its_conf v.1) (each_at (under v.0.site (codes "routes")) v.1.routes) (λ r j.
+      subst (λ (w : Vlan). PathsBreak t (ToldAs (Conflict 14) (IsWrongRoute o its_conf)) (wrong_route its_conf w r)) z.1
       (wrong v.0 z.0 r (subst (λ (w : Vlan). IsIn (each_at (under v.0.site (codes "routes")) w.routes) r) (sym z.1) j))))
 
-  pub rule15 : PathsBreak t (RepeatsRoute (ordered raw) (resolved (ordered raw))) (repeated_routes (ordered raw) (resolved (ordered raw)))
-  rule15 = each t (RepeatsRoute o its_conf) (repeated_of_vlan its_conf) (vlans_behind o its_conf) (λ v i.
+  pub rule15 : PathsBreak t (ToldAs Duplicate (RepeatsRoute (ordered raw) (resolved (ordered raw)))) (repeated_routes (ordered raw) (resolved (ordered raw)))
+  rule15 = each t (ToldAs Duplicate (RepeatsRoute o its_conf)) (repeated_of_vlan its_conf) (vlans_behind o its_conf) (λ v i.
       let z = of_zip_behind (λ (v : PlacedVlan). vlan_of v.vlan) [] o.vlans v i in
       let site = under v.0.site (codes "routes") in
-      each t (RepeatsRoute o its_conf) (repeated_route its_conf v.1) (each_at site (with_earlier [] v.1.1.routes)) (λ r j.
+      each t (ToldAs Duplicate (RepeatsRoute o its_conf)) (repeated_route its_conf v.1) (each_at site (with_earlier [] v.1.1.routes)) (λ r j.
       let here : IsIn (each_at site (with_earlier [] v.0.vlan.routes)) r = subst (λ (w : Vlan). IsIn (each_at site (with_earlier [] w.routes)) r) (sym z.1) j in
       let it : List (List ℕ) × Route = (r.0, r.1.1) in
       let among = behind_earlier site [] v.0.vlan.routes r here in
       let path = route_site r.0 (codes "ip_dst") in
-      found_if t (RepeatsRoute o its_conf) (repeats_earlier its_conf v.1 r.1) Duplicate path (λ is.
+      told_if t (RepeatsRoute o its_conf) (repeats_earlier its_conf v.1 r.1) Duplicate path (λ is.
       there t path (λ w. IsNetwork w r.1.1.dst) (RepeatsRoute o its_conf path) (dst_found v.0 z.0 it among) (λ u spelled. record {
         at = of_route v.0 z.0 it among (codes "ip_dst");
         spelled = spelled;

@@ -2,18 +2,27 @@
 use Rattle.std.specs.Prelude.{◌≡◌, ℕ, Bool, true, false, List, ◌∷◌, ◌++◌, Some, slice_get}
 use Rattle.std.specs.List.{AllByRecursion}
 use Rattle.yaml_tree.specs.declared.tree.Tree.{Tree, out-Tree}
+use Rattle.conf_shape.specs.declared.refused.ConfCause.{ConfCause}
 use Rattle.conf_shape.specs.declared.refused.ConfFault.{ConfFault}
 use Rattle.conf_shape.specs.Faults.{path_of}
 use Rattle.conf_rules.specs.Places.{nth}
 use Rattle.law_documents.specs.Forms.{IsOwn}
 use Rattle.law_documents.specs.Leads.{LeadsTo}
 
--- the path of the fault is one of steps that lead to a value, and the two break a rule
-abbrev pub PathBreaks : Tree → (List (List ℕ) → Tree → Type 0) → ConfFault → Type 0
-PathBreaks t Broken fault = (steps : List (List ℕ)) × (fault.path ≡ path_of steps) × (v : Tree) × LeadsTo t steps v × Broken steps v
+-- the path of the fault is one of steps that lead to a value, and the two break a rule, with the fault's cause
+abbrev pub PathBreaks : Tree → (ConfCause → List (List ℕ) → Tree → Type 0) → ConfFault → Type 0
+PathBreaks t Broken fault = (steps : List (List ℕ)) × (fault.path ≡ path_of steps) × (v : Tree) × LeadsTo t steps v × Broken fault.cause steps v
 
-abbrev pub PathsBreak : Tree → (List (List ℕ) → Tree → Type 0) → List ConfFault → Type 0
+abbrev pub PathsBreak : Tree → (ConfCause → List (List ℕ) → Tree → Type 0) → List ConfFault → Type 0
 PathsBreak t Broken faults = AllByRecursion (PathBreaks t Broken) faults
+
+-- they break it, which has this cause alone
+abbrev pub ToldAs : ConfCause → (List (List ℕ) → Tree → Type 0) → ConfCause → List (List ℕ) → Tree → Type 0
+ToldAs cause Broken told steps v = (told ≡ cause) × Broken steps v
+
+-- each fault has this cause
+abbrev pub AreToldAs : ConfCause → List ConfFault → Type 0
+AreToldAs cause faults = AllByRecursion (λ fault. fault.cause ≡ cause) faults
 
 -- what stands under the key, where it is given; and else the part itself, or a number that names it
 abbrev pub ByKey : Bool → (Tree → Type 0) → Tree → Type 0

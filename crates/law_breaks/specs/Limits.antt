@@ -86,7 +86,7 @@ IsAbove o conf limit.RouteItems steps = AreAbove whole_vlans steps 32768 (sum_by
 pub record PassesLimit (t : Tree) (o : OrderedConf) (conf : Configuration) (fault : ConfFault) : Type 0 where
   pub name : LimitName
   pub cause : fault.cause ≡ TooMany name
-  pub breaks : PathBreaks t (λ steps v. IsAbove o conf name steps) fault
+  pub breaks : PathBreaks t (λ cause steps v. IsAbove o conf name steps) fault
 
 -- or there are too many VLANs, of which none is written
 pub record NamesTooMany (t : Tree) (conf : Configuration) (fault : ConfFault) : Type 0 where

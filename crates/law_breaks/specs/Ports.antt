@@ -18,6 +18,8 @@ use Rattle.conf_shape.specs.declared.raw.RawField.{RawField}
 use Rattle.conf_shape.specs.declared.raw.RawPort.{RawPort}
 use Rattle.conf_shape.specs.declared.raw.RawRule.{RawRule}
 use Rattle.conf_shape.specs.declared.raw.RawStackEnd.{RawStackEnd}
+use Rattle.conf_shape.specs.declared.refused.ConfCause.{ConfCause}
+use Rattle.conf_shape.specs.declared.refused.ConfCause.TheVariants.{Unresolved, Conflict}
 use Rattle.conf_resolve.specs.declared.ordered.OrderedConf.{OrderedConf}
 use Rattle.conf_resolve.specs.InOrder.{port_site}
 use Rattle.conf_resolve.specs.Resolved.{number_named, far_end, dp_of, port_of, items_of}
@@ -35,11 +37,11 @@ IsAttached conf d name =
     ⊎ ((v : Vlan) × Contains conf.vlans v × Contains v.acls name × (has_edge_member d v.vid ≡ true))
 
 -- no interface of the datapath has the name, or one that is an end of a stack link
-abbrev pub IsNoTarget : Dp → PortRef → Type 0
-IsNoTarget d ref = (port_named d ref ≡ None) ⊎ ((p : Port) × (port_named d ref ≡ Some p) × (is_some p.stack ≡ true))
+abbrev pub IsNoTarget : ConfCause → Dp → PortRef → Type 0
+IsNoTarget cause d ref = ((cause ≡ Unresolved) × (port_named d ref ≡ None)) ⊎ ((cause ≡ Conflict 8) × ((p : Port) × (port_named d ref ≡ Some p) × (is_some p.stack ≡ true)))
 
 -- an ACL names a port that isn't there on a datapath where it is attached
-pub record NamesNoTarget (o : OrderedConf) (conf : Configuration) (steps : List (List ℕ)) (v : Tree) : Type 0 where
+pub record NamesNoTarget (o : OrderedConf) (conf : Configuration) (cause : ConfCause) (steps : List (List ℕ)) (v : Tree) : Type 0 where
   pub acl : RawAcl
   pub is_acl : Contains o.acls acl
   pub below : List (List ℕ)
@@ -49,7 +51,7 @@ pub record NamesNoTarget (o : OrderedConf) (conf : Configuration) (steps : List 
   pub dp : Dp
   pub is_dp : Contains conf.dps dp
   pub attached : IsAttached conf dp acl.name
-  pub wrong : IsNoTarget dp ref
+  pub wrong : IsNoTarget cause dp ref
 
 -- ---- rule 9
 
@@ -81,12 +83,13 @@ abbrev pub IsNoMirrorable : Dp → Port → ℕ → Type 0
 IsNoMirrorable d p number = (number ≡ p.no) ⊎ (option_map_or is_edge (port_with d.ports number) false ≡ false)
 
 -- rule 10: what is mirrored is no interface of the datapath, or may not be mirrored
-pub record MirrorsNone (o : OrderedConf) (steps : List (List ℕ)) (v : Tree) : Type 0 where
+pub record MirrorsNone (o : OrderedConf) (cause : ConfCause) (steps : List (List ℕ)) (v : Tree) : Type 0 where
   pub at : IsOfInterface o (codes "mirror") steps
   pub ref : PortRef
   pub is_item : Contains (items_of at.port.mirror) ref
   pub names : IsPortOf (out-Tree v) ref
-  pub wrong : (number_named at.dp ref ≡ None) ⊎ ((number : ℕ) × (number_named at.dp ref ≡ Some number) × IsNoMirrorable (dp_of o at.dp) (port_of o at.dp at.port) number)
+  pub wrong : ((cause ≡ Unresolved) × (number_named at.dp ref ≡ None))
+      ⊎ ((cause ≡ Conflict 10) × ((number : ℕ) × (number_named at.dp ref ≡ Some number) × IsNoMirrorable (dp_of o at.dp) (port_of o at.dp at.port) number))
 
 -- it has a VLAN, an ACL or a stack link
 abbrev pub IsUsed : Port → Type 0
@@ -98,8 +101,8 @@ pub record MirrorIsUsed (o : OrderedConf) (steps : List (List ℕ)) : Type 0 whe
   pub mirrors : (port_of o at.dp at.port).mirror ≡ [] → ⊥
   pub used : IsUsed (port_of o at.dp at.port)
 
-abbrev pub IsWrongMirror : OrderedConf → List (List ℕ) → Tree → Type 0
-IsWrongMirror o steps v = MirrorsNone o steps v ⊎ MirrorIsUsed o steps
+abbrev pub IsWrongMirror : OrderedConf → ConfCause → List (List ℕ) → Tree → Type 0
+IsWrongMirror o cause steps v = MirrorsNone o cause steps v ⊎ ((cause ≡ Conflict 10) × MirrorIsUsed o steps)
 
 -- ---- rule 11
 
@@ -120,10 +123,10 @@ pub record IsFree (p : Port) : Type 0 where
   pub no_permanent_learn : p.permanent_learn ≡ false
 
 -- what is named as the far end of a stack link is none, or the near one isn't free
-pub record IsWrongStack (o : OrderedConf) (conf : Configuration) (steps : List (List ℕ)) (v : Tree) : Type 0 where
+pub record IsWrongStack (o : OrderedConf) (conf : Configuration) (cause : ConfCause) (steps : List (List ℕ)) (v : Tree) : Type 0 where
   pub at : IsOfInterface o (codes "stack") steps
   pub end : RawStackEnd
   pub stack : at.port.stack ≡ Some end
   pub says : IsMap StackEndSays v end
-  pub wrong : (far_end o.dps end ≡ None)
-      ⊎ ((far : StackEnd) × (far_end o.dps end ≡ Some far) × (IsNoFarEnd conf (dp_of o at.dp) (port_of o at.dp at.port) far ⊎ (IsFree (port_of o at.dp at.port) → ⊥)))
+  pub wrong : ((cause ≡ Unresolved) × (far_end o.dps end ≡ None))
+      ⊎ ((cause ≡ Conflict 11) × ((far : StackEnd) × (far_end o.dps end ≡ Some far) × (IsNoFarEnd conf (dp_of o at.dp) (port_of o at.dp at.port) far ⊎ (IsFree (port_of o at.dp at.port) → ⊥))))

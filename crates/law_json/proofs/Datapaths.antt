@@ -18,7 +18,7 @@ use Rattle.law_json.proofs.Values.{IsValue, flag_value, number_value, quoted_val
 
 -- ---- interfaces
 
-ports_are : (conf : Configuration) → IsValid conf → (d : Dp) → IsIn d conf.dps → AreMembers (λ (m n : ℕ). m < n) (λ (p : Port). p.no) (port_member conf) (PortIsShown conf) d.ports
+pub ports_are : (conf : Configuration) → IsValid conf → (d : Dp) → IsIn d conf.dps → AreMembers (λ (m n : ℕ). m < n) (λ (p : Port). p.no) (port_member conf) (PortIsShown conf) d.ports
 ports_are conf valid d in_dps =
     let datapath = in_all (IsDatapath conf) conf.dps valid.datapaths.each d in_dps in
     let known = all_in (PortIsShown conf) d.ports (λ p at. port_shown conf valid d in_dps p at) in

@@ -7,3 +7,4 @@ pub mod Ports
 pub mod Datapaths
 pub mod Vlans
 pub mod Whole
+pub mod Named

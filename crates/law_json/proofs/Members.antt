@@ -81,7 +81,7 @@ old_in (n ∷ ns) m x apart at = old_put n ns m x (slice_cmp nat_cmp m.0 n.0) re
 
 -- ---- all members
 
-of_fold : (ms so_far : List Member) (x : Member) → IsIn x (fold with_member so_far ms) → IsIn x so_far ⊎ IsIn x ms
+pub of_fold : (ms so_far : List Member) (x : Member) → IsIn x (fold with_member so_far ms) → IsIn x so_far ⊎ IsIn x ms
 of_fold [] so_far x at = inl at
 of_fold (m ∷ ms) so_far x at = elim (of_fold ms (with_member so_far m) x at) [
   | inl at ↦ elim (of_with so_far m x at) [ inl here ↦ inr (inl here) | inr at ↦ inl at ]
@@ -96,7 +96,7 @@ stays (m ∷ ms) so_far x apart at = stays ms (with_member so_far m) x apart.1 (
 abbrev pub HaveOwnNames : List Member → Type 0
 HaveOwnNames ms = EachBefore (λ m n. m.0 ≢ n.0) ms
 
-in_fold : (ms so_far : List Member) (x : Member) → HaveOwnNames ms → IsIn x ms → IsIn x (fold with_member so_far ms)
+pub in_fold : (ms so_far : List Member) (x : Member) → HaveOwnNames ms → IsIn x ms → IsIn x (fold with_member so_far ms)
 in_fold [] so_far x own at = absurd at
 in_fold (m ∷ ms) so_far x own (inl here) =
     stays ms (with_member so_far m) x (subst (λ (w : Member). AllByRecursion (λ n. w.0 ≢ n.0) ms) (sym here) own.0) (subst (λ (w : Member). IsIn w (with_member so_far m)) (sym here) (new_in so_far m))

@@ -1,8 +1,9 @@
 -- The numbers of fields (OpenFlow 1.3, 7.2.3.7), and a packet that has them all apart.
-use Rattle.std.specs.Prelude.{◌≡◌, ℕ, true, [], ◌∷◌}
+use Rattle.std.specs.Prelude.{◌≡◌, ℕ, Bool, true, List, [], ◌∷◌}
 use Rattle.net_base.specs.declared.address.Mac.{Mac}
 use Rattle.net_base.specs.declared.field.FieldId.{FieldId}
-use Rattle.net_base.specs.FieldId.{number_of, byte_len_of}
+use Rattle.net_base.specs.declared.field.Prerequisite.{Prerequisite}
+use Rattle.net_base.specs.FieldId.{number_of, bits_of, byte_len_of, may_be_masked, prerequisites_of}
 use Rattle.of_match.specs.declared.packet.L4.{L4}
 use Rattle.of_match.specs.declared.packet.Packet.{Packet}
 use Rattle.of_match.specs.declared.packet.Tag.{Tag}
@@ -12,6 +13,10 @@ use Rattle.of_match.specs.declared.packet.Upper.TheVariants as upper
 -- the field has this number, and its value takes so many bytes
 abbrev pub HasNumber : FieldId → ℕ → ℕ → Type 0
 HasNumber id number bytes = (number_of id ≡ number) × (byte_len_of id ≡ bytes)
+
+-- a value has so many bits, a mask may leave bits out or not, and the match has to have this (table 12 and 7.2.3.6)
+abbrev pub Asks : FieldId → ℕ → Bool → List Prerequisite → Type 0
+Asks id bits masked prerequisites = (bits_of id ≡ bits) × (may_be_masked id ≡ masked) × (prerequisites_of id ≡ prerequisites)
 
 abbrev pub mac : ℕ → Mac
 mac n = record { 0 = 2 ∷ 0 ∷ 0 ∷ 0 ∷ 0 ∷ n ∷ [] }

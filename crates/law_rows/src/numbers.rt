@@ -1,13 +1,16 @@
 //! Numbers that are worked out by hand, against the definitions alone. The functions do nothing: their
 //! contracts say which numbers there are.
 
-ghost use Rattle.std.specs.Prelude.{◌≡◌, ◌+◌, ℕ, Some, None, [], ◌∷◌};
+ghost use Rattle.std.specs.Prelude.{◌≡◌, ◌+◌, ℕ, true, false, Some, None, [], ◌∷◌};
 ghost use Rattle.net_base.specs.declared.field.FieldId.TheVariants.{InPort, EthDst, EthSrc, EthType, VlanVid, VlanPcp, IpProto, Ipv4Src, Ipv4Dst, TcpSrc, TcpDst, UdpSrc, UdpDst, Icmpv4Type, Icmpv4Code, ArpOp, ArpSpa, ArpTpa};
+ghost use Rattle.net_base.specs.declared.field.Prerequisite.TheVariants.{Tagged, Exactly};
+ghost use Rattle.net_base.specs.Field.{exact};
+ghost use Rattle.net_base.specs.WellFormed.{has_prerequisite};
 ghost use Rattle.of_match.specs.declared.packet.L4.TheVariants as l4;
 ghost use Rattle.of_match.specs.declared.packet.Tag.{Tag};
 ghost use Rattle.of_match.specs.Hit.{value_of, vid_value};
 ghost use Rattle.plan_base.specs.Fields.{vid_field, untagged};
-ghost use Rattle.law_rows.specs.Numbers.{HasNumber, ipv4, arp};
+ghost use Rattle.law_rows.specs.Numbers.{HasNumber, Asks, ipv4, arp};
 
 /// Each field has the number that the standard gives it, and as many bytes (OpenFlow 1.3, 7.2.3.7,
 /// `oxm_ofb_match_fields` and table 12).
@@ -20,6 +23,32 @@ pub fn fields_have_the_numbers_of_the_standard()
     ensures udp { HasNumber UdpSrc 15 2 × HasNumber UdpDst 16 2 }
     ensures icmp { HasNumber Icmpv4Type 19 1 × HasNumber Icmpv4Code 20 1 }
     ensures arp { HasNumber ArpOp 21 2 × HasNumber ArpSpa 22 4 × HasNumber ArpTpa 23 4 }
+{}
+
+/// A value of each field has as many bits as the standard says, a mask may leave some out where it says so, and the
+/// match has what the field asks for (OpenFlow 1.3, 7.2.3.6 and 7.2.3.7, table 12).
+pub fn fields_ask_for_what_the_standard_says()
+    ensures port { Asks InPort 32 false [] }
+    ensures ethernet { Asks EthDst 48 true [] × Asks EthSrc 48 true [] × Asks EthType 16 false [] }
+    ensures vlan { Asks VlanVid 13 true [] × Asks VlanPcp 3 false (Tagged ∷ []) }
+    ensures ipv4 { Asks IpProto 8 false (Exactly EthType 0x0800 ∷ [])
+        × Asks Ipv4Src 32 true (Exactly EthType 0x0800 ∷ []) × Asks Ipv4Dst 32 true (Exactly EthType 0x0800 ∷ []) }
+    ensures tcp { Asks TcpSrc 16 false (Exactly IpProto 6 ∷ []) × Asks TcpDst 16 false (Exactly IpProto 6 ∷ []) }
+    ensures udp { Asks UdpSrc 16 false (Exactly IpProto 17 ∷ []) × Asks UdpDst 16 false (Exactly IpProto 17 ∷ []) }
+    ensures icmp { Asks Icmpv4Type 8 false (Exactly IpProto 1 ∷ []) × Asks Icmpv4Code 8 false (Exactly IpProto 1 ∷ []) }
+    ensures arp { Asks ArpOp 16 false (Exactly EthType 0x0806 ∷ [])
+        × Asks ArpSpa 32 true (Exactly EthType 0x0806 ∷ []) × Asks ArpTpa 32 true (Exactly EthType 0x0806 ∷ []) }
+{}
+
+/// A match has what a field asks for where it has the field that is named with just the value, no bit masked out, or,
+/// for a VLAN's priority, an identifier that isn't 0.
+pub fn what_is_asked_for_is_there_or_not()
+    ensures there { has_prerequisite TcpSrc (exact IpProto 6 ∷ []) ≡ true }
+    ensures other { has_prerequisite TcpSrc (exact IpProto 17 ∷ exact EthType 0x0800 ∷ []) ≡ false }
+    ensures masked { has_prerequisite Ipv4Src (record { id = EthType; value = 0x0800; mask = 0xff00 } ∷ []) ≡ false }
+    ensures tagged { has_prerequisite VlanPcp (record { id = VlanVid; value = 0x1000; mask = 0x1000 } ∷ []) ≡ true }
+    ensures no_tag { has_prerequisite VlanPcp (exact VlanVid 0 ∷ []) ≡ false }
+    ensures nothing { has_prerequisite EthType [] ≡ true }
 {}
 
 /// What a packet has of each field: by port 7, from 02:00:00:00:00:01 to 02:00:00:00:00:02, with

@@ -5,3 +5,4 @@ pub mod AclLimits
 pub mod RouteLimits
 pub mod Apart
 pub mod NamedVlans
+pub mod AtMost

@@ -6,15 +6,21 @@ ghost use Rattle.conf_types.specs.declared.vlan.Router.{Router};
 ghost use Rattle.conf_types.specs.Configuration.{Configuration};
 ghost use Rattle.conf_types.specs.Lists.{AreDistinct};
 ghost use Rattle.conf_types.specs.Membership.{is_mirror_of};
-ghost use Rattle.conf_types.specs.Valid.{route_items};
+ghost use Rattle.conf_types.specs.Valid.{route_items, IsWithinLimits};
 ghost use Rattle.conf_shape.specs.declared.refused.LimitName.TheVariants as limit;
 ghost use Rattle.conf_rules.specs.Limits.{size_of, routes, gateways};
+ghost use Rattle.law_rules.specs.AtMost.{HasAtMost};
 ghost use Rattle.law_rules.specs.Counted.{IsNumberOf};
 ghost use Rattle.law_rules.specs.Limits.{AreTold, IsDpId, IsVid, IsPortOf, Mirrors, IsSpecial, IsMember, IsAclEntry, IsAclOutput, IsRoute, IsGateway, IsRouteItem};
 
 /// Things have one number: two lists that have the same ones, each once, are equally long.
 pub fn things_have_one_number<T>()
     ensures { (xs ys : List T) → AreDistinct xs → AreDistinct ys → ((x : T) → Contains xs x ↔ Contains ys x) → length xs ≡ length ys }
+{}
+
+/// A configuration is within its limits exactly where it has no more of each thing than the number of its limit.
+pub fn limits_have_their_numbers()
+    ensures { (conf : Configuration) → IsWithinLimits conf ↔ HasAtMost conf }
 {}
 
 /// The limits on datapaths, on VLANs, on interfaces and on the VLANs of a router count numbers: each that one of

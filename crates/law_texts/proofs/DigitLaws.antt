@@ -85,7 +85,7 @@ hex_number text h =
     let b = and_parts (begins 48 text) (begins 120 (drop 1 text)) a.0 in
     record { negative = false; base = 16; digits = drop 2 text; spelled = hexadecimal (drop 2 text) (at_base text b.0 b.1) a.1 }
 
-number_or_not : (text : List ℕ) → IsNumber text ⊎ (number_of text ≡ Not)
+pub number_or_not : (text : List ℕ) → IsNumber text ⊎ (number_of text ≡ Not)
 unfolding number_of decimal_of
 number_or_not text = by_base (begins 48 text && begins 120 (drop 1 text) && is_hex (drop 2 text)) refl
   where

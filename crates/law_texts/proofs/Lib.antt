@@ -6,3 +6,8 @@ mod DigitLaws
 mod ScalarLaws
 mod TextLaws
 mod OpenLaws
+mod LastEntries
+mod OpenThere
+mod OpenRuns
+mod OpenedLines
+mod NoScalarLaws

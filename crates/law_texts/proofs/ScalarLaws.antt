@@ -31,34 +31,34 @@ same_tree u v h = cc
 
 -- ---- words
 
-null_decides : (bytes : List ℕ) → Decides (is_null bytes) (IsNullWord bytes)
+pub null_decides : (bytes : List ℕ) → Decides (is_null bytes) (IsNullWord bytes)
 null_decides bytes = Decides-or _ _ (bytes_eq-Decides bytes (codes "~")) (bytes_eq-Decides bytes (codes "null"))
 
-true_decides : (bytes : List ℕ) → Decides (is_true_word bytes) (IsTrueWord bytes)
+pub true_decides : (bytes : List ℕ) → Decides (is_true_word bytes) (IsTrueWord bytes)
 true_decides bytes =
     Decides-or _ _ (Decides-or _ _ (bytes_eq-Decides bytes (codes "true")) (bytes_eq-Decides bytes (codes "True"))) (bytes_eq-Decides bytes (codes "TRUE"))
 
-false_decides : (bytes : List ℕ) → Decides (is_false_word bytes) (IsFalseWord bytes)
+pub false_decides : (bytes : List ℕ) → Decides (is_false_word bytes) (IsFalseWord bytes)
 false_decides bytes =
     Decides-or _ _ (Decides-or _ _ (bytes_eq-Decides bytes (codes "false")) (bytes_eq-Decides bytes (codes "False"))) (bytes_eq-Decides bytes (codes "FALSE"))
 
-false_from : {P : Type 0} (b : Bool) → Decides b P → (P → ⊥) → b ≡ false
+pub false_from : {P : Type 0} (b : Bool) → Decides b P → (P → ⊥) → b ≡ false
 false_from true d none = absurd (none (d.0 refl))
 false_from false d none = refl
 
 -- no word is a number
-null_no_number : (bytes : List ℕ) → IsNullWord bytes → number_of bytes ≡ Not
+pub null_no_number : (bytes : List ℕ) → IsNullWord bytes → number_of bytes ≡ Not
 unfolding number_of decimal
 null_no_number bytes (inl e) = ap number_of e ∙ refl
 null_no_number bytes (inr e) = ap number_of e ∙ refl
 
-true_no_number : (bytes : List ℕ) → IsTrueWord bytes → number_of bytes ≡ Not
+pub true_no_number : (bytes : List ℕ) → IsTrueWord bytes → number_of bytes ≡ Not
 unfolding number_of decimal
 true_no_number bytes (inl (inl e)) = ap number_of e ∙ refl
 true_no_number bytes (inl (inr e)) = ap number_of e ∙ refl
 true_no_number bytes (inr e) = ap number_of e ∙ refl
 
-false_no_number : (bytes : List ℕ) → IsFalseWord bytes → number_of bytes ≡ Not
+pub false_no_number : (bytes : List ℕ) → IsFalseWord bytes → number_of bytes ≡ Not
 unfolding number_of decimal
 false_no_number bytes (inl (inl e)) = ap number_of e ∙ refl
 false_no_number bytes (inl (inr e)) = ap number_of e ∙ refl
@@ -115,7 +115,7 @@ value_found s v h = by_plain s.plain refl h
     by_plain true e h = plain_found s.text v s e refl h
     by_plain false e h = let t = text_parts s.text v h in quoted e t.0 t.1
 
-plain_is : (s : Scanned) → s.plain ≡ true → scalar_value s ≡ plain_value s.text
+pub plain_is : (s : Scanned) → s.plain ≡ true → scalar_value s ≡ plain_value s.text
 unfolding scalar_value
 plain_is s e = rw e refl
 
@@ -135,7 +135,7 @@ false_is bytes (inl (inl e)) = ap plain_value e ∙ refl
 false_is bytes (inl (inr e)) = ap plain_value e ∙ refl
 false_is bytes (inr e) = ap plain_value e ∙ refl
 
-number_is : (bytes : List ℕ) → (IsNullWord bytes → ⊥) → (IsTrueWord bytes → ⊥) → (IsFalseWord bytes → ⊥) → plain_value bytes ≡ number_or_text (number_of bytes) bytes
+pub number_is : (bytes : List ℕ) → (IsNullWord bytes → ⊥) → (IsTrueWord bytes → ⊥) → (IsFalseWord bytes → ⊥) → plain_value bytes ≡ number_or_text (number_of bytes) bytes
 unfolding plain_value
 number_is bytes a b d =
     let e = false_from (is_null bytes) (null_decides bytes) a in
@@ -159,7 +159,7 @@ value_read s v (plain_text p a b d none u e) =
 
 -- ---- `<<`
 
-merge_decides : (s : Scanned) → Decides (is_merge s) (IsMerge s)
+pub merge_decides : (s : Scanned) → Decides (is_merge s) (IsMerge s)
 merge_decides s = Decides-and s.plain _ (λ e. e, λ e. e) (bytes_eq-Decides s.text (codes "<<"))
 
 pub at_found : (s : Scanned) (after : List ℕ) (v : Tree) → value_at s after ≡ Ok v → IsValueOf s after v

@@ -3,3 +3,5 @@ pub mod Parts
 pub mod Numbers
 pub mod Scalars
 pub mod Keys
+pub mod Opened
+pub mod TextFault

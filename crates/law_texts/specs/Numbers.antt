@@ -1,5 +1,5 @@
 -- Which texts are whole numbers, apart from how they are read.
-use Rattle.std.specs.Prelude.{◌≡◌, ℕ, Bool, true, false, ◌<◌, ◌≤◌, if◌then◌else◌, List, ◌++◌, codes, ℤ, pos, ◌-ℤ◌}
+use Rattle.std.specs.Prelude.{◌≡◌, ◌⊎◌, ℕ, Bool, true, false, ◌<◌, ◌≤◌, if◌then◌else◌, List, ◌++◌, map, codes, Option, Some, ℤ, pos, ◌-ℤ◌}
 use Rattle.yaml_subset.specs.DigitLaws.{digits_value}
 use Rattle.yaml_subset.specs.Numbers.{greatest, is_hex, is_decimal}
 
@@ -32,3 +32,10 @@ pub record IsNumber (text : List ℕ) : Type 0 where
   pub base : ℕ
   pub digits : List ℕ
   pub spelled : HasDigits text negative base digits
+
+-- neither one of 0 to 9 nor one of a to f or A to F
+abbrev pub IsNoHexDigit : ℕ → Type 0
+IsNoHexDigit c = (c < 48) ⊎ (((57 < c) × (c < 65)) ⊎ (((70 < c) × (c < 97)) ⊎ (102 < c)))
+
+abbrev pub known : List ℕ → List (Option ℕ)
+known values = map (λ n. Some n) values

@@ -1,6 +1,9 @@
 -- Scalars and what they stand for, apart from how they are read.
 use Rattle.std.specs.Prelude.{◌≡◌, ◌⊎◌, ℕ, Bool, true, false, not, ◌||◌, List, [], ◌∷◌, codes, ℤ}
 use Rattle.std.specs.Str.{is_utf8}
+use Rattle.yaml_subset.specs.declared.fault.YamlForm.TheVariants.{MergeKey, Wide}
+use Rattle.yaml_subset.specs.declared.fault.YamlCause.{YamlCause}
+use Rattle.yaml_subset.specs.declared.fault.YamlCause.TheVariants.{LeftOut, Syntax}
 use Rattle.yaml_subset.specs.declared.scalars.Scanned.{Scanned}
 use Rattle.yaml_tree.specs.declared.tree.Tree.{Tree}
 use Rattle.yaml_tree.specs.declared.tree.Tree.TheVariants as tree
@@ -68,3 +71,28 @@ as_tree (key.Text text) = tree.Text text
 pub record IsKeyOf (s : Scanned) (k : Key) : Type 0 where
   pub stands : StandsFor s (as_tree k)
   pub no_merge : IsMerge s → ⊥
+
+-- ---- and for what they stand for nothing
+
+-- a whole number that is no i128
+abbrev pub IsWide : List ℕ → Type 0
+IsWide text = IsNumber text × ((n : ℤ) → IsWhole text n → ⊥)
+
+-- a whole number that is no i128 is left out, and bytes that are no text are an error
+pub data StandsForNone (s : Scanned) (cause : YamlCause) : Type 0 where
+  wide_number : s.plain ≡ true → IsWide s.text → cause ≡ LeftOut Wide → StandsForNone s cause
+  no_text : s.plain ≡ false → is_utf8 s.text ≡ false → cause ≡ Syntax → StandsForNone s cause
+  no_plain_text : s.plain ≡ true → (IsNullWord s.text → ⊥) → (IsTrueWord s.text → ⊥) → (IsFalseWord s.text → ⊥) → (IsNumber s.text → ⊥)
+      → is_utf8 s.text ≡ false → cause ≡ Syntax → StandsForNone s cause
+
+-- a scalar is no value, where `after` stands behind it: `<<` with its colon is left out
+pub data IsNoValueOf (s : Scanned) (after : List ℕ) (cause : YamlCause) : Type 0 where
+  merge_value : IsMerge s → marks 58 after ≡ true → cause ≡ LeftOut MergeKey → IsNoValueOf s after cause
+  stands_for_none : (IsMerge s → marks 58 after ≡ true → ⊥) → StandsForNone s cause → IsNoValueOf s after cause
+
+-- a scalar is no key: `<<` is left out, and what stands for Null or a Bool is an error
+pub data IsNoKeyOf (s : Scanned) (cause : YamlCause) : Type 0 where
+  merge_key : IsMerge s → cause ≡ LeftOut MergeKey → IsNoKeyOf s cause
+  no_value : (IsMerge s → ⊥) → StandsForNone s cause → IsNoKeyOf s cause
+  null_key : (IsMerge s → ⊥) → StandsFor s tree.Null → cause ≡ Syntax → IsNoKeyOf s cause
+  bool_key : (IsMerge s → ⊥) → (b : Bool) → StandsFor s (tree.Bool b) → cause ≡ Syntax → IsNoKeyOf s cause

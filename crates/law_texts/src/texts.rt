@@ -11,6 +11,8 @@ ghost use Rattle.yaml_subset.specs.Printed.{printed};
 ghost use Rattle.yaml_subset.specs.ReadBack.{IsSpelled};
 ghost use Rattle.yaml_subset.specs.Reading.{read_of};
 ghost use Rattle.yaml_subset.specs.TextFault.{IsFault, Lead};
+ghost use Rattle.law_texts.specs.Opened.{LeavesOpen};
+ghost use Rattle.law_texts.specs.TextFault.{HasFault};
 
 /// Reading a text gives a tree exactly where the text has it by the grammar, and a fault exactly where it is the text's.
 pub fn a_text_is_read_by_the_grammar()
@@ -31,4 +33,16 @@ pub fn a_canonical_text_has_its_tree()
 pub fn what_lines_leave_open_closes_to_their_tree()
     ensures tree { (before : List (List ℕ)) (t : Tree) → ReadsLines 32 before t ↔ ((end : State) × Lead Start before end × (finish end ≡ t)) }
     ensures one { (before : List (List ℕ)) (state a b : State) → Lead state before a → Lead state before b → a ≡ b }
+{}
+
+/// What lines leave open is exactly what the grammar says: the blocks that may go on with their finished entries, and the value
+/// of the last one.
+pub fn lines_leave_open_what_the_grammar_says()
+    ensures { (before : List (List ℕ)) (end : State) → Lead Start before end ↔ LeavesOpen before end }
+{}
+
+/// A text has a fault exactly where it has it by the grammar alone, and reading it gives exactly this fault.
+pub fn a_text_has_its_fault_by_the_grammar()
+    ensures fault { (text : List ℕ) (f : YamlFault) → IsFault text f ↔ HasFault text f }
+    ensures read { (text : List ℕ) (f : YamlFault) → (read_of text ≡ Err f) ↔ HasFault text f }
 {}
