@@ -1,0 +1,10 @@
+pub mod Attributes
+pub mod Joining
+pub mod MessageLaws
+pub mod Numbers
+pub mod Opens
+pub mod Paths
+pub mod PrefixLaws
+pub mod SaidLengths
+pub mod Updates
+pub mod Worked

@@ -1,0 +1,13 @@
+pub mod Attributes
+pub mod Faults
+pub mod Grammar
+pub mod Heads
+pub mod Kinds
+pub mod Messages
+pub mod Numbers
+pub mod Opens
+pub mod Paths
+pub mod Prefixes
+pub mod Said
+pub mod Updates
+pub mod Worked
