@@ -177,6 +177,8 @@ def cases():
         lines += [case(first=f"/{what}={n}") for n in range(1, 10)] + [case(second=f"/{what}={n}") for n in range(1, 6)]
     lines.append("# both fail, at each call of the first; the first has no room, at each length")
     lines += [case(first=f"/fail={n}", second="/fail=2") for n in range(1, 10)] + [case(first=f"/room={n}") for n in range(4)]
+    lines.append("# a link that is ready and has nothing yet: behind 1,024 such answers comes a moment, the last one")
+    lines += ["links - new:01/wait=1-2000 1024*ready:1 | 3*turn", "links - moment:7 new:01/wait=1-2000 1023*ready:1 ready:2 ready:1 | 4*turn"]
     return {"stdin": lines, "stdout": [line if line.startswith("#") else answer(line) for line in lines]}
 
 
