@@ -2,7 +2,7 @@
 use Rattle.std.proofs.Common.{◌≡◌, ℕ, zero, suc, ◌+◌, ◌<◌, ◌≤◌, ◌||◌, Bool, true, false, cond, List, [], ◌∷◌, length, get_or, set, take, replicate, refl, inl, inr, sym, ap, ◌∙◌, arith, subst}
 use Rattle.std.specs.List.{AllByRecursion}
 use Rattle.std.proofs.lemmas.Bool.{both_ways, or_cases, or_left, or_right, cases_eq, cases_order}
-use Rattle.std.proofs.lemmas.List.{get_or-set_other}
+use Rattle.std.proofs.lemmas.List.{get_or-set_same, get_or-set_other}
 use Rattle.net_base.specs.declared.numbers.DpId.{DpId}
 use Rattle.conf_types.specs.declared.datapath.Dp.{Dp}
 use Rattle.conf_types.specs.Configuration.{Configuration}
@@ -27,6 +27,14 @@ pub any_default : {X : Type 0} (xs : List X) (k : ℕ) (d e : X) → k < length 
 any_default [] k d e lt = absurd (omega arith)
 any_default (x ∷ xs) zero d e lt = refl
 any_default (x ∷ xs) (suc k) d e lt = any_default xs k d e (omega arith)
+
+-- of a table that is filled up to a place, the next is filled
+pub filled_more : {X : Type 0} (f : ℕ → X) (xs : List X) (at : ℕ) (x : X) → at < length xs → x ≡ f at → ((k : ℕ) (e : X) → k < at → get_or xs k e ≡ f k) → (k : ℕ) (e : X) → k < at + 1 → get_or (set xs at x) k e ≡ f k
+filled_more f xs at x lt is before k e within =
+    elim (cases_eq k at) [
+      | inl same ↦ ap (λ n. get_or (set xs at x) n e) same ∙ get_or-set_same xs at x e lt ∙ is ∙ ap f (sym same)
+      | inr other ↦ get_or-set_other xs at k x e other ∙ before k e (omega (arith, within, other))
+    ]
 
 -- a list with a place has an element
 pub some_item : {X : Type 0} (xs : List X) (k : ℕ) → k < length xs → X

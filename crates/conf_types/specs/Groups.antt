@@ -1,6 +1,6 @@
 -- Groups of datapaths: those that stack links of the configuration join, whether or not their ends
 -- are enabled. The hosts of a group are one table.
-use Rattle.std.specs.Prelude.{◌≡◌, ◌≤◌, ◌==◌, ◌&&◌, ◌||◌, Bool, false, ℕ, zero, suc, Some, List, [], ◌∷◌, Contains, map, filter, length, nat_lt, if◌then◌else◌}
+use Rattle.std.specs.Prelude.{◌≡◌, ◌≤◌, ◌==◌, ◌&&◌, ◌||◌, Bool, false, ℕ, zero, suc, Some, List, [], ◌∷◌, Contains, map, filter, length, nat_lt, ◌<◌, slice_index_or, if◌then◌else◌}
 use Rattle.std.specs.List.{list_any}
 use Rattle.std.specs.Option.{option_map_or}
 use Rattle.net_base.specs.declared.numbers.DpId.{DpId}
@@ -63,3 +63,8 @@ least_id a (b ∷ more) = let least = least_id a more in if nat_lt b.0 least.0 t
 
 abbrev pub group_of : Configuration → DpId → DpId
 group_of conf dp = least_id dp (map (λ d. d.id) (filter (λ d. is_reached conf dp (length conf.dps) d.id) conf.dps))
+
+-- ---- the numbers by the places of the datapaths
+
+abbrev pub AreGroups : List Dp → List DpId → Type 0
+AreGroups dps groups = (k : ℕ) (d : Dp) (g : DpId) → k < length dps → slice_index_or groups k g ≡ group_of (of_dps dps) (slice_index_or dps k d).id

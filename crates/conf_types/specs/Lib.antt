@@ -1,4 +1,5 @@
 pub mod Attached
+pub mod Changes
 pub mod Configuration
 pub mod Count
 pub mod Groups

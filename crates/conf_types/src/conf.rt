@@ -1,6 +1,8 @@
-ghost use Rattle.std.specs.Prelude.{◌≡◌, ◌<◌, IfSome, IfOk};
+ghost use Rattle.std.specs.Prelude.{◌≡◌, ◌<◌, length, slice_index_or, IfSome, IfOk};
 ghost use Rattle.std.specs.Option.{option_copied};
+ghost use Rattle.conf_types.specs.declared.datapath.Dp.{Dp};
 ghost use Rattle.conf_types.specs.Configuration.{dp_with, port_with, port_at, vlan_with};
+ghost use Rattle.conf_types.specs.Groups.{group_of};
 ghost use Rattle.conf_types.specs.Lists.{EachBefore};
 ghost use Rattle.conf_types.specs.Membership.{member};
 ghost use Rattle.conf_types.specs.Routing.{router_with, routing_set};
@@ -8,6 +10,7 @@ ghost use Rattle.conf_types.specs.Valid.{IsValid, IsDatapath};
 
 use crate::acl::Acls;
 use crate::datapath::{Dp, Dps, Member, Port};
+use crate::group::{MOST_DPS, groups_of};
 use crate::vlan::{Router, Routers, Vids, Vlan, Vlans};
 use net_base::{DpId, Items, NoMemory, PortNo, TryCopy, Vid};
 use std::alloc::Global;
@@ -20,17 +23,20 @@ pub struct Conf {
     vlans: Vlans,
     acls: Acls,
     routers: Routers,
+    /// The number of each datapath's group, worked out once.
+    groups: [DpId; MOST_DPS],
 }
 
 impl Model for Conf {
     ghost use Rattle.conf_types.specs.Configuration.{Configuration};
+    ghost use Rattle.conf_types.specs.Groups.{AreGroups};
     ghost use Rattle.conf_types.specs.Valid.{IsValid};
 
     ghost Value = { Configuration };
 
     ghost view = { λ c. record { dps = c.dps; vlans = c.vlans; acls = c.acls; routers = c.routers } };
 
-    ghost invariant = { λ c. IsValid (record { dps = c.dps; vlans = c.vlans; acls = c.acls; routers = c.routers }) };
+    ghost invariant = { λ c. IsValid (record { dps = c.dps; vlans = c.vlans; acls = c.acls; routers = c.routers }) × AreGroups c.dps c.groups };
 }
 
 fn find_port(ports: &[Port], no: PortNo) -> Option<&Port>
@@ -65,12 +71,23 @@ impl Conf {
         requires { IsValid (record { dps = dps; vlans = vlans; acls = acls; routers = routers }) }
         ensures { result ≡ record { dps = dps; vlans = vlans; acls = acls; routers = routers } }
     {
+        let groups = groups_of(dps.as_slice());
         Conf {
             dps,
             vlans,
             acls,
             routers,
+            groups,
         }
+    }
+
+    /// The number of the group of the datapath at a place.
+    pub(crate) fn group_of_place(&self, at: usize) -> DpId
+        requires { at < length self.now.dps }
+        ensures { (d : Dp) → result ≡ group_of self.now (slice_index_or self.now.dps at d).id }
+    {
+        let groups = &self.groups;
+        groups[at]
     }
 
     /// The datapaths, by the bytes of their names.
@@ -157,6 +174,7 @@ impl TryCopy for Conf {
             vlans: self.vlans.copy(alloc)?,
             acls: self.acls.copy(alloc)?,
             routers: self.routers.copy(alloc)?,
+            groups: self.groups,
         })
     }
 }

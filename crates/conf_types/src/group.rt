@@ -1,7 +1,7 @@
 ghost use Rattle.std.specs.Prelude.{◌≡◌, ◌<◌, ◌≤◌, ◌||◌, Bool, true, false, ℕ, length, slice_index_or, IfSome, IfNone};
 ghost use Rattle.net_base.specs.declared.numbers.DpId.{DpId};
 ghost use Rattle.conf_types.specs.declared.datapath.Dp.{Dp};
-ghost use Rattle.conf_types.specs.Groups.{IsDp, leads_to, group_of, of_dps};
+ghost use Rattle.conf_types.specs.Groups.{IsDp, AreGroups, leads_to, group_of, of_dps};
 ghost use Rattle.conf_types.specs.Lists.{EachBefore};
 ghost use Rattle.conf_types.specs.Marks.{AreMarked};
 
@@ -10,7 +10,7 @@ use crate::datapath::Dp;
 use net_base::DpId;
 
 /// At most so many datapaths has a configuration.
-const MOST_DPS: usize = 64;
+pub(crate) const MOST_DPS: usize = 64;
 
 fn leads_to(from: &Dp, id: DpId) -> bool
     ensures { result ≡ leads_to from.now id }
@@ -114,6 +114,19 @@ pub fn group_at(dps: &[Dp], at: usize) -> DpId
     dps[least_place(dps, at, seen)].id
 }
 
+/// The number of the group of each datapath, at its place.
+pub(crate) fn groups_of(dps: &[Dp]) -> [DpId; MOST_DPS]
+    requires few { length dps.now ≤ 64 }
+    requires distinct { EachBefore (λ d e. d.id.0 ≡ e.id.0 → ⊥) dps.now }
+    ensures { AreGroups dps.now result }
+{
+    let mut groups = [DpId(0); MOST_DPS];
+    for at in 0..dps.len() {
+        groups[at] = group_at(dps, at);
+    }
+    groups
+}
+
 impl Conf {
     /// The number of a datapath's group: the least identifier among those of the datapaths that stack
     /// links join to it, whether or not their ends are enabled. `None` exactly where there is no such
@@ -125,7 +138,7 @@ impl Conf {
     {
         let dps = self.dps().as_slice();
         match place_of(dps, dp) {
-            Some(at) => Some(group_at(dps, at)),
+            Some(at) => Some(self.group_of_place(at)),
             None => None,
         }
     }

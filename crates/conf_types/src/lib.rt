@@ -3,6 +3,7 @@
 #![tactic(auto)]
 
 mod acl;
+mod change;
 mod conf;
 mod datapath;
 mod fresh;
@@ -16,6 +17,7 @@ mod tally;
 mod vlan;
 
 pub use acl::{Acl, Acls, PortRef, PortRefs, Rule, Rules};
+pub use change::Change;
 pub use conf::Conf;
 pub use datapath::{Dp, Dps, Member, Port, PortNos, Ports, StackEnd};
 pub use group::group_at;

@@ -27,7 +27,7 @@ const DELETE_STRICT: u8 = 4;
 pub fn make_add(alloc: Global, entry: &Entry) -> Result<Message, NoMemory>
     ensures { IfOk result (λ made. made ≡ add entry.now) }
 {
-    let fields = entry.key.fields.copy(alloc)?;
+    let fields = Fields::from_slice(alloc, entry.key.fields.as_slice())?;
     let instrs = entry.instrs.copy(alloc)?;
     Ok(Message::FlowMod(FlowMod {
         cookie: COOKIE,
@@ -71,7 +71,7 @@ pub fn make_delete_all(alloc: Global) -> Message
 fn make_delete_strict(alloc: Global, key: &Key) -> Result<Message, NoMemory>
     ensures { IfOk result (λ made. made ≡ delete_strict key.now) }
 {
-    let fields = key.fields.copy(alloc)?;
+    let fields = Fields::from_slice(alloc, key.fields.as_slice())?;
     Ok(Message::FlowMod(FlowMod {
         cookie: 0,
         cookie_mask: 0,

@@ -17,6 +17,7 @@ use Rattle.conf_types.specs.declared.datapath.Port.{Port}
 use Rattle.conf_types.specs.declared.state.HostRec.{HostRec}
 use Rattle.conf_types.specs.declared.state.NeighRec.{NeighRec}
 use Rattle.conf_types.specs.declared.vlan.Vlan.{Vlan}
+use Rattle.conf_types.specs.Changes.{mac_of_neighbour}
 use Rattle.conf_types.specs.Configuration.{Configuration, vlan_with}
 use Rattle.conf_types.specs.Groups.{group_of}
 use Rattle.conf_types.specs.Membership.{is_native_in, mirrors_of}
@@ -26,7 +27,7 @@ use Rattle.conf_types.specs.Valid.{IsValid}
 use Rattle.packet_way.specs.declared.routes.RouteItem.{RouteItem}
 use Rattle.packet_way.specs.declared.routes.Target.{Target}
 use Rattle.packet_way.specs.declared.routes.Target.TheVariants.{Gateway, Hop, Network}
-use Rattle.packet_way.specs.Routes.{mac_of_neighbour, vip_item, resolved, hop_item, neighbour_item, network_item, route_item, items_of, route_list}
+use Rattle.packet_way.specs.Routes.{vip_item, resolved, hop_item, neighbour_item, network_item, route_item, items_of, route_list}
 use Rattle.plan_base.specs.declared.table.Table.{Table}
 use Rattle.plan_base.specs.declared.table.Table.TheVariants as table
 use Rattle.plan_base.specs.Actions.{out, to_controller, to_ingress, push_tag, set_vid, set_eth_src, set_eth_dst, dec_ttl}

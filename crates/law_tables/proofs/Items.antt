@@ -16,6 +16,7 @@ use Rattle.conf_types.specs.declared.state.NeighRec.{NeighRec}
 use Rattle.conf_types.specs.declared.vlan.Route.{Route}
 use Rattle.conf_types.specs.declared.vlan.Router.{Router}
 use Rattle.conf_types.specs.declared.vlan.Vlan.{Vlan}
+use Rattle.conf_types.specs.Changes.{mac_of_neighbour}
 use Rattle.conf_types.specs.Configuration.{Configuration, vlan_with}
 use Rattle.conf_types.specs.Groups.{group_of}
 use Rattle.conf_types.specs.Lists.{EachBefore, is_among}
@@ -25,7 +26,7 @@ use Rattle.conf_types.specs.State.{State, IsNeighbour, IsSameNeighbour}
 use Rattle.conf_types.specs.Valid.{IsVlan, IsVip, IsRoute, RoutesAreValid}
 use Rattle.packet_way.specs.declared.routes.RouteItem.{RouteItem}
 use Rattle.packet_way.specs.declared.routes.Target.TheVariants.{Hop}
-use Rattle.packet_way.specs.Routes.{mac_of_neighbour, vip_item, hop_item, neighbour_item, network_item, route_item, items_of, route_list, item_holds}
+use Rattle.packet_way.specs.Routes.{vip_item, hop_item, neighbour_item, network_item, route_item, items_of, route_list, item_holds}
 use Rattle.law_runs.specs.Members.{head_of, tail_of, in_mapped, in_flat, of_all, all_by, all_joined, all_mapped, all_flat}
 use Rattle.plan_units.specs.Facts.{found, none_found, some_passes, apart_or_one}
 use Rattle.plan_units.specs.Laws.{IsSetting}

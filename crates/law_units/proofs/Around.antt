@@ -30,7 +30,7 @@ filter_flat : {A B : Type 0} (p : B → Bool) (f : A → List B) (xs : List A) �
 filter_flat p f [] = refl
 filter_flat p f (x ∷ xs) = filter-append p (f x) (flat_map f xs) ∙ ap (λ l. filter p (f x) ++ l) (filter_flat p f xs)
 
-same_flat : {A B : Type 0} (f g : A → List B) (xs : List A) → ((x : A) → Contains xs x → f x ≡ g x) → flat_map f xs ≡ flat_map g xs
+pub same_flat : {A B : Type 0} (f g : A → List B) (xs : List A) → ((x : A) → Contains xs x → f x ≡ g x) → flat_map f xs ≡ flat_map g xs
 same_flat f g [] h = refl
 same_flat f g (x ∷ xs) h = ap (λ l. l ++ flat_map f xs) (h x (head_of x xs)) ∙ ap (λ l. g x ++ l) (same_flat f g xs (λ y c. h y (tail_of x xs y c)))
 
@@ -142,7 +142,7 @@ module _ (conf : Configuration) (valid : IsValid conf) (group_law : (dp : DpId) 
                 live = ap (λ o. option_map_or (λ x. is_live old far.dp x) o false) e ∙ live_same far.dp r here at (ap (λ o. is_some o) back) ∙ sym (ap (λ o. option_map_or (λ x. is_live new far.dp x) o false) e);
               }
 
-      link_same : (dp : Dp) → Contains conf.dps dp → is_in dp.id ≡ true → (q : Port) → Contains dp.ports q → link_from conf old dp q ≡ link_from conf new dp q
+      pub link_same : (dp : Dp) → Contains conf.dps dp → is_in dp.id ≡ true → (q : Port) → Contains dp.ports q → link_from conf old dp q ≡ link_from conf new dp q
       link_same dp c inn q cq = by q.stack refl
         where
           by : (o : Option StackEnd) → q.stack ≡ o

@@ -10,6 +10,7 @@ use Rattle.std.proofs.lemmas.Option.{same_Some, none-some}
 use Rattle.net_base.specs.declared.address.Mac.{Mac}
 use Rattle.net_base.specs.declared.numbers.DpId.{DpId}
 use Rattle.conf_types.specs.declared.state.HostRec.{HostRec}
+use Rattle.conf_types.specs.Changes.{host_by, Standing, standing, standing_of}
 use Rattle.conf_types.specs.Configuration.{Configuration}
 use Rattle.conf_types.specs.Groups.{group_of}
 use Rattle.conf_types.specs.Lists.{EachBefore, is_same}
@@ -17,7 +18,6 @@ use Rattle.conf_types.specs.State.{State, IsSameHost, is_host_in}
 use Rattle.law_runs.specs.Members.{of_all}
 use Rattle.plan_units.specs.Agrees.{same_bytes, equal_bytes}
 use Rattle.plan_units.specs.Facts.{found, none_found, apart_or_one}
-use Rattle.law_units.specs.Reach.{host_by, Standing, standing, standing_of}
 use Rattle.law_units.proofs.Shuffled.{shuffled}
 
 -- ---- what can't differ is equal

@@ -14,6 +14,7 @@ use Rattle.conf_types.specs.declared.datapath.Dp.{Dp}
 use Rattle.conf_types.specs.declared.state.NeighRec.{NeighRec}
 use Rattle.conf_types.specs.declared.vlan.Route.{Route}
 use Rattle.conf_types.specs.declared.vlan.Vlan.{Vlan}
+use Rattle.conf_types.specs.Changes.{mac_of_neighbour, AreNamed}
 use Rattle.conf_types.specs.Configuration.{Configuration, vlan_with}
 use Rattle.conf_types.specs.Groups.{group_of}
 use Rattle.conf_types.specs.Lists.{EachBefore, is_same}
@@ -21,7 +22,7 @@ use Rattle.conf_types.specs.Networks.{is_held}
 use Rattle.conf_types.specs.Routing.{routing_set}
 use Rattle.conf_types.specs.State.{State, IsSameNeighbour}
 use Rattle.packet_way.specs.declared.routes.RouteItem.{RouteItem}
-use Rattle.packet_way.specs.Routes.{mac_of_neighbour, vip_item, hop_item, neighbour_item, network_item, route_item, items_of, route_list}
+use Rattle.packet_way.specs.Routes.{vip_item, hop_item, neighbour_item, network_item, route_item, items_of, route_list}
 use Rattle.route_compile.specs.Gateways.{has_gateway}
 use Rattle.route_compile.specs.Routes.{item_entry, no_route}
 use Rattle.law_runs.specs.Members.{head_of, tail_of}
@@ -30,9 +31,8 @@ use Rattle.plan_units.specs.Agrees.{same_bytes, equal_bytes}
 use Rattle.plan_units.specs.Facts.{found, apart_or_one}
 use Rattle.plan_units.specs.Laws.{IsSetting}
 use Rattle.plan_units.specs.Units.{of_routes, entries}
-use Rattle.law_units.specs.declared.change.Change.{Change}
-use Rattle.law_units.specs.declared.change.Change.TheVariants as change
-use Rattle.law_units.specs.Reach.{AreNamed}
+use Rattle.conf_types.specs.declared.change.Change.{Change}
+use Rattle.conf_types.specs.declared.change.Change.TheVariants as change
 use Rattle.law_units.proofs.Around.{same_some}
 use Rattle.law_units.proofs.Hosts.{is_found}
 use Rattle.law_units.proofs.Rows.{Out, unnamed}
@@ -49,7 +49,7 @@ permutation_same xs ys same = subst (λ l. IsPermutation xs l) same (IsPermutati
 
 -- ---- neighbours by their keys
 
-stable_mac : (a b : Option Mac) → ((a ≡ b → ⊥) → ⊥) → a ≡ b
+pub stable_mac : (a b : Option Mac) → ((a ≡ b → ⊥) → ⊥) → a ≡ b
 stable_mac None None h = refl
 stable_mac None (Some b) h = absurd (h (λ e. none-some b e))
 stable_mac (Some a) None h = absurd (h (λ e. none-some a (sym e)))
@@ -65,7 +65,7 @@ turn a b s = record { groups = sym s.groups; vlans = sym s.vlans; ips = sym s.ip
 join : (a b c : NeighRec) → IsSameNeighbour a b → IsSameNeighbour b c → IsSameNeighbour a c
 join a b c s t = record { groups = s.groups ∙ t.groups; vlans = s.vlans ∙ t.vlans; ips = s.ips ∙ t.ips }
 
-abbrev AreApart : List NeighRec → Type 0
+abbrev pub AreApart : List NeighRec → Type 0
 AreApart ns = EachBefore (λ a b. IsSameNeighbour a b → ⊥) ns
 
 record HasKey (group : DpId) (vid ip : ℕ) (n : NeighRec) : Type 0 where
@@ -80,7 +80,7 @@ keyed group vid ip n is =
     record { groups = eqb-true n.group.0 group.0 q.0; vids = eqb-true n.vid vid q.1; ips = eqb-true n.ip.0 ip p.1 }
 
 -- its address is told under its key
-own : (ns : List NeighRec) → AreApart ns → (n : NeighRec) → Contains ns n → (group : DpId) (vid : ℕ) → n.group.0 ≡ group.0 → n.vid ≡ vid → mac_of_neighbour ns group vid n.ip.0 ≡ n.mac
+pub own : (ns : List NeighRec) → AreApart ns → (n : NeighRec) → Contains ns n → (group : DpId) (vid : ℕ) → n.group.0 ≡ group.0 → n.vid ≡ vid → mac_of_neighbour ns group vid n.ip.0 ≡ n.mac
 own ns apart n c group vid groups vids =
     ap (λ (o : Option NeighRec). option_and_then (λ m. m.mac) o)
     (is_found (λ (m : NeighRec). m.group.0 == group.0 && m.vid == vid && m.ip.0 == n.ip.0) ns n c

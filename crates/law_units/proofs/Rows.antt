@@ -17,6 +17,7 @@ use Rattle.conf_types.specs.declared.datapath.Port.{Port}
 use Rattle.conf_types.specs.declared.state.HostRec.{HostRec}
 use Rattle.conf_types.specs.declared.state.UpRec.{UpRec}
 use Rattle.conf_types.specs.declared.vlan.Vlan.{Vlan}
+use Rattle.conf_types.specs.Changes.{host_by, Standing, standing, standing_of, AreNamed}
 use Rattle.conf_types.specs.Configuration.{Configuration, port_with, port_at, vlan_with}
 use Rattle.conf_types.specs.Groups.{IsDp, IsGroup, group_of}
 use Rattle.conf_types.specs.Links.{is_up, links, IsLinkUp}
@@ -47,9 +48,9 @@ use Rattle.plan_units.specs.declared.unit.Unit.TheVariants as unit
 use Rattle.plan_units.specs.Facts.{found}
 use Rattle.plan_units.specs.Laws.{IsSetting}
 use Rattle.plan_units.specs.Units.{of_port, of_vlan, of_host, is_of_group, hosts_of, entries}
-use Rattle.law_units.specs.declared.change.Change.{Change}
-use Rattle.law_units.specs.declared.change.Change.TheVariants as change
-use Rattle.law_units.specs.Reach.{host_by, Standing, standing, standing_of, AreNamed, has_vlan, is_full_in, TouchesPort, IsStackEnd, Reaches, IsInReach}
+use Rattle.conf_types.specs.declared.change.Change.{Change}
+use Rattle.conf_types.specs.declared.change.Change.TheVariants as change
+use Rattle.law_units.specs.Reach.{has_vlan, is_full_in, TouchesPort, IsStackEnd, Reaches, IsInReach}
 use Rattle.law_units.proofs.Around.{alike}
 use Rattle.law_units.proofs.Hosts.{stable_bool, stable_standing, own, keyed, ReadsPlace, same_any, same_count, same_length}
 

@@ -7,6 +7,7 @@ use Rattle.stack_paths.specs.Chosen.{hop_of, is_tree_port}
 use Rattle.stack_paths.specs.Stack.{Stack}
 use Rattle.conf_types.specs.declared.datapath.Dp.{Dp}
 use Rattle.conf_types.specs.declared.state.UpRec.{UpRec}
+use Rattle.conf_types.specs.Changes.{AreNamed}
 use Rattle.conf_types.specs.Configuration.{Configuration}
 use Rattle.conf_types.specs.Groups.{IsDp, IsGroup, group_of}
 use Rattle.conf_types.specs.Links.{links, IsLinkUp}
@@ -16,8 +17,8 @@ use Rattle.plan_units.specs.declared.unit.Unit.{Unit as PlanUnit}
 use Rattle.plan_units.specs.declared.unit.Unit.TheVariants as unit
 use Rattle.plan_units.specs.Laws.{IsSetting}
 use Rattle.plan_units.specs.Units.{entries}
-use Rattle.law_units.specs.declared.change.Change.{Change}
-use Rattle.law_units.specs.Reach.{AreNamed, IsInReach}
+use Rattle.conf_types.specs.declared.change.Change.{Change}
+use Rattle.law_units.specs.Reach.{IsInReach}
 use Rattle.law_units.proofs.Rows.{host_stays, port_stays, vlan_entries, host_entries}
 
 module _ (group_law : (conf : Configuration) (dp : DpId) → IsDp conf dp → IsGroup conf dp (group_of conf dp))

@@ -7,6 +7,7 @@ use Rattle.std.proofs.lemmas.Bool.{and_parts, and_from, or_cases, or_left, or_ri
 use Rattle.net_base.specs.declared.address.Mac.{Mac}
 use Rattle.net_base.specs.declared.numbers.DpId.{DpId}
 use Rattle.conf_types.specs.declared.datapath.Dp.{Dp}
+use Rattle.conf_types.specs.Changes.{host_by}
 use Rattle.conf_types.specs.Configuration.{Configuration, port_at}
 use Rattle.conf_types.specs.Groups.{group_of}
 use Rattle.conf_types.specs.Lists.{is_among}
@@ -17,9 +18,9 @@ use Rattle.plan_units.specs.declared.unit.Unit.{Unit as PlanUnit}
 use Rattle.plan_units.specs.declared.unit.Unit.TheVariants as unit
 use Rattle.plan_units.specs.Agrees.{same_bytes, equal_bytes}
 use Rattle.plan_units.specs.Facts.{some_passes}
-use Rattle.law_units.specs.declared.change.Change.{Change}
-use Rattle.law_units.specs.declared.change.Change.TheVariants as change
-use Rattle.law_units.specs.Reach.{host_by, TouchesPort, IsStackEnd, Reaches, IsInReach}
+use Rattle.conf_types.specs.declared.change.Change.{Change}
+use Rattle.conf_types.specs.declared.change.Change.TheVariants as change
+use Rattle.law_units.specs.Reach.{TouchesPort, IsStackEnd, Reaches, IsInReach}
 use Rattle.law_units.specs.Reached.{is_other, touches_port, is_stack_end, reaches, is_reached}
 
 -- ---- tests

@@ -5,6 +5,7 @@ use Rattle.std.specs.Option.{option_map_or}
 use Rattle.net_base.specs.declared.address.Mac.{Mac}
 use Rattle.net_base.specs.declared.numbers.DpId.{DpId}
 use Rattle.conf_types.specs.declared.datapath.Dp.{Dp}
+use Rattle.conf_types.specs.Changes.{host_by}
 use Rattle.conf_types.specs.Configuration.{Configuration, port_at}
 use Rattle.conf_types.specs.Groups.{group_of}
 use Rattle.conf_types.specs.Lists.{is_among, is_same}
@@ -13,9 +14,9 @@ use Rattle.conf_types.specs.Routing.{routing_set}
 use Rattle.conf_types.specs.State.{State, is_host_at, is_table_full}
 use Rattle.plan_units.specs.declared.unit.Unit.{Unit as PlanUnit}
 use Rattle.plan_units.specs.declared.unit.Unit.TheVariants as unit
-use Rattle.law_units.specs.declared.change.Change.{Change}
-use Rattle.law_units.specs.declared.change.Change.TheVariants as change
-use Rattle.law_units.specs.Reach.{host_by, has_vlan, is_full_in}
+use Rattle.conf_types.specs.declared.change.Change.{Change}
+use Rattle.conf_types.specs.declared.change.Change.TheVariants as change
+use Rattle.law_units.specs.Reach.{has_vlan, is_full_in}
 
 -- two answers differ
 abbrev pub is_other : Bool → Bool → Bool

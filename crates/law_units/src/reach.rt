@@ -3,14 +3,15 @@
 
 ghost use Rattle.std.specs.Prelude.{◌≡◌, ◌↔◌, ℕ, List, IsTrue, IsPermutation};
 ghost use Rattle.conf_types.specs.declared.datapath.Dp.{Dp};
+ghost use Rattle.conf_types.specs.Changes.{AreNamed};
 ghost use Rattle.conf_types.specs.Configuration.{Configuration};
 ghost use Rattle.conf_types.specs.State.{State};
 ghost use Rattle.plan_units.specs.declared.unit.Unit.{Unit};
 ghost use Rattle.plan_units.specs.declared.unit.Unit.TheVariants.{Route};
 ghost use Rattle.plan_units.specs.Laws.{IsSetting};
 ghost use Rattle.plan_units.specs.Units.{entries};
-ghost use Rattle.law_units.specs.declared.change.Change.{Change};
-ghost use Rattle.law_units.specs.Reach.{AreNamed, IsInReach};
+ghost use Rattle.conf_types.specs.declared.change.Change.{Change};
+ghost use Rattle.law_units.specs.Reach.{IsInReach};
 ghost use Rattle.law_units.specs.Reached.{is_reached};
 
 /// Between two valid states of one configuration of which every difference is named, each unit of a datapath

@@ -1,8 +1,9 @@
 ghost use Rattle.std.specs.Prelude.{◌≡◌, IfOk};
 
 use crate::action::Instrs;
+use crate::matching::Match;
 use crate::order::compare_matches;
-use net_base::{Fields, Items, NoMemory, TryCopy};
+use net_base::{Items, NoMemory, TryCopy};
 use std::alloc::Global;
 use std::cmp::Ordering;
 
@@ -12,7 +13,7 @@ use std::cmp::Ordering;
 pub struct Key {
     pub table: u8,
     pub priority: u16,
-    pub fields: Fields,
+    pub fields: Match,
 }
 
 impl TryCopy for Key {
@@ -60,7 +61,8 @@ impl PartialOrd for Key {
     }
 }
 
-/// The order of flow entries: by table, then by priority, both ascending, then by match.
+/// The order of flow entries: by table, then by priority, both ascending, then by match. The matches are
+/// looked at only where table and priority are equal.
 impl Ord for Key {
     ghost use Rattle.std.specs.Prelude.{refl};
     ghost use Rattle.of_match.specs.KeyOrder.{key_cmp};
@@ -76,10 +78,15 @@ impl Ord for Key {
 
     #[tactic(auto, unfolding(crate::specs::KeyOrder::key_cmp))]
     fn cmp(&self, other: &Key) -> Ordering {
-        self.table
-            .cmp(&other.table)
-            .then(self.priority.cmp(&other.priority))
-            .then(compare_matches(self.fields.as_slice(), other.fields.as_slice()))
+        match self.table.cmp(&other.table) {
+            Ordering::Equal => match self.priority.cmp(&other.priority) {
+                Ordering::Equal => {
+                    compare_matches(self.fields.as_slice(), other.fields.as_slice())
+                }
+                unequal => unequal,
+            },
+            unequal => unequal,
+        }
     }
 }
 

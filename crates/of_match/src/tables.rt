@@ -1,4 +1,4 @@
-ghost use Rattle.std.specs.Prelude.{◌≡◌, ◌↔◌, [], length, IsTrue, IsOk, IfOk, OnOk, OnErr};
+ghost use Rattle.std.specs.Prelude.{◌≡◌, ◌↔◌, [], length, IsTrue, IsOk, OnOk, OnErr};
 ghost use Rattle.std.specs.Option.{option_copied};
 ghost use Rattle.of_match.specs.declared.entry.Command.TheVariants.{Add, DeleteStrict, DeleteAll};
 ghost use Rattle.of_match.specs.FlowTables.{IsInKeyOrder, entry_at, above, after, NeedsNoMemory};
@@ -69,18 +69,6 @@ impl Tables {
         TablesIter {
             rest: self.entries.range((Bound::Excluded(key), Bound::Unbounded)),
         }
-    }
-
-    /// The tables of these entries, which stand in key order, no two with one key.
-    pub fn from_ordered(alloc: Global, entries: Vec<Entry>) -> Result<Tables, NoMemory>
-        requires { IsInKeyOrder entries.items }
-        ensures { IfOk result (λ made. made ≡ entries.items) }
-    {
-        let mut made = Tables::new(alloc);
-        for entry in entries {
-            made.add(entry)?;
-        }
-        Ok(made)
     }
 
     /// Whether there is no entry.

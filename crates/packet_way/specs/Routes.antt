@@ -1,6 +1,6 @@
 -- Routing: what a VLAN's gateway does with a packet.
 use Rattle.std.specs.Prelude.{ℕ, ◌-◌, ◌/◌, ◌^◌, ◌==◌, ◌&&◌, not, Bool, false, nat_lt, Option, Some, None, List, [], ◌∷◌, ◌++◌, length, map, filter, if◌then◌else◌}
-use Rattle.std.specs.List.{find, filter_map, flat_map, list_any, reduce}
+use Rattle.std.specs.List.{filter_map, flat_map, list_any, reduce}
 use Rattle.std.specs.Option.{option_map, option_map_or, option_and_then}
 use Rattle.net_base.specs.declared.address.Ip4.{Ip4}
 use Rattle.net_base.specs.declared.address.Mac.{Mac}
@@ -16,6 +16,7 @@ use Rattle.of_match.specs.declared.packet.Upper.TheVariants.{Arp, V4}
 use Rattle.conf_types.specs.declared.state.NeighRec.{NeighRec}
 use Rattle.conf_types.specs.declared.vlan.Route.{Route}
 use Rattle.conf_types.specs.declared.vlan.Vlan.{Vlan}
+use Rattle.conf_types.specs.Changes.{mac_of_neighbour}
 use Rattle.conf_types.specs.Configuration.{Configuration, vlan_with}
 use Rattle.conf_types.specs.Lists.{is_same}
 use Rattle.conf_types.specs.Networks.{is_held, is_vip}
@@ -27,10 +28,6 @@ use Rattle.packet_way.specs.declared.routes.Routed.{Routed}
 use Rattle.packet_way.specs.declared.routes.Routed.TheVariants.{GoesOn, ToController, Ends}
 
 -- ---- the route list
-
--- the neighbour's Ethernet address, if it is known
-abbrev pub mac_of_neighbour : List NeighRec → DpId → ℕ → ℕ → Option Mac
-mac_of_neighbour neighbours group vid ip = option_and_then (λ n. n.mac) (find (λ n. n.group.0 == group.0 && n.vid == vid && n.ip.0 == ip) neighbours)
 
 -- a VIP, alone
 abbrev pub vip_item : Net4 → RouteItem

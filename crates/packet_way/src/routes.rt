@@ -1,11 +1,12 @@
 ghost use Rattle.std.specs.Prelude.{◌≡◌, ◌==◌, ◌&&◌, ◌++◌, [], map, IfOk, OnOk, if◌then◌else◌};
 ghost use Rattle.std.specs.List.{filter_map, find, list_any};
 ghost use Rattle.std.specs.Option.{option_copied, option_map, option_map_or};
+ghost use Rattle.conf_types.specs.Changes.{mac_of_neighbour};
 ghost use Rattle.conf_types.specs.Configuration.{vlan_with};
 ghost use Rattle.conf_types.specs.Lists.{is_same};
 ghost use Rattle.conf_types.specs.Networks.{is_held};
 ghost use Rattle.of_match.specs.declared.ether_type.TheConstants.{ARP, IPV4};
-ghost use Rattle.packet_way.specs.Routes.{mac_of_neighbour, resolved, vip_item, neighbour_item, network_item, route_item, items_of, route_list, item_holds, longer, longest, is_echo_l4, is_echo_request, destination, is_arp_for, hop_less, moved_to, sent_on, led_by, routed_to, routed};
+ghost use Rattle.packet_way.specs.Routes.{resolved, vip_item, neighbour_item, network_item, route_item, items_of, route_list, item_holds, longer, longest, is_echo_l4, is_echo_request, destination, is_arp_for, hop_less, moved_to, sent_on, led_by, routed_to, routed};
 
 use conf_types::{Conf, NeighRec, Vlan};
 use net_base::{DpId, Ip4, Items, Mac, Net4, NoMemory, TryCopy, Vid};

@@ -2,8 +2,8 @@ ghost use Rattle.std.specs.Prelude.{◌≡◌, IfOk};
 ghost use Rattle.plan_base.specs.Entries.{entry, leads_to};
 
 use crate::table::Table;
-use net_base::{Field, Fields, NoMemory};
-use of_match::{Actions, Entry, Instr, Instrs, Key};
+use net_base::{Field, NoMemory};
+use of_match::{Actions, Entry, Instr, Instrs, Key, Match};
 use std::alloc::Global;
 
 /// The instructions that do these actions, if there are any, and lead on to a table, if one is
@@ -34,7 +34,7 @@ pub fn make_entry(
     let key = Key {
         table: table.number(),
         priority,
-        fields: Fields::from_slice(alloc, fields)?,
+        fields: Match::from_slice(alloc, fields)?,
     };
     Ok(Entry { key, instrs })
 }

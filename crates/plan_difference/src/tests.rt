@@ -1,8 +1,8 @@
 //! Differences of small plans.
 
 use crate::difference;
-use net_base::{Fields, NoMemory};
-use of_match::{Command, Entry, Instr, Instrs, Key, Tables, apply};
+use net_base::NoMemory;
+use of_match::{Command, Entry, Instr, Instrs, Key, Match, Tables, apply};
 use std::alloc::Global;
 use std::test::Fail;
 
@@ -13,7 +13,7 @@ fn entry(alloc: Global, (table, priority, next): Row) -> Result<Entry, NoMemory>
     let key = Key {
         table,
         priority,
-        fields: Fields::new(alloc),
+        fields: Match::from_slice(alloc, &[])?,
     };
     let mut instrs = Instrs::new(alloc);
     instrs.push(Instr::Goto(next))?;

@@ -23,6 +23,7 @@ use Rattle.conf_types.specs.declared.datapath.Dp.{Dp}
 use Rattle.conf_types.specs.declared.state.NeighRec.{NeighRec}
 use Rattle.conf_types.specs.declared.vlan.Route.{Route}
 use Rattle.conf_types.specs.declared.vlan.Vlan.{Vlan}
+use Rattle.conf_types.specs.Changes.{mac_of_neighbour}
 use Rattle.conf_types.specs.Configuration.{Configuration, vlan_with}
 use Rattle.conf_types.specs.Groups.{group_of}
 use Rattle.conf_types.specs.Lists.{EachBefore}
@@ -34,7 +35,7 @@ use Rattle.conf_types.proofs.Found.{all_found}
 use Rattle.packet_way.specs.declared.routes.RouteItem.{RouteItem}
 use Rattle.packet_way.specs.declared.routes.Target.{Target}
 use Rattle.packet_way.specs.declared.routes.Target.TheVariants.{Gateway, Hop, Network}
-use Rattle.packet_way.specs.Routes.{mac_of_neighbour, vip_item, hop_item, neighbour_item, network_item, route_item, items_of, route_list}
+use Rattle.packet_way.specs.Routes.{vip_item, hop_item, neighbour_item, network_item, route_item, items_of, route_list}
 use Rattle.plan_base.specs.Accepted.{IsFlowEntry, HaveDistinctKeys}
 use Rattle.plan_base.specs.declared.table.Table.TheVariants.{Ipv4Route, Vip, Destination}
 use Rattle.plan_base.specs.Actions.{to_controller, set_eth_src, set_eth_dst, set_vid, dec_ttl}

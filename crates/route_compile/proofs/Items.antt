@@ -15,6 +15,7 @@ use Rattle.net_base.specs.declared.numbers.DpId.{DpId}
 use Rattle.conf_types.specs.declared.state.NeighRec.{NeighRec}
 use Rattle.conf_types.specs.declared.vlan.Route.{Route}
 use Rattle.conf_types.specs.declared.vlan.Vlan.{Vlan}
+use Rattle.conf_types.specs.Changes.{mac_of_neighbour}
 use Rattle.conf_types.specs.Configuration.{Configuration, vlan_with}
 use Rattle.conf_types.specs.Lists.{EachBefore}
 use Rattle.conf_types.specs.Networks.{is_held, is_vip, Holds, AreApart, LiesIn, AreSame, HasNoHostBits, is_neighbour_address}
@@ -22,7 +23,7 @@ use Rattle.conf_types.specs.Routing.{vips_of, vips_in, routes_of, routes_in}
 use Rattle.conf_types.specs.State.{IsSameNeighbour}
 use Rattle.conf_types.specs.Valid.{IsVip, IsRoute}
 use Rattle.packet_way.specs.declared.routes.RouteItem.{RouteItem}
-use Rattle.packet_way.specs.Routes.{mac_of_neighbour, vip_item, resolved, hop_item, neighbour_item, network_item, route_item, items_of}
+use Rattle.packet_way.specs.Routes.{vip_item, resolved, hop_item, neighbour_item, network_item, route_item, items_of}
 use Rattle.plan_base.proofs.Each.{all_from, all_append, all_map, all_filter_map, all_contains, all_by, all_across, before_from, before_append, before_map, before_filter_map, before_both}
 use Rattle.route_compile.specs.Prefixes.{SamePrefix}
 use Rattle.route_compile.proofs.Numbers.{turned, held_along, whole}

@@ -3,7 +3,8 @@
 
 use net_base::{Field, FieldId, Fields, NoMemory, PortNo, TryCopy};
 use of_match::{
-    Action, Actions, Command, Entry, Instr, Instrs, Key, Packet, Tables, act, apply, hits, run,
+    Action, Actions, Command, Entry, Instr, Instrs, Key, Match, Packet, Tables, act, apply, hits,
+    run,
 };
 use pkt_view::packet_of;
 use std::alloc::Global;
@@ -112,7 +113,7 @@ pub fn write_run(
 fn key(alloc: Global, words: &mut SplitWhitespace<'_>) -> Result<Key, NoMemory> {
     let table = u8::try_from(number(words).unwrap_or(0)).unwrap_or(0);
     let priority = u16::try_from(number(words).unwrap_or(0)).unwrap_or(0);
-    let fields = fields(alloc, words)?;
+    let fields = Match::new(alloc, fields(alloc, words)?)?;
     Ok(Key {
         table,
         priority,
