@@ -15,7 +15,7 @@ use net_base::{DpId, Items, Mac, NoMemory, Vid};
 use packet_way::{Now, host_with};
 use std::alloc::Global;
 
-/// The datapaths of the group with this number, so that it isn't worked out for each host.
+/// The datapaths of the group with this number.
 fn dps_in(alloc: Global, conf: &Conf, group: DpId) -> Result<DpIds, NoMemory>
     ensures { IfOk result (λ ids. ids ≡ map (λ d. d.id) (filter (λ d. (group_of conf.now d.id).0 == group.0) conf.now.dps)) }
 {

@@ -33,85 +33,63 @@ fn is_vlan_full<C: CountsHosts>(conf: &Conf, group: DpId, vlan: &Vlan, hosts: &C
     vlan.max_hosts as usize <= hosts.in_vlan(conf, group, vlan.vid)
 }
 
-fn is_group_full<C: CountsHosts>(conf: &Conf, dp: &Dp, group: DpId, vlan: &Vlan, hosts: &C) -> bool
-    requires { group ≡ group_of conf.now dp.now.id }
-    ensures { result ≡ is_vlan_full conf.now (C.hosts hosts.now) (group_of conf.now dp.now.id) vlan.now }
-{
-    is_vlan_full(conf, group, vlan, hosts)
-}
-
 fn is_table_full<C: CountsHosts>(hosts: &C) -> bool
     ensures { result ≡ is_table_full (C.hosts hosts.now) }
 {
     MOST_HOSTS <= hosts.in_all()
 }
 
-/// Whether no further host may be learned at the port, or in the VLAN of the group.
-fn is_place_full<C: CountsHosts>(
-    conf: &Conf,
-    dp: &Dp,
+/// An interface of a datapath, the number of the datapath's group, and the counts of the hosts.
+#[derive(Drop)]
+struct Place<'a, C> {
+    conf: &'a Conf,
+    dp: &'a Dp,
     group: DpId,
-    port: &Port,
-    vlan: &Vlan,
-    hosts: &C,
-) -> bool
-    requires { group ≡ group_of conf.now dp.now.id }
-    ensures { result ≡ (is_port_full (C.hosts hosts.now) dp.now.id port.now || is_vlan_full conf.now (C.hosts hosts.now) (group_of conf.now dp.now.id) vlan.now) }
-{
-    is_port_full(dp, port, hosts) || is_group_full(conf, dp, group, vlan, hosts)
+    port: &'a Port,
+    hosts: &'a C,
+    ghost right: { group ≡ group_of conf.now dp.now.id },
 }
 
-/// Whether no further host may be learned at the port, in the VLAN of the group, or at all.
-fn is_full<C: CountsHosts>(
-    conf: &Conf,
-    dp: &Dp,
-    group: DpId,
-    port: &Port,
-    vlan: &Vlan,
-    hosts: &C,
-) -> bool
-    requires { group ≡ group_of conf.now dp.now.id }
-    ensures { result ≡ is_full conf.now (C.hosts hosts.now) dp.now port.now vlan.now }
-{
-    is_place_full(conf, dp, group, port, vlan, hosts) || is_table_full(hosts)
-}
-
-fn counted_miss<C: CountsHosts>(
-    alloc: Global,
-    conf: &Conf,
-    dp: &Dp,
-    group: DpId,
-    port: &Port,
-    vlan: &Vlan,
-    hosts: &C,
-) -> Result<Entry, NoMemory>
-    requires { group ≡ group_of conf.now dp.now.id }
-    ensures { IfOk result (λ made. made ≡ miss conf.now (C.hosts hosts.now) dp.now port.now vlan.now) }
-{
-    let keeps = keeps_host(dp, port, vlan, hosts);
-    let full = is_full(conf, dp, group, port, vlan, hosts);
-    make_miss(alloc, port, vlan, keeps, full)
-}
-
-/// The entries of the VLANs whose packets have a tag at the port.
-fn push_tagged<C: CountsHosts>(
-    alloc: Global,
-    made: &mut Entries,
-    conf: &Conf,
-    dp: &Dp,
-    group: DpId,
-    port: &Port,
-    hosts: &C,
-) -> Result<(), NoMemory>
-    requires { group ≡ group_of conf.now dp.now.id }
-    ensures { OnOk result (made.new ≡ made.old ++ map (miss conf.now (C.hosts hosts.now) dp.now port.now) (tagged_vlans conf.now port.now)) }
-{
-    for vid in port.tagged.as_slice() {
-        if let Some(vlan) = conf.vlan(*vid) {
-            made.push(counted_miss(alloc, conf, dp, group, port, vlan, hosts)?)?;
-        }
+impl<'a, C: CountsHosts> Place<'a, C> {
+    fn is_group_full(&self, vlan: &Vlan) -> bool
+        ensures { result ≡ is_vlan_full self.now.conf.now (C.hosts self.now.hosts.now) (group_of self.now.conf.now self.now.dp.now.id) vlan.now }
+    {
+        is_vlan_full(self.conf, self.group, vlan, self.hosts)
     }
-    Ok(())
+
+    /// Whether no further host may be learned at the port, or in the VLAN of the group.
+    fn is_place_full(&self, vlan: &Vlan) -> bool
+        ensures { result ≡ (is_port_full (C.hosts self.now.hosts.now) self.now.dp.now.id self.now.port.now || is_vlan_full self.now.conf.now (C.hosts self.now.hosts.now) (group_of self.now.conf.now self.now.dp.now.id) vlan.now) }
+    {
+        is_port_full(self.dp, self.port, self.hosts) || self.is_group_full(vlan)
+    }
+
+    /// Whether no further host may be learned at the port, in the VLAN of the group, or at all.
+    fn is_full(&self, vlan: &Vlan) -> bool
+        ensures { result ≡ is_full self.now.conf.now (C.hosts self.now.hosts.now) self.now.dp.now self.now.port.now vlan.now }
+    {
+        self.is_place_full(vlan) || is_table_full(self.hosts)
+    }
+
+    fn counted_miss(&self, alloc: Global, vlan: &Vlan) -> Result<Entry, NoMemory>
+        ensures { IfOk result (λ made. made ≡ miss self.now.conf.now (C.hosts self.now.hosts.now) self.now.dp.now self.now.port.now vlan.now) }
+    {
+        let keeps = keeps_host(self.dp, self.port, vlan, self.hosts);
+        let full = self.is_full(vlan);
+        make_miss(alloc, self.port, vlan, keeps, full)
+    }
+
+    /// The entries of the VLANs whose packets have a tag at the port.
+    fn push_tagged(&self, alloc: Global, made: &mut Entries) -> Result<(), NoMemory>
+        ensures { OnOk result (made.new ≡ made.old ++ map (miss self.now.conf.now (C.hosts self.now.hosts.now) self.now.dp.now self.now.port.now) (tagged_vlans self.now.conf.now self.now.port.now)) }
+    {
+        for vid in self.port.tagged.as_slice() {
+            if let Some(vlan) = self.conf.vlan(*vid) {
+                made.push(self.counted_miss(alloc, vlan)?)?;
+            }
+        }
+        Ok(())
+    }
 }
 
 fn make_misses<C: CountsHosts>(
@@ -124,11 +102,18 @@ fn make_misses<C: CountsHosts>(
     ensures { IfOk result (λ made. made ≡ map (miss conf.now (C.hosts hosts.now) dp.now port.now) (vlans_of conf.now port.now)) }
 {
     let group = conf.group_number(dp.id);
+    let place = Place {
+        conf,
+        dp,
+        group,
+        port,
+        hosts,
+    };
     let mut made = Entries::new(alloc);
     if let Some(vlan) = native_vlan(conf, port) {
-        made.push(counted_miss(alloc, conf, dp, group, port, vlan, hosts)?)?;
+        made.push(place.counted_miss(alloc, vlan)?)?;
     }
-    push_tagged(alloc, &mut made, conf, dp, group, port, hosts)?;
+    place.push_tagged(alloc, &mut made)?;
     Ok(made)
 }
 

@@ -7,14 +7,14 @@ use Rattle.conf_types.specs.Configuration.{vlan_with}
 use Rattle.conf_types.proofs.Taken.{one_kept, none_kept}
 use Rattle.vlan_compile.specs.Misses.{miss}
 use Rattle.vlan_compile.proofs.Mapped.{map-filter_map}
-use Rattle.vlan_compile.proofs.counted.push_tagged.Goals as goal
-use Rattle.vlan_compile.proofs.counted.push_tagged.Goals.{in-Some+in_ok-counted_miss+in_ok-push, in_default}
+use Rattle.vlan_compile.proofs.counted.Place.push_tagged.Goals as goal
+use Rattle.vlan_compile.proofs.counted.Place.push_tagged.Goals.{in-Some+in_ok-counted_miss+in_ok-push, in_default}
 
 -- the entry of the VLAN, or none, is added
 pub loop-vid-preserved : goal.loop-vid-preserved
 loop-vid-preserved g c =
-    let make = miss c.args.conf.now (g.C.CountsHosts.hosts c.args.hosts.now) c.args.dp.now c.args.port.now in
-    let h = λ (vid : ℕ). option_map make (vlan_with c.args.conf.now.vlans vid) in
+    let make = miss c.args.self.now.conf.now (g.C.CountsHosts.hosts c.args.self.now.hosts.now) c.args.self.now.dp.now c.args.self.now.port.now in
+    let h = λ (vid : ℕ). option_map make (vlan_with c.args.self.now.conf.now.vlans vid) in
     let xs = c.as_slice-vid-items.result.now in
     elim c.match-vlan.branch [
       | in-Some+in_ok-counted_miss+in_ok-push w ↦
@@ -27,9 +27,9 @@ loop-vid-preserved g c =
 -- all VLANs have theirs
 pub returns : goal.returns
 returns g c =
-    let make = miss c.args.conf.now (g.C.CountsHosts.hosts c.args.hosts.now) c.args.dp.now c.args.port.now in
-    let h = λ (vid : ℕ). option_map make (vlan_with c.args.conf.now.vlans vid) in
+    let make = miss c.args.self.now.conf.now (g.C.CountsHosts.hosts c.args.self.now.hosts.now) c.args.self.now.dp.now c.args.self.now.port.now in
+    let h = λ (vid : ℕ). option_map make (vlan_with c.args.self.now.conf.now.vlans vid) in
     let before = λ (made : List Entry). c.args.made.now ++ made in
     c.loop-vid.invariant
     ∙ ap (λ vids. before (filter_map h vids)) (take_all c.loop-vid.vid-index c.as_slice-vid-items.result.now c.loop-vid-test.false ∙ c.as_slice-vid-items.ensures)
-    ∙ ap before (map-filter_map make (vlan_with c.args.conf.now.vlans) c.args.port.now.tagged)
+    ∙ ap before (map-filter_map make (vlan_with c.args.self.now.conf.now.vlans) c.args.self.now.port.now.tagged)
