@@ -7,6 +7,9 @@ use Rattle.std.proofs.lemmas.Bool.{and_parts}
 use Rattle.net_base.specs.declared.address.Ip4.{Ip4}
 use Rattle.net_base.specs.declared.address.Mac.{Mac}
 use Rattle.net_base.specs.declared.numbers.DpId.{DpId}
+use Rattle.conf_types.specs.declared.change.Change.{Change}
+use Rattle.conf_types.specs.declared.change.Change.TheVariants as change
+use Rattle.conf_types.specs.Changes.{host_by, standing, standing_of, mac_of_neighbour, AreNamed}
 use Rattle.conf_types.specs.declared.state.HostRec.{HostRec}
 use Rattle.conf_types.specs.declared.state.NeighRec.{NeighRec}
 use Rattle.conf_types.specs.declared.state.UpRec.{UpRec}
@@ -15,13 +18,9 @@ use Rattle.conf_types.specs.Groups.{group_of}
 use Rattle.conf_types.specs.Links.{is_up}
 use Rattle.conf_types.specs.Lists.{is_same}
 use Rattle.conf_types.specs.State.{State, is_running, is_host_in}
-use Rattle.packet_way.specs.Routes.{mac_of_neighbour}
 use Rattle.plan_units.specs.Agrees.{same_bytes}
 use Rattle.plan_units.specs.Facts.{found, some_passes}
 use Rattle.law_runs.specs.Members.{in_front, behind, in_mapped}
-use Rattle.law_units.specs.declared.change.Change.{Change}
-use Rattle.law_units.specs.declared.change.Change.TheVariants as change
-use Rattle.law_units.specs.Reach.{host_by, standing, standing_of, AreNamed}
 use Rattle.test_plans.specs.Named.{names}
 
 module _ (conf : Configuration) (now : State) where

@@ -3,8 +3,8 @@
 ghost use Rattle.std.specs.Prelude.{◌≡◌, ◌++◌, map, IfOk, OnOk};
 ghost use Rattle.conf_types.specs.Groups.{group_of};
 ghost use Rattle.packet_way.specs.Present.{state_of};
-ghost use Rattle.law_units.specs.declared.change.Change.TheVariants as change;
-ghost use Rattle.law_units.specs.Reach.{AreNamed};
+ghost use Rattle.conf_types.specs.declared.change.Change.TheVariants as change;
+ghost use Rattle.conf_types.specs.Changes.{AreNamed};
 ghost use Rattle.test_plans.specs.Named.{names};
 
 use conf_types::{Conf, NeighRec, UpRec};

@@ -7,5 +7,6 @@ pub mod Longer
 pub mod Listed
 pub mod TakenOut
 pub mod Standing
+pub mod Unnamed
 pub mod Settings
 pub mod Telling

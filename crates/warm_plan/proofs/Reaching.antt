@@ -9,6 +9,7 @@ use Rattle.net_base.specs.declared.numbers.DpId.{DpId}
 use Rattle.of_match.specs.declared.entry.Entry.{Entry}
 use Rattle.conf_types.specs.declared.datapath.Dp.{Dp}
 use Rattle.conf_types.specs.declared.state.HostRec.{HostRec}
+use Rattle.conf_types.specs.Changes.{host_by, AreNamed}
 use Rattle.conf_types.specs.Configuration.{Configuration, port_at, vlan_with}
 use Rattle.conf_types.specs.Groups.{group_of}
 use Rattle.conf_types.specs.Lists.{is_among, is_same}
@@ -20,9 +21,9 @@ use Rattle.plan_units.specs.declared.unit.Unit.TheVariants as unit
 use Rattle.plan_units.specs.Facts.{found}
 use Rattle.plan_units.specs.Laws.{IsSetting}
 use Rattle.plan_units.specs.Units.{entries}
-use Rattle.law_units.specs.declared.change.Change.{Change}
-use Rattle.law_units.specs.declared.change.Change.TheVariants as change
-use Rattle.law_units.specs.Reach.{host_by, AreNamed, IsInReach}
+use Rattle.conf_types.specs.declared.change.Change.{Change}
+use Rattle.conf_types.specs.declared.change.Change.TheVariants as change
+use Rattle.law_units.specs.Reach.{IsInReach}
 use Rattle.law_units.specs.Reached.{is_other, touches_port, reaches, is_reached}
 use Rattle.warm_plan.specs.declared.effect.Effect.TheVariants.{Routes, Nothing}
 use Rattle.warm_plan.specs.Effects.{host_effect, effect_of, if_linked, is_at, has_vlan, touches, effect_reaches, reached_by}

@@ -19,7 +19,7 @@ use Rattle.plan_units.specs.Laws.{IsSetting, HasAddresses}
 use Rattle.plan_units.specs.Units.{entries, plan}
 use Rattle.cold_start.specs.Cold.{cold, units_of}
 use Rattle.cold_start.proofs.Permuted.{order_after_all}
-use Rattle.law_units.specs.declared.change.Change.{Change}
+use Rattle.conf_types.specs.declared.change.Change.{Change}
 use Rattle.law_units.specs.Owner.{owner}
 use Rattle.law_units.specs.Reached.{is_reached}
 use Rattle.warm_plan.specs.Parts.{ArePartsOf, AreReached, AreTakenOut, parts_without, without_units, parts_with, with_units}

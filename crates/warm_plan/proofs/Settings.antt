@@ -1,10 +1,11 @@
 -- A plan that is made, and made again, of the datapath with an identifier.
-use Rattle.std.proofs.Common.{◌≡◌, ℕ, ◌*◌, ◌≤◌, length, Bool, true, false, Some, List, [], ◌++◌, map, filter, sym, ap, subst, ◌∙◌, arith}
+use Rattle.std.proofs.Common.{◌≡◌, ℕ, ◌*◌, ◌≤◌, length, Bool, true, false, Option, Some, List, [], ◌++◌, map, filter, sym, ap, subst, ◌∙◌, arith}
 use Rattle.std.specs.Prelude.{Contains}
 use Rattle.std.specs.Option.{option_map_or}
 use Rattle.net_base.specs.declared.numbers.DpId.{DpId}
 use Rattle.of_match.specs.declared.entry.Entry.{Entry}
 use Rattle.of_match.specs.declared.entry.Key.{Key}
+use Rattle.stack_paths.specs.Stack.{Stack}
 use Rattle.conf_types.specs.declared.datapath.Dp.{Dp}
 use Rattle.conf_types.specs.Configuration.{Configuration, dp_with}
 use Rattle.conf_types.specs.State.{State}
@@ -13,13 +14,13 @@ use Rattle.plan_units.specs.Laws.{IsSetting}
 use Rattle.cold_start.specs.Cold.{cold, cold_at, units_of, units_at}
 use Rattle.cold_start.specs.Counts.{RisesAtMost}
 use Rattle.cold_start.proofs.Groups.{own_id}
-use Rattle.law_units.specs.declared.change.Change.{Change}
-use Rattle.law_units.specs.Reach.{AreNamed}
+use Rattle.conf_types.specs.declared.change.Change.{Change}
+use Rattle.conf_types.specs.Changes.{AreNamed}
 use Rattle.law_units.specs.Reached.{is_reached}
 use Rattle.law_runs.specs.Members.{of_all, all_by, in_filtered}
 use Rattle.warm_plan.specs.declared.effect.Effect.{Effect}
 use Rattle.warm_plan.specs.Effects.{effect_of, reached_by, all_units_by, named_units}
-use Rattle.warm_plan.specs.Kept.{Kept, ArePlaces, IsSound, IsWarm, reached_at}
+use Rattle.warm_plan.specs.Kept.{Kept, IsSound, IsWarm, reached_at}
 use Rattle.warm_plan.specs.Once.{AreOnce}
 use Rattle.warm_plan.specs.Parts.{ArePartsOf, AreReached, AreTakenOut, parts_without, without_units, parts_with, with_units}
 use Rattle.warm_plan.specs.Places.{Places, places_of}
@@ -102,12 +103,9 @@ module _ (wanted_law : (conf : Configuration) (old new : State) (d : Dp) (change
 
 -- ---- what was kept, after an event
 
-pub kept_again : (k : Kept) (stood : Places) (parts : PlanUnit → List Key) (touched : List Key) (made_before : List Entry) → IsWarm k stood parts touched made_before → k.is_spent ≡ false → (conf : Configuration) → conf ≡ k.conf
-    → (new : State) (changes : List Change) → AreNamed conf k.state new changes → (made : List Entry) (made_parts : PlanUnit → List Key)
-    → ((before : State) → ArePlaces conf before k.dp stood → IsSound conf before → AreNamed conf before new changes
-    → k.wanted ≡ cold_at conf before k.dp → ArePartsOf parts k.wanted → (made ≡ cold_at conf new k.dp) × ArePartsOf made_parts made)
+pub kept_again : (k : Kept) (stood : Places) (parts : PlanUnit → List Key) (paths : Option Stack) (touched : List Key) (made_before : List Entry) → IsWarm k stood parts paths touched made_before → k.is_spent ≡ false → (conf : Configuration) → conf ≡ k.conf
+    → (new : State) (made : List Entry) (made_parts : PlanUnit → List Key)
+    → (k.wanted ≡ cold_at conf k.state k.dp → ArePartsOf parts k.wanted → (made ≡ cold_at conf new k.dp) × ArePartsOf made_parts made)
     → (made ≡ cold_at conf new k.dp) × ArePartsOf made_parts made
-kept_again k stood parts touched made_before warm fresh conf same new changes named made made_parts by =
-    let index = warm.indexed fresh in
-    by k.state (subst (λ (c : Configuration). ArePlaces c k.state k.dp stood) (sym same) index.stand) (subst (λ (c : Configuration). IsSound c k.state) (sym same) index.sound) named
-    (warm.kept.warm fresh ∙ ap (λ (c : Configuration). cold_at c k.state k.dp) (sym same)) index.keyed
+kept_again k stood parts paths touched made_before warm fresh conf same new made made_parts by =
+    by (warm.kept.warm fresh ∙ ap (λ (c : Configuration). cold_at c k.state k.dp) (sym same)) (warm.indexed fresh).keyed

@@ -9,6 +9,7 @@ use Rattle.net_base.specs.declared.numbers.DpId.{DpId}
 use Rattle.conf_types.specs.declared.datapath.Dp.{Dp}
 use Rattle.conf_types.specs.declared.state.HostRec.{HostRec}
 use Rattle.conf_types.specs.declared.vlan.Vlan.{Vlan}
+use Rattle.conf_types.specs.Changes.{host_by, Standing, standing, standing_of, AreNamed}
 use Rattle.conf_types.specs.Configuration.{Configuration, vlan_with}
 use Rattle.conf_types.specs.Groups.{group_of}
 use Rattle.conf_types.specs.State.{State, is_host_in, is_vlan_full, is_table_full}
@@ -18,9 +19,8 @@ use Rattle.plan_units.specs.declared.unit.Unit.TheVariants as unit
 use Rattle.plan_units.specs.Facts.{found}
 use Rattle.plan_units.specs.Laws.{IsSetting}
 use Rattle.cold_start.specs.Cold.{units_of}
-use Rattle.law_units.specs.declared.change.Change.{Change}
-use Rattle.law_units.specs.declared.change.Change.TheVariants as change
-use Rattle.law_units.specs.Reach.{host_by, Standing, standing, standing_of, AreNamed}
+use Rattle.conf_types.specs.declared.change.Change.{Change}
+use Rattle.conf_types.specs.declared.change.Change.TheVariants as change
 use Rattle.law_units.proofs.Hosts.{stable_bool, stable_standing, ReadsPlace, same_count}
 use Rattle.warm_plan.specs.Places.{Places, no_places, port_on, port_in, is_full_in, port_at, is_full_at, places_of, renewed, all_renewed, moved_units, all_moved}
 use Rattle.warm_plan.proofs.Commands.{of_cons}

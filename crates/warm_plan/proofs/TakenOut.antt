@@ -6,6 +6,7 @@ use Rattle.std.proofs.lemmas.List.Elements.{Contains-append_cases}
 use Rattle.std.proofs.lemmas.Option.{none-some}
 use Rattle.conf_types.specs.declared.datapath.Dp.{Dp}
 use Rattle.conf_types.specs.declared.state.HostRec.{HostRec}
+use Rattle.conf_types.specs.Changes.{host_by, standing, standing_of, AreNamed}
 use Rattle.conf_types.specs.Configuration.{Configuration}
 use Rattle.conf_types.specs.Groups.{group_of}
 use Rattle.conf_types.specs.State.{State}
@@ -15,9 +16,8 @@ use Rattle.plan_units.specs.declared.unit.Unit.TheVariants as unit
 use Rattle.plan_units.specs.Agrees.{equal_bytes}
 use Rattle.plan_units.specs.Units.{hosts_of}
 use Rattle.cold_start.specs.Cold.{units_of}
-use Rattle.law_units.specs.declared.change.Change.{Change}
-use Rattle.law_units.specs.declared.change.Change.TheVariants as change
-use Rattle.law_units.specs.Reach.{host_by, standing, standing_of, AreNamed}
+use Rattle.conf_types.specs.declared.change.Change.{Change}
+use Rattle.conf_types.specs.declared.change.Change.TheVariants as change
 use Rattle.law_units.specs.Reached.{is_reached}
 use Rattle.warm_plan.specs.declared.effect.Effect.{Effect}
 use Rattle.warm_plan.specs.declared.effect.Effect.TheVariants.{Nothing, Host, Stack, Routes}

@@ -6,6 +6,7 @@ use Rattle.net_base.specs.declared.address.Mac.{Mac}
 use Rattle.net_base.specs.declared.numbers.DpId.{DpId}
 use Rattle.conf_types.specs.declared.datapath.Dp.{Dp}
 use Rattle.conf_types.specs.declared.state.HostRec.{HostRec}
+use Rattle.conf_types.specs.Changes.{host_by}
 use Rattle.conf_types.specs.Configuration.{Configuration, port_with, port_at}
 use Rattle.conf_types.specs.Groups.{group_of}
 use Rattle.conf_types.specs.Lists.{is_among, is_same}
@@ -14,9 +15,8 @@ use Rattle.conf_types.specs.Routing.{routing_set}
 use Rattle.conf_types.specs.State.{is_table_full}
 use Rattle.plan_units.specs.declared.unit.Unit.{Unit as PlanUnit}
 use Rattle.plan_units.specs.declared.unit.Unit.TheVariants as unit
-use Rattle.law_units.specs.declared.change.Change.{Change}
-use Rattle.law_units.specs.declared.change.Change.TheVariants as change
-use Rattle.law_units.specs.Reach.{host_by}
+use Rattle.conf_types.specs.declared.change.Change.{Change}
+use Rattle.conf_types.specs.declared.change.Change.TheVariants as change
 use Rattle.law_units.specs.Reached.{is_other}
 use Rattle.warm_plan.specs.declared.effect.Effect.{Effect}
 use Rattle.warm_plan.specs.declared.effect.Effect.TheVariants.{Nothing, Host, Stack, Routes}

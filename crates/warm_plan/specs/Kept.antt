@@ -1,19 +1,24 @@
 -- A datapath's plan that is kept, as contracts see it.
-use Rattle.std.specs.Prelude.{◌≡◌, Bool, false, Some, List, [], filter}
+use Rattle.std.specs.Prelude.{◌≡◌, Bool, false, Option, Some, List, [], filter, IfSome}
+use Rattle.std.specs.List.{AllByRecursion}
 use Rattle.std.specs.Option.{option_map_or}
+use Rattle.net_base.specs.Address.{IsSixBytes}
 use Rattle.net_base.specs.declared.numbers.DpId.{DpId}
 use Rattle.of_match.specs.declared.entry.Entry.{Entry}
 use Rattle.of_match.specs.declared.entry.Key.{Key}
 use Rattle.of_match.specs.FlowTables.{IsInKeyOrder}
+use Rattle.stack_paths.specs.Stack.{Stack}
 use Rattle.conf_types.specs.declared.datapath.Dp.{Dp}
+use Rattle.conf_types.specs.declared.state.NeighRec.{NeighRec}
 use Rattle.conf_types.specs.Configuration.{Configuration, dp_with}
 use Rattle.conf_types.specs.State.{State, IsValidState}
 use Rattle.conf_types.specs.Valid.{IsValid}
+use Rattle.packet_way.specs.Known.{stack_of}
 use Rattle.plan_units.specs.declared.unit.Unit.{Unit as PlanUnit}
 use Rattle.plan_units.specs.Laws.{HasAddresses}
 use Rattle.cold_start.specs.Cold.{cold_at, units_of}
 use Rattle.plan_difference.specs.Difference.{AreAllTold}
-use Rattle.law_units.specs.declared.change.Change.{Change}
+use Rattle.conf_types.specs.declared.change.Change.{Change}
 use Rattle.law_units.specs.Reached.{is_reached}
 use Rattle.warm_plan.specs.Parts.{ArePartsOf}
 use Rattle.warm_plan.specs.Places.{Places, places_of}
@@ -43,6 +48,10 @@ reached_at conf old new id changes = option_map_or (λ d. filter (is_reached con
 
 -- ---- what is kept beside it
 
+-- the addresses of these neighbours that are known are Ethernet addresses
+abbrev pub HaveAddresses : List NeighRec → Type 0
+HaveAddresses neighbours = AllByRecursion (λ n. IfSome n.mac (λ mac. IsSixBytes mac.0)) neighbours
+
 -- a valid configuration and state, of Ethernet addresses
 pub record IsSound (conf : Configuration) (now : State) : Type 0 where
   pub valid : IsValid conf
@@ -53,14 +62,19 @@ pub record IsSound (conf : Configuration) (now : State) : Type 0 where
 abbrev pub ArePlaces : Configuration → State → DpId → Places → Type 0
 ArePlaces conf now id stood = (d : Dp) → dp_with conf.dps id ≡ Some d → stood ≡ places_of conf d now.hosts
 
--- the places of the hosts of the state, and the keys of each unit's entries
-pub record IsIndexed (conf : Configuration) (now : State) (id : DpId) (wanted : List Entry) (stood : Places) (parts : PlanUnit → List Key) : Type 0 where
+-- the paths that are kept, where any are, are those of the state's stack
+abbrev pub ArePaths : Configuration → State → Option Stack → Type 0
+ArePaths conf now paths = IfSome paths (λ p. p ≡ stack_of conf now.ups)
+
+-- the places of the hosts of the state, the keys of each unit's entries, and the paths
+pub record IsIndexed (conf : Configuration) (now : State) (id : DpId) (wanted : List Entry) (stood : Places) (parts : PlanUnit → List Key) (paths : Option Stack) : Type 0 where
   pub sound : IsSound conf now
   pub stand : ArePlaces conf now id stood
   pub keyed : ArePartsOf parts wanted
+  pub linked : ArePaths conf now paths
 
 -- these keys tell where the entries that were made differ from what was sent
-pub record IsWarm (k : Kept) (stood : Places) (parts : PlanUnit → List Key) (touched : List Key) (made : List Entry) : Type 0 where
+pub record IsWarm (k : Kept) (stood : Places) (parts : PlanUnit → List Key) (paths : Option Stack) (touched : List Key) (made : List Entry) : Type 0 where
   pub kept : IsKept k
-  pub indexed : k.is_spent ≡ false → IsIndexed k.conf k.state k.dp k.wanted stood parts
+  pub indexed : k.is_spent ≡ false → IsIndexed k.conf k.state k.dp k.wanted stood parts paths
   pub told : k.is_spent ≡ false → AreAllTold touched k.sent made

@@ -14,7 +14,7 @@ use Rattle.plan_units.specs.declared.unit.Unit.{Unit as PlanUnit}
 use Rattle.plan_units.specs.Order.{unit_cmp}
 use Rattle.plan_units.specs.Units.{entries}
 use Rattle.cold_start.specs.Cold.{units_of}
-use Rattle.law_units.specs.declared.change.Change.{Change}
+use Rattle.conf_types.specs.declared.change.Change.{Change}
 use Rattle.law_units.specs.Owner.{owner}
 use Rattle.law_units.specs.Reached.{is_reached}
 use Rattle.warm_plan.specs.Units.{put}

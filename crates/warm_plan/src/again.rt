@@ -1,29 +1,33 @@
 //! A datapath's plan, made whole, and made again where something changed.
 
-ghost use Rattle.std.specs.Prelude.{◌≡◌, ◌*◌, length, IfOk, OnOk};
-ghost use Rattle.conf_types.specs.State.{State, IsValidState};
+ghost use Rattle.std.specs.Prelude.{◌≡◌, ◌*◌, None, length, IfOk, OnOk, if◌then◌else◌};
+ghost use Rattle.std.specs.List.{list_any};
+ghost use Rattle.conf_types.specs.Changes.{AreNamed};
+ghost use Rattle.conf_types.specs.State.{IsValidState};
 ghost use Rattle.packet_way.specs.Present.{state_of};
 ghost use Rattle.cold_start.specs.Cold.{cold_at, units_at};
 ghost use Rattle.cold_start.specs.Counts.{RisesAtMost, RisesAtLeast};
-ghost use Rattle.law_units.specs.Reach.{AreNamed};
-ghost use Rattle.warm_plan.specs.Kept.{ArePlaces, IsSound, reached_at};
+ghost use Rattle.warm_plan.specs.Kept.{ArePaths, ArePlaces, IsSound, reached_at};
 ghost use Rattle.plan_difference.specs.Difference.{AreAllTold};
+ghost use Rattle.warm_plan.specs.Named.{names_link};
 ghost use Rattle.warm_plan.specs.Parts.{ArePartsOf, keys_at};
 ghost use Rattle.warm_plan.specs.Places.{kept_places};
 ghost use Rattle.warm_plan.specs.Touched.{KeepTold};
 
 use crate::effect::effects;
 use crate::laws;
+use crate::named::name_link;
 use crate::plan::Plan;
 use crate::reaches::{named_units, reached};
-use crate::sound::is_sound;
+use crate::seen::Seen;
+use crate::sound::{is_sound, stays_sound};
 use crate::stood::Stood;
 use crate::units::units_of;
-use conf_types::{Conf, Tally};
-use law_units::Change;
+use conf_types::{Change, Conf, Tally};
 use net_base::{DpId, NoMemory};
 use of_match::Tables;
 use packet_way::Now;
+use stack_paths::Paths;
 use std::alloc::Global;
 
 /// The plan of a datapath, of which all units are made. For each at least one unit of work is counted where
@@ -41,6 +45,7 @@ pub(crate) fn make_whole<T: Tally>(
     ensures wanted { IfOk result (λ made. made.wanted ≡ cold_at conf.now (state_of now.now) dp) }
     ensures parts { IfOk result (λ made. ArePartsOf (keys_at made.parts) made.wanted) }
     ensures told { IfOk result (λ made. AreAllTold made.touched.keys sent.now made.wanted) }
+    ensures paths { IfOk result (λ made. ArePaths conf.now (state_of now.now) made.paths) }
     ensures most { RisesAtMost (3 * length (units_at conf.now (state_of now.now) dp)) (T.count units.old) (T.count units.new) }
     ensures least { OnOk result (RisesAtLeast (length (units_at conf.now (state_of now.now) dp)) (T.count units.old) (T.count units.new)) }
 {
@@ -64,26 +69,42 @@ pub(crate) struct Event<'a> {
     pub(crate) changes: &'a [Change],
 }
 
-/// Makes again the units that changes reach, so that the plan of a state whose hosts stood so becomes that of
-/// this state. For each at most three units of work are counted.
+/// The paths that are kept, unless changes name an end of a stack link.
+fn still_paths(conf: &Conf, changes: &[Change], paths: Option<Paths>) -> Option<Paths>
+    ensures { result ≡ (if list_any (names_link conf.now) changes.now then None else paths) }
+{
+    if name_link(conf, changes) {
+        None
+    } else {
+        paths
+    }
+}
+
+/// Makes again the units that changes reach, so that the plan of the state before, whose hosts stood so, becomes
+/// that of this state. For each at most three units of work are counted.
 pub(crate) fn make_again<T: Tally>(
     plan: &mut Plan,
     alloc: Global,
     event: &Event,
+    before: &Seen,
     stood: &Stood,
     units: &mut T,
 ) -> Result<(), NoMemory>
-    requires { IsValidState event.now.conf.now (state_of event.now.learned.now) }
+    requires state { IsValidState event.now.conf.now (state_of event.now.learned.now) }
+    requires sound { IsSound event.now.conf.now before.now }
+    requires named { AreNamed event.now.conf.now before.now (state_of event.now.learned.now) event.now.changes.now }
+    requires places { ArePlaces event.now.conf.now before.now event.now.dp (kept_places stood.now) }
+    requires paths { ArePaths event.now.conf.now before.now plan.old.paths }
     ensures sound { IsSound event.now.conf.now (state_of event.now.learned.now) }
-    ensures warm { OnOk result ((before : State) → ArePlaces event.now.conf.now before event.now.dp (kept_places stood.now) → IsSound event.now.conf.now before
-        → AreNamed event.now.conf.now before (state_of event.now.learned.now) event.now.changes.now
-        → plan.old.wanted ≡ cold_at event.now.conf.now before event.now.dp → ArePartsOf (keys_at plan.old.parts) plan.old.wanted
+    ensures warm { OnOk result (plan.old.wanted ≡ cold_at event.now.conf.now before.now event.now.dp → ArePartsOf (keys_at plan.old.parts) plan.old.wanted
         → (plan.new.wanted ≡ cold_at event.now.conf.now (state_of event.now.learned.now) event.now.dp) × ArePartsOf (keys_at plan.new.parts) plan.new.wanted) }
     ensures told { OnOk result (KeepTold plan.old.touched.keys plan.old.wanted plan.new.touched.keys plan.new.wanted) }
-    ensures most { (before : State) → ArePlaces event.now.conf.now before event.now.dp (kept_places stood.now)
-        → RisesAtMost (3 * length (reached_at event.now.conf.now before (state_of event.now.learned.now) event.now.dp event.now.changes.now)) (T.count units.old) (T.count units.new) }
+    ensures paths { OnOk result (ArePaths event.now.conf.now (state_of event.now.learned.now) plan.new.paths) }
+    ensures most { RisesAtMost (3 * length (reached_at event.now.conf.now before.now (state_of event.now.learned.now) event.now.dp event.now.changes.now)) (T.count units.old) (T.count units.new) }
 {
-    is_sound(event.conf, event.learned);
+    stays_sound(event.conf, before, event.learned, event.changes);
+    conf_types::laws::a_group_has_the_least_identifier_that_is_joined();
+    plan.paths = still_paths(event.conf, event.changes, plan.paths.take());
     let Some(dp) = event.conf.dp(event.dp) else {
         return Ok(());
     };

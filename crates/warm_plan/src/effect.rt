@@ -11,9 +11,8 @@ ghost use Rattle.warm_plan.specs.Effects.{host_effect, effect_of};
 ghost use Rattle.warm_plan.specs.Places.{kept_places};
 
 use crate::stood::{Stood, is_full_in, is_table_full, port_in};
-use conf_types::{Conf, Dp};
+use conf_types::{Change, Conf, Dp};
 use host_list::Hosts;
-use law_units::Change;
 use net_base::{DpId, Mac, NoMemory, PortNo, Vid};
 use std::alloc::Global;
 
@@ -80,7 +79,7 @@ fn is_near(conf: &Conf, dp: &Dp, other: DpId) -> bool
     conf.group_number(other) == conf.group_number(dp.id)
 }
 
-fn is_stack_port(conf: &Conf, dp: DpId, no: PortNo) -> bool
+pub(crate) fn is_stack_port(conf: &Conf, dp: DpId, no: PortNo) -> bool
     ensures { result ≡ option_map_or is_stack (port_at conf.now dp no) false }
 {
     match conf.port(dp, no) {

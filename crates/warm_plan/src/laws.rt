@@ -6,14 +6,14 @@ ghost use Rattle.of_match.specs.declared.entry.Entry.{Entry};
 ghost use Rattle.of_match.specs.declared.entry.Key.{Key};
 ghost use Rattle.of_match.specs.Settled.{Settles};
 ghost use Rattle.conf_types.specs.declared.datapath.Dp.{Dp};
+ghost use Rattle.conf_types.specs.Changes.{AreNamed};
 ghost use Rattle.conf_types.specs.Configuration.{Configuration};
 ghost use Rattle.conf_types.specs.State.{State};
 ghost use Rattle.plan_difference.specs.Difference.{difference};
 ghost use Rattle.plan_units.specs.declared.unit.Unit.{Unit};
 ghost use Rattle.plan_units.specs.Laws.{IsSetting};
 ghost use Rattle.cold_start.specs.Cold.{cold, cold_at, units_of};
-ghost use Rattle.law_units.specs.declared.change.Change.{Change};
-ghost use Rattle.law_units.specs.Reach.{AreNamed};
+ghost use Rattle.conf_types.specs.declared.change.Change.{Change};
 ghost use Rattle.warm_plan.specs.Kept.{Kept, IsKept};
 ghost use Rattle.warm_plan.specs.Parts.{ArePartsOf, AreReached, AreTakenOut, parts_without, without_units, parts_with, with_units};
 

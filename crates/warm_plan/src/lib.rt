@@ -5,6 +5,7 @@
 mod again;
 mod effect;
 pub mod laws;
+mod named;
 mod plan;
 mod reaches;
 mod seen;
@@ -14,5 +15,5 @@ mod touched;
 mod units;
 mod warm;
 
-pub use law_units::Change;
+pub use conf_types::Change;
 pub use warm::Warm;

@@ -1,6 +1,6 @@
 //! The entries of a datapath, and the keys of each unit's.
 
-ghost use Rattle.std.specs.Prelude.{◌≡◌, ◌*◌, Some, [], map, length, IfOk, IfSome, OnOk};
+ghost use Rattle.std.specs.Prelude.{◌≡◌, ◌*◌, None, Some, [], map, length, IfOk, IfSome, OnOk};
 ghost use Rattle.of_match.specs.declared.entry.Command.TheVariants.{Add};
 ghost use Rattle.of_match.specs.Settled.{after_all};
 ghost use Rattle.conf_types.specs.Configuration.{dp_with};
@@ -9,6 +9,7 @@ ghost use Rattle.packet_way.specs.Present.{state_of};
 ghost use Rattle.plan_units.specs.Units.{entries};
 ghost use Rattle.cold_start.specs.Counts.{RisesAtMost, RisesAtLeast};
 ghost use Rattle.plan_difference.specs.Difference.{AreAllTold};
+ghost use Rattle.warm_plan.specs.Kept.{ArePaths};
 ghost use Rattle.warm_plan.specs.Parts.{keys_of, keys_at, AreSameParts, parts_without, without, without_units, parts_with, with_units};
 ghost use Rattle.warm_plan.specs.Units.{put};
 ghost use Rattle.warm_plan.specs.Touched.{KeepTold, wanted_of};
@@ -33,11 +34,13 @@ pub(crate) type Parts = BTreeMap<Unit, Keys>;
 
 /// The entries that a switch is to hold, the keys of each unit's, and those at which they may differ from what it
 /// was sent.
-#[derive(Debug, Drop)]
+#[derive(Drop)]
 pub(crate) struct Plan {
     pub(crate) parts: Parts,
     pub(crate) wanted: Tables,
     pub(crate) touched: Touched,
+    /// The paths of the stack, once a unit hung on them, as long as no link changes.
+    pub(crate) paths: Option<Paths>,
 }
 
 fn keys_of(alloc: Global, entries: &[Entry]) -> Result<Keys, NoMemory>
@@ -68,17 +71,19 @@ fn put_keys(parts: &mut Parts, unit: Unit, keys: Keys) -> Result<(), NoMemory>
     Ok(())
 }
 
-/// The paths of a state's stack, where one of the units hangs on them.
+/// The paths of a state's stack: those that are kept, and else new ones where one of the units hangs on them.
 fn paths_for(
     alloc: Global,
     conf: &Conf,
     now: &Now,
+    kept: Option<Paths>,
     made: &[Unit],
 ) -> Result<Option<Paths>, NoMemory>
-    ensures { IfOk result (λ made. IfSome made (λ paths. paths ≡ stack_of conf.now now.now.ups.now)) }
+    requires { ArePaths conf.now (state_of now.now) kept }
+    ensures { IfOk result (λ paths. ArePaths conf.now (state_of now.now) paths) }
 {
-    if !made.iter().any(|unit| is_linked(unit)) {
-        return Ok(None);
+    if kept.is_some() || !made.iter().any(|unit| is_linked(unit)) {
+        return Ok(kept);
     }
     let paths = make_paths(alloc, conf, now.ups.as_slice())?;
     Ok(Some(paths))
@@ -101,12 +106,14 @@ impl Plan {
         ensures parts { IfOk result (λ made. AreSameParts (keys_at made.parts) (λ _. [])) }
         ensures wanted { IfOk result (λ made. made.wanted ≡ []) }
         ensures told { IfOk result (λ made. AreAllTold made.touched.keys sent.now made.wanted) }
+        ensures paths { IfOk result (λ made. made.paths ≡ None) }
     {
         let touched = all_touched(alloc, sent)?;
         Ok(Plan {
             parts: BTreeMap::new(alloc),
             wanted: Tables::new(alloc),
             touched,
+            paths: None,
         })
     }
 
@@ -121,6 +128,7 @@ impl Plan {
         ensures parts { AreSameParts (keys_at self.new.parts) (keys_at self.old.parts) }
         ensures wanted { OnOk result (self.new.wanted ≡ wanted_of is_taken sent.now self.old.wanted) }
         ensures told { OnOk result (AreAllTold self.new.touched.keys sent.now self.new.wanted) }
+        ensures paths { self.new.paths ≡ self.old.paths }
     {
         if is_taken {
             bring(alloc, &mut self.wanted, &mut self.touched, sent)?;
@@ -132,6 +140,7 @@ impl Plan {
         ensures parts { OnOk result (AreSameParts (keys_at self.new.parts) (put (keys_at self.old.parts) unit.now [])) }
         ensures wanted { OnOk result (self.new.wanted ≡ without self.old.wanted (keys_at self.old.parts unit.now)) }
         ensures told { OnOk result (KeepTold self.old.touched.keys self.old.wanted self.new.touched.keys self.new.wanted) }
+        ensures paths { self.new.paths ≡ self.old.paths }
     {
         let keys = take_keys(alloc, &mut self.parts, unit);
         remove_all(&mut self.wanted, &mut self.touched, keys)
@@ -142,6 +151,7 @@ impl Plan {
         ensures parts { OnOk result (AreSameParts (keys_at self.new.parts) (parts_without (keys_at self.old.parts) gone.now)) }
         ensures wanted { OnOk result (self.new.wanted ≡ without_units (keys_at self.old.parts) self.old.wanted gone.now) }
         ensures told { OnOk result (KeepTold self.old.touched.keys self.old.wanted self.new.touched.keys self.new.wanted) }
+        ensures paths { self.new.paths ≡ self.old.paths }
     {
         for unit in gone {
             self.drop_one(alloc, unit)?;
@@ -190,14 +200,17 @@ impl Plan {
         made: &[Unit],
         units: &mut T,
     ) -> Result<(), NoMemory>
-        requires { dp_with conf.now.dps dp.now.id ≡ Some dp.now }
+        requires dp { dp_with conf.now.dps dp.now.id ≡ Some dp.now }
+        requires paths { ArePaths conf.now (state_of now.now) self.old.paths }
         ensures parts { OnOk result (AreSameParts (keys_at self.new.parts) (parts_with conf.now (state_of now.now) dp.now (keys_at self.old.parts) made.now)) }
         ensures wanted { OnOk result (self.new.wanted ≡ with_units conf.now (state_of now.now) dp.now self.old.wanted made.now) }
         ensures told { OnOk result (KeepTold self.old.touched.keys self.old.wanted self.new.touched.keys self.new.wanted) }
         ensures most { RisesAtMost (3 * length made.now) (T.count units.old) (T.count units.new) }
         ensures least { OnOk result (RisesAtLeast (length made.now) (T.count units.old) (T.count units.new)) }
+        ensures paths { OnOk result (ArePaths conf.now (state_of now.now) self.new.paths) }
     {
-        let known = paths_for(alloc, conf, now, made)?;
+        let kept = self.paths.take();
+        let known = paths_for(alloc, conf, now, kept, made)?;
         let paths = known.as_ref();
         let making = Making {
             alloc,
@@ -209,6 +222,7 @@ impl Plan {
         for unit in made {
             self.make_one(&making, *unit, units)?;
         }
+        self.paths = known;
         Ok(())
     }
 }

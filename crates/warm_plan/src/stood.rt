@@ -3,8 +3,8 @@
 ghost use Rattle.std.specs.Prelude.{◌≡◌, ◌++◌, IfOk, OnOk};
 ghost use Rattle.std.specs.BTreeMap.{get};
 ghost use Rattle.std.specs.BTreeSet.{contains};
+ghost use Rattle.conf_types.specs.Changes.{AreNamed};
 ghost use Rattle.conf_types.specs.State.{State, is_table_full};
-ghost use Rattle.law_units.specs.Reach.{AreNamed};
 ghost use Rattle.plan_units.specs.declared.unit.Unit.TheVariants as unit;
 ghost use Rattle.plan_units.specs.Order.{unit_cmp};
 ghost use Rattle.packet_way.specs.Present.{state_of};
@@ -13,9 +13,8 @@ ghost use Rattle.warm_plan.specs.Places.{kept_places, no_places, places_of, port
 ghost use Rattle.warm_plan.specs.Units.{put};
 
 use crate::units::units_of;
-use conf_types::{Conf, Dp, HostRec, MOST_HOSTS};
+use conf_types::{Change, Conf, Dp, HostRec, MOST_HOSTS};
 use host_list::{CountsHosts, Hosts};
-use law_units::Change;
 use net_base::{DpId, Items, Mac, NoMemory, PortNo, Vid};
 use packet_way::Now;
 use plan_units::Unit;

@@ -1,12 +1,12 @@
 //! The plan of one datapath, kept from one state to the next: an event makes again what its changes reach.
 
 ghost use Rattle.std.specs.Prelude.{◌≡◌, ◌*◌, true, false, [], length, IfOk, OnOk, OnErr, IsErr};
+ghost use Rattle.conf_types.specs.Changes.{AreNamed};
 ghost use Rattle.conf_types.specs.State.{IsValidState};
 ghost use Rattle.packet_way.specs.Present.{state_of};
 ghost use Rattle.plan_difference.specs.Difference.{difference};
 ghost use Rattle.cold_start.specs.Cold.{cold_at, units_at};
 ghost use Rattle.cold_start.specs.Counts.{RisesAtMost, RisesAtLeast};
-ghost use Rattle.law_units.specs.Reach.{AreNamed};
 ghost use Rattle.warm_plan.specs.Kept.{reached_at};
 
 use crate::again::{Event, make_again, make_whole};
@@ -14,8 +14,7 @@ use crate::plan::Plan;
 use crate::seen::Seen;
 use crate::sound::are_ordered;
 use crate::stood::Stood;
-use conf_types::{Conf, Tally};
-use law_units::Change;
+use conf_types::{Change, Conf, Tally};
 use net_base::{DpId, NoMemory};
 use of_match::{Commands, Tables};
 use packet_way::Now;
@@ -51,7 +50,7 @@ impl Model for Warm {
 
     ghost view = { λ w. record { dp = w.dp; conf = w.conf.value; state = w.state; sent = w.sent; wanted = wanted_of w.is_taken w.sent w.plan.wanted; is_spent = w.spent } };
 
-    ghost invariant = { λ w. IsWarm (record { dp = w.dp; conf = w.conf.value; state = w.state; sent = w.sent; wanted = wanted_of w.is_taken w.sent w.plan.wanted; is_spent = w.spent }) (kept_places w.stood) (keys_at w.plan.parts) w.plan.touched.keys w.plan.wanted };
+    ghost invariant = { λ w. IsWarm (record { dp = w.dp; conf = w.conf.value; state = w.state; sent = w.sent; wanted = wanted_of w.is_taken w.sent w.plan.wanted; is_spent = w.spent }) (kept_places w.stood) (keys_at w.plan.parts) w.plan.paths w.plan.touched.keys w.plan.wanted };
 }
 
 impl Warm {
@@ -114,7 +113,6 @@ impl Warm {
     {
         let was_spent = self.spent;
         self.spent = true;
-        self.state = Seen::of(now);
         if was_spent {
             return Err(AllocError);
         }
@@ -128,7 +126,15 @@ impl Warm {
             dp: self.dp,
             changes,
         };
-        let made = make_again(&mut self.plan, alloc, &event, &self.stood, units);
+        let made = make_again(
+            &mut self.plan,
+            alloc,
+            &event,
+            &self.state,
+            &self.stood,
+            units,
+        );
+        self.state = Seen::of(now);
         are_ordered(&self.plan.wanted);
         made?;
         self.stood.follow(alloc, conf, now, self.dp, changes)?;

@@ -1,7 +1,7 @@
 use Rattle.std.proofs.Common.{◌≡◌, ◌∙◌, ◌++◌, List, sym, ap, subst}
 use Rattle.packet_way.specs.Present.{state_of}
-use Rattle.law_units.specs.declared.change.Change.{Change}
-use Rattle.law_units.specs.Reach.{AreNamed}
+use Rattle.conf_types.specs.declared.change.Change.{Change}
+use Rattle.conf_types.specs.Changes.{AreNamed}
 use Rattle.test_plans.specs.Named.{names}
 use Rattle.test_plans.proofs.Naming.{all_are_named}
 use Rattle.test_plans.proofs.named.all_named.Goals as goal

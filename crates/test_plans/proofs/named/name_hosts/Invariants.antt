@@ -1,6 +1,6 @@
 use Rattle.std.proofs.Common.{◌≡◌, ◌++◌, map}
 use Rattle.conf_types.specs.Groups.{group_of}
-use Rattle.law_units.specs.declared.change.Change.TheVariants as change
+use Rattle.conf_types.specs.declared.change.Change.TheVariants as change
 use Rattle.test_plans.proofs.named.name_hosts.Given as goal
 
 -- those so far, and then those that are left

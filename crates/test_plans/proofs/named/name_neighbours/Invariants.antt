@@ -1,5 +1,5 @@
 use Rattle.std.proofs.Common.{◌≡◌, ◌++◌, take, map}
-use Rattle.law_units.specs.declared.change.Change.TheVariants as change
+use Rattle.conf_types.specs.declared.change.Change.TheVariants as change
 use Rattle.test_plans.proofs.named.name_neighbours.Given as goal
 
 -- those so far

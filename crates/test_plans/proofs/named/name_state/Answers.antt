@@ -5,8 +5,8 @@ use Rattle.conf_types.specs.declared.state.HostRec.{HostRec}
 use Rattle.conf_types.specs.declared.state.NeighRec.{NeighRec}
 use Rattle.conf_types.specs.declared.state.UpRec.{UpRec}
 use Rattle.conf_types.specs.Groups.{group_of}
-use Rattle.law_units.specs.declared.change.Change.{Change}
-use Rattle.law_units.specs.declared.change.Change.TheVariants as change
+use Rattle.conf_types.specs.declared.change.Change.{Change}
+use Rattle.conf_types.specs.declared.change.Change.TheVariants as change
 use Rattle.test_plans.proofs.named.name_state.Goals as goal
 
 -- one list behind another

@@ -6,12 +6,16 @@ use Rattle.plan_units.specs.declared.unit.Unit.{Unit as PlanUnit}
 use Rattle.cold_start.specs.Cold.{units_of}
 use Rattle.cold_start.specs.Counts.{RisesAtMost, RisesAtLeast}
 use Rattle.cold_start.proofs.Groups.{own_id}
+use Rattle.warm_plan.specs.Kept.{ArePaths}
 use Rattle.warm_plan.specs.Parts.{ArePartsOf, keys_at, parts_with, with_units}
 use Rattle.warm_plan.proofs.Settings.{setting_of, cold_is, units_are}
 use Rattle.warm_plan.proofs.again.make_whole.Goals as goal
 
-pub make-requires : goal.make-requires
-make-requires g c = own_id c.args.conf.now.dps c.args.dp c.in-Some.dp.now (sym c.in-Some.ensures.found)
+pub make-requires-clause-dp : goal.make-requires-clause-dp
+make-requires-clause-dp g c = own_id c.args.conf.now.dps c.args.dp c.in-Some.dp.now (sym c.in-Some.ensures.found)
+
+pub make-requires-clause-paths : goal.make-requires-clause-paths
+make-requires-clause-paths g c = subst (ArePaths c.args.conf.now (state_of c.args.now.now)) (sym c.in_ok-plan.ensures.paths) tt
 
 pub returns-clause-wanted : goal.returns-clause-wanted
 returns-clause-wanted g c =

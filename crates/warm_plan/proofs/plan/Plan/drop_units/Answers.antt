@@ -19,4 +19,5 @@ loop-unit-preserved c =
       parts = λ w. ap (λ (p : PlanUnit → List Key). parts_without p rest w) step ∙ sym (ap (λ (us : List PlanUnit). parts_without was us w) first) ∙ c.loop-unit.invariant.parts w;
       wanted = (λ j. without_units (step j) (c.in_ok-drop_one.ensures.wanted j) rest) ∙ sym (ap (λ (us : List PlanUnit). without_units was c.loop-unit.self.wanted us) first) ∙ c.loop-unit.invariant.wanted;
       told = λ from told. c.in_ok-drop_one.ensures.told from (c.loop-unit.invariant.told from told);
+      paths = c.in_ok-drop_one.ensures.paths ∙ c.loop-unit.invariant.paths;
     }

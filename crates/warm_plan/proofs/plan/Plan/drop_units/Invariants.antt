@@ -9,4 +9,5 @@ invariant-loop-unit l = record {
   parts : AreSameParts (parts_without (keys_at l.self.parts) (drop l.unit-index l.gone)) (parts_without (keys_at l.fn.self.parts) l.gone);
   wanted : without_units (keys_at l.self.parts) l.self.wanted (drop l.unit-index l.gone) ≡ without_units (keys_at l.fn.self.parts) l.fn.self.wanted l.gone;
   told : KeepTold (l.fn.self.touched).keys l.fn.self.wanted (l.self.touched).keys l.self.wanted;
+  paths : l.self.paths ≡ l.fn.self.paths;
 }

@@ -4,6 +4,7 @@ use Rattle.of_match.specs.declared.entry.Key.{Key}
 use Rattle.of_match.specs.FlowTables.{IsInKeyOrder}
 use Rattle.of_match.specs.FlowTables.{entry_at}
 use Rattle.plan_units.specs.declared.unit.Unit.{Unit as PlanUnit}
+use Rattle.warm_plan.specs.Kept.{ArePaths}
 use Rattle.warm_plan.specs.Parts.{ArePartsOf, keys_at}
 use Rattle.warm_plan.specs.Touched.{wanted_of}
 use Rattle.warm_plan.proofs.warm.Warm.take.Goals as goal
@@ -23,6 +24,7 @@ invariant_of-self-2 c =
         sound = index.sound;
         stand = index.stand;
         keyed = subst (ArePartsOf (keys_at renewed.parts)) (sym stands) (subst (λ (ps : PlanUnit → List Key). ArePartsOf ps (wanted_of o.is_taken o.sent o.plan.wanted)) (sym kept) index.keyed);
+        linked = subst (ArePaths o.conf.value o.state) (sym c.renew-renewed.ensures.paths) index.linked;
       };
       told = λ _ key differ. c.in_ok-renewed.ensures.told key (λ same. differ (
           ap (λ (t : List Entry). entry_at t key) c.swap.ensures.x_after ∙ sym same ∙ sym (ap (λ (t : List Entry). entry_at t key) c.swap.ensures.y_after)
