@@ -4,6 +4,7 @@ pub mod JoinLemmas
 pub mod NameLemmas
 pub mod ReadLemmas
 mod KeepLemmas
-mod SoundLemmas
+pub mod SoundLemmas
 mod IncludeKeys
 mod OwnEntries
+pub mod KnownLemmas

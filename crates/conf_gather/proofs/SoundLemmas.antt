@@ -39,7 +39,7 @@ use Rattle.conf_gather.proofs.KeepLemmas.{Takes, taken_parts, gathered_keeps}
 
 -- ---- keys
 
-same_key : (a b : Key) → key_eq a b ≡ true → a ≡ b
+pub same_key : (a b : Key) → key_eq a b ≡ true → a ≡ b
 same_key (keys.Int m) (keys.Int n) e = ap (λ (x : ℤ). keys.Int x) ((Decides-int_eq m n).0 e)
 same_key (keys.Int m) (keys.Text t) e = absurd cc
 same_key (keys.Text s) (keys.Int n) e = absurd cc

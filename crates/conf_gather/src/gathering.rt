@@ -4,14 +4,16 @@ ghost use Rattle.conf_gather.specs.Files.{ReadsFiles};
 ghost use Rattle.conf_gather.specs.Gives.{Gives, GivesTold};
 ghost use Rattle.conf_gather.specs.Gathered.{held_by, NamesUnread, each, gather, gathered, gathered_by};
 
+use crate::grown::Grown;
 use crate::include::{Include, Role, includes_of};
+use crate::reached::Reached;
 use crate::refused::LoadRefused;
 use crate::take::{Gathered, read_tree, take_tree, was_reached};
 use conf_shape::as_entries;
 use fg_outside::Files;
-use net_base::{Names, Text, TryCopy};
+use net_base::{Text, TryCopy};
 use std::alloc::Global;
-use yaml_tree::{Pairs, Tree};
+use yaml_tree::Tree;
 
 /// The most files that lie one below the other: the main one, and includes that lie 8 deep.
 const LEVELS: usize = 9;
@@ -29,7 +31,7 @@ fn gather_file<F: Files>(
     ensures unread { NamesUnread (F.contents files.old) result (λ finds. gather finds levels include.now so_far) }
     ensures files { ReadsFiles F.contents F.faults F.absences F.refused files.old files.new result }
 {
-    if was_reached(include.name.as_str(), so_far.reached.as_slice()) {
+    if was_reached(include.name.as_str(), &so_far.reached) {
         return Err(LoadRefused::IncludeTwice(include.name.copy(alloc)?));
     }
     if levels == 0 {
@@ -84,9 +86,9 @@ pub fn gather<F: Files>(alloc: Global, files: &mut F, name: &str) -> Result<Tree
         role: Role::Main,
     };
     let nothing = Gathered {
-        reached: Names::new(alloc),
-        pairs: Pairs::new(alloc),
+        reached: Reached::new(alloc),
+        pairs: Grown::new(alloc),
     };
     let all = gather_file(alloc, files, LEVELS, &main, nothing)?;
-    Ok(Tree::Map(all.pairs))
+    Ok(Tree::Map(all.pairs.into_pairs()))
 }

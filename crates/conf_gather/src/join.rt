@@ -1,28 +1,46 @@
-//! Entries of several files in one map.
+//! Names that two files give, and sections that are joined.
 
-ghost use Rattle.std.specs.Prelude.{◌≡◌, ◌+◌, ◌<◌, ◌++◌, ◌∷◌, length, take, drop, slice_get, Some, IfOk, OnOk};
+ghost use Rattle.std.specs.Prelude.{◌≡◌, ◌+◌, ◌<◌, ◌++◌, ◌∷◌, List, length, take, drop, slice_get, Some, IfOk, OnOk};
 ghost use Rattle.std.specs.Option.{option_copied};
 ghost use Rattle.yaml_tree.specs.declared.tree.Pair.{Pair};
 ghost use Rattle.conf_shape.specs.Sections.{key_text};
 ghost use Rattle.conf_shape.specs.Reads.{entries_of};
-ghost use Rattle.conf_gather.specs.Joined.{first_in_both, gathered_under, given_again, all_given_again, extended, with_more, place_of, joined_entry, joined};
+ghost use Rattle.conf_gather.specs.Known.{AreKeysOf};
+ghost use Rattle.conf_gather.specs.Joined.{first_in_both, gathered_under, given_again, all_given_again, extended, with_more, place_of};
 
-use crate::keys::{is_include_key, is_section, key_eq, value_of};
+use crate::key_set::{KeySet, has_one_of, keys_of};
+use crate::keys::{is_section, key_eq, value_of};
 use conf_shape::{as_entries, key_text};
 use net_base::{NoMemory, Text, TryCopy};
 use std::alloc::Global;
 use yaml_tree::{Key, Pair, Pairs, Tree};
 
-/// The first key that stands in both.
-fn first_in_both<'a>(before: &[Pair], pairs: &'a [Pair]) -> Option<&'a Key>
-    ensures { option_copied result ≡ first_in_both before.now pairs.now }
+/// The first of these entries' keys that is known.
+fn first_known<'a>(known: &KeySet, pairs: &'a [Pair]) -> Option<&'a Key>
+    ensures { (before : List Pair) → AreKeysOf before known.now → option_copied result ≡ first_in_both before pairs.now }
 {
     for pair in pairs {
-        if value_of(before, &pair.key).is_some() {
+        if known.has(&pair.key) {
             return Some(&pair.key);
         }
     }
     None
+}
+
+/// The first key that stands in both.
+fn first_in_both<'a>(
+    alloc: Global,
+    before: &[Pair],
+    pairs: &'a [Pair],
+) -> Result<Option<&'a Key>, NoMemory>
+    ensures { IfOk result (λ found. option_copied found ≡ first_in_both before.now pairs.now) }
+{
+    let named = keys_of(alloc, pairs)?;
+    if !has_one_of(before, &named) {
+        return Ok(None);
+    }
+    let known = keys_of(alloc, before)?;
+    Ok(first_known(&known, pairs))
 }
 
 /// The entries gathered of a section.
@@ -54,7 +72,7 @@ fn given_again(alloc: Global, gathered: &[Pair], pair: &Pair) -> Result<Option<T
         return Ok(None);
     }
     let before = gathered_under(gathered, &pair.key);
-    match first_in_both(before, as_entries(&pair.value)) {
+    match first_in_both(alloc, before, as_entries(&pair.value))? {
         Some(key) => Ok(Some(path_below(alloc, &pair.key, key)?)),
         None => Ok(None),
     }
@@ -131,7 +149,7 @@ fn place_of(pairs: &[Pair], key: &Key) -> Option<usize>
 }
 
 /// Joins these entries with those of the section of a key.
-fn extend_section(
+pub fn extend_section(
     alloc: Global,
     gathered: &mut Pairs,
     key: &Key,
@@ -143,30 +161,4 @@ fn extend_section(
         Some(at) => extend_at(alloc, gathered, at, more),
         None => Ok(()),
     }
-}
-
-/// Joins an entry with those gathered before.
-fn join_entry(alloc: Global, gathered: &mut Pairs, pair: &Pair) -> Result<(), NoMemory>
-    ensures { OnOk result (gathered.new ≡ joined_entry gathered.old pair.now) }
-{
-    if is_include_key(&pair.key) {
-        return Ok(());
-    }
-    if value_of(gathered.as_slice(), &pair.key).is_none() {
-        return gathered.push(pair.copy(alloc)?);
-    }
-    if is_section(&pair.key) {
-        return extend_section(alloc, gathered, &pair.key, as_entries(&pair.value));
-    }
-    Ok(())
-}
-
-/// Joins the entries of a file with those gathered before.
-pub fn join(alloc: Global, gathered: &mut Pairs, pairs: &[Pair]) -> Result<(), NoMemory>
-    ensures { OnOk result (gathered.new ≡ joined gathered.old pairs.now) }
-{
-    for pair in pairs {
-        join_entry(alloc, gathered, pair)?;
-    }
-    Ok(())
 }

@@ -2,11 +2,14 @@
 #![tactic(auto)]
 
 mod gathering;
+mod grown;
 mod include;
 mod join;
+mod key_set;
 mod keys;
 pub mod laws;
 mod names;
+mod reached;
 mod refused;
 mod take;
 mod wrong;

@@ -8,16 +8,18 @@ ghost use Rattle.conf_gather.specs.Files.{ReadsFiles};
 ghost use Rattle.conf_gather.specs.Gives.{Gives, GivesTold, IsWithin};
 ghost use Rattle.conf_gather.specs.Gathered.{tree_of, text_tree, unread, fault_at, entries_fault, tree_fault, taken, was_reached};
 
+use crate::grown::{Grown, join};
 use crate::include::{Include, Role};
-use crate::join::{all_given_again, join};
+use crate::join::all_given_again;
+use crate::reached::Reached;
 use crate::refused::LoadRefused;
 use crate::wrong::{is_document, wrong_entries};
 use conf_shape::{ConfCause, ConfFault, as_entries};
 use fg_outside::{Files, ReadRefused, read_whole};
-use net_base::{Names, NoMemory, Text, TryCopy};
+use net_base::{NoMemory, Text, TryCopy};
 use std::alloc::Global;
 use yaml_subset::{YamlRefused, read_yaml};
-use yaml_tree::{Pair, Pairs, Tree};
+use yaml_tree::{Pair, Tree};
 
 /// The most bytes of a text of the YAML subset.
 const MAX_TEXT: usize = 1_048_576;
@@ -26,20 +28,15 @@ const MAX_TEXT: usize = 1_048_576;
 /// the tree.
 #[derive(Debug, Drop)]
 pub struct Gathered {
-    pub reached: Names,
-    pub pairs: Pairs,
+    pub reached: Reached,
+    pub pairs: Grown,
 }
 
 /// Whether a file was reached before.
-pub fn was_reached(name: &str, reached: &[Text]) -> bool
+pub fn was_reached(name: &str, reached: &Reached) -> bool
     ensures { result ≡ was_reached name.now reached.now }
 {
-    for other in reached {
-        if name == other.as_str() {
-            return true;
-        }
-    }
-    false
+    reached.has(name)
 }
 
 /// The tree of a file's text.
@@ -138,14 +135,11 @@ pub fn take_tree(
     ensures told { Gives result (taken include.now so_far tree.now) }
     ensures within { IfErr result IsWithin }
 {
-    let Gathered {
-        mut reached,
-        mut pairs,
-    } = so_far;
+    let Gathered { reached, pairs } = so_far;
     if let Some(fault) = tree_fault(alloc, include.role, pairs.as_slice(), tree)? {
         return Err(LoadRefused::Conf(fault));
     }
-    reached.push(include.name.copy(alloc)?)?;
-    join(alloc, &mut pairs, as_entries(tree))?;
+    let reached = reached.with(alloc, &include.name)?;
+    let pairs = join(alloc, pairs, as_entries(tree))?;
     Ok(Gathered { reached, pairs })
 }

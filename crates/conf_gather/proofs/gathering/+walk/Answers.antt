@@ -46,7 +46,7 @@ gather_file-returns-in_ok-includes-in-Some-clause-told g t c = λ held told.
     let is : Reached c.args.include.now c.args.so_far false = grind (arith, common_steps) in
     let some : 0 < c.args.levels = omega (arith, c.if-levels-eq0.false) in
     let read : tree_of c.args.include.now (held 0 c.args.include.now.name) ≡ Ok (Some c.in-Some.tree) = c.in_ok-tree.ensures.told held told ∙ ap (λ (x : Option Tree). Ok x) c.in-Some.is in
-    let listed : c.as_slice-in-Some.result.now ≡ includes_of c.args.include.now.name (entries_of c.in-Some.tree) = grind (arith, common_steps) in
+    let listed : c.as_slice.result.now ≡ includes_of c.args.include.now.name (entries_of c.in-Some.tree) = grind (arith, common_steps) in
     gather_more (held_by (held 0)) c.args.include.now c.args.so_far c.args.levels c.in-Some.tree is some read c.in_ok-so_far-in-Some.so_far c.gather_all.result c.in_ok-so_far-in-Some.ensures.told
     (rw listed at (c.gather_all.ensures.told held (c.read_tree.ensures.files.same_contents ∙ told)))
 
@@ -84,7 +84,7 @@ gather_file-returns-in_ok-includes-in-Some-clause-unread g t c = λ held file to
     let is : Reached c.args.include.now c.args.so_far false = grind (arith, common_steps) in
     let some : 0 < c.args.levels = omega (arith, c.if-levels-eq0.false) in
     let read : held_by (held 0) c.args.include.now ≡ Ok (Some c.in-Some.tree) = c.in_ok-tree.ensures.told held told ∙ ap (λ (x : Option Tree). Ok x) c.in-Some.is in
-    let listed : c.as_slice-in-Some.result.now ≡ includes_of c.args.include.now.name (entries_of c.in-Some.tree) = grind (arith, common_steps) in
+    let listed : c.as_slice.result.now ≡ includes_of c.args.include.now.name (entries_of c.in-Some.tree) = grind (arith, common_steps) in
     gather_below file (held 0) c.args.levels c.args.include.now c.args.so_far c.in-Some.tree c.in_ok-so_far-in-Some.so_far is some read c.in_ok-so_far-in-Some.ensures.told
     (rw listed at (c.gather_all.ensures.unread held file (c.read_tree.ensures.files.same_contents ∙ told) err))
 
