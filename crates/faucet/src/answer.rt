@@ -1,10 +1,12 @@
-ghost use Rattle.std.specs.Prelude.{◌≡◌, ◌≢◌, ◌⊎◌, IfOk, OnErr};
+ghost use Rattle.std.specs.Prelude.{◌≡◌, ◌≢◌, ◌⊎◌, ◌-◌, ◌^◌, ◌<◌, IfOk, OnErr};
 ghost use Rattle.std.specs.Process.{exit_status};
 ghost use Rattle.fg_outside.specs.Counts.{Rose};
 ghost use Rattle.fg_outside.specs.Wrote.{appended, AppendsFront};
 ghost use Rattle.command_line.specs.Meaning.{meaning};
 ghost use Rattle.faucet_top.specs.Answer.{out_of_memory};
 ghost use Rattle.faucet_top.specs.Any.{GivesAny};
+ghost use Rattle.faucet_top.specs.Given.{NamesUnread, ReadsRecording};
+ghost use Rattle.faucet_top.specs.Serving.{LooksOnce};
 ghost use Rattle.faucet.specs.Listens.{listen_in};
 
 use command_line::{Job, Listen, read_words};
@@ -35,9 +37,18 @@ pub fn answer_words<F: Files, H: Hub, O: Sink, E: Sink>(
     err: &mut E,
 ) -> (ExitCode, F, H)
     // One reply was given, and the process ends with its status.
-    ensures { GivesAny H.may F.contents F.faults (Rose (F.absences files) (F.absences result.1)) (Rose (F.faults files) (F.faults result.1)) (F.refused result.1) (meaning words.now)
+    ensures gives { GivesAny H.may F.contents F.faults (Rose (F.absences files) (F.absences result.1)) (Rose (F.faults files) (F.faults result.1)) (F.refused result.1) (meaning words.now)
         hub result.2 files result.1 (exit_status result.0) (O.wrote out.old) (O.wrote out.new) (E.wrote err.old) (E.wrote err.new)
         (O.faults out.old) (O.faults out.new) (E.faults err.old) (E.faults err.new) }
+
+    // But for a look of `serve` no read that failed is passed over: it ends the process with 3, or with 4 where the line that says so
+    // couldn't be written.
+    ensures no_read_fault { LooksOnce (meaning words.now) → exit_status result.0 ≢ 3 → exit_status result.0 ≢ 4
+        → F.faults files < 2 ^ 64 - 1 → F.faults result.1 ≡ F.faults files }
+
+    // Of `replay` and `gauge` the file that the line at 3 names is the one that was refused last.
+    ensures named { ReadsRecording (meaning words.now) → exit_status result.0 ≡ 3
+        → F.faults files < 2 ^ 64 - 1 → NamesUnread (F.refused result.1) (E.wrote err.old) (E.wrote err.new) }
 {
     let (status, files, hub) = faucet(alloc, words, files, hub, out, err);
     (ExitCode::from(status), files, hub)

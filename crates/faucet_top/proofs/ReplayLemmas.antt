@@ -120,13 +120,12 @@ module _ (held : Contents) (absence fault : Type 0) where
 
     end_where_some : (out lines bytes : List ℕ) (end : Replayed) → end ≢ replayed.WriteFault → Wrote out lines end → GoesByFile (Some held) name fault end
         → held 0 name ≡ Some bytes → StatusFor (number_after end) (IsRunStatus works w (Some bytes)) fault
-    end_where_some out lines bytes (replayed.Read refused) unfailed (story, writes, told) by_file is =
-        inl (inl (story, refused, told bytes (ap (λ (f : Option (List ℕ)). Some f) is), refl))
+    end_where_some out lines bytes (replayed.Read refused) unfailed (story, writes, few, told) by_file is =
+        inl (inl (story, refused, told bytes (ap (λ (f : Option (List ℕ)). Some f) is), few, refl))
     end_where_some out lines bytes replayed.Unread unfailed replays by_file is =
         inr (inr (inr (refl, by_file.there bytes (ap (λ (f : Option (List ℕ)). Some f) is) refl)))
     end_where_some out lines bytes replayed.Spent unfailed (story, writes, so_far, most) by_file is =
-        let part = so_far bytes (ap (λ (f : Option (List ℕ)). Some f) is) in
-        inl (inr (story, part.0, part.1, part.2, most, refl))
+        inl (inr (story, so_far bytes (ap (λ (f : Option (List ℕ)). Some f) is), most, refl))
     end_where_some out lines bytes replayed.WriteFault unfailed replays by_file is = absurd (unfailed refl)
     end_where_some out lines bytes replayed.Memory unfailed replays by_file is = inr (inr (inl refl))
 
@@ -185,7 +184,7 @@ module _ (held : Contents) (absence fault : Type 0) where
     read_so : (out lines : List ℕ) → o1 ≡ appended o0 out → (refused : Option RecordRefused) → Wrote works outlet recording w out lines (replayed.Read refused) → GoesByFile (Some held) recording fault (replayed.Read refused)
         → (file : Option (List ℕ)) → held 0 recording ≡ file → e1 ≡ appended e0 (lines ++ last_line recording (replayed.Read refused)) → Ran refused
     read_so out lines wrote refused replays by_file None is said = absurd (read_there refused (by_file.missing (ap (λ (f : Option (List ℕ)). Some f) is)))
-    read_so out lines wrote refused (story, writes, told) by_file (Some bytes) is said = record {
+    read_so out lines wrote refused (story, writes, few, told) by_file (Some bytes) is said = record {
       bytes = bytes;
       story = story;
       file = is;

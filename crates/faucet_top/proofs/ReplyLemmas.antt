@@ -94,8 +94,8 @@ module _ {S : Type 0} (works : Workings S) (outlet : Outlet) (w : S) (contents :
   WritesThat end = (out : List ℕ) × (lines : List ℕ) × Writes out lines end × (o1 ≡ appended o0 out) × (e1 ≡ appended e0 lines)
 
   wrote_that : (end : Replayed) → end ≢ replayed.WriteFault → Replays works outlet contents name absence fault w o0 o1 e0 e1 end → WritesThat end
-  wrote_that (replayed.Read refused) unfailed (story, writes, told) =
-      (out_of works outlet w story, lines_of works w story, (story, record { out = refl; err = refl }, told), writes.out, writes.err)
+  wrote_that (replayed.Read refused) unfailed (story, writes, few, told) =
+      (out_of works outlet w story, lines_of works w story, (story, record { out = refl; err = refl }, few, told), writes.out, writes.err)
   wrote_that replayed.Unread unfailed (story, writes, so_far, cause) =
       (out_of works outlet w story, lines_of works w story, (story, record { out = refl; err = refl }, so_far, cause), writes.out, writes.err)
   wrote_that replayed.Spent unfailed (story, writes, so_far, most) =

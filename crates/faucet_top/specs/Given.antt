@@ -1,5 +1,5 @@
 -- What a call did, whatever the outside did: which answer it gave, and how much of it was written.
-use Rattle.std.specs.Prelude.{◌≡◌, ◌≢◌, ℕ, ◌-◌, ◌^◌, ◌⊎◌, List, [], ◌++◌, length, map, Option, Some, None, Result, Ok, Err, IsErrOf}
+use Rattle.std.specs.Prelude.{◌≡◌, ◌≢◌, ℕ, ◌-◌, ◌^◌, ◌<◌, ◌⊎◌, List, [], ◌++◌, length, map, Option, Some, None, Result, Ok, Err, IsErrOf}
 use Rattle.std.specs.List.{AllByRecursion, flat_map}
 use Rattle.fg_outside.specs.Contents.{Contents, Tells}
 use Rattle.fg_outside.specs.Counts.{Rose}
@@ -17,7 +17,6 @@ use Rattle.command_line.specs.declared.meaning.Job.{Job}
 use Rattle.command_line.specs.declared.meaning.Job.TheVariants.{Check, Gauge, GaugeServe, Plan, Replay, Serve}
 use Rattle.opening_batch.specs.Opened.{Opens}
 use Rattle.recording.specs.declared.refused.RecordRefused.{RecordRefused}
-use Rattle.recording.specs.Turns.{Closing}
 use Rattle.recording.specs.Written.{written_records}
 use Rattle.ctl_world.specs.World.{first}
 use Rattle.law_stories.specs.Right.{IsRight}
@@ -27,14 +26,14 @@ use Rattle.hub_drive.specs.declared.sayings.Outlet.TheVariants as outlets
 use Rattle.hub_drive.specs.Driving.{IsFront, closings_of, lines_of as hub_lines}
 use Rattle.hub_drive.specs.Machine.{Workings}
 use Rattle.hub_drive.specs.Replay as runs
-use Rattle.hub_drive.specs.Replay.{IsStoryOf, IsStorySoFar}
+use Rattle.recording.specs.Script.{IsStoryOf, IsStorySoFar}
 use Rattle.ctl_drive.specs.Controller.{controller}
 use Rattle.ctl_drive.specs.Driving.{records_of}
 use Rattle.gauge_drive.specs.Gauge.{ended_lines, monitor}
 use Rattle.hub_drive.specs.declared.replay.Replayed.{Replayed}
 use Rattle.hub_drive.specs.declared.replay.Replayed.TheVariants as replayed
 use Rattle.faucet_top.specs.declared.deliver.Status.{Status}
-use Rattle.faucet_top.specs.Answer.{Answer, GaugeLoad, Load, usage, out_of_memory, refusal, json_line, check_step, check_answer, last_line, planned, plan_answer}
+use Rattle.faucet_top.specs.Answer.{Answer, GaugeLoad, Load, usage, out_of_memory, refusal, json_line, check_step, check_answer, last_line, planned, plan_answer, unread as unread_answer}
 use Rattle.faucet_top.specs.Ends.{status_after}
 use Rattle.faucet_top.specs.Status.{number_of_status}
 
@@ -142,16 +141,26 @@ GoesOn name made None out_old out_new err_old err_new out_faults_old out_faults_
 GoesOn name made (Some status) out_old out_new err_old err_new out_faults_old out_faults_new err_faults_old err_faults_new =
     (more : Answer) → Delivers (check_step name made more) (number_of_status status) out_old out_new err_old err_new out_faults_old out_faults_new err_faults_old err_faults_new
 
+-- ---- the file at fault
+
+-- behind lines that were written stands the one that says that the file with this name wasn't read
+abbrev pub NamesUnread : (name : List ℕ) → (err_old err_new : Option (List ℕ)) → Type 0
+NamesUnread name err_old err_new = (lines : List ℕ) × (err_new ≡ appended err_old (lines ++ (unread_answer name).err))
+
+-- a job that reads a recording
+abbrev pub ReadsRecording : Option Job → Type 0
+ReadsRecording job = (config : List ℕ) × (recording : List ℕ) × ((job ≡ Some (Replay config recording)) ⊎ (job ≡ Some (Gauge config recording)))
+
 -- ---- statuses
 
--- the status of a run over a recording by what its file holds: 3 where there is none, else by how its story ends
+-- the status of a run over a recording by what its file holds: 3 where there is none, else by how its story ends, or 7 where that
+-- has more turns than may be taken
 abbrev pub IsRunStatus : {S : Type 0} → Workings S → S → (file : Option (List ℕ)) → ℕ → Type 0
 IsRunStatus works w None n = n ≡ 3
 IsRunStatus works w (Some bytes) n =
     ((story : List Happening) × (refused : Option RecordRefused) × IsStoryOf bytes story (closings_of works 0 w story) refused
-    × (n ≡ number_of_status (status_after (replayed.Read refused))))
-    ⊎ ((story : List Happening) × (closes : List Closing) × IsFront closes (closings_of works 0 w story) × IsStorySoFar bytes story closes
-    × (length story ≡ 2 ^ 64 - 1) × (n ≡ 7))
+    × (length story < 2 ^ 64 - 1) × (n ≡ number_of_status (status_after (replayed.Read refused))))
+    ⊎ ((story : List Happening) × IsStorySoFar bytes story (closings_of works 0 w story) × (length story ≡ 2 ^ 64 - 1) × (n ≡ 7))
 
 -- that of `serve` and `gauge-serve`: it goes by the hub and by how many turns there may be
 abbrev pub IsServeStatus : ℕ → Type 0

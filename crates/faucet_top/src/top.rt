@@ -11,7 +11,7 @@ ghost use Rattle.faucet_top.specs.Answer.{out_of_memory};
 ghost use Rattle.gauge_conf.specs.declared.gauge.GaugeConf.{GaugeConf};
 ghost use Rattle.gauge_load.specs.Loaded.{gauge_of};
 ghost use Rattle.faucet_top.specs.Any.{GivesAny};
-ghost use Rattle.faucet_top.specs.Given.{AreAccepted, Gives, IsOpened, IsReplayed, IsStatus, IsStatusOf, IsWatched, StatusFor};
+ghost use Rattle.faucet_top.specs.Given.{AreAccepted, Gives, IsOpened, IsReplayed, IsStatus, IsStatusOf, IsWatched, NamesUnread, ReadsRecording, StatusFor};
 ghost use Rattle.recording.specs.declared.refused.RecordRefused.{RecordRefused};
 ghost use Rattle.hub_drive.specs.declared.drive.Drove.{Drove};
 ghost use Rattle.faucet_top.specs.Ends.{status_served};
@@ -52,6 +52,7 @@ fn do_job<F: Files, O: Sink, E: Sink>(
     ensures gives { Gives (Some job.now) (F.contents files) (Rose (F.absences files) (F.absences result.1)) (Rose (F.faults files) (F.faults result.1)) (F.refused result.1)
         (number_of_status result.0) (O.wrote out.old) (O.wrote out.new) (E.wrote err.old) (E.wrote err.new)
         (O.faults out.old) (O.faults out.new) (E.faults err.old) (E.faults err.new) }
+    ensures named { ReadsRecording (Some job.now) → result.0 ≡ Status.Unread → F.faults files < 2 ^ 64 - 1 → NamesUnread (F.refused result.1) (E.wrote err.old) (E.wrote err.new) }
     ensures no_read_fault { result.0 ≢ Status.Unread → result.0 ≢ Status.WriteFault → F.faults files < 2 ^ 64 - 1 → F.faults result.1 ≡ F.faults files }
 
     ensures contents { F.contents result.1 ≡ F.contents files }
@@ -109,11 +110,27 @@ pub fn local<F: Files, O: Sink, E: Sink>(
     ensures no_hub { result.0 ≢ 6 }
     ensures told { (held : Contents) → F.contents files ≡ Some held
         → StatusFor result.0 (IsStatusOf (Some job.now) (held 0)) (Rose (F.faults files) (F.faults result.1)) }
+    ensures usage { result.0 ≢ 1 }
     ensures unread { result.0 ≡ 3 → Rose (F.absences files) (F.absences result.1) ⊎ Rose (F.faults files) (F.faults result.1) }
+    ensures named { ReadsRecording (Some job.now) → result.0 ≡ 3 → F.faults files < 2 ^ 64 - 1 → NamesUnread (F.refused result.1) (E.wrote err.old) (E.wrote err.new) }
     ensures no_read_fault { result.0 ≢ 3 → result.0 ≢ 4 → F.faults files < 2 ^ 64 - 1 → F.faults result.1 ≡ F.faults files }
     ensures write_fault { result.0 ≡ 4 → Rose (O.faults out.old) (O.faults out.new) ⊎ Rose (E.faults err.old) (E.faults err.new) }
     ensures no_write_fault { result.0 ≢ 4 → (O.faults out.new ≡ O.faults out.old) × (E.faults err.new ≡ E.faults err.old) }
     ensures statuses { IsStatus result.0 }
+
+    // At status 0, and at 5, what stands on the streams is right, as `faucet` says it of each command.
+    ensures checked { (names : List (List ℕ)) (held : Contents) → job.now ≡ Check names → F.contents files ≡ Some held
+        → result.0 ≡ 0 → AreAccepted names (held 0) (O.wrote out.old) (O.wrote out.new) }
+    ensures opened { (config dp : List ℕ) (held : Contents) → job.now ≡ Plan config dp → F.contents files ≡ Some held
+        → result.0 ≡ 0 → IsOpened config dp (held 0) (O.wrote out.old) (O.wrote out.new) }
+    ensures replayed { (config recording : List ℕ) (held : Contents) → job.now ≡ Replay config recording → F.contents files ≡ Some held
+        → result.0 ≡ 0 → IsReplayed config recording None (held 0) (O.wrote out.old) (O.wrote out.new) (E.wrote err.old) (E.wrote err.new) }
+    ensures refused_record { (config recording : List ℕ) (held : Contents) → job.now ≡ Replay config recording → F.contents files ≡ Some held
+        → result.0 ≡ 5 → (refused : RecordRefused) × IsReplayed config recording (Some refused) (held 0) (O.wrote out.old) (O.wrote out.new) (E.wrote err.old) (E.wrote err.new) }
+    ensures watched { (config recording : List ℕ) (held : Contents) → job.now ≡ Gauge config recording → F.contents files ≡ Some held
+        → result.0 ≡ 0 → IsWatched config recording None (held 0) (O.wrote out.old) (O.wrote out.new) (E.wrote err.old) (E.wrote err.new) }
+    ensures watched_to { (config recording : List ℕ) (held : Contents) → job.now ≡ Gauge config recording → F.contents files ≡ Some held
+        → result.0 ≡ 5 → (refused : RecordRefused) × IsWatched config recording (Some refused) (held 0) (O.wrote out.old) (O.wrote out.new) (E.wrote err.old) (E.wrote err.new) }
 
     // The files are handed back.
     ensures contents { F.contents result.1 ≡ F.contents files }
@@ -122,6 +139,10 @@ pub fn local<F: Files, O: Sink, E: Sink>(
     ensures out_faults { O.faults out.old ≤ O.faults out.new }
     ensures err_faults { E.faults err.old ≤ E.faults err.new }
 {
+    a_loaded_configuration_is_valid();
+    an_opening_batch_opens_the_datapath();
+    whatever_happens_is_right();
+    what_is_printed_are_the_lines();
     let (status, files) = do_job(alloc, job, files, out, err);
     (status.number(), files)
 }
@@ -140,6 +161,7 @@ fn do_any<F: Files, H: Hub, O: Sink, E: Sink>(
         (O.faults out.old) (O.faults out.new) (E.faults err.old) (E.faults err.new) }
 
     ensures statuses { IsStatus result.0 }
+    ensures named { ReadsRecording (Some job.now) → result.0 ≡ 3 → F.faults files < 2 ^ 64 - 1 → NamesUnread (F.refused result.1) (E.wrote err.old) (E.wrote err.new) }
     ensures no_read_fault { LooksOnce (Some job.now) → result.0 ≢ 3 → result.0 ≢ 4 → F.faults files < 2 ^ 64 - 1 → F.faults result.1 ≡ F.faults files }
     ensures hub_fault { result.0 ≡ 6 → Rose (H.faults hub) (H.faults result.2) }
     ensures no_hub_fault { result.0 ≢ 6 → result.0 ≢ 4 → H.faults result.2 ≡ H.faults hub }
@@ -192,6 +214,7 @@ fn answer_words<F: Files, H: Hub, O: Sink, E: Sink>(
         (O.faults out.old) (O.faults out.new) (E.faults err.old) (E.faults err.new) }
 
     ensures statuses { IsStatus result.0 }
+    ensures named { ReadsRecording (meaning words.now) → result.0 ≡ 3 → F.faults files < 2 ^ 64 - 1 → NamesUnread (F.refused result.1) (E.wrote err.old) (E.wrote err.new) }
     ensures no_read_fault { LooksOnce (meaning words.now) → result.0 ≢ 3 → result.0 ≢ 4 → F.faults files < 2 ^ 64 - 1 → F.faults result.1 ≡ F.faults files }
     ensures hub_fault { result.0 ≡ 6 → Rose (H.faults hub) (H.faults result.2) }
     ensures no_hub_fault { result.0 ≢ 6 → result.0 ≢ 4 → H.faults result.2 ≡ H.faults hub }
@@ -251,10 +274,12 @@ pub fn faucet<F: Files, H: Hub, O: Sink, E: Sink>(
     ensures usage { result.0 ≡ 1 → meaning words.now ≡ None }
     ensures no_meaning { meaning words.now ≡ None → (result.0 ≡ 1) ⊎ ((result.0 ≡ 4) ⊎ (result.0 ≡ 8)) }
 
-    // Status 3 only where a file isn't there, or a read failed. The hub wasn't asked for a turn then, nor at 2. But for a look
+    // Status 3 only where a file isn't there, or a read failed. That file is named: of `replay` and `gauge` the one that was refused
+    // last, be it the recording or one of the configuration's. The hub wasn't asked for a turn then, nor at 2. But for a look
     // of `serve` no read that failed is passed over: it ends the run with this status, or with 4 where the line that says so
     // couldn't be written.
     ensures unread { result.0 ≡ 3 → Rose (F.absences files) (F.absences result.1) ⊎ Rose (F.faults files) (F.faults result.1) }
+    ensures named { ReadsRecording (meaning words.now) → result.0 ≡ 3 → F.faults files < 2 ^ 64 - 1 → NamesUnread (F.refused result.1) (E.wrote err.old) (E.wrote err.new) }
     ensures unasked { (result.0 ≡ 2) ⊎ (result.0 ≡ 3) → result.2 ≡ hub }
     ensures no_read_fault { LooksOnce (meaning words.now) → result.0 ≢ 3 → result.0 ≢ 4 → F.faults files < 2 ^ 64 - 1 → F.faults result.1 ≡ F.faults files }
 

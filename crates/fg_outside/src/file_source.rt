@@ -73,7 +73,9 @@ impl<F: Files> FileSource<F> {
             ⊎ Rose (F.absences (files_of self.old)) (F.absences (files_of self.new))) }
         ensures present { (file : List ℕ) → Tells (F.contents (files_of self.old)) (name_of self.old) (Some file)
             → OnErr result (Rose (F.faults (files_of self.old)) (F.faults (files_of self.new))) }
-        ensures step { KeepsFiles F.contents F.faults F.absences self.old self.new }
+        ensures step { KeepsFiles F.contents F.faults F.absences F.refused self.old self.new }
+        ensures named { OnErr result (F.refused (files_of self.new) ≡ name_of self.new) }
+        ensures not_named { OnOk result (F.refused (files_of self.new) ≡ F.refused (files_of self.old)) }
     {
         let name = self.name.as_str();
         match self.files.read_at(name, self.place, &mut self.ahead)? {
@@ -111,7 +113,7 @@ impl<F: Files> Source for FileSource<F> {
 
     ghost faults = { faults_of F.faults };
 
-    ghost may = { KeepsFiles F.contents F.faults F.absences };
+    ghost may = { KeepsFiles F.contents F.faults F.absences F.refused };
 
     /// Takes what was read ahead, as much as the buffer has room for, and reads ahead where nothing
     /// of that is left. Fails only where the files failed or told that the file isn't there.
@@ -123,7 +125,7 @@ impl<F: Files> Source for FileSource<F> {
         ensures failed { OnErr result (Rose (faults_of F.faults self.old) (faults_of F.faults self.new)) }
         ensures no_fault { OnOk result (faults_of F.faults self.new ≡ faults_of F.faults self.old) }
         ensures faults { faults_of F.faults self.old ≤ faults_of F.faults self.new }
-        ensures step { KeepsFiles F.contents F.faults F.absences self.old self.new }
+        ensures step { KeepsFiles F.contents F.faults F.absences F.refused self.old self.new }
         ensures no_absence { OnOk result (F.absences (files_of self.new) ≡ F.absences (files_of self.old)) }
 
         ensures cause { OnErr result (Rose (F.faults (files_of self.old)) (F.faults (files_of self.new))
@@ -134,6 +136,8 @@ impl<F: Files> Source for FileSource<F> {
         ensures files_absences { F.absences (files_of self.old) ≤ F.absences (files_of self.new) }
         ensures contents { F.contents (files_of self.new) ≡ F.contents (files_of self.old) }
         ensures name { name_of self.new ≡ name_of self.old }
+        ensures named { OnErr result (F.refused (files_of self.new) ≡ name_of self.new) }
+        ensures not_named { OnOk result (F.refused (files_of self.new) ≡ F.refused (files_of self.old)) }
     {
         if self.start == self.end && !buf.is_empty() {
             self.read_ahead()?;

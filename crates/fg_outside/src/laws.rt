@@ -60,25 +60,25 @@ pub fn calls_in_turn_are_calls<S: Source>()
 
 /// A source that no call was made of keeps its files.
 pub fn an_uncalled_source_keeps_its_files<F: Files>()
-    ensures { (source : FileSource F) → KeepsFiles F.contents F.faults F.absences source source }
+    ensures { (source : FileSource F) → KeepsFiles F.contents F.faults F.absences F.refused source source }
 {}
 
 /// A source that keeps its files twice in turn keeps them all the way.
 pub fn files_kept_in_turn_are_kept<F: Files>()
-    ensures { (old mid new : FileSource F) → KeepsFiles F.contents F.faults F.absences old mid
-        → KeepsFiles F.contents F.faults F.absences mid new → KeepsFiles F.contents F.faults F.absences old new }
+    ensures { (old mid new : FileSource F) → KeepsFiles F.contents F.faults F.absences F.refused old mid
+        → KeepsFiles F.contents F.faults F.absences F.refused mid new → KeepsFiles F.contents F.faults F.absences F.refused old new }
 {}
 
 /// Whatever calls were made of a source, it keeps its files from the first to the last.
 pub fn calls_keep_the_files<F: Files>()
     ensures { (from to : FileSource F) → Went ⟦<FileSource<F> as Source>⟧.may from to
-        → KeepsFiles F.contents F.faults F.absences from to }
+        → KeepsFiles F.contents F.faults F.absences F.refused from to }
 {}
 
 /// Where the faults of a source rose that hadn't missed its file, the faults or the absences of its
 /// files rose.
 pub fn a_fault_is_one_of_the_files<F: Files>()
-    ensures { (old new : FileSource F) → missing_of old ≡ 0 → KeepsFiles F.contents F.faults F.absences old new
+    ensures { (old new : FileSource F) → missing_of old ≡ 0 → KeepsFiles F.contents F.faults F.absences F.refused old new
         → Rose (faults_of F.faults old) (faults_of F.faults new)
         → Rose (F.faults (files_of old)) (F.faults (files_of new)) ⊎ Rose (F.absences (files_of old)) (F.absences (files_of new)) }
 {}
@@ -87,8 +87,14 @@ pub fn a_fault_is_one_of_the_files<F: Files>()
 /// rose.
 pub fn a_fault_of_a_told_file_is_one_of_reading<F: Files>()
     ensures { (old new : FileSource F) (file : List ℕ) → missing_of old ≡ 0 → Tells (F.contents (files_of old)) (name_of old) (Some file)
-        → KeepsFiles F.contents F.faults F.absences old new → Rose (faults_of F.faults old) (faults_of F.faults new)
+        → KeepsFiles F.contents F.faults F.absences F.refused old new → Rose (faults_of F.faults old) (faults_of F.faults new)
         → Rose (F.faults (files_of old)) (F.faults (files_of new)) }
+{}
+
+/// Where the faults of a source grew, the name at which its files last refused a read is that of its file.
+pub fn a_fault_is_named_by_the_file<F: Files>()
+    ensures { (old new : FileSource F) → KeepsFiles F.contents F.faults F.absences F.refused old new
+        → faults_of F.faults old < faults_of F.faults new → F.refused (files_of new) ≡ name_of new }
 {}
 
 /// Where one way leads to a hub and another leads on from it, both lead there one behind the other.

@@ -1,9 +1,13 @@
 -- What happened and what was closed, by what a hub gave and was told.
-use Rattle.std.proofs.Common.{◌≡◌, ℕ, ◌+◌, List, [], ◌∷◌, ◌++◌, map, refl, sym, ap, ◌∙◌}
+use Rattle.std.proofs.Common.{◌≡◌, ℕ, ◌+◌, ◌≤◌, List, [], ◌∷◌, ◌++◌, length, map, refl, sym, ap, subst, ◌∙◌, append_assoc, arith, length-append}
+use Rattle.std.proofs.lemmas.List.{append-nil}
 use Rattle.std.specs.List.{flat_map}
 use Rattle.fg_outside.specs.declared.hub.Happening.{Happening}
 use Rattle.fg_outside.specs.HubStep.{Event, happening, saying, closing, happenings}
-use Rattle.recording.specs.Turns.{Closing, closings}
+use Rattle.recording.specs.declared.record.Record.{Record}
+use Rattle.recording.specs.Script.{IsStorySoFar, clock_of}
+use Rattle.recording.specs.Turns.{Closing, Told, closings, told_by}
+use Rattle.recording.proofs.Turning.{told_by-later}
 use Rattle.ctl_life.specs.declared.saying.Saying.{Saying}
 use Rattle.ctl_life.specs.declared.saying.Saying.TheVariants.{Send, Close, Line}
 use Rattle.hub_drive.specs.declared.sayings.Outlet.{Outlet}
@@ -56,6 +60,12 @@ shut-front given (shut conn ∷ xs) ys =
     let below = shut-front given xs ys in
     record { rest = below.rest; parts = ap (λ (l : List Closing). record { conn = conn; behind = given } ∷ l) below.parts }
 
+shut-append : (given : ℕ) (xs ys : List Deed) → shut_in given (xs ++ ys) ≡ shut_in given xs ++ shut_in (given + length (happened_in xs)) ys
+shut-append given [] ys = ap (λ n. shut_in n ys) (omega arith)
+shut-append given (gave h ∷ xs) ys = shut-append (given + 1) xs ys ∙ ap (λ n. shut_in (given + 1) xs ++ shut_in n ys) (omega arith)
+shut-append given (said conn piece ∷ xs) ys = shut-append given xs ys
+shut-append given (shut conn ∷ xs) ys = ap (λ (l : List Closing). record { conn = conn; behind = given } ∷ l) (shut-append given xs ys)
+
 -- ---- of what is said
 
 -- nothing happened
@@ -96,6 +106,24 @@ shut_by_sayings given Nowhere [] more = refl
 shut_by_sayings given Nowhere (Send conn message ∷ sayings) more = shut_by_sayings given Nowhere sayings more
 shut_by_sayings given Nowhere (Close conn cause ∷ sayings) more = ap (λ (l : List Closing). record { conn = conn; behind = given } ∷ l) (shut_by_sayings given Nowhere sayings more)
 shut_by_sayings given Nowhere (Line text ∷ sayings) more = shut_by_sayings given Nowhere sayings more
+
+-- nothing more stands behind all
+none_more : (xs ys : List Happening) → xs ≡ xs ++ ys → ys ≡ []
+none_more xs [] is = refl
+none_more xs (y ∷ ys) is = absurd (omega (arith, ap (λ (l : List Happening). length l) is, length-append xs (y ∷ ys)))
+
+-- closings behind all that was told change nothing of it
+late_same : (n : ℕ) (closes : List Closing) (ds : List Deed) (records : List Record) → happened_in ds ≡ [] → length (told_by closes records).given ≤ n
+    → told_by (closes ++ shut_in n ds) records ≡ told_by closes records
+late_same n closes [] records none within = ap (λ (l : List Closing). told_by l records) (append-nil closes)
+late_same n closes (gave h ∷ ds) records none within = absurd (cc)
+late_same n closes (said conn piece ∷ ds) records none within = late_same n closes ds records none within
+late_same n closes (shut conn ∷ ds) records none within =
+    let c : Closing = record { conn = conn; behind = n } in
+    let same : told_by (closes ++ c ∷ []) records ≡ told_by closes records = told_by-later closes c records within in
+    ap (λ (l : List Closing). told_by l records) (sym (append_assoc closes (c ∷ []) (shut_in n ds)))
+    ∙ late_same n (closes ++ c ∷ []) ds records none (subst (λ (t : Told). length t.given ≤ n) (sym same) within)
+    ∙ same
 
 -- ---- of a story
 
@@ -142,4 +170,44 @@ module _ {S : Type 0} (m : Workings S) (outlet : Outlet) where
             ∙ ap (shut_in given) front.parts
             ∙ below.parts
             ∙ ap (λ (l : List Closing). l ++ below.rest) (sym (closings_are given events));
+      }
+
+  -- ---- what is closed behind all that happened changes nothing of it
+
+  none_behind : (w : S) (hs : List Happening) (events : List Event) (front : IsFront (deeds events) (deeds_of m outlet w hs)) → happenings events ≡ hs → happened_in front.rest ≡ []
+  none_behind w hs events front all =
+      none_more hs (happened_in front.rest)
+      (sym (happened-deeds w hs)
+      ∙ ap happened_in front.parts
+      ∙ happened-append (deeds events) front.rest
+      ∙ ap (λ (l : List Happening). l ++ happened_in front.rest) (sym (happenings_are events) ∙ all))
+
+  late_closed : (w : S) (hs : List Happening) (events : List Event) (front : IsFront (deeds events) (deeds_of m outlet w hs)) → happenings events ≡ hs
+      → closings_of m 0 w hs ≡ closings 0 events ++ shut_in (0 + length hs) front.rest
+  late_closed w hs events front all =
+      sym (shut-deeds 0 w hs)
+      ∙ ap (shut_in 0) front.parts
+      ∙ shut-append 0 (deeds events) front.rest
+      ∙ ap (λ n. shut_in 0 (deeds events) ++ shut_in n front.rest) (ap (λ (l : List Happening). 0 + length l) (sym (happenings_are events) ∙ all))
+      ∙ ap (λ (l : List Closing). l ++ shut_in (0 + length hs) front.rest) (sym (closings_are 0 events))
+
+  -- a story that is told with the closings so far is told with all of them
+  pub told_with_all : (w : S) (hs : List Happening) (events : List Event) (bytes : List ℕ) → IsFront (deeds events) (deeds_of m outlet w hs) → happenings events ≡ hs
+      → IsStorySoFar bytes hs (closings 0 events) → IsStorySoFar bytes hs (closings_of m 0 w hs)
+  told_with_all w hs events bytes front all is =
+      let told : Told = told_by (closings 0 events) is.records in
+      let within : length told.given ≤ 0 + length hs = omega (arith, ap (λ (l : List Happening). length l) is.told, length-append told.given (clock_of told.moment is.waits)) in
+      let same : told_by (closings_of m 0 w hs) is.records ≡ told =
+      ap (λ (l : List Closing). told_by l is.records) (late_closed w hs events front all)
+      ∙ late_same (0 + length hs) (closings 0 events) front.rest is.records (none_behind w hs events front all) within
+      in
+      record {
+        records = is.records;
+        waits = is.waits;
+        front = is.front;
+        rest = is.rest;
+        parts = is.parts;
+        spell = is.spell;
+        follow = is.follow;
+        told = is.told ∙ ap (λ (t : Told). t.given ++ clock_of t.moment is.waits) (sym same);
       }

@@ -49,7 +49,7 @@ module _ {S : Type 0} (m : Workings S) where
       ap (λ (l : List Deed). turn_deeds m outlet g w ++ l) (deeds-push outlet (m.turn g w) hs h)
       ∙ sym (append_assoc (turn_deeds m outlet g w) (deeds_of m outlet (m.turn g w) hs) (turn_deeds m outlet h (behind m (m.turn g w) hs)))
 
-  lines-append : (w : S) (hs more : List Happening) → lines_of m w (hs ++ more) ≡ lines_of m w hs ++ lines_of m (behind m w hs) more
+  pub lines-append : (w : S) (hs more : List Happening) → lines_of m w (hs ++ more) ≡ lines_of m w hs ++ lines_of m (behind m w hs) more
   lines-append w [] more = refl
   lines-append w (g ∷ hs) more =
       ap (λ (l : List ℕ). turn_lines m g w ++ l) (lines-append (m.turn g w) hs more)
@@ -87,7 +87,7 @@ module _ {S : Type 0} (m : Workings S) where
   all_printed-one None w h = refl
   all_printed-one (Some prints) w h = append-nil (prints (m.turn h w))
 
-  out-append : (outlet : Outlet) (w : S) (hs more : List Happening) → out_of m outlet w (hs ++ more) ≡ out_of m outlet w hs ++ out_of m outlet (behind m w hs) more
+  pub out-append : (outlet : Outlet) (w : S) (hs more : List Happening) → out_of m outlet w (hs ++ more) ≡ out_of m outlet w hs ++ out_of m outlet (behind m w hs) more
   out-append Records w hs more =
       ap (λ (l : List WrittenRecord). written_records l) (records-append w hs more)
       ∙ flat_map-append written (records_of m w hs) (records_of m (behind m w hs) more)

@@ -1,45 +1,19 @@
 -- What a run over a recording has done.
-use Rattle.std.specs.Prelude.{◌≡◌, ℕ, ◌-◌, ◌^◌, ◌⊎◌, List, [], ◌++◌, length, Option, Some, None}
+use Rattle.std.specs.Prelude.{◌≡◌, ℕ, ◌-◌, ◌^◌, ◌<◌, ◌⊎◌, List, [], length, Option, Some, None}
 use Rattle.fg_outside.specs.declared.hub.Happening.{Happening}
 use Rattle.fg_outside.specs.Contents.{Contents, Tells}
 use Rattle.fg_outside.specs.Wrote.{appended, AppendsFront}
-use Rattle.recording.specs.declared.record.Record.{Record}
 use Rattle.recording.specs.declared.refused.RecordRefused.{RecordRefused}
-use Rattle.recording.specs.Recording.{AllFollow, AllSpell, Records, first_place}
-use Rattle.recording.specs.Refused.{IsRefused}
 use Rattle.recording.specs.declared.script_hub.ScriptHub.{ScriptHub}
-use Rattle.recording.specs.Script.{ScriptStep, StandsFor, clock_of, listed, refusal_in, source_in}
-use Rattle.recording.specs.Turns.{Closing, told_by, turns}
+use Rattle.recording.specs.Script.{IsStoryOf, IsStoryOfFront, IsStorySoFar, ScriptStep, StandsFor, refusal_in, source_in}
 use Rattle.hub_drive.specs.declared.drive.Drove.{Drove}
 use Rattle.hub_drive.specs.declared.drive.Drove.TheVariants as drove
 use Rattle.hub_drive.specs.declared.replay.Replayed.{Replayed}
 use Rattle.hub_drive.specs.declared.replay.Replayed.TheVariants.{Read, Unread, Spent, WriteFault, Memory}
 use Rattle.hub_drive.specs.declared.sayings.Outlet.{Outlet}
 use Rattle.hub_drive.specs.Driven.{Drives, Goes, WholeButLast}
-use Rattle.hub_drive.specs.Driving.{IsFront, closings_of, lines_of, out_of}
+use Rattle.hub_drive.specs.Driving.{closings_of, lines_of, out_of}
 use Rattle.hub_drive.specs.Machine.{Workings}
-
--- ---- which story a recording tells
-
--- that of all its records, or of those before its first refused one, where these connections are closed
-pub record IsStoryOf (bytes : List ℕ) (story : List Happening) (closes : List Closing) (refused : Option RecordRefused) : Type 0 where
-  pub records : List Record
-  pub told : story ≡ turns records closes
-  pub whole : refused ≡ None → Records bytes records
-  pub refuses : (r : RecordRefused) → refused ≡ Some r → IsRefused bytes records r.number r.cause
-
--- that of records at its front, of the last of which the moment alone may be told
-pub record IsStorySoFar (bytes : List ℕ) (story : List Happening) (closes : List Closing) : Type 0 where
-  pub records : List Record
-  pub waits : Option Record
-  pub front : List ℕ
-  pub rest : List ℕ
-  pub parts : bytes ≡ front ++ rest
-  pub spell : AllSpell (records ++ listed waits) front
-  pub follow : AllFollow first_place (records ++ listed waits)
-  pub told :
-      let told = told_by closes records in
-      story ≡ told.given ++ clock_of told.moment waits
 
 abbrev pub replayed_by : Drove → Option RecordRefused → Replayed
 replayed_by drove.Done refused = Read refused
@@ -63,16 +37,19 @@ pub record WritesFront {S : Type 0} (m : Workings S) (outlet : Outlet) (w : S) (
 
 -- where the files tell the recording, so much of its story was taken in
 abbrev pub TellsSoFar : {S : Type 0} → Workings S → Option Contents → (name : List ℕ) → S → List Happening → Type 0
-TellsSoFar m contents name w story =
-    (bytes : List ℕ) → Tells contents name (Some bytes) → (closes : List Closing) × IsFront closes (closings_of m 0 w story) × IsStorySoFar bytes story closes
+TellsSoFar m contents name w story = (bytes : List ℕ) → Tells contents name (Some bytes) → IsStorySoFar bytes story (closings_of m 0 w story)
+
+-- where they tell it, the story is that of whole records at its front
+abbrev pub TellsFront : {S : Type 0} → Workings S → Option Contents → (name : List ℕ) → S → List Happening → Type 0
+TellsFront m contents name w story = (bytes : List ℕ) → Tells contents name (Some bytes) → IsStoryOfFront bytes story (closings_of m 0 w story)
 
 -- by how the run ended
 abbrev pub Replays : {S : Type 0} → Workings S → Outlet → Option Contents → (name : List ℕ) → (absence fault : Type 0) → S → (out_old out_new err_old err_new : Option (List ℕ)) → Replayed → Type 0
 Replays m outlet contents name absence fault w out_old out_new err_old err_new (Read refused) =
-    (story : List Happening) × WritesAll m outlet w story out_old out_new err_old err_new
+    (story : List Happening) × WritesAll m outlet w story out_old out_new err_old err_new × (length story < 2 ^ 64 - 1)
     × ((bytes : List ℕ) → Tells contents name (Some bytes) → IsStoryOf bytes story (closings_of m 0 w story) refused)
 Replays m outlet contents name absence fault w out_old out_new err_old err_new Unread =
-    (story : List Happening) × WritesAll m outlet w story out_old out_new err_old err_new × TellsSoFar m contents name w story × (absence ⊎ fault)
+    (story : List Happening) × WritesAll m outlet w story out_old out_new err_old err_new × TellsFront m contents name w story × (absence ⊎ fault)
 Replays m outlet contents name absence fault w out_old out_new err_old err_new Spent =
     (story : List Happening) × WritesAll m outlet w story out_old out_new err_old err_new × TellsSoFar m contents name w story × (length story ≡ 2 ^ 64 - 1)
 Replays m outlet contents name absence fault w out_old out_new err_old err_new WriteFault =

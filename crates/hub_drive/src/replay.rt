@@ -46,6 +46,8 @@ fn is_there<F: Files>(files: &mut F, name: &str) -> Result<bool, Failed>
     ensures absent { IfOk result (λ there. there ≡ false → Rose (F.absences files.old) (F.absences files.new)) }
     ensures failed { OnErr result (Rose (F.faults files.old) (F.faults files.new)) }
     ensures no_fault { OnOk result (F.faults files.new ≡ F.faults files.old) }
+    ensures absent_name { IfOk result (λ there. there ≡ false → F.refused files.new ≡ name.now) }
+    ensures failed_name { OnErr result (F.refused files.new ≡ name.now) }
     ensures contents { F.contents files.new ≡ F.contents files.old }
     ensures faults { F.faults files.old ≤ F.faults files.new }
     ensures absences { F.absences files.old ≤ F.absences files.new }
@@ -98,6 +100,9 @@ pub fn replay<M: Machine + Drop, F: Files, O: Sink, E: Sink>(
     // A recording that isn't there is told as such, and one that is there only where a read failed.
     ensures missing { Tells (F.contents files) name None → result.0 ≡ Replayed.Unread }
     ensures there { (bytes : List ℕ) → Tells (F.contents files) name (Some bytes) → result.0 ≡ Replayed.Unread → Rose (F.faults files) (F.faults result.1) }
+
+    // The file that was refused last is then the recording, unless the count of faults stood at its last value.
+    ensures named { result.0 ≡ Replayed.Unread → F.faults files < 2 ^ 64 - 1 → F.refused result.1 ≡ name }
 
     // No read that failed is passed over, or tried again in silence.
     ensures no_fault { result.0 ≢ Replayed.Unread → F.faults files < 2 ^ 64 - 1 → F.faults result.1 ≡ F.faults files }

@@ -14,7 +14,7 @@ ghost use Rattle.hub_drive.specs.declared.sayings.Outlet.TheVariants.{Hub};
 ghost use Rattle.hub_drive.specs.declared.replay.Replayed.TheVariants.{Read};
 ghost use Rattle.hub_drive.specs.Driving.{IsFront};
 ghost use Rattle.ctl_drive.specs.Driving.{deeds_of, records_of};
-ghost use Rattle.hub_drive.specs.Replay.{IsStoryOf};
+ghost use Rattle.recording.specs.Script.{IsStoryOf};
 ghost use Rattle.ctl_drive.specs.Replay.{Replays, WritesAll, closed_in};
 ghost use Rattle.ctl_recorded.specs.RecordedRun.{IsRecording, IsRecordingSoFar};
 ghost use Rattle.law_flights.specs.Spoken.{deeds_in, spoken};

@@ -9,6 +9,7 @@ pub mod Grown
 pub mod Pieces
 pub mod Closed
 pub mod Told
+pub mod Begun
 pub mod Alike
 pub mod Shuts
 pub mod Joined

@@ -9,7 +9,7 @@ use Rattle.recording.specs.Turns.{turns}
 use Rattle.recording.specs.Written.{WrittenRecord, written_records}
 use Rattle.recording.proofs.Grammar.{one_list}
 use Rattle.ctl_world.specs.World.{first}
-use Rattle.hub_drive.specs.Replay.{IsStoryOf}
+use Rattle.recording.specs.Script.{IsStoryOf}
 use Rattle.ctl_drive.specs.Replay.{WritesAll, closed_in}
 use Rattle.law_recordings.specs.Cuts.{SameButCuts, WritesTheSame}
 use Rattle.law_recordings.proofs.Alike.{Alike}

@@ -21,7 +21,7 @@ untold = record { given = []; moment = 0 }
 
 -- ---- what was told stays at the front
 
-front-then : {X : Type 0} (one two three : List X) → IsFront one two → IsFront two three → IsFront one three
+pub front-then : {X : Type 0} (one two three : List X) → IsFront one two → IsFront two three → IsFront one three
 front-then one two three first second = record {
   rest = first.rest ++ second.rest;
   parts = second.parts ∙ ap (λ l. l ++ second.rest) first.parts ∙ append_assoc one first.rest second.rest;
@@ -33,13 +33,13 @@ with_own-front false given more = record { rest = more; parts = refl }
 
 -- whatever closings each record is told by
 module _ (closes : Told → Record → List Closing) where
-  abbrev step : Told → Record → Told
+  abbrev pub step : Told → Record → Told
   step told r = tell (closes told r) told r
 
   step-front : (told : Told) (r : Record) → IsFront (told.given ++ clock told.moment r) (step told r).given
   step-front told r = let given : List Happening = told.given ++ clock told.moment r in with_own-front (is_passed_over (closes told r) given r) given (own r)
 
-  steps-front : (told : Told) (records : List Record) → IsFront told.given (fold step told records).given
+  pub steps-front : (told : Told) (records : List Record) → IsFront told.given (fold step told records).given
   steps-front told [] = record { rest = []; parts = sym (append-nil told.given) }
   steps-front told (r ∷ records) =
       let given : List Happening = told.given ++ clock told.moment r in
@@ -48,14 +48,14 @@ module _ (closes : Told → Record → List Closing) where
       front-then told.given given all (record { rest = clock told.moment r; parts = refl }) (front-then given next.given all (step-front told r) (steps-front next records))
 
   -- behind the moment of the first record
-  clock-front : (told : Told) (r : Record) (records : List Record) → IsFront (told.given ++ clock told.moment r) (fold step told (r ∷ records)).given
+  pub clock-front : (told : Told) (r : Record) (records : List Record) → IsFront (told.given ++ clock told.moment r) (fold step told (r ∷ records)).given
   clock-front told r records =
       front-then (told.given ++ clock told.moment r) (step told r).given (fold step told (r ∷ records)).given (step-front told r) (steps-front (step told r) records)
 
 -- ---- the closings of the whole story are those of its front
 
 module _ (w : World) (story : List Happening) where
-  tell-same : (told : Told) (r : Record) → IsFront (told.given ++ clock told.moment r) story → tell (closed w story) told r ≡ tell_on w told r
+  pub tell-same : (told : Told) (r : Record) → IsFront (told.given ++ clock told.moment r) story → tell (closed w story) told r ≡ tell_on w told r
   tell-same told r front =
       let given : List Happening = told.given ++ clock told.moment r in
       let same : is_shut (closed w story) given r.conn ≡ is_closed w given r.conn =

@@ -11,8 +11,10 @@ ghost use Rattle.conf_types.specs.Configuration.{Configuration};
 ghost use Rattle.recording.specs.declared.kind.RecordKind.TheVariants.{Moment as OfMoment};
 ghost use Rattle.recording.specs.declared.record.Record.{Record};
 ghost use Rattle.recording.specs.Recording.{Records};
+ghost use Rattle.recording.specs.declared.refused.RecordRefused.{RecordRefused};
+ghost use Rattle.recording.specs.Script.{IsStoryOf, IsStoryOfFront, IsStorySoFar};
 ghost use Rattle.recording.specs.Turns.{Closing, turns};
-ghost use Rattle.hub_drive.specs.Replay.{IsStoryOf};
+ghost use Rattle.hub_drive.specs.Driving.{IsFront};
 ghost use Rattle.ctl_drive.specs.Replay.{WritesAll, closed_in};
 ghost use Rattle.law_recordings.specs.Cuts.{SameButCuts, WritesTheSame};
 
@@ -26,6 +28,15 @@ pub fn records_tell_one_story()
 /// A record of a moment gives exactly one turn, which shows that moment, whatever the last moment was.
 pub fn a_record_of_a_moment_gives_one_turn()
     ensures { (records : List Record) (r : Record) (closes : List Closing) → r.kind ≡ OfMoment → turns (records ++ r ∷ []) closes ≡ turns records closes ++ Moment r.moment ∷ [] }
+{}
+
+/// What is told of records at the front of a recording, of the last of them the moment at least, is a front of the one story of all
+/// that come before its end or its first refused one.
+pub fn what_is_told_so_far_is_a_front_of_the_one_story()
+    ensures so_far { (conf : Configuration) (bytes : List ℕ) (story whole : List Happening) (refused : Option RecordRefused)
+        → IsStoryOf bytes whole (closed_in conf whole) refused → IsStorySoFar bytes story (closed_in conf story) → IsFront story whole }
+    ensures records { (conf : Configuration) (bytes : List ℕ) (story whole : List Happening) (refused : Option RecordRefused)
+        → IsStoryOf bytes whole (closed_in conf whole) refused → IsStoryOfFront bytes story (closed_in conf story) → IsFront story whole }
 {}
 
 /// Of the stories of records that are the same but for where bytes are cut, the same is written.

@@ -1,8 +1,8 @@
-ghost use Rattle.std.specs.Prelude.{◌≤◌, ◌<◌, ◌≡◌, ◌≢◌, ◌+◌, ◌-◌, ◌^◌, ℕ, List, min, length, None, Some, Ok, IfOk, IfSome, IfNone, OnSome, OnOk, OnErr, IsSomeAnd, IsErrAnd, MatchResult};
-ghost use Rattle.std.specs.IoError.{error_kind};
+ghost use Rattle.std.specs.Prelude.{◌≤◌, ◌<◌, ◌≡◌, ◌≢◌, ◌+◌, ◌-◌, ◌^◌, ℕ, List, min, length, None, Some, Ok, IfOk, IfSome, IfNone, OnSome, OnOk, OnErr, IsSomeAnd};
 ghost use Rattle.fg_outside.specs.Contents.{Tells, ReadsAt};
 ghost use Rattle.fg_outside.specs.Counts.{Rose, counted};
 ghost use Rattle.real_outside.specs.Opened.{last_of, refused_of, name_of, place_of, WentOn};
+ghost use Rattle.real_outside.specs.Reads.{ComesTo, IsReady, ReadsOnce, Went};
 
 use crate::opened::OpenAt;
 use fg_outside::{Failed, Files, RefusedName};
@@ -44,9 +44,7 @@ fn open_at<R: rt::Files + AllocGlobal>(
     name: &str,
     from: u64,
 ) -> io::Result<OpenAt<R::File>>
-    ensures name { IfOk result (λ opened. name_of opened ≡ name.now) }
-    ensures place { IfOk result (λ opened. place_of opened ≡ from) }
-    ensures kept { IfSome last (λ opened. name_of opened ≡ name.now → place_of opened ≡ from → result ≡ Ok opened) }
+    ensures ready { IfOk result (IsReady R.File.stream_position last name.now from) }
 {
     if let Some(last) = last {
         if last.stands_at(name, from) {
@@ -60,9 +58,7 @@ fn open_at<R: rt::Files + AllocGlobal>(
 /// What a read from a place comes to: its bytes where the place behind them can be counted, no file
 /// exactly where it said that there is none, else a fault.
 fn outcome(read: io::Result<usize>, from: u64) -> Result<Option<usize>, Failed>
-    ensures some { IfOk result (λ got. IfSome got (λ n. (read ≡ Ok n) × (from + n ≤ 2 ^ 64 - 1))) }
-    ensures none { IfOk result (λ got. IfNone got (IsErrAnd read (λ e. error_kind e ≡ ErrorKind.NotFound))) }
-    ensures failed { OnErr result (MatchResult read (λ n. 2 ^ 64 - 1 < from + n) (λ e. error_kind e ≢ ErrorKind.NotFound)) }
+    ensures { ComesTo read from result }
 {
     match read {
         Ok(n) if (n as u64) <= u64::MAX - from => Ok(Some(n)),
@@ -72,14 +68,11 @@ fn outcome(read: io::Result<usize>, from: u64) -> Result<Option<usize>, Failed>
 }
 
 impl<R: rt::Files + AllocGlobal> RealFiles<'_, R> {
+    /// Reads on in the named file from a place. Behind an error no file is open.
     fn read_from(&mut self, name: &str, from: u64, buf: &mut [u8]) -> io::Result<usize>
         ensures count { IfOk result (λ n. n ≤ length buf.old) }
         ensures length { length buf.new ≡ length buf.old }
-        ensures name { IfOk result (λ n. IsSomeAnd (last_of self.new) (λ opened. name_of opened ≡ name.now)) }
-        ensures place { IfOk result (λ n. IsSomeAnd (last_of self.new) (λ opened. place_of opened ≡ min (from + n) (2 ^ 64 - 1))) }
-        ensures bytes { IfSome (last_of self.old) (λ before. name_of before ≡ name.now → place_of before ≡ from
-            → IfOk result (λ n. IsSomeAnd (last_of self.new) (λ after. WentOn R.File.remaining before after n buf.new))) }
-        ensures closed { OnErr result (last_of self.new ≡ None) }
+        ensures went { Went R.File.stream_position R.File.remaining (last_of self.old) (last_of self.new) name.now from buf.new result }
         ensures faults { self.new.faults ≡ self.old.faults }
         ensures absences { self.new.absences ≡ self.old.absences }
         ensures refused { refused_of self.new ≡ refused_of self.old }
@@ -153,6 +146,11 @@ impl<R: rt::Files + AllocGlobal> Files for RealFiles<'_, R> {
         ensures bytes { IfSome (last_of self.old) (λ before. name_of before ≡ name.now → place_of before ≡ from
             → IfOk result (λ got. IfSome got (λ n. IsSomeAnd (last_of self.new)
             (λ after. WentOn R.File.remaining before after n buf.new)))) }
+
+        // One read was made, of the file that stands open at the place or of one opened anew, and this is what it came to. Where it
+        // failed, or found no file, none is open.
+        ensures reads { ReadsOnce R.File.stream_position R.File.remaining (last_of self.old) (last_of self.new) name.now from buf.new result }
+        ensures length { length buf.new ≡ length buf.old }
     {
         let read = self.read_from(name, from, buf);
         self.count(name, outcome(read, from))

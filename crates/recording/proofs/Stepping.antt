@@ -115,7 +115,7 @@ module _ {S : Type 0} (left : S → Option (List ℕ)) (may : S → S → Type 0
   }
   read_some hub new Failed waiting running reads went = record {
     story = Keeps-stays left hub new waiting running reads.0;
-    answer = record { runs = reads.0.spent ∙ running; unrefused = reads.1; within = reader_within new.reader };
+    answer = record { runs = reads.0.spent ∙ running; none_waits = reads.0.waiting ∙ waiting; unrefused = reads.1; within = reader_within new.reader };
     source = went;
   }
   read_some hub new Memory waiting running reads went = record { story = Keeps-spent left hub new reads; answer = reads.spent; source = went }

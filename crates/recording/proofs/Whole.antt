@@ -6,7 +6,7 @@ use Rattle.std.specs.Option.{option_map}
 use Rattle.fg_outside.specs.declared.hub.Happening.{Happening}
 use Rattle.fg_outside.specs.declared.hub.Turn.TheVariants.{Happened, Done, Failed}
 use Rattle.fg_outside.specs.Left.{prepended, IsAtEnd}
-use Rattle.fg_outside.specs.HubStep.{HubStep, Event, turned, Leads, story}
+use Rattle.fg_outside.specs.HubStep.{HubStep, Event, happening, happenings, turned, Leads, story}
 use Rattle.fg_outside.specs.Steps.{Went, stay}
 use Rattle.fg_outside.proofs.StepLemmas.{Went-append}
 use Rattle.fg_outside.proofs.StoryLemmas.{Story-keeps}
@@ -18,7 +18,7 @@ use Rattle.recording.specs.Recording.{Place, first_place, after, after_all, AllS
 use Rattle.recording.specs.Refused.{refusal}
 use Rattle.recording.specs.Reader.{place_of, part_of, left_of, refused_of, Ends}
 use Rattle.recording.specs.Turns.{closings, turns}
-use Rattle.recording.specs.Script.{source_in, is_spent, refusal_in, listed, StandsFor, ScriptStep, ToldWhole, ToldSoFar, IsReadBehind, IsReadInside}
+use Rattle.recording.specs.Script.{source_in, is_spent, refusal_in, listed, StandsFor, ScriptStep, IsStoryOf, IsStoryOfFront, IsStorySoFar, IsReadAndTold, IsReadBehind, IsReadInside}
 
 -- as many records as were counted
 counted_all : (place : Place) (records : List Record) → (after_all place records).count ≡ place.count + length records
@@ -72,7 +72,7 @@ module _ {S : Type 0} (left : S → Option (List ℕ)) (may : S → S → Type 0
   source_goes from to steps way =
       Story-keeps (ScriptStep left may) (λ hub _. Went may (source_in from) (source_in hub)) (λ mid events step next went may_step. Went-append may (source_in from) (source_in mid) went (source_in next) may_step.source) from stay steps to way
 
-  pub stopped_told : (bytes : List ℕ) (from to : ScriptHub S) (steps : List HubStep) → StandsFor left (Some bytes) from [] None [] → Leads (ScriptStep left may) from steps to → ToldSoFar bytes (story steps)
+  pub stopped_told : (bytes : List ℕ) (from to : ScriptHub S) (steps : List HubStep) → StandsFor left (Some bytes) from [] None [] → Leads (ScriptStep left may) from steps to → IsStorySoFar bytes (happenings (story steps)) (closings 0 (story steps))
   stopped_told bytes from to steps first way =
       let so_far = way_tells (Some bytes) from to steps first way in
       let stands = so_far.2 in
@@ -85,10 +85,10 @@ module _ {S : Type 0} (left : S → Option (List ℕ)) (may : S → S → Type 0
         parts = split.2;
         spell = stands.spell;
         follow = stands.follow;
-        gave = stands.gave;
+        told = stands.gave;
       }
 
-  told_whole : (bytes : List ℕ) (hub : ScriptHub S) (records : List Record) (events : List Event) → StandsFor left (Some bytes) hub records None events → is_spent hub ≡ false → (refused_of hub.reader ≡ None → Ends left hub.reader) → ToldWhole bytes events (refusal_in hub)
+  told_whole : (bytes : List ℕ) (hub : ScriptHub S) (records : List Record) (events : List Event) → StandsFor left (Some bytes) hub records None events → is_spent hub ≡ false → (refused_of hub.reader ≡ None → Ends left hub.reader) → IsStoryOf bytes (happenings events) (closings 0 events) (refusal_in hub)
   told_whole bytes hub records events stands running ended =
       let runs = stands.runs running in
       let all : records ++ [] ≡ records = append-nil records in
@@ -121,7 +121,7 @@ module _ {S : Type 0} (left : S → Option (List ℕ)) (may : S → S → Type 0
             };
       }
 
-  pub done_told : (bytes : List ℕ) (from to next : ScriptHub S) (steps : List HubStep) → StandsFor left (Some bytes) from [] None [] → Leads (ScriptStep left may) from steps to → ScriptStep left may to (turned Done) next → ToldWhole bytes (story steps) (refusal_in next)
+  pub done_told : (bytes : List ℕ) (from to next : ScriptHub S) (steps : List HubStep) → StandsFor left (Some bytes) from [] None [] → Leads (ScriptStep left may) from steps to → ScriptStep left may to (turned Done) next → IsStoryOf bytes (happenings (story steps)) (closings 0 (story steps)) (refusal_in next)
   done_told bytes from to next steps first way done =
       let before = way_tells (Some bytes) from to steps first way in
       let behind = done.story (Some bytes) before.0 before.1 (story steps) before.2 in
@@ -146,6 +146,24 @@ module _ {S : Type 0} (left : S → Option (List ℕ)) (may : S → S → Type 0
         behind = all_left (part_of next.reader) (left (source_in next)) split.0 step.answer.none (sym split.1 ∙ runs.behind);
       }
 
+  pub read_and_told : (bytes : List ℕ) (from to next : ScriptHub S) (steps : List HubStep) (it : Happening) → StandsFor left (Some bytes) from [] None [] → Leads (ScriptStep left may) from steps to → ScriptStep left may to (turned (Happened it)) next → IsReadAndTold bytes (story steps ++ happening it ∷ []) (left (source_in next))
+  read_and_told bytes from to next steps it first way step =
+      let before = way_tells (Some bytes) from to steps first way in
+      let behind = step.story (Some bytes) before.0 before.1 (story steps) before.2 in
+      let stands = behind.2 in
+      let runs = stands.runs step.answer.runs in
+      let split = split_told bytes stands.front stands.rest stands.parts in
+      record {
+        records = behind.0;
+        waits = behind.1;
+        front = stands.front;
+        rest = split.0;
+        parts = split.2;
+        spell = stands.spell;
+        behind = all_left (part_of next.reader) (left (source_in next)) split.0 step.answer.none (sym split.1 ∙ runs.behind);
+        told = stands.gave;
+      }
+
   pub read_inside : (bytes : List ℕ) (from to next : ScriptHub S) (steps : List HubStep) → StandsFor left (Some bytes) from [] None [] → Leads (ScriptStep left may) from steps to → ScriptStep left may to (turned Failed) next → IsReadInside bytes (left (source_in next))
   read_inside bytes from to next steps first way step =
       let before = way_tells (Some bytes) from to steps first way in
@@ -163,4 +181,26 @@ module _ {S : Type 0} (left : S → Option (List ℕ)) (may : S → S → Type 0
         spell = stands.spell;
         within = step.answer.within;
         behind = inside.1;
+      }
+
+  pub failed_told : (bytes : List ℕ) (from to next : ScriptHub S) (steps : List HubStep) → StandsFor left (Some bytes) from [] None [] → Leads (ScriptStep left may) from steps to → ScriptStep left may to (turned Failed) next → IsStoryOfFront bytes (happenings (story steps)) (closings 0 (story steps))
+  failed_told bytes from to next steps first way failed =
+      let before = way_tells (Some bytes) from to steps first way in
+      let behind = failed.story (Some bytes) before.0 before.1 (story steps) before.2 in
+      let runs = behind.2.runs failed.answer.runs in
+      let none : behind.1 ≡ None = sym runs.waiting ∙ failed.answer.none_waits in
+      let same : StandsFor left (Some bytes) next behind.0 behind.1 (story steps) = subst (λ (l : List Event). StandsFor left (Some bytes) next behind.0 behind.1 l) (append-nil (story steps)) behind.2 in
+      let stands : StandsFor left (Some bytes) next behind.0 None (story steps) = subst (λ (w : Option Record). StandsFor left (Some bytes) next behind.0 w (story steps)) none same in
+      let all : behind.0 ++ [] ≡ behind.0 = append-nil behind.0 in
+      let split = split_told bytes stands.front stands.rest stands.parts in
+      record {
+        records = behind.0;
+        front = stands.front;
+        rest = split.0;
+        parts = split.2;
+        are = record {
+          spell = subst (λ (l : List Record). AllSpell l stands.front) all stands.spell;
+          follow = subst (λ (l : List Record). AllFollow first_place l) all stands.follow;
+        };
+        told = stands.gave ∙ append-nil (turns behind.0 (closings 0 (story steps)));
       }

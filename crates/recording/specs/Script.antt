@@ -24,7 +24,7 @@ use Rattle.recording.specs.Layout.{len_in}
 use Rattle.recording.specs.Recording.{first_place, after_all, AllSpell, AllFollow, Records}
 use Rattle.recording.specs.Refused.{IsRefused}
 use Rattle.recording.specs.Reader.{place_of, source_of, part_of, left_of, refused_of, Takes, Ends, Refuses}
-use Rattle.recording.specs.Turns.{closings, is_shut, clock, told_by, turns}
+use Rattle.recording.specs.Turns.{Closing, closings, is_shut, clock, told_by, turns}
 
 -- the source that it reads
 abbrev pub source_in : {S : Type 0} → ScriptHub S → S
@@ -114,9 +114,10 @@ pub record IsBehind {S : Type 0} (hub : ScriptHub S) : Type 0 where
 abbrev pub IsWithin : List ℕ → Type 0
 IsWithin part = length part ≤ 17 + len_in part
 
--- a read failed: no record is refused, and what was taken of the next one stays
+-- a read failed: all records before have told their own, none is refused, and what was taken of the next one stays
 pub record IsInside {S : Type 0} (hub : ScriptHub S) : Type 0 where
   pub runs : is_spent hub ≡ false
+  pub none_waits : hub.waiting ≡ None
   pub unrefused : refused_of hub.reader ≡ None
   pub within : IsWithin (part_of hub.reader)
 
@@ -197,17 +198,17 @@ ReadsOn left old (Some Done) new = Stays left old new × (refused_of new.reader 
 ReadsOn left old (Some Failed) new = Stays left old new × (refused_of new.reader ≡ None)
 ReadsOn left old (Some Memory) new = RanOut old new
 
--- ---- whole stories
+-- ---- which story a recording tells
 
--- the story is that of the recording, told to its end or to its first refused record
-pub record ToldWhole (bytes : List ℕ) (events : List Event) (refused : Option RecordRefused) : Type 0 where
+-- that of all records of the recording, or of those before its first refused one, where these connections are closed
+pub record IsStoryOf (bytes : List ℕ) (story : List Happening) (closes : List Closing) (refused : Option RecordRefused) : Type 0 where
   pub records : List Record
-  pub told : happenings events ≡ turns records (closings 0 events)
+  pub told : story ≡ turns records closes
   pub whole : refused ≡ None → Records bytes records
   pub refuses : (r : RecordRefused) → refused ≡ Some r → IsRefused bytes records r.number r.cause
 
--- the story is that of records at the front of the recording, the last of which may wait to tell its own
-pub record ToldSoFar (bytes : List ℕ) (events : List Event) : Type 0 where
+-- that of records at its front, of the last of which the moment alone may be told
+pub record IsStorySoFar (bytes : List ℕ) (story : List Happening) (closes : List Closing) : Type 0 where
   pub records : List Record
   pub waits : Option Record
   pub front : List ℕ
@@ -215,9 +216,18 @@ pub record ToldSoFar (bytes : List ℕ) (events : List Event) : Type 0 where
   pub parts : bytes ≡ front ++ rest
   pub spell : AllSpell (records ++ listed waits) front
   pub follow : AllFollow first_place (records ++ listed waits)
-  pub gave :
-      let told = told_by (closings 0 events) records in
-      happenings events ≡ told.given ++ clock_of told.moment waits
+  pub told :
+      let told = told_by closes records in
+      story ≡ told.given ++ clock_of told.moment waits
+
+-- that of all records at its front, where more may stand behind them
+pub record IsStoryOfFront (bytes : List ℕ) (story : List Happening) (closes : List Closing) : Type 0 where
+  pub records : List Record
+  pub front : List ℕ
+  pub rest : List ℕ
+  pub parts : bytes ≡ front ++ rest
+  pub are : Records front records
+  pub told : story ≡ turns records closes
 
 -- of a recording exactly the bytes behind these records are left
 pub record IsReadBehind (bytes : List ℕ) (left : Option (List ℕ)) : Type 0 where
@@ -228,7 +238,21 @@ pub record IsReadBehind (bytes : List ℕ) (left : Option (List ℕ)) : Type 0 w
   pub spell : AllSpell records front
   pub behind : left ≡ Some rest
 
--- the same, but for a part of the record behind these, which reaches no further than that record does
+-- of a recording exactly the bytes behind these records are left, and what happened are their turns: each told its own before the
+-- next was read, and of the last alone it may still come
+pub record IsReadAndTold (bytes : List ℕ) (events : List Event) (left : Option (List ℕ)) : Type 0 where
+  pub records : List Record
+  pub waits : Option Record
+  pub front : List ℕ
+  pub rest : List ℕ
+  pub parts : bytes ≡ front ++ rest
+  pub spell : AllSpell (records ++ listed waits) front
+  pub behind : left ≡ Some rest
+  pub told :
+      let told = told_by (closings 0 events) records in
+      happenings events ≡ told.given ++ clock_of told.moment waits
+
+-- the same as of what is left, but for a part of the record behind these, which reaches no further than that record does
 pub record IsReadInside (bytes : List ℕ) (left : Option (List ℕ)) : Type 0 where
   pub records : List Record
   pub front : List ℕ

@@ -1,6 +1,6 @@
 //! What the definitions of this crate come to, in the words of recordings and stories.
-ghost use Rattle.std.specs.Prelude.{◌≡◌, ◌⊎◌, ◌++◌, ℕ, List, [], Option, Some, None};
-ghost use Rattle.fg_outside.specs.HubStep.{HubStep, turned, Leads, story};
+ghost use Rattle.std.specs.Prelude.{◌≡◌, ◌⊎◌, ◌++◌, ◌∷◌, ℕ, List, [], Option, Some, None};
+ghost use Rattle.fg_outside.specs.HubStep.{HubStep, happening, happenings, turned, Leads, story};
 ghost use Rattle.fg_outside.specs.Steps.{Went};
 ghost use Rattle.fg_outside.specs.declared.hub.Happening.{Happening};
 ghost use Rattle.fg_outside.specs.declared.hub.Turn.TheVariants.{Happened, Done, Failed};
@@ -10,8 +10,9 @@ ghost use Rattle.recording.specs.declared.refused.RecordCause.{RecordCause};
 ghost use Rattle.recording.specs.Layout.{HasLayout};
 ghost use Rattle.recording.specs.Recording.{Records};
 ghost use Rattle.recording.specs.Refused.{IsRefused};
+ghost use Rattle.recording.specs.Turns.{closings};
 ghost use Rattle.recording.specs.Written.{kind_number, body_of, WrittenRecord, written, written_records, IsWritable, AreWritable};
-ghost use Rattle.recording.specs.Script.{source_in, refusal_in, StandsFor, ToldWhole, ToldSoFar, IsReadBehind, IsReadInside};
+ghost use Rattle.recording.specs.Script.{source_in, refusal_in, StandsFor, IsStoryOf, IsStoryOfFront, IsStorySoFar, IsReadAndTold, IsReadBehind, IsReadInside};
 
 use crate::ScriptHub;
 use fg_outside::{Hub, Source};
@@ -39,7 +40,17 @@ pub fn a_stopped_story_is_the_turns_of_a_front<S: Source>()
     ensures { (bytes : List ℕ) (from to : ScriptHub S) (steps : List HubStep)
         → StandsFor S.left (Some bytes) from [] None []
         → Leads ⟦<ScriptHub<S> as Hub>⟧.may from steps to
-        → ToldSoFar bytes (story steps) }
+        → IsStorySoFar bytes (happenings (story steps)) (closings 0 (story steps)) }
+{}
+
+/// Where the turn failed, the happenings of the story are the turns of all records at the front of the recording, the moment and
+/// the own of each, and of the closings in that story: of the record that was being read nothing was told.
+pub fn a_failed_story_is_the_turns_of_the_records_before<S: Source>()
+    ensures { (bytes : List ℕ) (from to after : ScriptHub S) (steps : List HubStep)
+        → StandsFor S.left (Some bytes) from [] None []
+        → Leads ⟦<ScriptHub<S> as Hub>⟧.may from steps to
+        → ⟦<ScriptHub<S> as Hub>⟧.may to (turned Failed) after
+        → IsStoryOfFront bytes (happenings (story steps)) (closings 0 (story steps)) }
 {}
 
 /// Once the turn is `Done`, the happenings of the story are the turns of the recording's accepted
@@ -49,7 +60,7 @@ pub fn a_done_story_is_the_turns_of_its_records<S: Source>()
         → StandsFor S.left (Some bytes) from [] None []
         → Leads ⟦<ScriptHub<S> as Hub>⟧.may from steps to
         → ⟦<ScriptHub<S> as Hub>⟧.may to (turned Done) after
-        → ToldWhole bytes (story steps) (refusal_in after) }
+        → IsStoryOf bytes (happenings (story steps)) (closings 0 (story steps)) (refusal_in after) }
 {}
 
 /// Behind a turn that gave a happening, the source has left exactly the bytes behind the records
@@ -60,6 +71,16 @@ pub fn no_byte_is_read_past_a_record<S: Source>()
         → Leads ⟦<ScriptHub<S> as Hub>⟧.may from steps to
         → ⟦<ScriptHub<S> as Hub>⟧.may to (turned (Happened it)) after
         → IsReadBehind bytes (S.left (source_in after)) }
+{}
+
+/// A record tells its own before the next is read: behind a turn that gave a happening, all records that were read told theirs,
+/// but for the last, of which the moment may be all that was told.
+pub fn a_record_tells_its_own_before_the_next_is_read<S: Source>()
+    ensures { (bytes : List ℕ) (from to after : ScriptHub S) (steps : List HubStep) (it : Happening)
+        → StandsFor S.left (Some bytes) from [] None []
+        → Leads ⟦<ScriptHub<S> as Hub>⟧.may from steps to
+        → ⟦<ScriptHub<S> as Hub>⟧.may to (turned (Happened it)) after
+        → IsReadAndTold bytes (story steps ++ happening it ∷ []) (S.left (source_in after)) }
 {}
 
 /// Behind a turn that failed, at most a part of the next record was taken too.

@@ -1,5 +1,7 @@
-use Rattle.std.proofs.Common.{Some, ap, sym, ◌∙◌}
+use Rattle.std.proofs.Common.{◌≡◌, ◌⊎◌, ℕ, inl, inr, List, Some, ap, sym, ◌∙◌}
 use Rattle.command_line.specs.declared.meaning.Job.{Job}
+use Rattle.command_line.specs.declared.meaning.Job.TheVariants.{Gauge, GaugeServe, Replay, Serve}
+use Rattle.command_line.specs.declared.values.Listen.{Listen}
 use Rattle.faucet_top.specs.Status.{number_of_status}
 use Rattle.faucet_top.proofs.ReadLemmas.{hub_fault_by_number}
 use Rattle.faucet_top.proofs.EndLemmas.{some_is}
@@ -60,3 +62,15 @@ returns-in_default-clause-gives g c =
       λ config events reload_ms listen is. c.in_default.not-Serve config events reload_ms listen (some_is is),
       λ config events listen is. c.in_default.not-GaugeServe config events listen (some_is is),
     ) c.local-status.ensures.gives
+
+not_served : {name : List ℕ} {events reload_ms : ℕ} {listen : Listen} {config recording : List ℕ} → (Some (Serve name events reload_ms listen) ≡ Some (Replay config recording)) ⊎ (Some (Serve name events reload_ms listen) ≡ Some (Gauge config recording)) → ⊥
+not_served is = elim is [ inl one ↦ absurd (cc) | inr other ↦ absurd (cc) ]
+
+not_watched : {name : List ℕ} {events : ℕ} {listen : Listen} {config recording : List ℕ} → (Some (GaugeServe name events listen) ≡ Some (Replay config recording)) ⊎ (Some (GaugeServe name events listen) ≡ Some (Gauge config recording)) → ⊥
+not_watched is = elim is [ inl one ↦ absurd (cc) | inr other ↦ absurd (cc) ]
+
+pub returns-in-Serve-clause-named : goal.returns-in-Serve-clause-named
+returns-in-Serve-clause-named g c = λ reads. absurd (not_served (rw c.in-Serve.is at reads.2))
+
+pub returns-in-GaugeServe-clause-named : goal.returns-in-GaugeServe-clause-named
+returns-in-GaugeServe-clause-named g c = λ reads. absurd (not_watched (rw c.in-GaugeServe.is at reads.2))

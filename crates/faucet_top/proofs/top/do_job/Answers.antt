@@ -1,4 +1,4 @@
-use Rattle.std.proofs.Common.{◌≡◌, Some, ap, ◌∙◌, arith}
+use Rattle.std.proofs.Common.{◌≡◌, ◌⊎◌, ℕ, inl, inr, List, Some, ap, ◌∙◌, arith}
 use Rattle.std.proofs.lemmas.Grind.{common_steps}
 use Rattle.command_line.specs.declared.meaning.Job.{Job}
 use Rattle.command_line.specs.declared.meaning.Job.TheVariants.{Check, Gauge, Plan, Replay}
@@ -9,7 +9,7 @@ use Rattle.ctl_world.specs.World.{first}
 use Rattle.gauge_poll.specs.Monitoring.{begun}
 use Rattle.faucet_top.specs.Status.{number_of_status}
 use Rattle.faucet_top.proofs.CheckLemmas.{refused, refused_loads}
-use Rattle.faucet_top.proofs.ReadLemmas.{no_read_planned, no_read_refused, refused_by}
+use Rattle.faucet_top.proofs.ReadLemmas.{no_read_planned, no_read_refused, refusal_named, refused_by}
 use Rattle.faucet_top.proofs.ReplyLemmas.{gauge_given, gauge_refusal_given, refusal_given, replay_given}
 use Rattle.faucet_top.proofs.TopLemmas.{check_given, plan_given}
 use Rattle.faucet_top.proofs.top.do_job.Goals as goal
@@ -82,3 +82,39 @@ unreachable-requires g c = c.requires.0 c.in-Serve.config c.in-Serve.events c.in
 
 pub unreachable-requires-in-GaugeServe : goal.unreachable-requires-in-GaugeServe
 unreachable-requires-in-GaugeServe g c = c.requires.1 c.in-GaugeServe.config c.in-GaugeServe.events c.in-GaugeServe.listen (ap (λ (j : Job). Some j) c.in-GaugeServe.is)
+
+not_checked : {names : List (List ℕ)} {config recording : List ℕ} → (Some (Check names) ≡ Some (Replay config recording)) ⊎ (Some (Check names) ≡ Some (Gauge config recording)) → ⊥
+not_checked is = elim is [ inl one ↦ absurd (cc) | inr other ↦ absurd (cc) ]
+
+not_planned : {name dp : List ℕ} {config recording : List ℕ} → (Some (Plan name dp) ≡ Some (Replay config recording)) ⊎ (Some (Plan name dp) ≡ Some (Gauge config recording)) → ⊥
+not_planned is = elim is [ inl one ↦ absurd (cc) | inr other ↦ absurd (cc) ]
+
+pub returns-in-Check-clause-named : goal.returns-in-Check-clause-named
+returns-in-Check-clause-named g c = λ reads.
+    let is : c.args.job.now ≡ Check c.in-Check.names = grind (arith, common_steps) in
+    absurd (not_checked (rw is at reads.2))
+
+pub returns-in-Plan-clause-named : goal.returns-in-Plan-clause-named
+returns-in-Plan-clause-named g c = λ reads.
+    let is : c.args.job.now ≡ Plan c.in-Plan.config c.in-Plan.dp = grind (arith, common_steps) in
+    absurd (not_planned (rw is at reads.2))
+
+pub returns-in-Ok-clause-named : goal.returns-in-Ok-clause-named
+returns-in-Ok-clause-named g c = λ reads unread below.
+    let kept = c.in-Ok.ensures.files.no_fault (λ file is. absurd cc) in
+    c.run_recording.ensures.named (first c.in-Ok.conf) c.new-machine.ensures unread (rw kept below)
+
+pub returns-in-Err-clause-named : goal.returns-in-Err-clause-named
+returns-in-Err-clause-named g c = λ reads unread below.
+    refusal_named loaded _ _ _ _ c.in-Replay.config _ _ _ _ c.deliver_refusal.result unread c.in-Err.why
+    (refused_loads loaded _ _ _ _ _ _ _ c.in-Err.why (rw c.as_str-in-Replay.ensures at c.in-Err.ensures.told) c.in-Err.ensures.files) (rw c.as_str-in-Err.ensures at c.deliver_refusal.ensures.ends)
+
+pub returns-in-Ok-load_gauge-clause-named : goal.returns-in-Ok-load_gauge-clause-named
+returns-in-Ok-load_gauge-clause-named g c = λ reads unread below.
+    let kept = c.in-Ok-load_gauge.ensures.files.no_fault (λ file is. absurd cc) in
+    c.run_recording-in-Ok-load_gauge.ensures.named (begun c.in-Ok-load_gauge.conf) c.new-machine-in-Ok-load_gauge.ensures unread (rw kept below)
+
+pub returns-in-Err-load_gauge-clause-named : goal.returns-in-Err-load_gauge-clause-named
+returns-in-Err-load_gauge-clause-named g c = λ reads unread below.
+    refusal_named gauge_of _ _ _ _ c.in-Gauge.config _ _ _ _ c.deliver_refusal-in-Err-load_gauge.result unread c.in-Err-load_gauge.why
+    (refused_loads gauge_of _ _ _ _ _ _ _ c.in-Err-load_gauge.why (rw c.as_str-in-Gauge.ensures at c.in-Err-load_gauge.ensures.told) c.in-Err-load_gauge.ensures.files) (rw c.as_str-in-Err-load_gauge.ensures at c.deliver_refusal-in-Err-load_gauge.ensures.ends)

@@ -1,5 +1,7 @@
-use Rattle.std.proofs.Common.{Some, ap, ◌∙◌}
+use Rattle.std.proofs.Common.{◌≡◌, None, Some, ap, sym, ◌∙◌}
+use Rattle.command_line.specs.declared.meaning.Job.{Job}
 use Rattle.faucet_top.specs.Status.{number_of_status}
+use Rattle.faucet_top.proofs.ReadLemmas.{unread_by_number}
 use Rattle.faucet_top.proofs.TopLemmas as by
 use Rattle.faucet_top.proofs.top.local.Goals as goal
 
@@ -21,3 +23,31 @@ returns-clause-no_write_fault g c = by.kept (Some c.args.job.now) _ _ _ _ c.numb
 pub returns-clause-no_read_fault : goal.returns-clause-no_read_fault
 returns-clause-no_read_fault g c = λ unread written.
     c.do_job-status.ensures.no_read_fault (λ is. unread (c.number.ensures ∙ ap number_of_status is)) (λ is. written (c.number.ensures ∙ ap number_of_status is))
+
+pub returns-clause-named : goal.returns-clause-named
+returns-clause-named g c = λ reads three.
+    c.do_job-status.ensures.named reads (unread_by_number _ (sym c.number.ensures ∙ three))
+
+some_is_job : {j : Job} → Some j ≡ None → ⊥
+some_is_job is = cc
+
+pub returns-clause-usage : goal.returns-clause-usage
+returns-clause-usage g c = λ one. some_is_job (by.usage_only (Some c.args.job.now) _ _ _ _ c.number.result _ _ _ _ _ _ _ _ (rw (← c.number.ensures) at c.do_job-status.ensures.gives) one)
+
+pub returns-clause-checked : goal.returns-clause-checked
+returns-clause-checked g c = λ names held is. by.checked (Some c.args.job.now) _ _ _ _ c.number.result _ _ _ _ _ _ _ _ (rw (← c.number.ensures) at c.do_job-status.ensures.gives) names held (ap (λ (j : Job). Some j) is)
+
+pub returns-clause-opened : goal.returns-clause-opened
+returns-clause-opened g c = λ config dp held is. by.opened (Some c.args.job.now) _ _ _ _ c.number.result _ _ _ _ _ _ _ _ (rw (← c.number.ensures) at c.do_job-status.ensures.gives) c.a_loaded_configuration_is_valid.ensures c.an_opening_batch_opens_the_datapath.ensures config dp held (ap (λ (j : Job). Some j) is)
+
+pub returns-clause-replayed : goal.returns-clause-replayed
+returns-clause-replayed g c = λ config recording held is. by.replayed (Some c.args.job.now) _ _ _ _ c.number.result _ _ _ _ _ _ _ _ (rw (← c.number.ensures) at c.do_job-status.ensures.gives) c.a_loaded_configuration_is_valid.ensures c.whatever_happens_is_right.ensures config recording held (ap (λ (j : Job). Some j) is)
+
+pub returns-clause-refused_record : goal.returns-clause-refused_record
+returns-clause-refused_record g c = λ config recording held is. by.refused_record (Some c.args.job.now) _ _ _ _ c.number.result _ _ _ _ _ _ _ _ (rw (← c.number.ensures) at c.do_job-status.ensures.gives) c.a_loaded_configuration_is_valid.ensures c.whatever_happens_is_right.ensures config recording held (ap (λ (j : Job). Some j) is)
+
+pub returns-clause-watched : goal.returns-clause-watched
+returns-clause-watched g c = λ config recording held is. by.watched (Some c.args.job.now) _ _ _ _ c.number.result _ _ _ _ _ _ _ _ (rw (← c.number.ensures) at c.do_job-status.ensures.gives) c.what_is_printed_are_the_lines.ensures.recorded config recording held (ap (λ (j : Job). Some j) is)
+
+pub returns-clause-watched_to : goal.returns-clause-watched_to
+returns-clause-watched_to g c = λ config recording held is. by.watched_to (Some c.args.job.now) _ _ _ _ c.number.result _ _ _ _ _ _ _ _ (rw (← c.number.ensures) at c.do_job-status.ensures.gives) c.what_is_printed_are_the_lines.ensures.recorded config recording held (ap (λ (j : Job). Some j) is)

@@ -7,4 +7,5 @@ returns g c =
     let held = g.F.Files.contents in
     let faults = g.F.Files.faults in
     let absences = g.F.Files.absences in
-    Went-all _ (KeepsFiles held faults absences) (KeepsFiles-same held faults absences) (KeepsFiles-then held faults absences) (λ _ _ keeps. keeps)
+    let refused = g.F.Files.refused in
+    Went-all _ (KeepsFiles held faults absences refused) (KeepsFiles-same held faults absences refused) (KeepsFiles-then held faults absences refused) (λ _ _ keeps. keeps)
