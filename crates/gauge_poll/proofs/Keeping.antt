@@ -144,3 +144,15 @@ item_left xs i x within is =
 
 pub item_at : {A : Type 0} (xs : List A) (i : ℕ) (d : A) → i < length xs → drop i xs ≡ get_or xs i d ∷ drop (i + 1) xs
 item_at xs i d within = let next : i + 1 ≡ suc i = omega arith in drop-cons xs i d within ∙ ap (λ n. get_or xs i d ∷ drop n xs) (sym next)
+
+-- where each item of a list is handled at its place
+module _ {K S A : Type 0} (R : K → S → Type 0) (each : ℕ → List A → S → S) (step : A → ℕ → S → S)
+    (opens : (i : ℕ) (x : A) (xs : List A) (s : S) → each i (x ∷ xs) s ≡ each (suc i) xs (step x i s)) (ends : (i : ℕ) (s : S) → each i [] s ≡ s) (xs : List A) (i : ℕ) (k : K) (whole : S) where
+  pub item_done : (x : A) (after : K) → i < length xs → x ≡ get_or xs i x → ((s : S) → R k s → R after (step x i s)) → OnWay R k (each i (drop i xs)) whole → OnWay R after (each (i + 1) (drop (i + 1) xs)) whole
+  item_done x after within is does way =
+      let next : i + 1 ≡ suc i = omega arith in
+      onward R k after (each i (drop i xs)) (each (i + 1) (drop (i + 1) xs)) (step x i) whole
+      (λ t kept. ap (λ more. each i more t) (item_left xs i x within is) ∙ opens i x (drop (i + 1) xs) t ∙ ap (λ n. each n (drop (i + 1) xs) (step x i t)) (sym next)) does way
+
+  pub all_done : drop i xs ≡ [] → OnWay R k (each i (drop i xs)) whole → R k whole
+  all_done none way = arrived R k (each i (drop i xs)) whole (λ t kept. ap (λ more. each i more t) none ∙ ends i t) way

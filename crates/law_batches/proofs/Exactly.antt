@@ -20,15 +20,16 @@ use Rattle.ctl_world.specs.declared.said.Said.{Said}
 use Rattle.ctl_world.specs.Connections.{conn_of}
 use Rattle.ctl_world.specs.TablesSaid.{tables_said}
 use Rattle.ctl_world.specs.World.{World, first, running}
-use Rattle.ctl_settle.specs.Rest.{AreInOrder, IsAtRest}
+use Rattle.ctl_settle.specs.Rest.{IsAtRest}
 use Rattle.ctl_settle.specs.Settling.{settle, wanted}
 use Rattle.ctl_settle.proofs.Batches.{found_all}
 use Rattle.ctl_settle.proofs.Waiting.{wanted_order}
 use Rattle.ctl_core.proofs.Ordered.{AreOrdered}
+use Rattle.law_stories.specs.Grounds.{Grounds}
 use Rattle.law_stories.specs.Settlings.{settlings}
 use Rattle.law_stories.proofs.SettleFits.{seen_of}
 use Rattle.law_stories.proofs.Settles.{settled_alike}
-use Rattle.law_stories.proofs.StoryTold.{Any, IsTold, Laws, first_told, told_walks}
+use Rattle.law_stories.proofs.StoryTold.{Any, IsTold, first_told, told_walks}
 use Rattle.law_stories.proofs.StoryWalks.{any_pieces, story_seen}
 use Rattle.law_batches.specs.Batches.{SaysExactly, SaysOn, batch_due}
 use Rattle.law_batches.proofs.Behind.{in_order_of}
@@ -43,14 +44,13 @@ some_due : (commands : List Command) → (commands ≡ [] → ⊥) → batch_due
 some_due [] any = absurd (any refl)
 some_due (c ∷ more) any = refl
 
-module _ (laws : Laws) (rests : (w : World) → AreInOrder w → IsAtRest (settle w))
-    (equal : (from to : List Entry) → IsInKeyOrder from → IsInKeyOrder to → (difference from to ≡ []) ↔ (from ≡ to))
+module _ (laws : Grounds) (equal : (from to : List Entry) → IsInKeyOrder from → IsInKeyOrder to → (difference from to ≡ []) ↔ (from ≡ to))
     (past : List Said) (w : World) (told : IsTold past w) where
   ordered : AreOrdered w.conns
   ordered = told.0.0.1
 
   at_rest : IsAtRest (settle w)
-  at_rest = rests w (in_order_of past w told)
+  at_rest = laws.rests w (in_order_of past w told)
 
   module _ (dp : DpId) (c : Conn) (runs : is_running (running (settle w)) dp ≡ true) (is : conn_of w.conns dp ≡ Some c) where
     abbrev commands : List Command
@@ -110,8 +110,7 @@ module _ (laws : Laws) (rests : (w : World) → AreInOrder w → IsAtRest (settl
     nothing_else = λ number off. settled_same number past (tables_said number (past ++ w.said)) laws.order laws.same w ordered off refl;
   }
 
-module _ (laws : Laws) (rests : (w : World) → AreInOrder w → IsAtRest (settle w))
-    (equal : (from to : List Entry) → IsInKeyOrder from → IsInKeyOrder to → (difference from to ≡ []) ↔ (from ≡ to)) where
+module _ (laws : Grounds) (equal : (from to : List Entry) → IsInKeyOrder from → IsInKeyOrder to → (difference from to ≡ []) ↔ (from ≡ to)) where
   pub story_exactly : (conf : Configuration) (story : List Happening) → IsValid conf → AllByRecursion SaysExactly (settlings (first conf) story)
   story_exactly conf story valid =
-      story_seen Any IsTold (told_walks laws) SaysExactly (exactly laws rests equal) [] (first conf) story (any_pieces story) (first_told laws conf valid)
+      story_seen Any IsTold (told_walks laws) SaysExactly (exactly laws equal) [] (first conf) story (any_pieces story) (first_told laws conf valid)

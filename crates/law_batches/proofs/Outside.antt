@@ -37,10 +37,11 @@ use Rattle.ctl_core.specs.Reloading.{accepted, reload}
 use Rattle.ctl_core.specs.Turns.{hear, pass, turn, work}
 use Rattle.ctl_core.proofs.PacketSteps.{packet_kept}
 use Rattle.ctl_core.proofs.Walk.{begin_kept, pass_kept, reload_kept, replace_kept}
+use Rattle.law_stories.specs.Grounds.{Grounds}
 use Rattle.law_stories.specs.Settlings.{Settling, at_frames, at_front, at_next, at_piece, at_work, said_in, settlings, settlings_behind}
 use Rattle.law_stories.proofs.Fits.{After, FitsEach, Told, heard_fits}
 use Rattle.law_stories.proofs.Setup.{AreFit}
-use Rattle.law_stories.proofs.StoryTold.{Any, IsTold, Laws, first_told, settles, told_walks}
+use Rattle.law_stories.proofs.StoryTold.{Any, IsTold, first_told, settles, told_walks}
 use Rattle.law_stories.proofs.StoryWalks.{any_pieces, story_kept}
 use Rattle.law_stories.proofs.Ways.{OnConn, more_said}
 use Rattle.law_batches.specs.Batches.{OnlyWipesBetween, StaysOrWipes}
@@ -187,7 +188,7 @@ module _ (n : ℕ) (past : List Said) (t0 : Told) where
 
 -- ---- settling by settling
 
-module _ (laws : Laws) (all : List Said) where
+module _ (laws : Grounds) (all : List Said) where
   front_told : (past : List Said) (number : ℕ) (w : World) → IsTold past w → (f : Front) → front (unread number w) ≡ f → IsTold past (hear_front f number (read number w))
   front_told past number w it Part is = (told_walks laws).reads past number w it
   front_told past number w it (Frame frame) is = settles laws past (hear_frame (says frame) number (read number w)) ((told_walks laws).hears past frame number w is it)
@@ -254,5 +255,5 @@ module _ (laws : Laws) (all : List Said) where
       (work_goes past h start it (settlings_behind (past ++ v.said) v hs)
       (story_goes (past ++ v.said) v hs next (whole ∙ sym (append_assoc past v.said (said_in v hs)))))
 
-pub story_outside : (laws : Laws) (conf : Configuration) (story : List Happening) → IsValid conf → OnlyWipesBetween [] (settlings (first conf) story) (said_in (first conf) story)
+pub story_outside : (laws : Grounds) (conf : Configuration) (story : List Happening) → IsValid conf → OnlyWipesBetween [] (settlings (first conf) story) (said_in (first conf) story)
 story_outside laws conf story valid = story_goes laws (said_in (first conf) story) [] (first conf) story (first_told laws conf valid) refl

@@ -1,5 +1,5 @@
 -- The pieces that a recording of bytes tells are bytes.
-use Rattle.std.proofs.Common.{ℕ, ◌||◌, true, false, nat_lt, List, [], ◌∷◌, ◌++◌, subst, if◌then◌else◌, suc, get_or, ◌<◌, zero, drop}
+use Rattle.std.proofs.Common.{ℕ, ◌||◌, true, false, nat_lt, List, [], ◌∷◌, ◌++◌, subst, if◌then◌else◌, suc, get_or, ◌<◌}
 use Rattle.std.specs.List.{AllByRecursion, fold}
 use Rattle.fg_outside.specs.declared.hub.Happening.{Happening}
 use Rattle.fg_outside.specs.declared.hub.Happening.TheVariants as happenings
@@ -11,16 +11,11 @@ use Rattle.recording.specs.Kinds.{is_moment}
 use Rattle.recording.specs.Recording.{AllSpell, Records}
 use Rattle.recording.specs.Turns.{Closing, Told, clock, is_passed_over, own, own_of, tell, turns}
 use Rattle.law_stories.specs.Right.{IsOfBytes}
-use Rattle.law_stories.proofs.PacketBytes.{AreBytes}
+use Rattle.law_stories.proofs.PacketBytes.{AreBytes, bytes_left}
 
 pub all_bytes : (bytes : List ℕ) → ((i : ℕ) → get_or bytes i 0 < 256) → AreBytes bytes
 all_bytes [] small = tt
 all_bytes (b ∷ bytes) small = (small 0, all_bytes bytes (λ i. small (suc i)))
-
-bytes_left : (n : ℕ) (bytes : List ℕ) → AreBytes bytes → AreBytes (drop n bytes)
-bytes_left zero bytes all = all
-bytes_left (suc n) [] all = tt
-bytes_left (suc n) (b ∷ bytes) all = bytes_left n bytes all.1
 
 all_parts : (front rest : List ℕ) → AreBytes (front ++ rest) → AreBytes front × AreBytes rest
 all_parts [] rest all = (tt, all)

@@ -20,14 +20,14 @@ use Rattle.ctl_life.proofs.Numbered.{is_its, one_of, unlike}
 use Rattle.ctl_core.proofs.Numbered.{of_with}
 use Rattle.ctl_core.proofs.Ordered.{AreOrdered}
 use Rattle.ctl_core.proofs.Walk.{asks_kept}
+use Rattle.law_stories.specs.Grounds.{Grounds}
 use Rattle.law_stories.proofs.Fits.{Told}
 use Rattle.law_stories.proofs.PlainSteps.{asks_stays}
 use Rattle.law_stories.proofs.Settles.{asks_alike, batch_batched, batched_wanted, batches_batched, number_of}
-use Rattle.law_stories.proofs.StoryTold.{Laws}
 use Rattle.law_stories.proofs.Ways.{Holds, OnConn, Way}
 use Rattle.law_batches.proofs.Others.{Same, batch_off, single}
 
-module _ (laws : Laws) (past : List Said) (w : World) (ordered : AreOrdered w.conns) (dp : DpId) (c : Conn) (some : conn_of w.conns dp ≡ Some c)
+module _ (laws : Grounds) (past : List Said) (w : World) (ordered : AreOrdered w.conns) (dp : DpId) (c : Conn) (some : conn_of w.conns dp ≡ Some c)
     (none : difference c.sent (wanted (settle w) dp) ≡ []) where
   abbrev number : ℕ
   number = c.number

@@ -14,14 +14,7 @@ ghost use Rattle.law_stories.specs.Settlings.{said_in, settlings};
 ghost use Rattle.law_batches.specs.Batches.{OnlyWipesBetween, SaysExactly};
 ghost use Rattle.law_batches.specs.Behind.{IsRightBehind};
 
-use cold_start::laws::a_cold_start_is_the_plan_in_key_order;
-use conf_check::laws::an_accepted_configuration_is_valid;
-use ctl_settle::laws::{
-    a_batch_leads_to_the_cold_start, a_batch_leaves_the_state, a_settling_leaves_it_at_rest,
-    a_settling_leaves_nothing_waiting, asks_leave_the_state,
-};
-use ctl_world::laws::what_is_known_first_is_sound;
-use neighbour_resolve::laws::datapaths_are_asked_in_order;
+use law_stories::laws::what_the_laws_rest_on;
 use plan_difference::laws::equal_plans_have_no_difference;
 
 /// Whatever happens to a controller that begins with a valid configuration: at the end of each settling, and so
@@ -29,15 +22,7 @@ use plan_difference::laws::equal_plans_have_no_difference;
 pub fn each_settling_leaves_it_right()
     ensures { (conf : Configuration) (story : List Happening) → IsValid conf → AllByRecursion IsRightBehind (settlings (first conf) story) }
 {
-    what_is_known_first_is_sound();
-    asks_leave_the_state();
-    a_batch_leaves_the_state();
-    an_accepted_configuration_is_valid();
-    a_settling_leaves_nothing_waiting();
-    a_settling_leaves_it_at_rest();
-    a_cold_start_is_the_plan_in_key_order();
-    a_batch_leads_to_the_cold_start();
-    datapaths_are_asked_in_order();
+    what_the_laws_rest_on();
 }
 
 /// Whatever happens, in each settling exactly the batches are said that are due: to a datapath that runs, where no
@@ -48,14 +33,6 @@ pub fn batches_are_said_exactly_where_they_are_due()
     ensures outside { (conf : Configuration) (story : List Happening) → IsValid conf
         → OnlyWipesBetween [] (settlings (first conf) story) (said_in (first conf) story) }
 {
-    what_is_known_first_is_sound();
-    asks_leave_the_state();
-    a_batch_leaves_the_state();
-    an_accepted_configuration_is_valid();
-    a_settling_leaves_nothing_waiting();
-    a_settling_leaves_it_at_rest();
-    a_cold_start_is_the_plan_in_key_order();
-    a_batch_leads_to_the_cold_start();
-    datapaths_are_asked_in_order();
+    what_the_laws_rest_on();
     equal_plans_have_no_difference();
 }

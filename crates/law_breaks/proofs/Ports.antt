@@ -16,7 +16,7 @@ use Rattle.conf_types.specs.Attached.{port_named}
 use Rattle.conf_types.specs.Configuration.{Configuration, port_with, port_at}
 use Rattle.conf_types.specs.Lists.{is_same}
 use Rattle.conf_types.specs.Membership.{is_edge, has_edge_member}
-use Rattle.conf_types.specs.Valid.{vlans_named}
+use Rattle.conf_types.specs.Valid.{IsStackPort, vlans_named}
 use Rattle.conf_shape.specs.declared.raw.OneOrList.{OneOrList}
 use Rattle.conf_shape.specs.declared.raw.OneOrList.TheVariants as several
 use Rattle.conf_shape.specs.declared.raw.RawAcl.{RawAcl}
@@ -46,7 +46,7 @@ use Rattle.law_documents.proofs.Leads.{Reaches, onward, there, HasKey, given, in
 use Rattle.law_documents.proofs.Parts.{IsPart, dp_leads, acl_leads}
 use Rattle.law_documents.proofs.Ports.{PortAt, actions_lead, field_leads}
 use Rattle.law_breaks.specs.Found.{PathBreaks, PathsBreak, ToldAs}
-use Rattle.law_breaks.specs.Ports.{IsAttached, IsNoTarget, NamesNoTarget, LacksPrerequisite, IsOfInterface, IsNoMirrorable, IsUsed, IsWrongMirror, IsNoFarEnd, IsFree, IsWrongStack}
+use Rattle.law_breaks.specs.Ports.{IsAttached, IsNoTarget, NamesNoTarget, LacksPrerequisite, IsOfInterface, IsNoMirrorable, IsUsed, IsWrongMirror, IsNoFarEnd, IsWrongStack}
 use Rattle.law_breaks.proofs.Found.{told_if, found_if, found_of, each, both, contains, item_of, IsBelow, below_below, itself, each_below, option_below, several_below, each_interface, some_is}
 
 -- ---- what the tests say
@@ -120,10 +120,10 @@ used p is = by (or_cases (not (length (vlans_named p) == 0)) (not (length p.acls
     by (inl e) = inl (not_nil (vlans_named p) e)
     by (inr e) = more (or_cases (not (length p.acls == 0)) (is_some p.stack) e)
 
-free : (p : Port) → IsFree p → is_free p ≡ true
-free p is = free_end p is.no_vlan is.no_acl is.no_mirror is.takes_packets is.no_hairpin is.no_permanent_learn
-
 module _ (conf : Configuration) (d : Dp) (p : Port) (far : StackEnd) where
+  free : IsStackPort conf d p far → is_free p ≡ true
+  free is = free_end p is.no_vlan is.no_acl is.no_mirror is.takes_packets is.no_hairpin is.no_permanent_learn
+
   not_back : points_back conf d p far ≡ false → IsNoFarEnd conf d p far
   not_back is = by (port_at conf far.dp far.port) refl is
     where
@@ -131,7 +131,7 @@ module _ (conf : Configuration) (d : Dp) (p : Port) (far : StackEnd) where
       by None here e = inr (inl here)
       by (Some q) here e = inr (inr (q, here, λ back. true≢false (sym (its_end d p q.stack back) ∙ e)))
 
-  no_far_end : is_right_end conf d p far ≡ false → IsNoFarEnd conf d p far ⊎ (IsFree p → ⊥)
+  no_far_end : is_right_end conf d p far ≡ false → IsNoFarEnd conf d p far ⊎ (IsStackPort conf d p far → ⊥)
   no_far_end is = by (either_fails (not (far.dp.0 == d.id.0) && points_back conf d p far) (is_free p) is)
     where
       same : (b : Bool) → (far.dp.0 == d.id.0) ≡ b → not b ≡ false → far.dp.0 ≡ d.id.0
@@ -142,9 +142,9 @@ module _ (conf : Configuration) (d : Dp) (p : Port) (far : StackEnd) where
       link (inl e) = inl (same (far.dp.0 == d.id.0) refl e)
       link (inr e) = not_back e
 
-      by : ((not (far.dp.0 == d.id.0) && points_back conf d p far) ≡ false) ⊎ (is_free p ≡ false) → IsNoFarEnd conf d p far ⊎ (IsFree p → ⊥)
+      by : ((not (far.dp.0 == d.id.0) && points_back conf d p far) ≡ false) ⊎ (is_free p ≡ false) → IsNoFarEnd conf d p far ⊎ (IsStackPort conf d p far → ⊥)
       by (inl e) = inl (link (either_fails (not (far.dp.0 == d.id.0)) (points_back conf d p far) e))
-      by (inr e) = inr (λ f. true≢false (sym (free p f) ∙ e))
+      by (inr e) = inr (λ f. true≢false (sym (free f) ∙ e))
 
 -- ---- rules of ACLs
 
@@ -311,7 +311,7 @@ module _ (t : Tree) (raw : RawConf) (says : Says t raw) where
 
     abbrev NoEnd : ConfCause → RawStackEnd → Type 0
     NoEnd cause end = ((cause ≡ Unresolved) × (far_end (ordered raw).dps end ≡ None))
-        ⊎ ((cause ≡ Conflict 11) × ((far : StackEnd) × (far_end (ordered raw).dps end ≡ Some far) × (IsNoFarEnd (resolved (ordered raw)) (dp_of (ordered raw) d) (port_of (ordered raw) d p) far ⊎ (IsFree (port_of (ordered raw) d p) → ⊥))))
+        ⊎ ((cause ≡ Conflict 11) × ((far : StackEnd) × (far_end (ordered raw).dps end ≡ Some far) × (IsNoFarEnd (resolved (ordered raw)) (dp_of (ordered raw) d) (port_of (ordered raw) d p) far ⊎ (IsStackPort (resolved (ordered raw)) (dp_of (ordered raw) d) (port_of (ordered raw) d p) far → ⊥))))
 
     wrong_end_is : (end : RawStackEnd) (cause : ConfCause) → stack_cause (ordered raw) (resolved (ordered raw)) (dp_of (ordered raw) d) (port_of (ordered raw) d p) end ≡ Some cause → NoEnd cause end
     wrong_end_is end cause is = by (far_end (ordered raw).dps end) refl is

@@ -11,7 +11,7 @@ use Rattle.conf_types.specs.declared.vlan.Vlan.{Vlan}
 use Rattle.conf_types.specs.Attached.{port_named}
 use Rattle.conf_types.specs.Configuration.{Configuration, port_with, port_at}
 use Rattle.conf_types.specs.Membership.{is_edge, has_edge_member}
-use Rattle.conf_types.specs.Valid.{vlans_named}
+use Rattle.conf_types.specs.Valid.{IsStackPort, vlans_named}
 use Rattle.conf_shape.specs.declared.raw.RawAcl.{RawAcl}
 use Rattle.conf_shape.specs.declared.raw.RawDp.{RawDp}
 use Rattle.conf_shape.specs.declared.raw.RawField.{RawField}
@@ -113,20 +113,12 @@ IsNoFarEnd conf d p far =
     ⊎ ((port_at conf far.dp far.port ≡ None)
     ⊎ ((q : Port) × (port_at conf far.dp far.port ≡ Some q) × (q.stack ≡ Some (record { dp = d.id; port = p.no }) → ⊥)))
 
--- an end has no VLAN, ACL or mirrored port, and none of three flags
-pub record IsFree (p : Port) : Type 0 where
-  pub no_vlan : vlans_named p ≡ []
-  pub no_acl : p.acls ≡ []
-  pub no_mirror : p.mirror ≡ []
-  pub takes_packets : p.output_only ≡ false
-  pub no_hairpin : p.hairpin ≡ false
-  pub no_permanent_learn : p.permanent_learn ≡ false
-
--- what is named as the far end of a stack link is none, or the near one isn't free
+-- what is named as the far end of a stack link is none, or the near one is no end, which has no VLAN, ACL or mirrored port, and none of
+-- three flags
 pub record IsWrongStack (o : OrderedConf) (conf : Configuration) (cause : ConfCause) (steps : List (List ℕ)) (v : Tree) : Type 0 where
   pub at : IsOfInterface o (codes "stack") steps
   pub end : RawStackEnd
   pub stack : at.port.stack ≡ Some end
   pub says : IsMap StackEndSays v end
   pub wrong : ((cause ≡ Unresolved) × (far_end o.dps end ≡ None))
-      ⊎ ((cause ≡ Conflict 11) × ((far : StackEnd) × (far_end o.dps end ≡ Some far) × (IsNoFarEnd conf (dp_of o at.dp) (port_of o at.dp at.port) far ⊎ (IsFree (port_of o at.dp at.port) → ⊥))))
+      ⊎ ((cause ≡ Conflict 11) × ((far : StackEnd) × (far_end o.dps end ≡ Some far) × (IsNoFarEnd conf (dp_of o at.dp) (port_of o at.dp at.port) far ⊎ (IsStackPort conf (dp_of o at.dp) (port_of o at.dp at.port) far → ⊥))))

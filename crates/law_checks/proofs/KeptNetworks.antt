@@ -32,7 +32,7 @@ use Rattle.law_checks.proofs.Routers.{is_alike, alike_of}
 -- ---- networks
 
 -- networks without an address together don't overlap
-no_overlap : (a b : Net4) → AreApart a b → overlap a b ≡ false
+pub no_overlap : (a b : Net4) → AreApart a b → overlap a b ≡ false
 no_overlap a b r = false_from_ne_true (overlap a b) (λ is. by (nat_le a.len b.len) is)
   where
     by : (t : Bool) → (if t then is_held a b.ip.0 else is_held b a.ip.0) ≡ true → ⊥
@@ -56,6 +56,13 @@ number_of (Some m) n (inr i) = absurd i
 
 -- ---- VLANs of one routing set
 
+pub in_its_set : (conf : Configuration) (vid : ℕ) → IsIn (routing_set conf vid) vid
+in_its_set conf vid = by (router_with conf.routers vid) refl
+  where
+    by : (o : Option Router) → router_with conf.routers vid ≡ o → IsIn (option_map_or (λ router. router.vlans) o (vid ∷ [])) vid
+    by None is = inl refl
+    by (Some r) is = is_one_of r.vlans vid (found (λ (r : Router). is_among r.vlans vid) conf.routers r is).1
+
 module _ (conf : Configuration) (valid : IsValid conf) where
   one_vlan : (v w : Vlan) → IsIn conf.vlans v → IsIn conf.vlans w → v.vid ≡ w.vid → v ≡ w
   one_vlan v w cv cw same = by (two_of (λ (v w : Vlan). v.vid < w.vid) conf.vlans valid.vlans.in_order v w cv cw)
@@ -70,13 +77,6 @@ module _ (conf : Configuration) (valid : IsValid conf) where
       let f = finds (λ (w : Vlan). w.vid == v.vid) conf.vlans v cv (eq-eqb v.vid v.vid refl) in
       let g = found (λ (w : Vlan). w.vid == v.vid) conf.vlans f.0 f.1 in
       f.1 ∙ ap Some (one_vlan f.0 v g.0 cv (eqb-true f.0.vid v.vid g.1))
-
-  in_its_set : (vid : ℕ) → IsIn (routing_set conf vid) vid
-  in_its_set vid = by (router_with conf.routers vid) refl
-    where
-      by : (o : Option Router) → router_with conf.routers vid ≡ o → IsIn (option_map_or (λ router. router.vlans) o (vid ∷ [])) vid
-      by None is = inl refl
-      by (Some r) is = is_one_of r.vlans vid (found (λ (r : Router). is_among r.vlans vid) conf.routers r is).1
 
   -- a VLAN's router is the one that has it
   its_router : (r : Router) → IsIn conf.routers r → (vid : ℕ) → IsIn r.vlans vid → routing_set conf vid ≡ r.vlans
@@ -105,7 +105,7 @@ module _ (conf : Configuration) (valid : IsValid conf) where
       its_set v cv = of_all (λ (v : Vlan). EachBefore R (flat_map of (routing_set conf v.vid))) conf.vlans sets v cv
 
       pub within_vlan : (v : Vlan) → IsIn conf.vlans v → EachBefore R (f v)
-      within_vlan v cv = subst (EachBefore R) (of_its v cv) (of_all (λ vid. EachBefore R (of vid)) (routing_set conf v.vid) (flat_within R of (routing_set conf v.vid) (its_set v cv)) v.vid (in_its_set v.vid))
+      within_vlan v cv = subst (EachBefore R) (of_its v cv) (of_all (λ vid. EachBefore R (of vid)) (routing_set conf v.vid) (flat_within R of (routing_set conf v.vid) (its_set v cv)) v.vid (in_its_set conf v.vid))
 
       in_router : (r : Router) → IsIn conf.routers r → (v w : Vlan) → IsIn conf.vlans v → IsIn conf.vlans w → (v.vid ≡ w.vid → ⊥) → IsIn r.vlans v.vid → IsIn r.vlans w.vid → EachTo R (f v) (f w)
       in_router r cr v w cv cw other iv iw = by (two_of (λ (m n : ℕ). EachTo R (of m) (of n)) r.vlans (flat_across R of r.vlans (subst (λ (vids : List ℕ). EachBefore R (flat_map of vids)) (its_router r cr v.vid iv) (its_set v cv))) v.vid w.vid iv iw)

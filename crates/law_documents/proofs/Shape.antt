@@ -1,9 +1,9 @@
 -- The path of a fault of the shape leads to what is written, or to the map that lacks its last key.
-use Rattle.std.specs.Prelude.{◌≡◌, ℕ, zero, suc, ◌+◌, ◌≤◌, ◌&&◌, ◌||◌, ◌⊎◌, Bool, true, false, not, if◌then◌else◌, List, [], ◌∷◌, ◌++◌, map, Option, None, Some, Result, Ok, Err}
+use Rattle.std.specs.Prelude.{◌≡◌, ℕ, ◌+◌, ◌&&◌, ◌||◌, ◌⊎◌, Bool, true, false, not, if◌then◌else◌, List, [], ◌∷◌, ◌++◌, map, Option, None, Some, Result, Ok, Err}
 use Rattle.std.specs.Fmt.{decimal}
 use Rattle.std.specs.List.{AllByRecursion, list_any}
 use Rattle.std.specs.Option.{option_map}
-use Rattle.std.proofs.Common.{inl, inr, refl, sym, ap, ◌∙◌, subst, true≢false, append_assoc, append-nil, arith}
+use Rattle.std.proofs.Common.{inl, inr, refl, sym, ap, ◌∙◌, subst, true≢false, append_assoc, append-nil}
 use Rattle.std.proofs.lemmas.Option.{none-some, same_Some}
 use Rattle.yaml_tree.specs.declared.tree.Key.{Key}
 use Rattle.yaml_tree.specs.declared.tree.Pair.{Pair}
@@ -11,8 +11,6 @@ use Rattle.yaml_tree.specs.declared.tree.Tree.{Tree, out-Tree, roll-Tree, roll-o
 use Rattle.yaml_tree.specs.declared.tree.Tree.TheOpen.{Tree-F}
 use Rattle.yaml_tree.specs.declared.tree.Tree.TheOpen as tree
 use Rattle.yaml_tree.specs.declared.tree.Tree.TheFolds.{fold-roll-Tree}
-use Rattle.yaml_subset.specs.Levels.{most, levels_step, pair_levels_step, levels, pair_levels}
-use Rattle.yaml_subset.proofs.TreeLevels.{levels_pair}
 use Rattle.conf_shape.specs.declared.faults.Found.{Found}
 use Rattle.conf_shape.specs.declared.kinds.Kind.{Kind}
 use Rattle.conf_shape.specs.declared.kinds.Kind.TheVariants as kind_of
@@ -27,7 +25,8 @@ use Rattle.conf_shape.specs.Reads.{value_at, entries_in}
 use Rattle.conf_shape.specs.Scalars.{flag_cause, number_cause, text_cause, item_kind, map_kind}
 use Rattle.conf_shape.specs.Sections.{key_text, is_key, map_keys, number_of, under_key, is_needed, lacks}
 use Rattle.conf_shape.proofs.FaultLaws.{entry_pair}
-use Rattle.law_checks.proofs.Members.{of_all, all_by, all_joined}
+use Rattle.law_checks.proofs.Members.{all_joined}
+use Rattle.law_keys.proofs.Trees.{Below, by_layers}
 use Rattle.law_documents.specs.Forms.{IsWritten, IsSection}
 use Rattle.law_documents.specs.Leads.{IsEntry, IsItem, IsBelow, LeadsTo, PathLeads}
 use Rattle.law_documents.specs.Shape.{Lacks, IsOfMissing}
@@ -150,12 +149,7 @@ rolled_faults kind (tree.Map pairs) = ap (λ (f : Faults). f kind) (fold-roll-Tr
 faults_are : (kind : Kind) (t : Tree) → faults_of t kind ≡ layer_faults (out-Tree t) kind
 faults_are kind t = subst (λ u. faults_of u kind ≡ layer_faults (out-Tree t) kind) (roll-out-Tree t) (rolled_faults kind (out-Tree t))
 
-abbrev Below : Tree-F Tree Pair → Type 0
-Below (tree.List items) = AllByRecursion Leads items
-Below (tree.Map pairs) = AllByRecursion (λ p. Leads p.value) pairs
-Below _ = Unit {0}
-
-layer_leads : (t : Tree) (x : Tree-F Tree Pair) → out-Tree t ≡ x → Below x → (kind : Kind) → AllLead t (layer_faults x kind)
+layer_leads : (t : Tree) (x : Tree-F Tree Pair) → out-Tree t ≡ x → Below Leads x → (kind : Kind) → AllLead t (layer_faults x kind)
 layer_leads t tree.Null is below kind = null_leads t (map_kind kind) is
 layer_leads t (tree.Bool flag) is below kind = here_leads t (flag_cause kind)
 layer_leads t (tree.Int n) is below kind = here_leads t (number_cause kind n)
@@ -163,50 +157,8 @@ layer_leads t (tree.Text text) is below kind = here_leads t (text_cause kind tex
 layer_leads t (tree.List items) is below kind = list_leads t (item_kind kind) items (λ step v i. subst (λ x. IsBelow x step v) (sym is) i) below
 layer_leads t (tree.Map pairs) is below kind = map_leads t (map_kind kind) pairs is below
 
--- ---- by how deep a tree is nested
-
-abbrev layer_levels : Tree-F Tree Pair → ℕ
-layer_levels (tree.List items) = 1 + most (map levels items)
-layer_levels (tree.Map pairs) = 1 + most (map pair_levels pairs)
-layer_levels _ = 0
-
-rolled_levels : (x : Tree-F Tree Pair) → levels (roll-Tree x) ≡ layer_levels x
-rolled_levels tree.Null = fold-roll-Tree ℕ ℕ levels_step pair_levels_step tree.Null
-rolled_levels (tree.Bool flag) = fold-roll-Tree ℕ ℕ levels_step pair_levels_step (tree.Bool flag)
-rolled_levels (tree.Int n) = fold-roll-Tree ℕ ℕ levels_step pair_levels_step (tree.Int n)
-rolled_levels (tree.Text text) = fold-roll-Tree ℕ ℕ levels_step pair_levels_step (tree.Text text)
-rolled_levels (tree.List items) = fold-roll-Tree ℕ ℕ levels_step pair_levels_step (tree.List items)
-rolled_levels (tree.Map pairs) = fold-roll-Tree ℕ ℕ levels_step pair_levels_step (tree.Map pairs)
-
-levels_are : (t : Tree) → levels t ≡ layer_levels (out-Tree t)
-levels_are t = subst (λ u. levels u ≡ layer_levels (out-Tree t)) (roll-out-Tree t) (rolled_levels (out-Tree t))
-
-shallow : {A : Type 0} (f : A → ℕ) (k : ℕ) (xs : List A) → most (map f xs) ≤ k → AllByRecursion (λ x. f x ≤ k) xs
-shallow f k [] le = tt
-shallow f k (x ∷ xs) le = (omega (arith, le), shallow f k xs (omega (arith, le)))
-
-below_by : (k : ℕ) → ((t : Tree) → levels t ≤ k → Leads t) → (x : Tree-F Tree Pair) → layer_levels x ≤ k + 1 → Below x
-below_by k h (tree.List items) le = all_by Leads items (λ t i. h t (of_all (λ t. levels t ≤ k) items (shallow levels k items (omega (arith, le))) t i))
-below_by k h (tree.Map pairs) le = all_by (λ (p : Pair). Leads p.value) pairs (λ p i. h p.value (omega (arith, levels_pair p, of_all (λ (p : Pair). pair_levels p ≤ k) pairs (shallow pair_levels k pairs (omega (arith, le))) p i)))
-below_by k h tree.Null le = tt
-below_by k h (tree.Bool flag) le = tt
-below_by k h (tree.Int n) le = tt
-below_by k h (tree.Text text) le = tt
-
-flat : (x : Tree-F Tree Pair) → layer_levels x ≤ 0 → Below x
-flat (tree.List items) le = absurd (omega (arith, le))
-flat (tree.Map pairs) le = absurd (omega (arith, le))
-flat tree.Null le = tt
-flat (tree.Bool flag) le = tt
-flat (tree.Int n) le = tt
-flat (tree.Text text) le = tt
-
-tree_leads : (t : Tree) → Below (out-Tree t) → Leads t
+tree_leads : (t : Tree) → Below Leads (out-Tree t) → Leads t
 tree_leads t below kind = subst (AllLead t) (sym (faults_are kind t)) (layer_leads t (out-Tree t) refl below kind)
-
-all_lead : (k : ℕ) (t : Tree) → levels t ≤ k → Leads t
-all_lead zero t le = tree_leads t (flat (out-Tree t) (omega (arith, le, levels_are t)))
-all_lead (suc k) t le = tree_leads t (below_by k (all_lead k) (out-Tree t) (omega (arith, le, levels_are t)))
 
 -- ---- the fault that is told
 
@@ -215,7 +167,7 @@ told_leads t f (inl l) = inl (f.steps, refl, l.0, l.1, tt)
 told_leads t f (inr m) = inr (m.steps, m.key, ap fault_of m.is, m.at, m.leads, m.lacks)
 
 pub shape_leads : (t : Tree) (fault : ConfFault) → first_fault t ≡ Some fault → PathLeads t IsWritten fault ⊎ IsOfMissing t fault
-shape_leads t fault is = by (faults_of t (kind_of.Map maps.Top)) (all_lead (levels t) t (omega arith) (kind_of.Map maps.Top)) is
+shape_leads t fault is = by (faults_of t (kind_of.Map maps.Top)) (by_layers Leads tree_leads t (kind_of.Map maps.Top)) is
   where
     by : (fs : List Found) → AllLead t fs → option_map fault_of (first fs) ≡ Some fault → PathLeads t IsWritten fault ⊎ IsOfMissing t fault
     by [] all e = absurd (none-some fault e)

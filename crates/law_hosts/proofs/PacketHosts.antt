@@ -1,13 +1,9 @@
 -- What a packet lets learn: the host that it tells of, and nothing else changes the hosts.
 use Rattle.std.proofs.Common.{◌≡◌, ℕ, ◌==◌, ◌&&◌, ◌*◌, Bool, true, false, Option, Some, None, refl, ap, ◌∙◌, if◌then◌else◌}
 use Rattle.std.specs.Option.{option_and_then, option_map_or}
-use Rattle.net_base.specs.declared.address.Ip4.{Ip4}
 use Rattle.net_base.specs.declared.numbers.DpId.{DpId}
 use Rattle.of_match.specs.InPort.{in_port}
 use Rattle.conf_types.specs.declared.state.HostRec.{HostRec}
-use Rattle.conf_types.specs.declared.vlan.Vlan.{Vlan}
-use Rattle.conf_types.specs.Configuration.{vlan_with}
-use Rattle.conf_types.specs.Groups.{group_of}
 use Rattle.conf_types.specs.Links.{is_up}
 use Rattle.conf_types.specs.State.{is_running}
 use Rattle.host_learn.specs.Learning.{learned}
@@ -18,12 +14,12 @@ use Rattle.flow_messages.specs.declared.messages.TheConstants.{COOKIE}
 use Rattle.pkt_view.specs.Frame.{FrameParts, parts}
 use Rattle.neighbour_resolve.specs.Answers.{answer}
 use Rattle.neighbour_resolve.specs.Counted.{counted_vid}
-use Rattle.neighbour_resolve.specs.Hearing.{heard_sender}
 use Rattle.ctl_world.specs.Connections.{conn_with, with_said}
 use Rattle.ctl_world.specs.Saying.{packet_out, say, say_by}
 use Rattle.ctl_world.specs.World.{World, running, ups}
-use Rattle.ctl_packets.specs.Packets.{destination, gateways, glean, glean_at, glean_in, glean_to, hear_neighbour, hear_sender, is_for_gateway, is_resolved, learn, network_vlan, outgoing, packet_at, packet_by, packet_in, packet_of_table, reply, routes, sources, want}
-use Rattle.ctl_core.proofs.Walk.{either, with_any}
+use Rattle.ctl_packets.specs.Packets.{gateways, glean, hear_neighbour, learn, outgoing, packet_at, packet_by, packet_in, packet_of_table, reply, routes, sources}
+use Rattle.ctl_core.proofs.Walk.{with_any}
+use Rattle.law_lines.proofs.Packets.{glean_kept, hear_kept}
 use Rattle.law_hosts.specs.Hosts.{told_at, told_by, told_in}
 
 -- the table behind, where a host is told or none
@@ -38,16 +34,10 @@ module _ (w : World) where
   Same v = v.hosts ≡ w.hosts
 
   glean_same : (dp : DpId) (vid : ℕ) (frame : FrameParts) → Same (glean dp vid frame w)
-  glean_same dp vid frame =
-      with_any Same (glean_at dp frame w) (vlan_with w.conf.vlans vid) w
-      (λ v. let to : Ip4 → World = λ ip. glean_to (group_of w.conf dp) v.vid ip w in
-      either Same (is_for_gateway v frame) (option_map_or to (destination frame.upper) w) w
-      (with_any Same to (destination frame.upper) w
-      (λ ip. with_any Same (glean_in (group_of w.conf dp) ip w) (network_vlan w.conf v.vid ip.0) w
-      (λ n. either Same (is_resolved w.neighbours.neighbours (group_of w.conf dp) n ip.0) w (want (group_of w.conf dp) n ip w) refl refl) refl) refl) refl) refl
+  glean_same dp vid frame = glean_kept Same (λ neighbours v same. same) dp vid frame w refl
 
   heard_same : (dp : DpId) (vid : ℕ) (frame : FrameParts) → Same (hear_neighbour dp vid frame w)
-  heard_same dp vid frame = with_any Same (hear_sender dp vid w) (heard_sender w.conf vid frame) w (λ s. refl) refl
+  heard_same dp vid frame = hear_kept Same (λ neighbours v same. same) dp vid frame w refl
 
 reply_same : (number : ℕ) (dp : DpId) (port vid : ℕ) (frame : FrameParts) (w : World) → (reply number dp port vid frame w).hosts ≡ w.hosts
 reply_same number dp port vid frame w =

@@ -12,11 +12,7 @@ ghost use Rattle.law_hosts.specs.Hosts.{KnowsItsHosts, KnowsTheHeard};
 ghost use Rattle.law_hosts.specs.Reloads.{KeepsItsHosts};
 ghost use Rattle.law_lines.specs.Steps.{frames, turns};
 
-use conf_check::laws::an_accepted_configuration_is_valid;
-use ctl_settle::laws::{
-    a_batch_leaves_the_state, a_settling_leaves_nothing_waiting, asks_leave_the_state,
-};
-use ctl_world::laws::what_is_known_first_is_sound;
+use law_stories::laws::what_the_laws_rest_on;
 
 /// Whatever happens to a controller that begins with a valid configuration, behind each frame that is heard exactly those hosts
 /// are known: the one that the frame lets learn, where it tells of one that fits, and all others that were known before but for one
@@ -24,11 +20,7 @@ use ctl_world::laws::what_is_known_first_is_sound;
 pub fn whatever_is_heard_its_host_is_known()
     ensures { (conf : Configuration) (story : List Happening) → IsValid conf → AllByRecursion KnowsTheHeard (frames (first conf) story) }
 {
-    what_is_known_first_is_sound();
-    asks_leave_the_state();
-    a_batch_leaves_the_state();
-    an_accepted_configuration_is_valid();
-    a_settling_leaves_nothing_waiting();
+    what_the_laws_rest_on();
 }
 
 /// Whatever happens, where a connection opens, or ends, or the clock shows a moment, those hosts stay, in order, that stand
@@ -36,20 +28,12 @@ pub fn whatever_is_heard_its_host_is_known()
 pub fn whatever_happens_hosts_stay_where_they_stand()
     ensures { (conf : Configuration) (story : List Happening) → IsValid conf → AllByRecursion KnowsItsHosts (turns (first conf) story) }
 {
-    what_is_known_first_is_sound();
-    asks_leave_the_state();
-    a_batch_leaves_the_state();
-    an_accepted_configuration_is_valid();
-    a_settling_leaves_nothing_waiting();
+    what_the_laws_rest_on();
 }
 
 /// Over a reload a part of the hosts stays, in order, and of each that doesn't there is a cause.
 pub fn hosts_stay_over_a_reload_but_for_a_cause()
     ensures { (conf : Configuration) (story : List Happening) → IsValid conf → AllByRecursion KeepsItsHosts (turns (first conf) story) }
 {
-    what_is_known_first_is_sound();
-    asks_leave_the_state();
-    a_batch_leaves_the_state();
-    an_accepted_configuration_is_valid();
-    a_settling_leaves_nothing_waiting();
+    what_the_laws_rest_on();
 }

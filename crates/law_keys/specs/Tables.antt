@@ -9,6 +9,7 @@ use Rattle.conf_shape.specs.declared.kinds.Need.{Need}
 use Rattle.conf_shape.specs.declared.kinds.Need.TheVariants.{Always, UnlessNumbered, Never}
 use Rattle.conf_shape.specs.declared.kinds.Scalar.TheVariants.{Flag, Number, Name, Words, Label, Reference, Permission, NoEffect, StationMac, MaskedMac, Vip, Destination, Gateway, Prefix}
 use Rattle.conf_shape.specs.Keys.{KeyDefault, Nothing, On, Off, Count, Spelled, OwnKey, OwnName}
+use Rattle.law_checks.specs.Fields.{other_spellings}
 
 pub record Line : Type 0 where
   pub key : List ℕ
@@ -188,20 +189,8 @@ lines _ = []
 
 -- ---- other spellings of keys
 
-abbrev pub rule_spellings : List (List ℕ × List ℕ)
-rule_spellings =
-    (codes "dl_src", codes "eth_src") ∷
-    (codes "dl_dst", codes "eth_dst") ∷
-    (codes "dl_type", codes "eth_type") ∷
-    (codes "dl_vlan", codes "vlan_vid") ∷
-    (codes "dl_vlan_pcp", codes "vlan_pcp") ∷
-    (codes "nw_proto", codes "ip_proto") ∷
-    (codes "nw_src", codes "ipv4_src") ∷
-    (codes "nw_dst", codes "ipv4_dst") ∷
-    []
-
 abbrev pub spellings : MapKind → List (List ℕ × List ℕ)
-spellings Rule = rule_spellings
+spellings Rule = other_spellings
 spellings _ = []
 
 -- ---- keys that are left out of what is supported

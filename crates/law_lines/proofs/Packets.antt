@@ -30,17 +30,10 @@ use Rattle.ctl_packets.specs.Packets.{destination, gateways, glean, glean_at, gl
 use Rattle.ctl_core.specs.Hearing.{packet}
 use Rattle.ctl_core.proofs.Walk.{either, with_any}
 
-module _ (K : World → Type 0) (sends : (number : ℕ) (out : Outgoing) (w : World) → K w → K (say number (packet_out out) w))
-    (knows : (hosts : Hosts) (neighbours : Neighbours) (w : World) → K w → K (record w { hosts = hosts; neighbours = neighbours })) where
-  learn_kept : (dp : DpId) (port vid : ℕ) (mac : Mac) (w : World) → K w → K (learn dp port vid mac w)
-  learn_kept dp port vid mac w holds =
-      let heard : HostRec = record { dp = dp; port = port; vid = vid; mac = mac; learned = w.moment } in
-      let hosts : Hosts = learned w.conf w.hosts heard in
-      either K (is_up (ups w) dp port) (record w { hosts = hosts }) w (knows hosts w.neighbours w holds) holds
-
+module _ (K : World → Type 0) (meets : (neighbours : Neighbours) (w : World) → K w → K (record w { neighbours = neighbours })) where
   glean_in_kept : (group : DpId) (ip : Ip4) (w : World) (vid : ℕ) → K w → K (glean_in group ip w vid)
   glean_in_kept group ip w vid holds =
-      either K (is_resolved w.neighbours.neighbours group vid ip.0) w (want group vid ip w) holds (knows w.hosts (want group vid ip w).neighbours w holds)
+      either K (is_resolved w.neighbours.neighbours group vid ip.0) w (want group vid ip w) holds (meets (want group vid ip w).neighbours w holds)
 
   glean_to_kept : (group : DpId) (vid : ℕ) (ip : Ip4) (w : World) → K w → K (glean_to group vid ip w)
   glean_to_kept group vid ip w holds = with_any K (glean_in group ip w) (network_vlan w.conf vid ip.0) w (λ v. glean_in_kept group ip w v holds) holds
@@ -51,12 +44,23 @@ module _ (K : World → Type 0) (sends : (number : ℕ) (out : Outgoing) (w : Wo
       either K (is_for_gateway v frame) (option_map_or to (destination frame.upper) w) w
       (with_any K to (destination frame.upper) w (λ ip. glean_to_kept (group_of w.conf dp) v.vid ip w holds) holds) holds
 
-  glean_kept : (dp : DpId) (vid : ℕ) (frame : FrameParts) (w : World) → K w → K (glean dp vid frame w)
+  pub glean_kept : (dp : DpId) (vid : ℕ) (frame : FrameParts) (w : World) → K w → K (glean dp vid frame w)
   glean_kept dp vid frame w holds = with_any K (glean_at dp frame w) (vlan_with w.conf.vlans vid) w (λ v. glean_at_kept dp frame w v holds) holds
 
-  hear_kept : (dp : DpId) (vid : ℕ) (frame : FrameParts) (w : World) → K w → K (hear_neighbour dp vid frame w)
+  pub hear_kept : (dp : DpId) (vid : ℕ) (frame : FrameParts) (w : World) → K w → K (hear_neighbour dp vid frame w)
   hear_kept dp vid frame w holds =
-      with_any K (hear_sender dp vid w) (heard_sender w.conf vid frame) w (λ s. knows w.hosts (hear_sender dp vid w s).neighbours w holds) holds
+      with_any K (hear_sender dp vid w) (heard_sender w.conf vid frame) w (λ s. meets (hear_sender dp vid w s).neighbours w holds) holds
+
+module _ (K : World → Type 0) (sends : (number : ℕ) (out : Outgoing) (w : World) → K w → K (say number (packet_out out) w))
+    (knows : (hosts : Hosts) (neighbours : Neighbours) (w : World) → K w → K (record w { hosts = hosts; neighbours = neighbours })) where
+  meets : (neighbours : Neighbours) (w : World) → K w → K (record w { neighbours = neighbours })
+  meets neighbours w holds = knows w.hosts neighbours w holds
+
+  learn_kept : (dp : DpId) (port vid : ℕ) (mac : Mac) (w : World) → K w → K (learn dp port vid mac w)
+  learn_kept dp port vid mac w holds =
+      let heard : HostRec = record { dp = dp; port = port; vid = vid; mac = mac; learned = w.moment } in
+      let hosts : Hosts = learned w.conf w.hosts heard in
+      either K (is_up (ups w) dp port) (record w { hosts = hosts }) w (knows hosts w.neighbours w holds) holds
 
   reply_kept : (number : ℕ) (dp : DpId) (port vid : ℕ) (frame : FrameParts) (w : World) → K w → K (reply number dp port vid frame w)
   reply_kept number dp port vid frame w holds =
@@ -68,8 +72,8 @@ module _ (K : World → Type 0) (sends : (number : ℕ) (out : Outgoing) (w : Wo
       let gleaned : World = glean dp vid frame w in
       let answered : World = reply number dp port vid frame (hear_neighbour dp vid frame w) in
       either K (table == sources) learned (if table == routes then gleaned else if table == gateways then answered else w) (learn_kept dp port vid frame.src w holds)
-      (either K (table == routes) gleaned (if table == gateways then answered else w) (glean_kept dp vid frame w holds)
-      (either K (table == gateways) answered w (reply_kept number dp port vid frame (hear_neighbour dp vid frame w) (hear_kept dp vid frame w holds)) holds))
+      (either K (table == routes) gleaned (if table == gateways then answered else w) (glean_kept K meets dp vid frame w holds)
+      (either K (table == gateways) answered w (reply_kept number dp port vid frame (hear_neighbour dp vid frame w) (hear_kept K meets dp vid frame w holds)) holds))
 
   at_kept : (m : PacketIn) (number : ℕ) (dp : DpId) (w : World) (port : ℕ) (frame : FrameParts) → K w → K (packet_at m number dp w port frame)
   at_kept m number dp w port frame holds =

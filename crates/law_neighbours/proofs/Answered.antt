@@ -2,11 +2,9 @@
 use Rattle.std.proofs.Common.{◌≡◌, ℕ, ◌==◌, ◌&&◌, Bool, true, false, Option, Some, None, List, [], ◌∷◌, ◌++◌, inl, inr, refl, sym, ap, ◌∙◌, subst, append-nil, if◌then◌else◌}
 use Rattle.std.specs.Option.{option_map_or}
 use Rattle.std.proofs.lemmas.Bool.{cases_Bool, eqb-true}
-use Rattle.net_base.specs.declared.address.Ip4.{Ip4}
 use Rattle.net_base.specs.declared.numbers.DpId.{DpId}
 use Rattle.of_match.specs.InPort.{in_port}
 use Rattle.conf_types.specs.declared.state.HostRec.{HostRec}
-use Rattle.conf_types.specs.Configuration.{vlan_with}
 use Rattle.conf_types.specs.Groups.{group_of}
 use Rattle.conf_types.specs.Links.{is_up}
 use Rattle.conf_types.specs.State.{is_running}
@@ -35,11 +33,12 @@ use Rattle.ctl_world.specs.World.{IsSound, World, running, runs, ups}
 use Rattle.ctl_world.proofs.SoundEnds.{nothing_lost}
 use Rattle.ctl_life.specs.Life.{echo, replace, take_dp, turn_away}
 use Rattle.ctl_life.proofs.Numbered.{has_it}
-use Rattle.ctl_packets.specs.Packets.{destination, gateways, glean, glean_at, glean_in, glean_to, hear_neighbour, hear_sender, is_for_gateway, is_resolved, learn, network_vlan, outgoing, packet_at, packet_by, packet_in, packet_of_table, reply, routes, sources, want}
+use Rattle.ctl_packets.specs.Packets.{gateways, glean, hear_neighbour, hear_sender, learn, outgoing, packet_at, packet_by, packet_in, packet_of_table, reply, routes, sources}
 use Rattle.ctl_core.specs.Hearing.{begin, follow, hear_frame, hear_on, introduce, packet, unfit, wipe}
 use Rattle.ctl_core.proofs.Stays as stays
 use Rattle.ctl_core.proofs.Walk.{either, wants_by, with_any}
 use Rattle.law_lines.proofs.Behind.{Behind, packet_led, step_led}
+use Rattle.law_lines.proofs.Packets.{glean_kept}
 use Rattle.law_neighbours.specs.Outs.{Out, answers, answers_at, answers_by, answers_in, answers_on, outs, sends}
 use Rattle.law_neighbours.proofs.Outs.{asked_outs, no_outs, one_outs, said_outs, sent_outs}
 
@@ -86,13 +85,7 @@ module _ (m : PacketIn) (number : ℕ) (dp : DpId) (w : World) (c : Conn) (at : 
   Same v = outs v.said ≡ outs w.said
 
   glean_outs : (vid : ℕ) (frame : FrameParts) → Same (glean dp vid frame w)
-  glean_outs vid frame =
-      with_any Same (glean_at dp frame w) (vlan_with w.conf.vlans vid) w
-      (λ v. let to : Ip4 → World = λ ip. glean_to (group_of w.conf dp) v.vid ip w in
-      either Same (is_for_gateway v frame) (option_map_or to (destination frame.upper) w) w
-      (with_any Same to (destination frame.upper) w
-      (λ ip. with_any Same (glean_in (group_of w.conf dp) ip w) (network_vlan w.conf v.vid ip.0) w
-      (λ n. either Same (is_resolved w.neighbours.neighbours (group_of w.conf dp) n ip.0) w (want (group_of w.conf dp) n ip w) refl refl) refl) refl) refl) refl
+  glean_outs vid frame = glean_kept Same (λ neighbours v same. same) dp vid frame w refl
 
   learn_outs : (port vid : ℕ) (frame : FrameParts) → Same (learn dp port vid frame.src w)
   learn_outs port vid frame =

@@ -9,10 +9,11 @@ use Rattle.of13_codec.specs.declared.message.Message.{Message}
 use Rattle.neighbour_resolve.specs.Due.{due_said}
 use Rattle.ctl_world.specs.World.{World, first, running}
 use Rattle.ctl_world.specs.Saying.{say}
-use Rattle.ctl_settle.specs.Rest.{AreInOrder, IsAtRest}
+use Rattle.ctl_settle.specs.Rest.{AreInOrder}
 use Rattle.ctl_settle.specs.Settling.{settle}
+use Rattle.law_stories.specs.Grounds.{Grounds}
 use Rattle.law_stories.specs.Settlings.{Settling, settlings}
-use Rattle.law_stories.proofs.StoryTold.{Any, IsTold, Laws, first_told, told_walks}
+use Rattle.law_stories.proofs.StoryTold.{Any, IsTold, first_told, told_walks}
 use Rattle.law_stories.proofs.StoryWalks.{any_pieces, story_seen}
 use Rattle.law_lines.proofs.Speaking.{Speaks, settle_stays}
 use Rattle.law_neighbours.specs.Outs.{AsksTheDue}
@@ -28,13 +29,13 @@ module _ (w : World) where
   settle_fixed : Fixed (settle w)
   settle_fixed = settle_stays Fixed fixing w (refl, refl)
 
-module _ (laws : Laws) (rests : (w : World) → AreInOrder w → IsAtRest (settle w)) (run : (number : ℕ) (m : Message) (w : World) → running (say number m w) ≡ running w) where
+module _ (laws : Grounds) (run : (number : ℕ) (m : Message) (w : World) → running (say number m w) ≡ running w) where
   asks_due : (s : Settling) → AreInOrder s.before → AsksTheDue s
   asks_due s order =
       let w : World = s.before in
       let same = settle_fixed w in
       let none : due_said w.conf w.moment.0 (settle w).neighbours.neighbours ≡ None =
-      (λ i. due_said (sym same.0 i) (sym same.1 i).0 (settle w).neighbours.neighbours) ∙ (rests w order).asks in
+      (λ i. due_said (sym same.0 i) (sym same.1 i).0 (settle w).neighbours.neighbours) ∙ (laws.rests w order).asks in
       let asked = settle_asks run w none in
       record { due = asked.0; settled = asked.1; outs = asked.2 }
 

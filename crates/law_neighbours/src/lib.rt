@@ -20,16 +20,8 @@ ghost use Rattle.law_lines.specs.Steps.{frames};
 ghost use Rattle.law_neighbours.specs.Outs.{AnswersTheHeard, AsksTheDue, outs};
 ghost use Rattle.law_neighbours.specs.Tries.{IsFirstRun, Settling, moments_of, ten_tries, told_of};
 
-use cold_start::laws::a_cold_start_is_the_plan_in_key_order;
-use conf_check::laws::an_accepted_configuration_is_valid;
-use ctl_settle::laws::{
-    a_batch_leads_to_the_cold_start, a_batch_leaves_the_state, a_settling_leaves_it_at_rest,
-    a_settling_leaves_nothing_waiting, asks_leave_the_state,
-};
-use ctl_world::laws::{
-    alike_worlds_run_alike, what_is_known_first_is_sound, what_is_said_is_alike,
-};
-use neighbour_resolve::laws::datapaths_are_asked_in_order;
+use ctl_world::laws::{alike_worlds_run_alike, what_is_said_is_alike};
+use law_stories::laws::what_the_laws_rest_on;
 
 /// Whatever the moments are at which turns settle: a neighbour that no route leads over and that is left alone is asked at the
 /// first of them at or behind that at which it is due, at the first at or behind the end of each wait, ten times in all, and at
@@ -44,15 +36,7 @@ pub fn a_neighbour_is_tried_ten_times_whenever_turns_settle()
 pub fn each_ask_is_sent_once_and_nothing_else()
     ensures { (conf : Configuration) (story : List Happening) → IsValid conf → AllByRecursion AsksTheDue (settlings (first conf) story) }
 {
-    what_is_known_first_is_sound();
-    asks_leave_the_state();
-    a_batch_leaves_the_state();
-    an_accepted_configuration_is_valid();
-    a_settling_leaves_nothing_waiting();
-    a_cold_start_is_the_plan_in_key_order();
-    a_batch_leads_to_the_cold_start();
-    datapaths_are_asked_in_order();
-    a_settling_leaves_it_at_rest();
+    what_the_laws_rest_on();
     alike_worlds_run_alike();
     what_is_said_is_alike();
 }
@@ -62,11 +46,7 @@ pub fn each_ask_is_sent_once_and_nothing_else()
 pub fn each_answer_is_sent_once_and_nothing_else()
     ensures { (conf : Configuration) (story : List Happening) → IsValid conf → AllByRecursion AnswersTheHeard (frames (first conf) story) }
 {
-    what_is_known_first_is_sound();
-    asks_leave_the_state();
-    a_batch_leaves_the_state();
-    an_accepted_configuration_is_valid();
-    a_settling_leaves_nothing_waiting();
+    what_the_laws_rest_on();
 }
 
 /// Before the settling, nothing that opens, ends, is shown or is loaded tells a switch to send a frame.

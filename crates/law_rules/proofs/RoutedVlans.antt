@@ -1,5 +1,5 @@
 -- VIPs and routes of VLANs that packets are routed between, rules 12 and 15.
-use Rattle.std.specs.Prelude.{◌≡◌, ℕ, ◌==◌, ◌&&◌, Bool, true, false, List, [], ◌∷◌, codes, Option, Some, None, nat_le, if◌then◌else◌}
+use Rattle.std.specs.Prelude.{◌≡◌, ℕ, ◌==◌, ◌&&◌, Bool, true, false, List, [], ◌∷◌, codes, Option, Some}
 use Rattle.std.specs.List.{AllByRecursion, flat_map, filter_map, list_any, zip, find}
 use Rattle.std.specs.Option.{option_map_or}
 use Rattle.std.proofs.Common.{◌⊎◌, inl, inr, refl, sym, ap, ◌∙◌, subst, true≢false, eqb-true, eq-eqb}
@@ -10,8 +10,8 @@ use Rattle.conf_types.specs.declared.vlan.Router.{Router}
 use Rattle.conf_types.specs.declared.vlan.Vlan.{Vlan}
 use Rattle.conf_types.specs.Configuration.{Configuration, vlan_with}
 use Rattle.conf_types.specs.Lists.{EachBefore, AreDistinct, is_among}
-use Rattle.conf_types.specs.Networks.{AreApart, is_held, prefix_bits}
-use Rattle.conf_types.specs.Routing.{router_with, routing_set, vips_in, routes_in}
+use Rattle.conf_types.specs.Networks.{AreApart}
+use Rattle.conf_types.specs.Routing.{routing_set, vips_in, routes_in}
 use Rattle.conf_shape.specs.declared.refused.ConfCause.{ConfCause}
 use Rattle.conf_shape.specs.declared.refused.ConfCause.TheVariants.{Duplicate, Conflict}
 use Rattle.conf_resolve.specs.declared.ordered.OrderedConf.{OrderedConf}
@@ -21,6 +21,7 @@ use Rattle.conf_rules.specs.Places.{fault_if, under, each_at, with_earlier, is_r
 use Rattle.conf_rules.specs.Routing.{are_routed, overlap, overlapping_vips, route_site, is_same_route, repeated_routes}
 use Rattle.law_checks.proofs.Empty.{values_at, each_behind, none_behind}
 use Rattle.law_checks.proofs.Kept.{all_empty, no_fault, is_value, none_any, repeat_free, of_earlier, empty_behind, before_unmapped}
+use Rattle.law_checks.proofs.KeptNetworks.{no_overlap, in_its_set}
 use Rattle.law_checks.proofs.Members.{IsIn, of_all, all_by, all_mapped, in_mapped, among, is_one_of, any_by, some_of, finds, found, before_by, before_mapped, EachTo, flat_within, flat_across, two_of}
 use Rattle.law_checks.proofs.Networks.{apart}
 use Rattle.law_checks.proofs.Once.{once_distinct}
@@ -111,13 +112,6 @@ module _ {X : Type 0} (conf : Configuration) (f : Vlan → List X) (R : X → X 
 
     -- ---- of routing sets, where no VLAN is in two routers
 
-    in_its_set : (vid : ℕ) → IsIn (routing_set conf vid) vid
-    in_its_set vid = by (router_with conf.routers vid) refl
-      where
-        by : (o : Option Router) → router_with conf.routers vid ≡ o → IsIn (option_map_or (λ router. router.vlans) o (vid ∷ [])) vid
-        by None is = inl refl
-        by (Some r) is = is_one_of r.vlans vid (found (λ (r : Router). is_among r.vlans vid) conf.routers r is).1
-
     module _ (shared : EachBefore ShareNone conf.routers) where
       -- a VLAN's router is the one that has it
       its_router : (r : Router) → IsIn conf.routers r → (vid : ℕ) → IsIn r.vlans vid → routing_set conf vid ≡ r.vlans
@@ -137,7 +131,7 @@ module _ {X : Type 0} (conf : Configuration) (f : Vlan → List X) (R : X → X 
       so_of_sets : AllByRecursion (λ v. EachBefore R (of_all_vlans conf f (routing_set conf v.vid))) conf.vlans → StandSo conf f R
       so_of_sets sets = record {
         within = all_by (λ (v : Vlan). EachBefore R (f v)) conf.vlans (λ v cv.
-            subst (EachBefore R) (of_its v cv) (of_all (λ vid. EachBefore R (of vid)) (routing_set conf v.vid) (flat_within R of (routing_set conf v.vid) (its_set v cv)) v.vid (in_its_set v.vid)));
+            subst (EachBefore R) (of_its v cv) (of_all (λ vid. EachBefore R (of vid)) (routing_set conf v.vid) (flat_within R of (routing_set conf v.vid) (its_set v cv)) v.vid (in_its_set conf v.vid)));
         across = of_routed (λ r cr v cv iv. subst (λ (vids : List ℕ). EachBefore R (of_all_vlans conf f vids)) (its_router r cr v.vid iv) (its_set v cv));
       }
         where
@@ -194,13 +188,6 @@ module _ (o : OrderedConf) where
 
   swapped : (a b : Net4) → AreApart a b → AreApart b a
   swapped a b r ip in_b in_a = r ip in_a in_b
-
-  no_overlap : (a b : Net4) → AreApart a b → overlap a b ≡ false
-  no_overlap a b r = false_from_ne_true (overlap a b) (λ is. by (nat_le a.len b.len) is)
-    where
-      by : (t : Bool) → (if t then is_held a b.ip.0 else is_held b a.ip.0) ≡ true → ⊥
-      by true is = r b.ip.0 (eqb-true (prefix_bits a b.ip.0) (prefix_bits a a.ip.0) is) refl
-      by false is = r a.ip.0 refl (eqb-true (prefix_bits b a.ip.0) (prefix_bits b b.ip.0) is)
 
   vips_so : overlapping_vips o conf ≡ [] → StandSo conf (λ v. v.vips) AreApart
   vips_so none = stand_so (λ v. v.vips) overlap (Conflict 12) (codes "faucet_vips") (λ site. site) AreApart apart none

@@ -39,7 +39,7 @@ use Rattle.law_sessions.specs.Sessions.{Has, IsHeardOn, IsSpelled, MaySay, setup
 use Rattle.law_sessions.proofs.Fronts.{IsWhole}
 use Rattle.law_sessions.proofs.Meets.{After, ByStage, UnlessEcho, met}
 use Rattle.law_sessions.proofs.Runs.{Alone, Calm, Ended, Fit, Lived, Of, Runs, Way, about, about_other, about_own, closes, fit_at, fit_changed, frame_more, full_of, more, of_full, spoken, still, to_full}
-use Rattle.law_sessions.proofs.Steps.{Kept, asked_lived, packets, said_lived, single}
+use Rattle.law_sessions.proofs.Steps.{Kept, asked_lived, packets, said_lived, single, spoken_lived}
 
 -- a message was met that led to this step
 pub record Met (m : Message) (xid : ℕ) (step : Step) (l : Life) (c : Conn) : Type 0 where
@@ -381,14 +381,7 @@ module _ (what : Happening) (start : Lives) where
         let T : Way = Met m xid (steps.Close cause) in
         closes what start T (λ l d h. sym h.unless_echo) false WrongVersion number (repeat number (messages.Error 0 0 []) xid w)
         (repeated number (messages.Error 0 0 []) xid T T false w c some (λ lives. tt)
-        (λ l it. record {
-          open_ = it.open_;
-          bytes = it.bytes;
-          frames = it.frames;
-          last = it.last;
-          state = it.state;
-          holds = record { after = tt; asked = it.holds.asked; unless_echo = it.holds.unless_echo };
-        })
+        (λ l it. spoken_lived T (messages.Error 0 0 []) xid l c c refl refl it.state (record { after = tt; asked = it.holds.asked; unless_echo = it.holds.unless_echo }) it)
         meeting)
     away_kept cause closing w c some meeting = closes what start (Met m xid (steps.Close cause)) (λ l d h. sym h.unless_echo) false closing number w meeting
 
@@ -399,14 +392,7 @@ module _ (what : Happening) (start : Lives) where
       let T : Way = Met (messages.EchoRequest payload) xid steps.Echo in
       to_full what start number w.conns (repeat number (messages.EchoReply payload) xid w).said
       (repeated number (messages.EchoReply payload) xid T Calm true w c some (λ lives. tt)
-      (λ l it. record {
-        open_ = it.open_;
-        bytes = it.bytes;
-        frames = it.frames;
-        last = it.last;
-        state = it.state;
-        holds = (it.holds.after.0, it.holds.after.1, sym it.holds.asked);
-      })
+      (λ l it. spoken_lived Calm (messages.EchoReply payload) xid l c c refl refl it.state (it.holds.after.0, it.holds.after.1, sym it.holds.asked) it)
       meeting)
   echo_kept m xid number w c some meeting = calm_kept number (Met m xid steps.Echo) w (λ l d h. (h.after.0, h.after.1, sym h.asked)) meeting
 

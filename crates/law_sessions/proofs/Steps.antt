@@ -1,5 +1,6 @@
 -- What is done in a turn beside opening, hearing and batches leaves each life and connection fitting.
-use Rattle.std.proofs.Common.{◌≡◌, ℕ, true, Option, Some, List, [], ◌∷◌, ◌++◌, refl, ap, ◌∙◌}
+use Rattle.std.proofs.Common.{◌≡◌, ℕ, true, Option, Some, List, [], ◌∷◌, ◌++◌, refl, sym, ap, ◌∙◌}
+use Rattle.std.specs.List.{concat}
 use Rattle.fg_outside.specs.declared.hub.Happening.{Happening}
 use Rattle.net_base.specs.declared.numbers.DpId.{DpId}
 use Rattle.neighbour_resolve.specs.declared.asks.Outgoing.{Outgoing}
@@ -23,27 +24,28 @@ use Rattle.law_sessions.proofs.Runs.{Calm, Fit, Full, Lived, Runs, Way, closes, 
 
 -- ---- a message that is said, on one connection
 
+-- what is said changes of the connection at most the id of what was said last and the barrier
+pub spoken_lived : {T : Way} (T' : Way) (m : Message) (xid : ℕ) (l : Life) (c d : Conn) → d.session.unread ≡ c.session.unread → d.session.heard.0 ≡ c.session.heard.0 → (speaks m xid l).state ≡ d.session.state
+    → T' (speaks m xid l) d → Lived T l c → Lived T' (speaks m xid l) d
+spoken_lived T' m xid l c d unread heard state holds it = record {
+  open_ = it.open_;
+  bytes = it.bytes ∙ ap (λ (u : List ℕ). concat l.frames ++ u) (sym unread);
+  frames = it.frames;
+  last = it.last ∙ sym heard;
+  state = state;
+  holds = holds;
+}
+
 pub said_lived : (T T' : Way) (m : Message) (xid : ℕ) (l : Life) (c : Conn) → awaited_said m xid l.state.awaited ≡ l.state.awaited → (T l c → T' (speaks m xid l) (with_said c)) → Lived T l c
     → Lived T' (speaks m xid l) (with_said c)
-said_lived T T' m xid l c same holds it = record {
-  open_ = it.open_;
-  bytes = it.bytes;
-  frames = it.frames;
-  last = it.last;
-  state = ap (λ (a : Option ℕ). record l.state { awaited = a }) same ∙ it.state;
-  holds = holds it.holds;
-}
+said_lived T T' m xid l c same holds it =
+    spoken_lived T' m xid l c (with_said c) refl refl (ap (λ (a : Option ℕ). record l.state { awaited = a }) same ∙ it.state) (holds it.holds) it
 
 pub asked_lived : (T T' : Way) (m : Message) (l : Life) (c : Conn) → awaited_said m (next_id c.session.last_xid) l.state.awaited ≡ Some (next_id c.session.last_xid)
     → (T l c → T' (speaks m (next_id c.session.last_xid) l) (with_asked c)) → Lived T l c → Lived T' (speaks m (next_id c.session.last_xid) l) (with_asked c)
-asked_lived T T' m l c same holds it = record {
-  open_ = it.open_;
-  bytes = it.bytes;
-  frames = it.frames;
-  last = it.last;
-  state = ap (λ (a : Option ℕ). record l.state { awaited = a }) same ∙ ap (λ (s : State). record s { awaited = Some (next_id c.session.last_xid) }) it.state;
-  holds = holds it.holds;
-}
+asked_lived T T' m l c same holds it =
+    spoken_lived T' m (next_id c.session.last_xid) l c (with_asked c) refl refl
+    (ap (λ (a : Option ℕ). record l.state { awaited = a }) same ∙ ap (λ (s : State). record s { awaited = Some (next_id c.session.last_xid) }) it.state) (holds it.holds) it
 
 module _ (what : Happening) (start : Lives) where
   abbrev pub Kept : World → Type 0

@@ -35,11 +35,12 @@ use Rattle.ctl_world.specs.World.{World, first, is_at_work, now, running}
 use Rattle.ctl_settle.specs.Settling.{ask_all, ask_due, ask_each, ask_on, batch, batch_on, batches, say_batch, say_due, say_each, settle, take_due, wanted}
 use Rattle.ctl_life.specs.Life.{read, says, unread}
 use Rattle.ctl_core.specs.Reloading.{accepted}
+use Rattle.law_stories.specs.Grounds.{Grounds}
 use Rattle.law_stories.specs.Right.{Describes, IsOfBytes}
 use Rattle.law_stories.specs.Settlings.{settlings}
 use Rattle.law_stories.proofs.Addressed.{IsAddressed, IsNeighbour, IsRead, asked_addressed, changed, ended_addressed, feed_addressed, heard_addressed, open_addressed, pass_addressed, read_addressed, reload_addressed, said_addressed}
 use Rattle.law_stories.proofs.PacketBytes.{AreBytes, front_bytes, says_good}
-use Rattle.law_stories.proofs.StoryTold.{Any, IsTold, Laws, first_told, told_walks}
+use Rattle.law_stories.proofs.StoryTold.{Any, IsTold, first_told, told_walks}
 use Rattle.law_stories.proofs.StoryWalks.{OnPiece, Walks, story_seen}
 
 -- ---- a settling
@@ -136,7 +137,7 @@ none_runs test (d ∷ ds) dp none =
 abbrev IsKnown : List Said → World → Type 0
 IsKnown past w = IsTold past w × IsAddressed w
 
-module _ (laws : Laws) where
+module _ (laws : Grounds) where
   told : Walks Any IsTold
   told = told_walks laws
 

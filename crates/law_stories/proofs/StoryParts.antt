@@ -23,6 +23,7 @@ use Rattle.ctl_world.specs.TablesSaid.{tables_said}
 use Rattle.ctl_world.specs.World.{World, first, has_ports, running}
 use Rattle.ctl_settle.specs.Settling.{settle, wanted}
 use Rattle.ctl_core.specs.Story.{behind}
+use Rattle.law_stories.specs.Grounds.{Grounds}
 use Rattle.law_stories.specs.Right.{HasColdTables, HasOneBatch, HoldsColdStart, IsNoted, LeadsTo, NothingWaits, SaysTheLeast}
 use Rattle.law_stories.specs.Settlings.{said_in, settlings}
 use Rattle.law_stories.proofs.Fits.{EndsIn, Fits, FitsEach, IsNoting, Told}
@@ -31,7 +32,7 @@ use Rattle.law_stories.proofs.Settles.{running_stage, settled_alike}
 use Rattle.law_stories.proofs.SettleFits.{seen_of}
 use Rattle.law_stories.proofs.Setup.{AreFit}
 use Rattle.ctl_core.proofs.Ordered.{AreOrdered}
-use Rattle.law_stories.proofs.StoryTold.{Any, IsTold, Laws, first_told, settles, told_walks}
+use Rattle.law_stories.proofs.StoryTold.{Any, IsTold, first_told, settles, told_walks}
 use Rattle.law_stories.proofs.StoryWalks.{any_pieces, story_kept, story_seen}
 use Rattle.law_stories.proofs.Ways.{OnConn}
 
@@ -71,7 +72,7 @@ held_of w all waits noted dp c runs is free =
       | inr same ↦ subst (LeadsTo (tables_said c.number all)) same (noted dp c runs is)
     ]
 
-module _ (laws : Laws) where
+module _ (laws : Grounds) where
   -- ---- before each settling
 
   module _ (past : List Said) (w : World) (told : IsTold past w) where

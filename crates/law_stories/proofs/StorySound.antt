@@ -14,7 +14,6 @@ use Rattle.ctl_world.specs.Ends.{ended}
 use Rattle.ctl_world.specs.World.{IsSound, World, first, running}
 use Rattle.ctl_world.proofs.SoundEnds.{ended_sound}
 use Rattle.ctl_settle.specs.Settling.{ask_all, batch, batches, settle}
-use Rattle.ctl_settle.proofs.Batches.{AreByNumber, AreInKeyOrder}
 use Rattle.ctl_core.specs.Hearing.{hear_frame}
 use Rattle.ctl_core.specs.Reloading.{accepted, of_text, of_tree, reload}
 use Rattle.ctl_core.specs.Story.{behind}
@@ -23,6 +22,7 @@ use Rattle.ctl_core.specs.Turns.{pass}
 use Rattle.ctl_core.proofs.SoundFrames.{heard_sound, read_sound}
 use Rattle.ctl_core.proofs.SoundReloads.{reload_sound}
 use Rattle.ctl_core.proofs.SoundTurns.{feed_sound, open_sound, pass_sound}
+use Rattle.law_stories.specs.Grounds.{Grounds}
 use Rattle.law_stories.proofs.StoryOrdered.{keeps_order}
 use Rattle.ctl_core.proofs.Stands.{Stands}
 use Rattle.law_stories.proofs.StoryTurns.{Keeps, behind_kept}
@@ -31,20 +31,16 @@ use Rattle.law_stories.proofs.StoryTurns.{Keeps, behind_kept}
 abbrev pub StandsSound : World → Type 0
 StandsSound w = Stands IsValid w × IsSound w
 
-module _ (numbers : (w : World) → AreByNumber w.conns → AreInKeyOrder w.conns → AreByNumber (settle w).conns)
-    (keys : (w : World) → AreByNumber w.conns → AreInKeyOrder w.conns → AreInKeyOrder (settle w).conns)
-    (asks_kept : (w : World) → IsSound w → IsSound (ask_all w))
-    (batch_kept : (w : World) (dp : DpId) → IsSound w → IsSound (batch dp w))
-    (of_document : (t : Tree) (conf : Configuration) → conf_of t ≡ Ok conf → IsValid conf) where
+module _ (laws : Grounds) where
   batches_sound : (dps : List DpId) (w : World) → IsSound w → IsSound (batches dps w)
   batches_sound [] w sound = sound
-  batches_sound (dp ∷ dps) w sound = batches_sound dps (batch dp w) (batch_kept w dp sound)
+  batches_sound (dp ∷ dps) w sound = batches_sound dps (batch dp w) (laws.batch w dp sound)
 
   pub settle_sound : (w : World) → IsSound w → IsSound (settle w)
-  settle_sound w sound = batches_sound (in_order (running (ask_all w))) (ask_all w) (asks_kept w sound)
+  settle_sound w sound = batches_sound (in_order (running (ask_all w))) (ask_all w) (laws.asks w sound)
 
   tree_valid : (t : Tree) (read : Result Configuration ConfFault) → conf_of t ≡ read → (next : Configuration) → of_tree read ≡ Ok next → IsValid next
-  tree_valid t (Ok conf) gives next is = let same : conf ≡ next = cc in subst IsValid same (of_document t conf gives)
+  tree_valid t (Ok conf) gives next is = let same : conf ≡ next = cc in subst IsValid same (laws.valid t conf gives)
   tree_valid t (Err fault) gives next is = absurd (cc)
 
   pub text_valid : (read : Result Tree YamlFault) (next : Configuration) → of_text read ≡ Ok next → IsValid next
@@ -52,7 +48,7 @@ module _ (numbers : (w : World) → AreByNumber w.conns → AreInKeyOrder w.conn
   text_valid (Err fault) next is = absurd (cc)
 
   order : Keeps (Stands IsValid)
-  order = keeps_order numbers keys IsValid (λ text next is. text_valid (read_of text) next is)
+  order = keeps_order laws.numbers laws.keys IsValid (λ text next is. text_valid (read_of text) next is)
 
   pub keeps_sound : Keeps StandsSound
   keeps_sound = record {
@@ -63,11 +59,11 @@ module _ (numbers : (w : World) → AreByNumber w.conns → AreInKeyOrder w.conn
     hears = λ said number w holds. (order.hears said number w holds.0, settle_sound (hear_frame said number w) (heard_sound said number w holds.0.0 holds.1));
     ends = λ cause number w holds. (order.ends cause number w holds.0, settle_sound (ended cause number w) (ended_sound cause number w holds.0.0 holds.1));
     passes = λ moment w holds. (order.passes moment w holds.0, settle_sound (pass moment w) (pass_sound moment w holds.0.0 holds.1));
-    reloads = λ text w holds. (order.reloads text w holds.0, settle_sound (reload (accepted text) w) (reload_sound of_document text w holds.0.0 holds.1));
+    reloads = λ text w holds. (order.reloads text w holds.0, settle_sound (reload (accepted text) w) (reload_sound laws.valid text w holds.0.0 holds.1));
   }
 
-  pub story_sound : ((conf : Configuration) → IsValid conf → IsSound (first conf)) → (conf : Configuration) (story : List Happening) → IsValid conf
-      → IsValid (behind (first conf) story).conf × IsSound (behind (first conf) story)
-  story_sound first_sound conf story valid =
-      let holds = behind_kept StandsSound keeps_sound (first conf) story ((valid, (tt, tt)), first_sound conf valid) in
-      (holds.0.0, holds.1)
+  pub first_stands : (conf : Configuration) → IsValid conf → StandsSound (first conf)
+  first_stands conf valid = ((valid, (tt, tt)), laws.first conf valid)
+
+  pub story_sound : (conf : Configuration) (story : List Happening) → IsValid conf → IsValid (behind (first conf) story).conf × IsSound (behind (first conf) story)
+  story_sound conf story valid = let holds = behind_kept StandsSound keeps_sound (first conf) story (first_stands conf valid) in (holds.0.0, holds.1)

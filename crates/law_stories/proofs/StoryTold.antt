@@ -1,58 +1,34 @@
 -- Behind a story and before each of its settlings what is known is sound, and what was said of the tables fits each connection.
-use Rattle.std.proofs.Common.{◌≡◌, ℕ, ◌++◌, Option, None, List, [], Ok, sym, subst}
+use Rattle.std.proofs.Common.{ℕ, ◌++◌, Option, None, List, [], sym, subst}
 use Rattle.std.specs.Prelude.{IfSome}
 use Rattle.std.proofs.lemmas.List.{append-nil}
-use Rattle.net_base.specs.declared.numbers.DpId.{DpId}
-use Rattle.of_match.specs.declared.entry.Entry.{Entry}
-use Rattle.of_match.specs.FlowTables.{IsInKeyOrder}
-use Rattle.of_match.specs.Settled.{Settles}
 use Rattle.of13_codec.specs.declared.message.Message.{Message}
-use Rattle.yaml_tree.specs.declared.tree.Tree.{Tree}
 use Rattle.yaml_subset.specs.Reading.{read_of}
-use Rattle.conf_types.specs.declared.datapath.Dp.{Dp}
 use Rattle.conf_types.specs.Configuration.{Configuration}
-use Rattle.conf_types.specs.State.{State, is_running}
 use Rattle.conf_types.specs.Valid.{IsValid}
-use Rattle.conf_check.specs.Accepted.{conf_of}
-use Rattle.cold_start.specs.Cold.{cold}
-use Rattle.plan_difference.specs.Difference.{difference}
-use Rattle.neighbour_resolve.specs.Asks.{in_order}
-use Rattle.ctl_world.specs.declared.conns.Conn.{Conn}
 use Rattle.ctl_world.specs.declared.said.Said.{Said}
 use Rattle.ctl_world.specs.Connections.{conn_with}
 use Rattle.ctl_world.specs.TablesSaid.{tables_said}
-use Rattle.ctl_world.specs.World.{IsSound, World, first}
+use Rattle.ctl_world.specs.World.{World, first}
 use Rattle.ctl_world.proofs.SoundEnds.{ended_sound}
-use Rattle.ctl_settle.specs.Settling.{ask_all, batch, settle, wanted}
-use Rattle.ctl_settle.proofs.Batches.{AreByNumber, AreInKeyOrder}
+use Rattle.ctl_settle.specs.Settling.{settle}
 use Rattle.ctl_life.specs.Life.{read, says}
 use Rattle.ctl_core.specs.Hearing.{hear_frame}
 use Rattle.ctl_core.specs.Reloading.{accepted}
 use Rattle.ctl_core.proofs.SoundFrames.{heard_sound, read_sound}
 use Rattle.ctl_core.proofs.SoundReloads.{reload_sound}
 use Rattle.ctl_core.proofs.SoundTurns.{feed_sound, open_sound, pass_sound}
+use Rattle.law_stories.specs.Grounds.{Grounds}
 use Rattle.law_stories.proofs.Fits.{FitsEach}
 use Rattle.law_stories.proofs.Lows.{wanted_low}
 use Rattle.law_stories.proofs.PlainSteps.{ended_stays, feed_stays, pass_stays, read_stays, reload_stays}
 use Rattle.law_stories.proofs.SettleFits.{settled_fit}
 use Rattle.law_stories.proofs.Setup.{AreFit, heard_fit, open_fit}
 use Rattle.ctl_core.proofs.Ordered.{AreOrdered}
-use Rattle.law_stories.proofs.StorySound.{StandsSound, settle_sound, text_valid}
+use Rattle.law_stories.proofs.StorySound.{StandsSound, first_stands, settle_sound, text_valid}
 use Rattle.ctl_core.proofs.Stands.{ended_stands, feed_stands, heard_stands, open_stands, pass_stands, read_stands, reload_stands, settle_stands}
 use Rattle.law_stories.proofs.StoryWalks.{Walks}
 use Rattle.law_stories.proofs.Ways.{OnConn}
-
--- what the laws below say
-pub record Laws : Type 0 where
-  pub numbers : (w : World) → AreByNumber w.conns → AreInKeyOrder w.conns → AreByNumber (settle w).conns
-  pub keys : (w : World) → AreByNumber w.conns → AreInKeyOrder w.conns → AreInKeyOrder (settle w).conns
-  pub asks : (w : World) → IsSound w → IsSound (ask_all w)
-  pub batch : (w : World) (dp : DpId) → IsSound w → IsSound (batch dp w)
-  pub valid : (t : Tree) (conf : Configuration) → conf_of t ≡ Ok conf → IsValid conf
-  pub first : (conf : Configuration) → IsValid conf → IsSound (first conf)
-  pub order : (conf : Configuration) (state : State) (d : Dp) → IsInKeyOrder (cold conf state d)
-  pub leads : (w : World) (dp : DpId) (c : Conn) (settled : List Entry) → IsInKeyOrder c.sent → Settles c.sent (difference c.sent (wanted w dp)) settled → settled ≡ wanted w dp
-  pub same : (ids : List DpId) (dp : DpId) → is_running (in_order ids) dp ≡ is_running ids dp
 
 abbrev pub IsTold : List Said → World → Type 0
 IsTold past w = StandsSound w × AreFit past w
@@ -70,13 +46,13 @@ read_told past number w (stands, fit) = ((read_stands IsValid number w stands.0,
 heard_told : (past : List Said) (heard : Option (Message × ℕ)) (number : ℕ) (w : World) → IsTold past w → IsTold past (hear_frame heard number w)
 heard_told past heard number w (stands, fit) = ((heard_stands IsValid heard number w stands.0, heard_sound heard number w stands.0.0 stands.1), heard_fit past heard number w fit)
 
-module _ (laws : Laws) where
+module _ (laws : Grounds) where
   orders : (w : World) → AreOrdered w.conns → AreOrdered (settle w).conns
   orders w ordered = (laws.numbers w ordered.0 ordered.1, laws.keys w ordered.0 ordered.1)
 
   pub settles : (past : List Said) (w : World) → IsTold past w → IsTold past (settle w)
   settles past w (stands, fit) = (
-    (settle_stands IsValid orders w stands.0, settle_sound laws.numbers laws.keys laws.asks laws.batch laws.valid w stands.1),
+    (settle_stands IsValid orders w stands.0, settle_sound laws w stands.1),
     settled_fit laws.order laws.leads laws.same past w stands.0.1 (λ v dp same. wanted_low v dp (subst IsValid (sym same) stands.0.0)) fit,
   )
 
@@ -93,7 +69,7 @@ module _ (laws : Laws) where
     passes = λ past moment w (stands, fit). ((pass_stands IsValid moment w stands.0, pass_sound moment w stands.0.0 stands.1), pass_stays FitsEach past moment w fit);
     reloads = λ past text w (stands, fit). (
       (
-        reload_stands IsValid (accepted text) (λ next is. text_valid laws.numbers laws.keys laws.asks laws.batch laws.valid (read_of text) next is) w stands.0,
+        reload_stands IsValid (accepted text) (λ next is. text_valid laws (read_of text) next is) w stands.0,
         reload_sound laws.valid text w stands.0.0 stands.1,
       ),
       reload_stays FitsEach past (accepted text) w fit,
@@ -102,4 +78,4 @@ module _ (laws : Laws) where
   }
 
   pub first_told : (conf : Configuration) → IsValid conf → IsTold [] (first conf)
-  first_told conf valid = (((valid, (tt, tt)), laws.first conf valid), λ n. tt)
+  first_told conf valid = (first_stands laws conf valid, λ n. tt)

@@ -1,3 +1,4 @@
+pub mod Grounds
 pub mod Right
 pub mod Sayable
 pub mod Settlings

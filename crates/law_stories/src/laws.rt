@@ -16,14 +16,32 @@ ghost use Rattle.ctl_world.specs.World.{IsSound, first, running};
 ghost use Rattle.ctl_settle.specs.Rest.{IsAtRest};
 ghost use Rattle.ctl_settle.specs.Settling.{wanted};
 ghost use Rattle.ctl_core.specs.Story.{behind};
+ghost use Rattle.law_stories.specs.Grounds.{Grounds};
 
+use cold_start::laws::a_cold_start_is_the_plan_in_key_order;
 use conf_check::laws::an_accepted_configuration_is_valid;
 use ctl_core::laws::what_happens_keeps_connections_in_order;
 use ctl_settle::laws::{
-    a_batch_leaves_the_state, a_settling_leaves_it_at_rest, a_settling_leaves_nothing_waiting,
-    alike_worlds_rest_alike, asks_leave_the_state,
+    a_batch_leads_to_the_cold_start, a_batch_leaves_the_state, a_settling_leaves_it_at_rest,
+    a_settling_leaves_nothing_waiting, alike_worlds_rest_alike, asks_leave_the_state,
 };
 use ctl_world::laws::{what_is_known_first_is_sound, what_is_said_is_alike};
+use neighbour_resolve::laws::datapaths_are_asked_in_order;
+
+/// What the laws on all that can happen rest on, in one place.
+pub fn what_the_laws_rest_on()
+    ensures { Grounds }
+{
+    what_is_known_first_is_sound();
+    asks_leave_the_state();
+    a_batch_leaves_the_state();
+    an_accepted_configuration_is_valid();
+    a_settling_leaves_nothing_waiting();
+    a_settling_leaves_it_at_rest();
+    a_cold_start_is_the_plan_in_key_order();
+    a_batch_leads_to_the_cold_start();
+    datapaths_are_asked_in_order();
+}
 
 /// Whatever happens to a controller that begins with a valid configuration, what it knows is sound: its
 /// configuration is valid, all that it learned is valid by that, and no table holds more than it may.
@@ -31,11 +49,7 @@ pub fn whatever_happens_what_is_known_is_sound()
     ensures valid { (conf : Configuration) (story : List Happening) → IsValid conf → IsValid (behind (first conf) story).conf }
     ensures sound { (conf : Configuration) (story : List Happening) → IsValid conf → IsSound (behind (first conf) story) }
 {
-    what_is_known_first_is_sound();
-    asks_leave_the_state();
-    a_batch_leaves_the_state();
-    a_settling_leaves_nothing_waiting();
-    an_accepted_configuration_is_valid();
+    what_the_laws_rest_on();
 }
 
 /// Whatever happens, and whatever the configuration is, the connections stand by number, so that no two have

@@ -33,7 +33,7 @@ has_found (p ∷ ps) k e = by_first (key_eq p.key k) refl e (λ h. has_found ps 
     by_first true h e later = record { before = []; pair = p; behind = ps; there = refl; same = key_found p.key k h }
     by_first false h e later = has_more p ps k (later e)
 
-or_true : (b : Bool) → b || true ≡ true
+pub or_true : (b : Bool) → b || true ≡ true
 or_true true = refl
 or_true false = refl
 

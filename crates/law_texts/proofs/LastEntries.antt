@@ -1,48 +1,40 @@
 -- The last item of a list and the last entry of a map, with those before it.
-use Rattle.std.proofs.Common.{◌≡◌, ℕ, ◌+◌, ◌-◌, true, false, List, [], ◌∷◌, ◌++◌, length, drop, Ok, refl, sym, ◌∙◌, ap, append_assoc}
-use Rattle.yaml_subset.specs.declared.scalars.Scanned.{Scanned}
+use Rattle.std.proofs.Common.{◌≡◌, ℕ, false, List, [], ◌∷◌, ◌++◌, refl, sym, ◌∙◌, ap, append_assoc}
 use Rattle.yaml_tree.specs.declared.tree.Tree.{Tree}
 use Rattle.yaml_tree.specs.declared.tree.Pair.{Pair}
-use Rattle.yaml_subset.specs.Characters.{marks, next_part}
-use Rattle.yaml_subset.specs.Scalars.{scan, key_of}
 use Rattle.yaml_subset.specs.Entries.{has_key}
-use Rattle.yaml_subset.specs.Grammar.{Line, ItemValue, AreItems, EntryValue, AreEntries, IsBlock}
+use Rattle.yaml_subset.specs.Grammar.{Line, IsItem, AreItems, IsEntry, AreEntries, IsBlock}
 
 append_none : {A : Type 0} (xs : List A) → xs ++ [] ≡ xs
 append_none [] = refl
 append_none {A = A} (x ∷ xs) = ap (λ (ys : List A). x ∷ ys) (append_none xs)
 
+-- lines behind which none stand
+all_of : (first : Line) (below more : List Line) → more ≡ [] → first ∷ below ++ more ≡ first ∷ below
+all_of first below more none = ap (λ (ls : List Line). first ∷ below ++ ls) none ∙ ap (λ (ls : List Line). first ∷ ls) (append_none below)
+
+-- lines in front of others
+ahead : (first : Line) (below more front end : List Line) → more ≡ front ++ end → first ∷ below ++ more ≡ (first ∷ below ++ front) ++ end
+ahead first below more front end is =
+    ap (λ (ls : List Line). first ∷ below ++ ls) is ∙ ap (λ (ls : List Line). first ∷ ls) (sym (append_assoc below front end))
+
+-- ---- items
+
 pub record LastItem (n at : ℕ) (block : List Line) (vs : List Tree) : Type 0 where
   pub items : List Tree
   pub value : Tree
   pub front : List Line
-  pub rest : List ℕ
-  pub part : List ℕ
-  pub below : List Line
+  pub end : List Line
+  pub more : List Line
   pub split : vs ≡ items ++ value ∷ []
-  pub stands : block ≡ front ++ (at, rest) ∷ below
+  pub whole : block ≡ front ++ end
   pub are : AreItems n (IsBlock n) at front items
-  pub dash : marks 45 rest ≡ true
-  pub behind : next_part false (drop 1 rest) ≡ Ok part
-  pub is : ItemValue n (IsBlock n) at (at + (length rest - length part)) part below value
+  pub item : IsItem n (IsBlock n) at end value more
+  pub alone : more ≡ []
 
 pub last_item : (n at : ℕ) (vs : List Tree) (v : Tree) (block : List Line) → AreItems n (IsBlock n) at block (v ∷ vs) → LastItem n at block (v ∷ vs)
 last_item n at [] v block are =
-    let item = are.1 in
-    record {
-      items = [];
-      value = v;
-      front = [];
-      rest = item.rest;
-      part = item.part;
-      below = item.below;
-      split = refl;
-      stands = item.stands ∙ ap (λ (ls : List Line). (at, item.rest) ∷ item.below ++ ls) are.2 ∙ ap (λ (ls : List Line). (at, item.rest) ∷ ls) (append_none item.below);
-      are = refl;
-      dash = item.dash;
-      behind = item.behind;
-      is = item.value;
-    }
+    record { items = []; value = v; front = []; end = block; more = are.0; split = refl; whole = refl; are = refl; item = are.1; alone = are.2 }
 last_item n at (w ∷ ws) v block are =
     let item = are.1 in
     let last = last_item n at ws w are.0 are.2 in
@@ -50,59 +42,50 @@ last_item n at (w ∷ ws) v block are =
       items = v ∷ last.items;
       value = last.value;
       front = (at, item.rest) ∷ item.below ++ last.front;
-      rest = last.rest;
-      part = last.part;
-      below = last.below;
+      end = last.end;
+      more = last.more;
       split = ap (λ (us : List Tree). v ∷ us) last.split;
-      stands = item.stands ∙ ap (λ (ls : List Line). (at, item.rest) ∷ item.below ++ ls) last.stands
-          ∙ ap (λ (ls : List Line). (at, item.rest) ∷ ls) (sym (append_assoc item.below last.front ((at, last.rest) ∷ last.below)));
+      whole = item.stands ∙ ahead (at, item.rest) item.below are.0 last.front last.end last.whole;
       are = (last.front, record { rest = item.rest; part = item.part; below = item.below; stands = refl; dash = item.dash; behind = item.behind; value = item.value }, last.are);
-      dash = last.dash;
-      behind = last.behind;
-      is = last.is;
+      item = last.item;
+      alone = last.alone;
     }
+
+pub item_stands : {n at : ℕ} {block : List Line} {vs : List Tree} (last : LastItem n at block vs) → block ≡ last.front ++ (at, last.item.rest) ∷ last.item.below
+item_stands {at = at} last =
+    last.whole ∙ ap (λ (ls : List Line). last.front ++ ls) (last.item.stands ∙ all_of (at, last.item.rest) last.item.below last.more last.alone)
+
+-- ---- entries
 
 pub record LastEntry (n at : ℕ) (before : List Pair) (block : List Line) (ps : List Pair) : Type 0 where
   pub pairs : List Pair
   pub pair : Pair
   pub front : List Line
-  pub rest : List ℕ
-  pub scanned : Scanned
-  pub after : List ℕ
-  pub part : List ℕ
-  pub below : List Line
+  pub end : List Line
+  pub more : List Line
+  pub earlier : List Pair
   pub split : ps ≡ pairs ++ pair ∷ []
-  pub stands : block ≡ front ++ (at, rest) ∷ below
+  pub whole : block ≡ front ++ end
   pub are : AreEntries n (IsBlock n) at before front pairs
-  pub scalar : scan false rest ≡ Ok (scanned, after)
-  pub colon : marks 58 after ≡ true
-  pub key : key_of scanned ≡ Ok pair.key
-  pub first : has_key (before ++ pairs) pair.key ≡ false
-  pub behind : next_part false (drop 1 after) ≡ Ok part
-  pub is : EntryValue n (IsBlock n) at part below pair.value
+  pub all_before : earlier ≡ before ++ pairs
+  pub entry : IsEntry n (IsBlock n) at earlier end pair more
+  pub alone : more ≡ []
 
 pub last_entry : (n at : ℕ) (before ps : List Pair) (p : Pair) (block : List Line) → AreEntries n (IsBlock n) at before block (p ∷ ps) → LastEntry n at before block (p ∷ ps)
-last_entry n at before [] p block are =
-    let entry = are.1 in
-    record {
-      pairs = [];
-      pair = p;
-      front = [];
-      rest = entry.rest;
-      scanned = entry.scanned;
-      after = entry.after;
-      part = entry.part;
-      below = entry.below;
-      split = refl;
-      stands = entry.stands ∙ ap (λ (ls : List Line). (at, entry.rest) ∷ entry.below ++ ls) are.2 ∙ ap (λ (ls : List Line). (at, entry.rest) ∷ ls) (append_none entry.below);
-      are = refl;
-      scalar = entry.scalar;
-      colon = entry.colon;
-      key = entry.key;
-      first = ap (λ (qs : List Pair). has_key qs p.key) (append_none before) ∙ entry.first;
-      behind = entry.behind;
-      is = entry.value;
-    }
+last_entry n at before [] p block are = record {
+  pairs = [];
+  pair = p;
+  front = [];
+  end = block;
+  more = are.0;
+  earlier = before;
+  split = refl;
+  whole = refl;
+  are = refl;
+  all_before = sym (append_none before);
+  entry = are.1;
+  alone = are.2;
+}
 last_entry n at before (q ∷ qs) p block are =
     let entry = are.1 in
     let last = last_entry n at (before ++ p ∷ []) qs q are.0 are.2 in
@@ -110,19 +93,23 @@ last_entry n at before (q ∷ qs) p block are =
       pairs = p ∷ last.pairs;
       pair = last.pair;
       front = (at, entry.rest) ∷ entry.below ++ last.front;
-      rest = last.rest;
-      scanned = last.scanned;
-      after = last.after;
-      part = last.part;
-      below = last.below;
+      end = last.end;
+      more = last.more;
+      earlier = last.earlier;
       split = ap (λ (us : List Pair). p ∷ us) last.split;
-      stands = entry.stands ∙ ap (λ (ls : List Line). (at, entry.rest) ∷ entry.below ++ ls) last.stands
-          ∙ ap (λ (ls : List Line). (at, entry.rest) ∷ ls) (sym (append_assoc entry.below last.front ((at, last.rest) ∷ last.below)));
+      whole = entry.stands ∙ ahead (at, entry.rest) entry.below are.0 last.front last.end last.whole;
       are = (last.front, record { rest = entry.rest; scanned = entry.scanned; after = entry.after; part = entry.part; below = entry.below; stands = refl; scalar = entry.scalar; colon = entry.colon; key = entry.key; first = entry.first; behind = entry.behind; value = entry.value }, last.are);
-      scalar = last.scalar;
-      colon = last.colon;
-      key = last.key;
-      first = ap (λ (us : List Pair). has_key us last.pair.key) (sym (append_assoc before (p ∷ []) last.pairs)) ∙ last.first;
-      behind = last.behind;
-      is = last.is;
+      all_before = last.all_before ∙ append_assoc before (p ∷ []) last.pairs;
+      entry = last.entry;
+      alone = last.alone;
     }
+
+pub entry_stands : {n at : ℕ} {before : List Pair} {block : List Line} {ps : List Pair} (last : LastEntry n at before block ps)
+    → block ≡ last.front ++ (at, last.entry.rest) ∷ last.entry.below
+entry_stands {at = at} last =
+    last.whole ∙ ap (λ (ls : List Line). last.front ++ ls) (last.entry.stands ∙ all_of (at, last.entry.rest) last.entry.below last.more last.alone)
+
+-- the key is none of those before it
+pub entry_first : {n at : ℕ} {before : List Pair} {block : List Line} {ps : List Pair} (last : LastEntry n at before block ps)
+    → has_key (before ++ last.pairs) last.pair.key ≡ false
+entry_first last = ap (λ (qs : List Pair). has_key qs last.pair.key) (sym last.all_before) ∙ last.entry.first

@@ -11,3 +11,4 @@ mod OpenThere
 mod OpenRuns
 mod OpenedLines
 mod NoScalarLaws
+mod BlockLaws

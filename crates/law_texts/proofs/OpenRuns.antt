@@ -15,7 +15,7 @@ use Rattle.yaml_subset.specs.Characters.{marks, next_part}
 use Rattle.yaml_subset.specs.Scalars.{scan, key_of}
 use Rattle.yaml_subset.specs.Entries.{has_key}
 use Rattle.yaml_subset.specs.Flow.{with_entry}
-use Rattle.yaml_subset.specs.Blocks.{list_frame, map_frame, levels_in, takes_block, behind_dash, behind_colon, block_value, content}
+use Rattle.yaml_subset.specs.Blocks.{list_frame, map_frame, levels_in, takes_block, behind_dash, behind_colon, block_value, content, in_blocks}
 use Rattle.yaml_subset.specs.Gives.{◌>>=◌}
 use Rattle.yaml_subset.specs.Grammar.{Line, Form, of_list, of_map, AreItems, AreEntries, IsBlock}
 use Rattle.yaml_subset.proofs.LineValues.{value_read}
@@ -23,7 +23,7 @@ use Rattle.yaml_subset.proofs.FlowGrammar.{line_value_read}
 use Rattle.yaml_subset.proofs.Steps.{steps, then_steps, then_steps-append, list_form, Passes, equal, passes_item, passes_entry}
 use Rattle.yaml_subset.proofs.GrammarRead.{levels_left, starts_block, dash_is, colon_is, goes_on, part_short, next_item, next_key, key_is, scan_no_dash}
 use Rattle.law_texts.specs.Opened.{OpenItem, open_item_nothing, open_item_below, open_item_value, open_item_block, OpenEntry, open_entry_nothing, open_entry_below, open_entry_list, open_entry_value, IsOpenList, IsOpenMap, Opens}
-use Rattle.law_texts.proofs.LastEntries.{LastItem, last_item, LastEntry, last_entry}
+use Rattle.law_texts.proofs.LastEntries.{LastItem, last_item, item_stands, LastEntry, last_entry, entry_stands, entry_first}
 use Rattle.law_texts.proofs.OpenThere.{item_open, behind_its_dash, entry_open, block_open}
 
 abbrev pub blocks : List Frame → Option Tree → Result State YamlCause
@@ -54,13 +54,17 @@ below_runs n nested f fs form at below frames slot l takes opens =
     let takes' : takes_block (f ∷ fs) at (marks 45 r.first) ≡ true = ap (takes_block (f ∷ fs) at) r.dash ∙ takes in
     ap (steps (Blocks (f ∷ fs) None)) r.split ∙ ap (λ q. then_steps q r.more) (starts_block n f fs at r.first l takes') ∙ r.runs Deeper
 
-abbrev first_of : List ℕ → List Line → List ℕ
-first_of other [] = other
-first_of other (l ∷ ls) = l.1
-
-abbrev rest_of : List Line → List Line → List Line
-rest_of other [] = other
-rest_of other (l ∷ ls) = ls
+-- the lines of a block go on behind those that leave it open
+run_on : {n at : ℕ} {form : Form} {lines : List Line} {fs left : List Frame} {value : Option Tree} (front : List Line) (rest : List ℕ) (below : List Line) (frames : List Frame) (slot : Option Tree)
+    → front ≡ lines → OpenRun n form at lines fs left value → then_steps (in_blocks left value at rest) below ≡ blocks frames slot
+    → OpenRun n form at (front ++ (at, rest) ∷ below) fs frames slot
+run_on {n = n} {at = at} {fs = fs} front rest below frames slot same r goes = record {
+  first = r.first;
+  more = r.more ++ (at, rest) ∷ below;
+  split = ap (λ (ls : List Line). ls ++ (at, rest) ∷ below) (same ∙ r.split);
+  dash = r.dash;
+  runs = λ place. then_steps-append (content n place fs at r.first) r.more ((at, rest) ∷ below) ∙ ap (λ q. then_steps q ((at, rest) ∷ below)) (r.runs place) ∙ goes;
+}
 
 -- ---- lists
 
@@ -79,10 +83,11 @@ item_runs n nested items at fs rest part below frames slot l e (open_item_value 
     (dash_is (content n Item) (list_frame at items ∷ fs) at rest part false e p ∙ value_read n Item (list_frame at items ∷ fs) (at + (length rest - length part)) part v (levels_left n (list_frame at items ∷ fs) l) (line_value_read n part v is))
     ∙ no_lines (list_frame at items ∷ fs) frames (Some v) slot below b f s
 item_runs n nested items at fs rest part below frames slot l e (open_item_block form p opens) =
-    let column : ℕ = at + (length rest - length part) in
     let r = nested form (at + (length rest - length part)) ((at + (length rest - length part), part) ∷ below) (list_frame at items ∷ fs) frames slot opens l in
-    let same : part ≡ r.first = ap (first_of part) r.split in
-    let same_below : below ≡ r.more = ap (rest_of below) r.split in
+    let split = r.split in
+    let line : ◌≡◌ {A = Line} (at + (length rest - length part), part) (at + (length rest - length part), r.first) = cc in
+    let same : part ≡ r.first = ap (λ (l : Line). l.1) line in
+    let same_below : below ≡ r.more = cc in
     ap (λ q. then_steps q below) (dash_is (content n Item) (list_frame at items ∷ fs) at rest part false e p)
     ∙ ap (λ (xs : List ℕ). then_steps (content n Item (list_frame at items ∷ fs) (at + (length rest - length part)) xs) below) same
     ∙ ap (λ (ls : List Line). then_steps (content n Item (list_frame at items ∷ fs) (at + (length rest - length part)) r.first) ls) same_below
@@ -102,21 +107,14 @@ item_more : (m n : ℕ) → NestedRun n → (at : ℕ) (fs : List Frame) → len
 item_more m n nested at fs l items front rest part below frames slot earlier few last dash behind opens =
     let size : length items ≡ length (last.items ++ last.value ∷ []) = ap length last.split in
     let fewer : length last.items ≤ m = omega (arith, length-append last.items (last.value ∷ [])) in
-    let column = behind_its_dash at last.rest last.part (part_short 45 last.rest last.part last.dash last.behind) in
-    let w = item_open n (block_open n) last.items at fs (at + (length last.rest - length last.part)) last.part last.below last.value column last.is in
-    let r = earlier last.items last.front last.rest last.part last.below w.0 w.1 fewer last.are last.dash last.behind w.2 in
+    let column = behind_its_dash at last.item.rest last.item.part (part_short 45 last.item.rest last.item.part last.item.dash last.item.behind) in
+    let w = item_open n (block_open n) last.items at fs (at + (length last.item.rest - length last.item.part)) last.item.part last.item.below last.value column last.item.value in
+    let r = earlier last.items last.front last.item.rest last.item.part last.item.below w.0 w.1 fewer last.are last.item.dash last.item.behind w.2 in
     let levels : length (list_frame at (last.items ++ last.value ∷ []) ∷ fs) + n ≡ 32 = omega (arith, l) in
     let levels' : length (list_frame at items ∷ fs) + n ≡ 32 = omega (arith, l) in
     let next = goes_on (Passes at true) (list_frame at last.items) fs last.value w.0 w.1 rest w.3 (passes_item at (marks 45 rest)) (ap not dash) in
     let more = next ∙ next_item n last.items at fs last.value rest dash levels ∙ ap (λ (us : List Tree). behind_dash (content n Item) (list_frame at us ∷ fs) at rest) (sym last.split) in
-    record {
-      first = r.first;
-      more = r.more ++ (at, rest) ∷ below;
-      split = ap (λ (ls : List Line). ls ++ (at, rest) ∷ below) (last.stands ∙ r.split);
-      dash = r.dash;
-      runs = λ place. then_steps-append (content (suc n) place fs at r.first) r.more ((at, rest) ∷ below) ∙ ap (λ q. then_steps q ((at, rest) ∷ below)) (r.runs place)
-          ∙ ap (λ q. then_steps q below) more ∙ item_runs n nested items at fs rest part below frames slot levels' behind opens;
-    }
+    run_on front rest below frames slot (item_stands last) r (ap (λ q. then_steps q below) more ∙ item_runs n nested items at fs rest part below frames slot levels' behind opens)
 
 list_runs : (m n : ℕ) → NestedRun n → (at : ℕ) (fs : List Frame) → length fs + suc n ≡ 32 → ListRuns m n at fs
 unfolding content
@@ -182,22 +180,15 @@ entry_more : (m n : ℕ) → NestedRun n → (at : ℕ) (fs : List Frame) → le
 entry_more m n nested at fs l pairs key front rest scanned after part below frames slot earlier few last scalar colon keyed first behind opens =
     let size : length pairs ≡ length (last.pairs ++ last.pair ∷ []) = ap length last.split in
     let fewer : length last.pairs ≤ m = omega (arith, length-append last.pairs (last.pair ∷ [])) in
-    let w = entry_open n (block_open n) last.pairs last.pair.key at fs last.part last.below last.pair.value last.is in
-    let r = earlier last.pairs last.pair.key last.front last.rest last.scanned last.after last.part last.below w.0 w.1 fewer last.are last.scalar last.colon last.key last.first last.behind w.2 in
+    let w = entry_open n (block_open n) last.pairs last.pair.key at fs last.entry.part last.entry.below last.pair.value last.entry.value in
+    let r = earlier last.pairs last.pair.key last.front last.entry.rest last.entry.scanned last.entry.after last.entry.part last.entry.below w.0 w.1 fewer last.are last.entry.scalar last.entry.colon last.entry.key (entry_first last) last.entry.behind w.2 in
     let levels : length (map_frame at pairs key ∷ fs) + n ≡ 32 = omega (arith, l) in
     let dash = scan_no_dash rest scanned after scalar in
     let next = goes_on (Passes at false) (map_frame at last.pairs last.pair.key) fs last.pair.value w.0 w.1 rest w.3 (passes_entry at (marks 45 rest) dash) refl in
     let new : has_key (with_entry last.pairs last.pair.key last.pair.value) key ≡ false = ap (λ (ps : List Pair). has_key ps key) (sym last.split) ∙ first in
     let more = next ∙ next_key at last.pairs last.pair.key last.pair.value fs rest scanned after key scalar colon keyed new
     ∙ ap (λ (ps : List Pair). behind_colon (map_frame at ps key ∷ fs) (drop 1 after)) (sym last.split) in
-    record {
-      first = r.first;
-      more = r.more ++ (at, rest) ∷ below;
-      split = ap (λ (ls : List Line). ls ++ (at, rest) ∷ below) (last.stands ∙ r.split);
-      dash = r.dash;
-      runs = λ place. then_steps-append (content (suc n) place fs at r.first) r.more ((at, rest) ∷ below) ∙ ap (λ q. then_steps q ((at, rest) ∷ below)) (r.runs place)
-          ∙ ap (λ q. then_steps q below) more ∙ entry_runs n nested pairs key at fs (drop 1 after) part below frames slot levels behind opens;
-    }
+    run_on front rest below frames slot (entry_stands last) r (ap (λ q. then_steps q below) more ∙ entry_runs n nested pairs key at fs (drop 1 after) part below frames slot levels behind opens)
 
 map_runs : (m n : ℕ) → NestedRun n → (at : ℕ) (fs : List Frame) → length fs + suc n ≡ 32 → MapRuns m n at fs
 map_runs m n nested at fs l [] key front rest scanned after part below frames slot few are scalar colon keyed first behind opens =

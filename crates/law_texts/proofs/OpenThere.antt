@@ -10,7 +10,7 @@ use Rattle.yaml_subset.specs.Grammar.{Line, Form, of_list, of_map, ItemValue, it
 use Rattle.yaml_subset.proofs.Steps.{Stands, list_form, Ends, Passes, stands_value, stands_nothing, stands_closed, stands_deeper, stands_list_at_key}
 use Rattle.yaml_subset.proofs.GrammarRead.{part_short}
 use Rattle.law_texts.specs.Opened.{OpenItem, open_item_nothing, open_item_below, open_item_value, open_item_block, OpenEntry, open_entry_nothing, open_entry_below, open_entry_list, open_entry_value, Opens}
-use Rattle.law_texts.proofs.LastEntries.{last_item, last_entry}
+use Rattle.law_texts.proofs.LastEntries.{last_item, item_stands, last_entry, entry_stands, entry_first}
 
 -- what a block leaves open within those around it, which stands for its tree
 abbrev pub StandsOpen : ℕ → Form → ℕ → List Line → Tree → List Frame → Type 0
@@ -41,13 +41,13 @@ behind_its_dash at rest part h = omega arith
 list_open : (n : ℕ) → NestedOpen n → (at : ℕ) (block : List Line) (t : Tree) → IsList n (IsBlock n) at block t → (around : List Frame) → StandsOpen (suc n) of_list at block t around
 list_open n nested at block t list around =
     let last = last_item n at list.items list.item block list.are in
-    let l = behind_its_dash at last.rest last.part (part_short 45 last.rest last.part last.dash last.behind) in
-    let w = item_open n nested last.items at around (at + (length last.rest - length last.part)) last.part last.below last.value l last.is in
+    let l = behind_its_dash at last.item.rest last.item.part (part_short 45 last.item.rest last.item.part last.item.dash last.item.behind) in
+    let w = item_open n nested last.items at around (at + (length last.item.rest - length last.item.part)) last.item.part last.item.below last.value l last.item.value in
     let s = stands_closed (list_frame at last.items) around last.value w.0 w.1 w.3 in
     let same : t ≡ tree.List (last.items ++ last.value ∷ []) = list.is ∙ ap (λ (vs : List Tree). tree.List vs) last.split in (
       w.0,
       w.1,
-      record { items = last.items; front = last.front; rest = last.rest; part = last.part; below = last.below; stands = last.stands; are = last.are; dash = last.dash; behind = last.behind; last = w.2 },
+      record { items = last.items; front = last.front; rest = last.item.rest; part = last.item.part; below = last.item.below; stands = item_stands last; are = last.are; dash = last.item.dash; behind = last.item.behind; last = w.2 },
       subst (λ (u : Tree). Stands (Ends at true around) around u w.0 w.1) (sym same) s,
     )
 
@@ -70,12 +70,12 @@ entry_open n nested pairs k at around part below v (entry_value p b is) =
 map_open : (n : ℕ) → NestedOpen n → (at : ℕ) (block : List Line) (t : Tree) → IsMap n (IsBlock n) at block t → (around : List Frame) → StandsOpen (suc n) of_map at block t around
 map_open n nested at block t m around =
     let last = last_entry n at [] m.pairs m.pair block m.are in
-    let w = entry_open n nested last.pairs last.pair.key at around last.part last.below last.pair.value last.is in
+    let w = entry_open n nested last.pairs last.pair.key at around last.entry.part last.entry.below last.pair.value last.entry.value in
     let s = stands_closed (map_frame at last.pairs last.pair.key) around last.pair.value w.0 w.1 w.3 in
     let same : t ≡ tree.Map (last.pairs ++ last.pair ∷ []) = m.is ∙ ap (λ (ps : List Pair). tree.Map ps) last.split in (
       w.0,
       w.1,
-      record { pairs = last.pairs; key = last.pair.key; front = last.front; rest = last.rest; scanned = last.scanned; after = last.after; part = last.part; below = last.below; stands = last.stands; are = last.are; scalar = last.scalar; colon = last.colon; keyed = last.key; first = last.first; behind = last.behind; last = w.2 },
+      record { pairs = last.pairs; key = last.pair.key; front = last.front; rest = last.entry.rest; scanned = last.entry.scanned; after = last.entry.after; part = last.entry.part; below = last.entry.below; stands = entry_stands last; are = last.are; scalar = last.entry.scalar; colon = last.entry.colon; keyed = last.entry.key; first = entry_first last; behind = last.entry.behind; last = w.2 },
       subst (λ (u : Tree). Stands (Ends at false around) around u w.0 w.1) (sym same) s,
     )
 

@@ -7,7 +7,7 @@ use Rattle.yaml_subset.specs.declared.blocks.State.{State}
 use Rattle.yaml_subset.specs.declared.blocks.State.TheVariants.{Start, Headed, Alone, Blocks}
 use Rattle.yaml_tree.specs.declared.tree.Tree.{Tree}
 use Rattle.yaml_subset.specs.Characters.{next_part, is_empty}
-use Rattle.yaml_subset.specs.Blocks.{content, is_marker, is_start, at_start, by_state, counted_line, step, finish}
+use Rattle.yaml_subset.specs.Blocks.{content, is_marker, at_start, counted_line, step, finish}
 use Rattle.yaml_subset.specs.Gives.{◌>>=◌}
 use Rattle.yaml_subset.specs.Grammar.{Line, IsDocument, document_nothing, document_value, document_block, Counts, AreLater, IsHead, IsNoHead, ReadsLines}
 use Rattle.yaml_subset.specs.TextFault.{Lead, BreaksText, IsFault, text_too_long, text_not_utf8, text_broken}
@@ -50,29 +50,29 @@ document_leads state begins block end (open_blocks form indent frames slot opens
     let r = open_runs 32 form indent block [] frames slot opens refl in
     ap (steps state) r.split ∙ ap (λ q. then_steps q r.more) (begins (indent, r.first)) ∙ r.runs Document ∙ ap ok (sym e)
 
-and_not_true : (b : Bool) → b && not true ≡ false
-and_not_true true = refl
-and_not_true false = refl
-
-step_counted : (state : State) (line : List ℕ) (l : Line) → Counts line l → (is_marker 45 line && not (is_start state)) ≡ false → step state line ≡ by_state state line l.0 l.1
-unfolding step counted_line
-step_counted state line l c m = rw (c.rest, c.some, c.no_directive, c.no_end, m, sym c.indent) refl
-
+-- what a line that counts does, behind the first one and as the first
 step_later : (state : State) (line : List ℕ) (l : Line) → Counts line l → is_marker 45 line ≡ false → step state line ≡ later_step state l
-step_later state line l c m = step_counted state line l c (ap (λ b. b && not (is_start state)) m) ∙ by_later state line l m
+unfolding step counted_line
+step_later state line l c m = rw (c.rest, c.some, c.no_directive, c.no_end, m, sym c.indent) (by_later state line l m)
+
+step_first : (line : List ℕ) (l : Line) → Counts line l → step Start line ≡ at_start line l.0 l.1
+unfolding step counted_line
+step_first line l c =
+    let goes_on : (is_marker 45 line && not true) ≡ false = elim (is_marker 45 line) as (λ b. (b && not true) ≡ false) [ true ↦ refl | false ↦ refl ] in
+    rw (c.rest, c.some, c.no_directive, c.no_end, goes_on, sym c.indent) refl
 
 head_step : (line : List ℕ) (l : Line) → Counts line l → IsHead line → step Start line ≡ Ok Headed
 unfolding at_start
-head_step line l c h = step_counted Start line l c (and_not_true (is_marker 45 line)) ∙ rw (h.dashes, h.alone) refl
+head_step line l c h = step_first line l c ∙ rw (h.dashes, h.alone) refl
 
 no_head_step : (line : List ℕ) (l : Line) → Counts line l → IsNoHead line → step Start line ≡ content 32 Document [] l.0 l.1
 unfolding at_start
-no_head_step line l c (inl m) = step_counted Start line l c (and_not_true (is_marker 45 line)) ∙ rw m refl
-no_head_step line l c (inr p) = step_counted Start line l c (and_not_true (is_marker 45 line)) ∙ by_test (is_marker 45 line)
+no_head_step line l c (inl m) = step_first line l c ∙ rw m refl
+no_head_step line l c (inr p) = step_first line l c ∙ either (is_marker 45 line)
   where
-    by_test : (b : Bool) → cond b (next_part false (drop 3 line) >>= λ part. cond (is_empty part) (Ok Headed) (content 32 Document [] l.0 l.1)) (content 32 Document [] l.0 l.1) ≡ content 32 Document [] l.0 l.1
-    by_test true = rw (p.1, p.2) refl
-    by_test false = refl
+    either : (b : Bool) → cond b (next_part false (drop 3 line) >>= λ part. cond (is_empty part) (Ok Headed) (content 32 Document [] l.0 l.1)) (content 32 Document [] l.0 l.1) ≡ content 32 Document [] l.0 l.1
+    either true = rw (p.1, p.2) refl
+    either false = refl
 
 same_state : (a b : State) → ok a ≡ ok b → a ≡ b
 same_state a b e = cc
@@ -110,32 +110,25 @@ broken_there : (text : List ℕ) (n : ℕ) (cause : YamlCause) → BreaksText te
 broken_there text n cause b = record {
   before = b.before;
   line = b.line;
-  later = b.later;
-  there = b.there;
-  number = b.number;
-  tree = b.tree;
-  accepted = b.accepted;
-  refused = b.refused;
-  state = b.state;
-  opened = leads_open b.before b.state b.lead;
-  at = b.at;
-  first = b.first;
+  stands = record { later = b.later; there = b.there; number = b.number };
+  breaks = record { tree = b.tree; accepted = b.accepted; refused = b.refused };
+  told = record { state = b.state; opened = leads_open b.before b.state b.lead; at = b.at; first = b.first };
 }
 
 broken_told : (text : List ℕ) (n : ℕ) (cause : YamlCause) → IsBroken text n cause → BreaksText text n cause
 broken_told text n cause b = record {
   before = b.before;
   line = b.line;
-  later = b.later;
-  there = b.there;
-  number = b.number;
-  tree = b.tree;
-  accepted = b.accepted;
-  refused = b.refused;
-  state = b.state;
-  lead = open_leads b.before b.state b.opened;
-  at = b.at;
-  first = b.first;
+  later = b.stands.later;
+  there = b.stands.there;
+  number = b.stands.number;
+  tree = b.breaks.tree;
+  accepted = b.breaks.accepted;
+  refused = b.breaks.refused;
+  state = b.told.state;
+  lead = open_leads b.before b.told.state b.told.opened;
+  at = b.told.at;
+  first = b.told.first;
 }
 
 pub fault_there : (text : List ℕ) (f : YamlFault) → IsFault text f → HasFault text f

@@ -4,4 +4,5 @@ pub mod Numbers
 pub mod Scalars
 pub mod Keys
 pub mod Opened
+pub mod Blocks
 pub mod TextFault

@@ -13,21 +13,32 @@ use Rattle.yaml_subset.specs.FirstFault.{IsFirst}
 use Rattle.yaml_subset.specs.LineFaults.{LineFault}
 use Rattle.law_texts.specs.Opened.{LeavesOpen}
 
--- Line n is the first that breaks the text: the lines before it alone have a tree, and with it they have none. The cause is that
--- of the first fault in the line, behind what they leave open.
-pub record IsBroken (text : List ℕ) (n : ℕ) (cause : YamlCause) : Type 0 where
-  pub before : List (List ℕ)
-  pub line : List ℕ
+-- this is line n of the text, behind those before it
+pub record IsLine (text : List ℕ) (n : ℕ) (before : List (List ℕ)) (line : List ℕ) : Type 0 where
   pub later : List (List ℕ)
   pub there : lines text ≡ before ++ line ∷ later
   pub number : n ≡ length before + 1
+
+-- these lines alone have a tree, and with this line they have none
+pub record Breaks (before : List (List ℕ)) (line : List ℕ) : Type 0 where
   pub tree : Tree
   pub accepted : ReadsLines 32 before tree
   pub refused : (t : Tree) → ReadsLines 32 (before ++ line ∷ []) t → ⊥
+
+-- the cause is that of the first fault in the line, behind what these lines leave open
+pub record HasCause (before : List (List ℕ)) (line : List ℕ) (cause : YamlCause) : Type 0 where
   pub state : State
   pub opened : LeavesOpen before state
   pub at : ℕ
   pub first : IsFirst (LineFault state line) at cause
+
+-- line n is the first that breaks the text, for this cause
+pub record IsBroken (text : List ℕ) (n : ℕ) (cause : YamlCause) : Type 0 where
+  pub before : List (List ℕ)
+  pub line : List ℕ
+  pub stands : IsLine text n before line
+  pub breaks : Breaks before line
+  pub told : HasCause before line cause
 
 -- the fault of a text: it is too long, else it isn't UTF-8, else a line breaks it
 pub data HasFault (text : List ℕ) (fault : YamlFault) : Type 0 where

@@ -2,6 +2,7 @@
 //! scalars and of keys. Proofs alone.
 #![tactic(auto)]
 
+pub mod blocks;
 pub mod characters;
 pub mod keys;
 pub mod lines;

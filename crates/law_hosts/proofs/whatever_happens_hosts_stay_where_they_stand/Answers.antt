@@ -1,6 +1,5 @@
 use Rattle.ctl_world.specs.World.{first}
-use Rattle.law_stories.proofs.StorySound.{StandsSound, keeps_sound}
-use Rattle.law_stories.proofs.StoryTurns.{Keeps}
+use Rattle.law_stories.proofs.StorySound.{first_stands, keeps_sound}
 use Rattle.law_hosts.specs.Hosts.{KnowsItsHosts}
 use Rattle.law_hosts.proofs.Turned.{turned_hosts}
 use Rattle.law_lines.proofs.Each.{each_turn}
@@ -9,9 +8,7 @@ use Rattle.law_hosts.proofs.whatever_happens_hosts_stay_where_they_stand.Goals a
 
 pub returns : goal.returns
 returns c =
-    let settling = c.a_settling_leaves_nothing_waiting.ensures in
-    let keeps : Keeps StandsSound =
-    keeps_sound settling.numbers settling.keys c.asks_leave_the_state.ensures c.a_batch_leaves_the_state.ensures c.an_accepted_configuration_is_valid.ensures in
+    let laws = c.what_the_laws_rest_on.ensures in
     λ conf story valid.
-    each_turn Stands (keeps_stands keeps) KnowsItsHosts (λ t before behind. turned_hosts t.before before.0.1 before.1 t.what behind.0.1) (first conf) story
-    (((valid, (tt, tt)), c.what_is_known_first_is_sound.ensures conf valid), tt)
+    each_turn Stands (keeps_stands (keeps_sound laws)) KnowsItsHosts (λ t before behind. turned_hosts t.before before.0.1 before.1 t.what behind.0.1) (first conf) story
+    (first_stands laws conf valid, tt)

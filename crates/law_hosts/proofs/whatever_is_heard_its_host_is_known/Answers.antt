@@ -1,6 +1,5 @@
 use Rattle.ctl_world.specs.World.{first}
-use Rattle.law_stories.proofs.StorySound.{StandsSound, keeps_sound}
-use Rattle.law_stories.proofs.StoryTurns.{Keeps}
+use Rattle.law_stories.proofs.StorySound.{first_stands, keeps_sound}
 use Rattle.law_hosts.specs.Hosts.{KnowsTheHeard}
 use Rattle.law_hosts.proofs.Heard.{frame_known}
 use Rattle.law_lines.proofs.Each.{each_frame}
@@ -9,9 +8,7 @@ use Rattle.law_hosts.proofs.whatever_is_heard_its_host_is_known.Goals as goal
 
 pub returns : goal.returns
 returns c =
-    let settling = c.a_settling_leaves_nothing_waiting.ensures in
-    let keeps : Keeps StandsSound =
-    keeps_sound settling.numbers settling.keys c.asks_leave_the_state.ensures c.a_batch_leaves_the_state.ensures c.an_accepted_configuration_is_valid.ensures in
+    let laws = c.what_the_laws_rest_on.ensures in
     λ conf story valid.
-    each_frame Stands (keeps_stands keeps) KnowsTheHeard (λ f before behind. frame_known f.before before.0.1 before.1 f.on f.says behind.0.1) (first conf) story
-    (((valid, (tt, tt)), c.what_is_known_first_is_sound.ensures conf valid), tt)
+    each_frame Stands (keeps_stands (keeps_sound laws)) KnowsTheHeard (λ f before behind. frame_known f.before before.0.1 before.1 f.on f.says behind.0.1) (first conf) story
+    (first_stands laws conf valid, tt)

@@ -1,8 +1,8 @@
-use Rattle.std.proofs.Common.{◌≡◌, ◌+◌, suc, ap, sym, drop, ◌∙◌, arith}
+use Rattle.std.proofs.Common.{refl}
 use Rattle.std.proofs.lemmas.List.{drop_all}
 use Rattle.gauge_poll.specs.Polls.{poll_first, poll_begun}
 use Rattle.gauge_poll.specs.StandsFor.{Keeps}
-use Rattle.gauge_poll.proofs.Keeping.{arrived, item_left, onward, set_out}
+use Rattle.gauge_poll.proofs.Keeping.{all_done, item_done, set_out}
 use Rattle.gauge_poll.proofs.polling.poll_first.Goals as goal
 
 pub loop-place-init : goal.loop-place-init
@@ -10,16 +10,12 @@ loop-place-init c = λ s keeps. set_out Keeps c.args.known.now s (poll_first 0 c
 
 pub loop-place-preserved : goal.loop-place-preserved
 loop-place-preserved c = λ s keeps.
-    let ws = c.args.watchers.now in
-    let i = c.loop-place.place in
-    let w = c.index-watchers-place.result in
-    let next : i + 1 ≡ suc i = omega arith in
-    onward Keeps c.loop-place.known c.poll_begun.new.known (poll_first i (drop i ws) c.args.dp) (poll_first (i + 1) (drop (i + 1) ws) c.args.dp) (poll_begun w i c.args.dp) (poll_first 0 ws c.args.dp s)
-    (λ t kept. ap (λ more. poll_first i more c.args.dp t) (item_left ws i w c.loop-place-test.true c.index-watchers-place.is) ∙ ap (λ n. poll_first n (drop (i + 1) ws) c.args.dp (poll_begun w i c.args.dp t)) (sym next))
-    c.in_ok-poll_begun.ensures (c.loop-place.invariant s keeps)
+    let dp = c.args.dp in
+    item_done Keeps (λ i ws t. poll_first i ws dp t) (λ w i t. poll_begun w i dp t) (λ i w ws t. refl) (λ i t. refl) c.args.watchers.now c.loop-place.place c.loop-place.known (poll_first 0 c.args.watchers.now dp s)
+    c.index-watchers-place.result c.poll_begun.new.known c.loop-place-test.true c.index-watchers-place.is c.in_ok-poll_begun.ensures (c.loop-place.invariant s keeps)
 
 pub returns : goal.returns
 returns c = λ s keeps.
-    let ws = c.args.watchers.now in
-    let i = c.loop-place.place in
-    arrived Keeps c.loop-place.known (poll_first i (drop i ws) c.args.dp) (poll_first 0 ws c.args.dp s) (λ t kept. ap (λ more. poll_first i more c.args.dp t) (drop_all i ws c.loop-place-test.false)) (c.loop-place.invariant s keeps)
+    let dp = c.args.dp in
+    all_done Keeps (λ i ws t. poll_first i ws dp t) (λ w i t. poll_begun w i dp t) (λ i w ws t. refl) (λ i t. refl) c.args.watchers.now c.loop-place.place c.loop-place.known (poll_first 0 c.args.watchers.now dp s)
+    (drop_all c.loop-place.place c.args.watchers.now c.loop-place-test.false) (c.loop-place.invariant s keeps)
