@@ -1,0 +1,2 @@
+pub mod Gleaned
+pub mod Led

@@ -1,0 +1,4 @@
+pub mod Kept
+pub mod Reloaded
+pub mod Strays
+pub mod Timely
