@@ -9,7 +9,7 @@ use Rattle.conf_types.specs.declared.vlan.Route.{Route}
 use Rattle.conf_types.specs.declared.vlan.Vlan.{Vlan}
 use Rattle.conf_types.specs.Groups.{group_of}
 use Rattle.conf_types.specs.Valid.{IsValid}
-use Rattle.packet_way.specs.Routes.{mac_of_neighbour}
+use Rattle.conf_types.specs.Changes.{mac_of_neighbour}
 use Rattle.neighbour_resolve.specs.Table as neighbours
 use Rattle.of13_codec.specs.declared.message.Message.{Message}
 use Rattle.of13_codec.specs.declared.message.Message.TheVariants as messages
@@ -23,7 +23,7 @@ use Rattle.ctl_world.specs.declared.conns.Conn.{Conn}
 use Rattle.ctl_world.specs.declared.frames.Front.{Front}
 use Rattle.ctl_world.specs.declared.frames.Front.TheVariants.{Part, Frame, Bad}
 use Rattle.ctl_world.specs.declared.said.Said.TheVariants as said
-use Rattle.ctl_world.specs.Connections.{change as changed, conn_with, with_fed, with_heard}
+use Rattle.ctl_world.specs.Connections.{change as changed, conn_with, with_heard}
 use Rattle.ctl_world.specs.Ends.{close, forget_lost}
 use Rattle.ctl_world.specs.Frames.{front, with_read}
 use Rattle.ctl_world.specs.Saying.{ask, say}
@@ -31,15 +31,14 @@ use Rattle.ctl_world.specs.World.{World, running}
 use Rattle.ctl_life.specs.Life.{echo, feed, has_frame, read, replace, says, take_dp, tell_version, turn_away, unread}
 use Rattle.ctl_settle.specs.Settling.{settle}
 use Rattle.ctl_core.specs.Hearing.{begin, follow, hear_frame, hear_frames, hear_front, hear_next, hear_on, introduce, packet, unfit, want_gateways, want_in, want_routes, wipe}
-use Rattle.law_changes.specs.Ends.{by_change, by_end, by_replace, by_take}
+use Rattle.law_names.specs.Ends.{by_change, by_end, by_replace, by_take}
 use Rattle.law_changes.specs.Frames.{by_frame, by_frames, by_front, by_introduce, by_message_on, by_next, by_packet, by_piece, by_step}
-use Rattle.law_changes.specs.Names.{Names}
+use Rattle.law_names.specs.Names.{Names}
 use Rattle.law_changes.specs.Settlings.{by_settling}
-use Rattle.law_changes.proofs.Neighbours.{wanted_same}
-use Rattle.law_changes.proofs.Packets.{packet_named}
-use Rattle.law_changes.proofs.Places.{seen}
+use Rattle.law_names.proofs.Neighbours.{wanted_same}
+use Rattle.law_names.proofs.Packets.{packet_named}
 use Rattle.law_changes.proofs.Settled.{settle_named}
-use Rattle.law_changes.proofs.Stepped.{added_quiet, ask_quiet, change_named, close_named, join, kept_quiet, neighbours_named, nothing, of_either, of_option, replace_named, say_quiet, still, take_named, then_quiet}
+use Rattle.law_names.proofs.Stepped.{added_quiet, ask_quiet, change_named, close_named, feed_quiet, join, kept_quiet, neighbours_named, nothing, of_either, of_option, replace_named, say_quiet, still, take_named, then_quiet}
 
 -- ---- gateways that are wanted
 
@@ -123,13 +122,6 @@ frame_named None number w valid = close_named BadFrame number w valid
 
 read_quiet : (number : ℕ) (w : World) → Names w (read number w) []
 read_quiet number w = kept_quiet number with_read (λ c. refl) (λ c. refl) w
-
-fed_seen : (piece : List ℕ) (now : Moment) (c : Conn) → seen (with_fed piece now c) ≡ seen c
-fed_seen [] now c = refl
-fed_seen (byte ∷ piece) now c = refl
-
-pub feed_quiet : (number : ℕ) (piece : List ℕ) (w : World) → Names w (feed number piece w) []
-feed_quiet number piece w = kept_quiet number (with_fed piece w.moment) (λ c. refl) (fed_seen piece w.moment) w
 
 front_named : (f : Front) (number : ℕ) (w : World) → IsValid w.conf → Names w (hear_front f number w) (by_front f number w)
 front_named Part number w valid = nothing w

@@ -1,10 +1,3 @@
 pub mod Heard
-pub mod Hosts
-pub mod Joined
-pub mod Left
-pub mod Neighbours
-pub mod Packets
-pub mod Places
 pub mod Settled
-pub mod Stepped
 pub mod Turned

@@ -16,10 +16,11 @@ use Rattle.ctl_world.specs.Connections.{conn_of, with_sent}
 use Rattle.ctl_world.specs.Saying.{ask, packet_out, say}
 use Rattle.ctl_world.specs.World.{World, running}
 use Rattle.ctl_settle.specs.Settling.{ask_all, ask_due, ask_each, ask_on, batch, batch_on, batches, note_sent, say_batch, say_due, say_each, settle, take_due, wanted}
-use Rattle.law_changes.specs.Names.{Names}
-use Rattle.law_changes.specs.Settlings.{by_due, by_settling, due}
-use Rattle.law_changes.proofs.Neighbours.{due_named}
-use Rattle.law_changes.proofs.Stepped.{ask_quiet, join, kept_quiet, neighbours_named, nothing, of_either, quiet_option, say_quiet, then_quiet}
+use Rattle.law_names.specs.Names.{Names}
+use Rattle.law_names.specs.Dues.{due}
+use Rattle.law_changes.specs.Settlings.{by_due, by_settling}
+use Rattle.law_names.proofs.Neighbours.{due_named}
+use Rattle.law_names.proofs.Stepped.{ask_quiet, join, kept_quiet, neighbours_named, nothing, of_either, quiet_option, say_quiet, then_quiet}
 
 -- ---- asks
 

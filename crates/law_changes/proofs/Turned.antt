@@ -1,7 +1,6 @@
 -- What the clock and a turn name.
-use Rattle.std.proofs.Common.{◌≡◌, ℕ, Bool, true, false, not, List, [], ◌∷◌, ◌++◌, map, filter, codes, Result, Ok, Err, Some, None, refl, sym, ap, subst}
+use Rattle.std.proofs.Common.{◌≡◌, ℕ, Bool, true, false, not, List, [], ◌∷◌, ◌++◌, map, filter, codes, Result, Ok, Err, refl, subst}
 use Rattle.std.specs.Prelude.{Contains}
-use Rattle.std.specs.Option.{option_map}
 use Rattle.fg_outside.specs.declared.hub.Happening.{Happening}
 use Rattle.fg_outside.specs.declared.hub.Happening.TheVariants as happenings
 use Rattle.conf_types.specs.declared.state.HostRec.{HostRec}
@@ -12,10 +11,10 @@ use Rattle.of13_codec.specs.declared.message.Message.TheVariants as messages
 use Rattle.switch_session.specs.declared.closing.Closing.TheVariants.{Silent}
 use Rattle.switch_session.specs.declared.quiet.Quiet.{Quiet}
 use Rattle.switch_session.specs.declared.quiet.Quiet.TheVariants as quiet
-use Rattle.switch_session.specs.Connections.{due_at, opened}
+use Rattle.switch_session.specs.Connections.{due_at}
 use Rattle.ctl_world.specs.declared.conns.Conn.{Conn}
 use Rattle.ctl_world.specs.declared.said.Said.TheVariants as said
-use Rattle.ctl_world.specs.Connections.{change as changed, conn_with, is_open, put, with_looked}
+use Rattle.ctl_world.specs.Connections.{change as changed, conn_with, is_open, with_looked}
 use Rattle.ctl_world.specs.Ends.{ended}
 use Rattle.ctl_world.specs.World.{World, now}
 use Rattle.ctl_life.specs.Life.{closing_for, open_conn}
@@ -23,20 +22,19 @@ use Rattle.ctl_life.specs.Silence.{look, look_each, look_on, show, stir}
 use Rattle.ctl_settle.specs.Settling.{settle}
 use Rattle.ctl_core.specs.Reloading.{accepted, reload}
 use Rattle.ctl_core.specs.Turns.{age, hear, pass, turn, work}
-use Rattle.law_units.specs.declared.change.Change.{Change}
-use Rattle.law_units.specs.declared.change.Change.TheVariants as change
+use Rattle.conf_types.specs.declared.change.Change.{Change}
+use Rattle.conf_types.specs.declared.change.Change.TheVariants as change
 use Rattle.law_changes.specs.Clock.{by_age, by_clock, by_look, by_look_on, by_looks, by_moment, by_passing, by_stir}
-use Rattle.law_changes.specs.Differing.{host}
-use Rattle.law_changes.specs.Ends.{by_end}
+use Rattle.law_names.specs.Differing.{host}
+use Rattle.law_names.specs.Ends.{by_end}
 use Rattle.law_changes.specs.Frames.{by_piece}
-use Rattle.law_changes.specs.Names.{Names}
+use Rattle.law_names.specs.Names.{Names}
 use Rattle.law_changes.specs.Settlings.{by_settling}
 use Rattle.law_changes.specs.Turns.{touched}
 use Rattle.law_changes.proofs.Heard.{piece_named}
-use Rattle.law_changes.proofs.Hosts.{gone_named, turned_named}
-use Rattle.law_changes.proofs.Places.{put_same, seen}
+use Rattle.law_names.proofs.Hosts.{gone_named, turned_named}
 use Rattle.law_changes.proofs.Settled.{settle_named}
-use Rattle.law_changes.proofs.Stepped.{added_quiet, close_named, conns_quiet, ended_named, join, kept_quiet, nothing, of_option, of_two, say_quiet, still}
+use Rattle.law_names.proofs.Stepped.{added_quiet, close_named, ended_named, join, kept_quiet, nothing, of_option, of_two, open_quiet, say_quiet, still}
 
 -- ---- the clock
 
@@ -97,12 +95,6 @@ clock_named moment w valid =
     (join shown looked (age looked) (by_looks numbers shown) (by_age looked) (looks_named numbers shown valid) (age_named looked))
 
 -- ---- a turn
-
-pub open_quiet : (number : ℕ) (w : World) → Names w (open_conn number w) []
-open_quiet number w =
-    let c : Conn = record { number = number; session = opened w.moment; dp = None; sent = [] } in
-    let next : World = record w { conns = put c w.conns } in
-    join w next (open_conn number w) [] [] (conns_quiet w (put c w.conns) (λ dp. ap (option_map seen) (sym (put_same c refl dp w.conns)))) (say_quiet number (messages.Hello 4 (Some 16)) next)
 
 then_settled : (w v : World) (xs : List Change) → Names w v xs → Names w (settle v) (xs ++ by_settling v)
 then_settled w v xs first = join w v (settle v) xs (by_settling v) first (settle_named v)

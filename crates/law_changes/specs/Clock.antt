@@ -9,10 +9,10 @@ use Rattle.ctl_world.specs.declared.conns.Conn.{Conn}
 use Rattle.ctl_world.specs.Connections.{change, conn_with, with_looked}
 use Rattle.ctl_world.specs.World.{World}
 use Rattle.ctl_life.specs.Silence.{look, look_each, show}
-use Rattle.law_units.specs.declared.change.Change.{Change}
+use Rattle.conf_types.specs.declared.change.Change.{Change}
 use Rattle.law_units.specs.Reached.{is_other}
-use Rattle.law_changes.specs.Differing.{host}
-use Rattle.law_changes.specs.Ends.{by_end}
+use Rattle.law_names.specs.Differing.{host}
+use Rattle.law_names.specs.Ends.{by_end}
 
 -- the hosts that are fresh at one of two moments alone
 abbrev pub by_moment : (moment : ℕ) → World → List Change

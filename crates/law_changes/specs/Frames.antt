@@ -18,9 +18,9 @@ use Rattle.ctl_world.specs.Frames.{front}
 use Rattle.ctl_world.specs.World.{World}
 use Rattle.ctl_life.specs.Life.{feed, has_frame, read, replace, says, unread}
 use Rattle.ctl_core.specs.Hearing.{hear_frame, hear_next, unfit}
-use Rattle.law_units.specs.declared.change.Change.{Change}
-use Rattle.law_changes.specs.Ends.{by_change, by_end, by_replace, by_take}
-use Rattle.law_changes.specs.Packets.{by_packet_in}
+use Rattle.conf_types.specs.declared.change.Change.{Change}
+use Rattle.law_names.specs.Ends.{by_change, by_end, by_replace, by_take}
+use Rattle.law_names.specs.Packets.{by_packet_in}
 use Rattle.law_changes.specs.Settlings.{by_settling}
 
 -- ---- one message

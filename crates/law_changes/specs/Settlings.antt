@@ -1,18 +1,11 @@
 -- What a settling touches: the neighbours that are due. A batch touches nothing.
 use Rattle.std.specs.Prelude.{ℕ, zero, suc, List, [], ◌∷◌, length}
 use Rattle.std.specs.Option.{option_map_or}
-use Rattle.neighbour_resolve.specs.declared.neighbour.Due.{Due}
-use Rattle.neighbour_resolve.specs.declared.neighbour.Due.TheVariants.{Ask, Gone}
 use Rattle.neighbour_resolve.specs.Due.{due_said}
 use Rattle.ctl_world.specs.World.{World}
 use Rattle.ctl_settle.specs.Settling.{say_due, take_due}
-use Rattle.law_units.specs.declared.change.Change.{Change}
-use Rattle.law_units.specs.declared.change.Change.TheVariants as change
-
--- one that is asked once more may be one that isn't known any more; one that is given up goes
-abbrev pub due : Due → Change
-due (Ask group vid ip) = change.Neighbour group vid ip
-due (Gone group vid ip) = change.Neighbour group vid ip
+use Rattle.conf_types.specs.declared.change.Change.{Change}
+use Rattle.law_names.specs.Dues.{due}
 
 abbrev pub by_due : (most : ℕ) → World → List Change
 by_due zero w = []

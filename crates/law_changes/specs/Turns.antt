@@ -8,10 +8,10 @@ use Rattle.ctl_world.specs.World.{World, now}
 use Rattle.ctl_life.specs.Life.{closing_for, open_conn}
 use Rattle.ctl_core.specs.Reloading.{accepted, reload}
 use Rattle.ctl_core.specs.Turns.{pass, turn}
-use Rattle.law_units.specs.declared.change.Change.{Change}
+use Rattle.conf_types.specs.declared.change.Change.{Change}
 use Rattle.law_changes.specs.Clock.{by_clock}
-use Rattle.law_changes.specs.Differing.{differing}
-use Rattle.law_changes.specs.Ends.{by_end}
+use Rattle.law_names.specs.Differing.{differing}
+use Rattle.law_names.specs.Ends.{by_end}
 use Rattle.law_changes.specs.Frames.{by_piece}
 use Rattle.law_changes.specs.Settlings.{by_settling}
 

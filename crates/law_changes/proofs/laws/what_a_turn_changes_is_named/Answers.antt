@@ -2,10 +2,10 @@ use Rattle.std.specs.Prelude.{◌≡◌, true, []}
 use Rattle.law_runs.specs.Members.{all_by, all_filtered, of_all}
 use Rattle.ctl_world.specs.World.{World, now}
 use Rattle.ctl_core.specs.Turns.{turn}
-use Rattle.law_units.specs.declared.change.Change.{Change}
-use Rattle.law_changes.specs.Differing.{differs}
+use Rattle.conf_types.specs.declared.change.Change.{Change}
+use Rattle.law_names.specs.Differing.{differs}
 use Rattle.law_changes.specs.Turns.{changes_of, touched}
-use Rattle.law_changes.proofs.Joined.{exact_named}
+use Rattle.law_names.proofs.Joined.{exact_named}
 use Rattle.law_changes.proofs.Turned.{turn_named}
 use Rattle.law_changes.proofs.laws.what_a_turn_changes_is_named.Goals as goal
 

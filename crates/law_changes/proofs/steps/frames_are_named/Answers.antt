@@ -1,5 +1,5 @@
 use Rattle.law_changes.proofs.Heard.{frame_named}
-use Rattle.law_changes.proofs.Stepped.{learn_named}
+use Rattle.law_names.proofs.Stepped.{learn_named}
 use Rattle.law_changes.proofs.steps.frames_are_named.Goals as goal
 
 pub returns-clause-frame : goal.returns-clause-frame

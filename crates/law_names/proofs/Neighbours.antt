@@ -10,7 +10,7 @@ use Rattle.net_base.specs.declared.address.Mac.{Mac}
 use Rattle.net_base.specs.declared.numbers.DpId.{DpId}
 use Rattle.conf_types.specs.declared.state.NeighRec.{NeighRec}
 use Rattle.conf_types.specs.Configuration.{Configuration}
-use Rattle.packet_way.specs.Routes.{mac_of_neighbour}
+use Rattle.conf_types.specs.Changes.{mac_of_neighbour}
 use Rattle.neighbour_resolve.specs.declared.neighbour.Due.{Due}
 use Rattle.neighbour_resolve.specs.declared.neighbour.Due.TheVariants as dues
 use Rattle.neighbour_resolve.specs.declared.neighbour.Want.{Want}
@@ -18,10 +18,10 @@ use Rattle.neighbour_resolve.specs.declared.neighbour.Want.TheVariants as wants
 use Rattle.neighbour_resolve.specs.Due.{after_due, asked, asked_on, due_said, first_due, is_due, is_gateway, most_tries, next, said_of}
 use Rattle.neighbour_resolve.specs.Table.{gives_way, is_same, neighbours_after, stays}
 use Rattle.law_runs.specs.Members.{head_of}
-use Rattle.law_units.specs.declared.change.Change.TheVariants as change
-use Rattle.law_changes.specs.Differing.{neighbour}
-use Rattle.law_changes.specs.Settlings.{due}
-use Rattle.law_changes.proofs.Left.{appended, left_named, mapped}
+use Rattle.conf_types.specs.declared.change.Change.TheVariants as change
+use Rattle.law_names.specs.Differing.{neighbour}
+use Rattle.law_names.specs.Dues.{due}
+use Rattle.law_names.proofs.Left.{appended, left_named, mapped}
 
 module _ (group : DpId) (vid : ℕ) (ip : Ip4) where
   abbrev pub key : NeighRec → Bool

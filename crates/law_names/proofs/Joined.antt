@@ -8,14 +8,13 @@ use Rattle.net_base.specs.declared.address.Mac.{Mac}
 use Rattle.conf_types.specs.Configuration.{Configuration}
 use Rattle.conf_types.specs.Links.{is_up}
 use Rattle.conf_types.specs.State.{State, is_running}
-use Rattle.packet_way.specs.Routes.{mac_of_neighbour}
+use Rattle.conf_types.specs.Changes.{mac_of_neighbour, AreNamed, Standing, standing_of}
 use Rattle.law_runs.specs.Members.{in_front, behind, in_filtered}
 use Rattle.plan_units.specs.Agrees.{equal_bytes, same_bytes}
-use Rattle.law_units.specs.declared.change.Change.{Change}
-use Rattle.law_units.specs.declared.change.Change.TheVariants as change
-use Rattle.law_units.specs.Reach.{AreNamed, Standing, standing_of}
+use Rattle.conf_types.specs.declared.change.Change.{Change}
+use Rattle.conf_types.specs.declared.change.Change.TheVariants as change
 use Rattle.law_units.specs.Reached.{is_other}
-use Rattle.law_changes.specs.Differing.{differing, differs, is_one_address, is_one_place}
+use Rattle.law_names.specs.Differing.{differing, differs, is_one_address, is_one_place}
 
 pub none_named : (conf : Configuration) (s : State) → AreNamed conf s s []
 none_named conf s = record {
@@ -35,7 +34,7 @@ more_named conf old new xs ys within named = record {
 
 -- ---- equal by a test
 
-not_true : (b : Bool) → not b ≡ false → b ≡ true
+pub not_true : (b : Bool) → not b ≡ false → b ≡ true
 not_true true is = refl
 not_true false is = absurd (true≢false is)
 
@@ -45,13 +44,13 @@ same_bool false false is = refl
 same_bool true false is = absurd (true≢false is)
 same_bool false true is = absurd (true≢false is)
 
-one_by : {A : Type 0} (test : A → A → Bool) → ((a b : A) → test a b ≡ true → a ≡ b) → (a b : Option A) → option_eq test a b ≡ true → a ≡ b
+pub one_by : {A : Type 0} (test : A → A → Bool) → ((a b : A) → test a b ≡ true → a ≡ b) → (a b : Option A) → option_eq test a b ≡ true → a ≡ b
 one_by test one None None is = refl
 one_by test one None (Some b) is = absurd (true≢false (sym is))
 one_by test one (Some a) None is = absurd (true≢false (sym is))
 one_by test one (Some a) (Some b) is = ap Some (one a b is)
 
-one_place : (a b : Standing) → is_one_place a b ≡ true → a ≡ b
+pub one_place : (a b : Standing) → is_one_place a b ≡ true → a ≡ b
 one_place a b is =
     let p = and_parts (a.dp.0 == b.dp.0) (a.port == b.port && not (is_other a.is_fresh b.is_fresh)) is in
     let q = and_parts (a.port == b.port) (not (is_other a.is_fresh b.is_fresh)) p.1 in
@@ -64,7 +63,7 @@ one_place a b is =
     other_false true is = absurd (true≢false (sym is))
     other_false false is = refl
 
-one_address : (a b : Mac) → is_one_address a b ≡ true → a ≡ b
+pub one_address : (a b : Mac) → is_one_address a b ≡ true → a ≡ b
 one_address a b is = let same = same_bytes a.0 b.0 is in λ i. record { 0 = same i }
 
 -- what can't be equal differs by the test
@@ -87,11 +86,11 @@ module _ (conf : Configuration) (old new : State) where
 
 -- ---- over two steps
 
-itself : (b : Bool) → not (is_other b b) ≡ true
+pub itself : (b : Bool) → not (is_other b b) ≡ true
 itself true = refl
 itself false = refl
 
-place_itself : (a : Standing) → is_one_place a a ≡ true
+pub place_itself : (a : Standing) → is_one_place a a ≡ true
 place_itself a = and_from _ _ (eq-eqb a.dp.0 a.dp.0 refl) (and_from _ _ (eq-eqb a.port a.port refl) (itself a.is_fresh))
 
 one_bool : (a b : Bool) → (a ≡ b) ⊎ (a ≡ b → ⊥)

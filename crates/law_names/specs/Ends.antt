@@ -8,9 +8,9 @@ use Rattle.ctl_world.specs.declared.conns.Conn.{Conn}
 use Rattle.ctl_world.specs.Connections.{change as changed, conn_of, has_number, with_dp, without}
 use Rattle.ctl_world.specs.Ends.{is_reached, stands}
 use Rattle.ctl_world.specs.World.{World, running, ups}
-use Rattle.law_units.specs.declared.change.Change.{Change}
-use Rattle.law_units.specs.declared.change.Change.TheVariants as change
-use Rattle.law_changes.specs.Differing.{host, neighbour}
+use Rattle.conf_types.specs.declared.change.Change.{Change}
+use Rattle.conf_types.specs.declared.change.Change.TheVariants as change
+use Rattle.law_names.specs.Differing.{host, neighbour}
 
 -- a datapath and its ports
 abbrev pub place : Configuration → DpId → List Change

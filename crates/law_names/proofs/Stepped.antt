@@ -5,6 +5,7 @@ use Rattle.std.specs.Option.{option_map, option_map_or}
 use Rattle.net_base.specs.declared.address.Ip4.{Ip4}
 use Rattle.net_base.specs.declared.address.Mac.{Mac}
 use Rattle.net_base.specs.declared.numbers.DpId.{DpId}
+use Rattle.net_base.specs.declared.numbers.Moment.{Moment}
 use Rattle.conf_types.specs.declared.state.HostRec.{HostRec}
 use Rattle.conf_types.specs.declared.state.NeighRec.{NeighRec}
 use Rattle.conf_types.specs.Groups.{group_of}
@@ -14,27 +15,28 @@ use Rattle.conf_types.specs.Valid.{IsValid}
 use Rattle.host_learn.specs.Learning as hosts
 use Rattle.neighbour_resolve.specs.Table as neighbours
 use Rattle.of13_codec.specs.declared.message.Message.{Message}
+use Rattle.of13_codec.specs.declared.message.Message.TheVariants as messages
 use Rattle.switch_session.specs.declared.closing.Closing.{Closing}
 use Rattle.ctl_world.specs.declared.conns.Conn.{Conn}
 use Rattle.ctl_world.specs.declared.said.Said.{Said}
 use Rattle.ctl_world.specs.declared.said.Said.TheVariants as said
-use Rattle.ctl_world.specs.Connections.{change as changed, conn_of, conn_with, with_asked, with_dp, with_said, without}
+use Rattle.ctl_world.specs.Connections.{change as changed, conn_of, conn_with, put, with_asked, with_dp, with_fed, with_said, without}
 use Rattle.ctl_world.specs.Ends.{close, drop_conn, end_line, ended, forget_lost, is_reached, stands}
 use Rattle.ctl_world.specs.Saying.{add_said, ask, say, say_by}
 use Rattle.ctl_world.specs.World.{World, now, running, ups}
-use Rattle.ctl_life.specs.Life.{replace, take_dp}
+use Rattle.ctl_life.specs.Life.{feed, open_conn, replace, take_dp}
 use Rattle.switch_session.specs.declared.closing.Closing.TheVariants.{Replaced}
+use Rattle.switch_session.specs.Connections.{opened}
 use Rattle.ctl_packets.specs.Packets.{learn, want}
-use Rattle.law_units.specs.declared.change.Change.{Change}
-use Rattle.law_units.specs.declared.change.Change.TheVariants as change
-use Rattle.law_units.specs.Reach.{AreNamed}
-use Rattle.packet_way.specs.Routes.{mac_of_neighbour}
-use Rattle.law_changes.specs.Ends.{by_change, by_end, by_replace, by_take, dps_on, lost, places}
-use Rattle.law_changes.specs.Names.{Names}
-use Rattle.law_changes.proofs.Hosts as host_proofs
-use Rattle.law_changes.proofs.Joined.{more_named, none_named, through_named}
-use Rattle.law_changes.proofs.Neighbours as neighbour_proofs
-use Rattle.law_changes.proofs.Places.{changed_same, dp_named, kept_same, or_none, port_named, run_same, seen, seen_of, up_same, without_same}
+use Rattle.conf_types.specs.declared.change.Change.{Change}
+use Rattle.conf_types.specs.declared.change.Change.TheVariants as change
+use Rattle.conf_types.specs.Changes.{AreNamed, mac_of_neighbour}
+use Rattle.law_names.specs.Ends.{by_change, by_end, by_replace, by_take, dps_on, lost, places}
+use Rattle.law_names.specs.Names.{Names}
+use Rattle.law_names.proofs.Hosts as host_proofs
+use Rattle.law_names.proofs.Joined.{more_named, none_named, through_named}
+use Rattle.law_names.proofs.Neighbours as neighbour_proofs
+use Rattle.law_names.proofs.Places.{changed_same, dp_named, kept_same, or_none, port_named, put_same, run_same, seen, seen_of, up_same, without_same}
 use Rattle.law_runs.specs.Members.{behind, in_front}
 
 -- ---- steps one behind the other
@@ -214,3 +216,18 @@ want_quiet group vid ip w =
     let told : NeighRec = neighbours.unresolved group vid ip w.moment in
     neighbours_named w (neighbours.after_told (neighbours.stays true) told w.neighbours) []
     (λ g v i other. absurd (other (sym (neighbour_proofs.wanted_same g v i told refl w.neighbours.neighbours (neighbours.outcome w.neighbours told)))))
+
+-- ---- what opens and what comes
+
+pub open_quiet : (number : ℕ) (w : World) → Names w (open_conn number w) []
+open_quiet number w =
+    let c : Conn = record { number = number; session = opened w.moment; dp = None; sent = [] } in
+    let next : World = record w { conns = put c w.conns } in
+    join w next (open_conn number w) [] [] (conns_quiet w (put c w.conns) (λ dp. ap (option_map seen) (sym (put_same c refl dp w.conns)))) (say_quiet number (messages.Hello 4 (Some 16)) next)
+
+fed_seen : (piece : List ℕ) (now : Moment) (c : Conn) → seen (with_fed piece now c) ≡ seen c
+fed_seen [] now c = refl
+fed_seen (byte ∷ piece) now c = refl
+
+pub feed_quiet : (number : ℕ) (piece : List ℕ) (w : World) → Names w (feed number piece w) []
+feed_quiet number piece w = kept_quiet number (with_fed piece w.moment) (λ c. refl) (fed_seen piece w.moment) w

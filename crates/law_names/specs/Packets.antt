@@ -10,8 +10,8 @@ use Rattle.neighbour_resolve.specs.Counted.{counted_vid}
 use Rattle.neighbour_resolve.specs.Hearing.{heard_sender}
 use Rattle.ctl_world.specs.World.{World}
 use Rattle.ctl_packets.specs.Packets.{gateways, routes, sources}
-use Rattle.law_units.specs.declared.change.Change.{Change}
-use Rattle.law_units.specs.declared.change.Change.TheVariants as change
+use Rattle.conf_types.specs.declared.change.Change.{Change}
+use Rattle.conf_types.specs.declared.change.Change.TheVariants as change
 
 -- the host that is heard, or the neighbour. A neighbour that is looked for isn't known: nothing differs
 abbrev pub by_table : (table : ℕ) → DpId → (vid : ℕ) → FrameParts → World → List Change

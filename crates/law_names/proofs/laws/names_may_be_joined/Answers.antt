@@ -1,6 +1,6 @@
-use Rattle.law_changes.proofs.Joined.{exact_named, more_named, none_named, through_named}
-use Rattle.law_changes.proofs.Stepped.{join}
-use Rattle.law_changes.proofs.laws.names_may_be_joined.Goals as goal
+use Rattle.law_names.proofs.Joined.{exact_named, more_named, none_named, through_named}
+use Rattle.law_names.proofs.Stepped.{join}
+use Rattle.law_names.proofs.laws.names_may_be_joined.Goals as goal
 
 pub returns-clause-none : goal.returns-clause-none
 returns-clause-none c = none_named

@@ -16,13 +16,13 @@ use Rattle.host_learn.specs.declared.learn.Learn.TheVariants.{Learned, Moved, Re
 use Rattle.host_learn.specs.Learning.{hosts_after, is_heard, is_in_place}
 use Rattle.law_runs.specs.Members.{head_of}
 use Rattle.plan_units.specs.Agrees.{same_bytes}
-use Rattle.law_units.specs.declared.change.Change.TheVariants as change
-use Rattle.law_units.specs.Reach.{host_by, standing}
+use Rattle.conf_types.specs.declared.change.Change.TheVariants as change
+use Rattle.conf_types.specs.Changes.{host_by, standing}
 use Rattle.law_units.specs.Reached.{is_other}
 use Rattle.law_units.proofs.Hosts.{HasKey, keyed}
-use Rattle.law_changes.specs.Differing.{host}
-use Rattle.law_changes.proofs.Joined.{same_bool}
-use Rattle.law_changes.proofs.Left.{appended, filtered, left_named, mapped, seen_named}
+use Rattle.law_names.specs.Differing.{host}
+use Rattle.law_names.proofs.Joined.{same_bool}
+use Rattle.law_names.proofs.Left.{appended, filtered, left_named, mapped, seen_named}
 
 module _ (conf : Configuration) (group : DpId) (vid : ℕ) (mac : Mac) where
   abbrev pub key : HostRec → Bool

@@ -1,5 +1,5 @@
-use Rattle.law_changes.proofs.Stepped.{close_named, ended_named, replace_named, take_named}
-use Rattle.law_changes.proofs.steps.ends_are_named.Goals as goal
+use Rattle.law_names.proofs.Stepped.{close_named, ended_named, replace_named, take_named}
+use Rattle.law_names.proofs.steps.ends_are_named.Goals as goal
 
 pub returns-clause-closed : goal.returns-clause-closed
 returns-clause-closed c = close_named

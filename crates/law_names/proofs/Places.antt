@@ -21,9 +21,9 @@ use Rattle.ctl_world.specs.declared.conns.Conn.{Conn}
 use Rattle.ctl_world.specs.Connections.{change as changed, conn_of, has_number, is_of, put, without}
 use Rattle.ctl_world.specs.World.{has_ports, is_at_work, is_up_by, running_of, runs, ups_by, ups_of, ups_on}
 use Rattle.ctl_world.proofs.SoundPlaces.{nothing_valid}
-use Rattle.law_units.specs.declared.change.Change.{Change}
-use Rattle.law_units.specs.declared.change.Change.TheVariants as change
-use Rattle.law_changes.specs.Ends.{dps_on, place, places}
+use Rattle.conf_types.specs.declared.change.Change.{Change}
+use Rattle.conf_types.specs.declared.change.Change.TheVariants as change
+use Rattle.law_names.specs.Ends.{dps_on, place, places}
 
 -- what counts of a connection: its stage, and the ports that were told
 abbrev pub Seen : Type 0

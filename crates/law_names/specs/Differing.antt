@@ -9,10 +9,9 @@ use Rattle.conf_types.specs.Groups.{group_of}
 use Rattle.conf_types.specs.Links.{is_up}
 use Rattle.conf_types.specs.Lists.{is_same}
 use Rattle.conf_types.specs.State.{State, is_running}
-use Rattle.packet_way.specs.Routes.{mac_of_neighbour}
-use Rattle.law_units.specs.declared.change.Change.{Change}
-use Rattle.law_units.specs.declared.change.Change.TheVariants as change
-use Rattle.law_units.specs.Reach.{Standing, standing_of}
+use Rattle.conf_types.specs.Changes.{mac_of_neighbour, Standing, standing_of}
+use Rattle.conf_types.specs.declared.change.Change.{Change}
+use Rattle.conf_types.specs.declared.change.Change.TheVariants as change
 use Rattle.law_units.specs.Reached.{is_other}
 
 -- ---- the change that names a host, or a neighbour

@@ -1,7 +1,5 @@
-use Rattle.law_changes.proofs.Heard.{feed_quiet}
-use Rattle.law_changes.proofs.Stepped.{ask_quiet, say_quiet, want_quiet}
-use Rattle.law_changes.proofs.Turned.{open_quiet}
-use Rattle.law_changes.proofs.steps.what_is_said_changes_nothing.Goals as goal
+use Rattle.law_names.proofs.Stepped.{ask_quiet, feed_quiet, open_quiet, say_quiet, want_quiet}
+use Rattle.law_names.proofs.steps.what_is_said_changes_nothing.Goals as goal
 
 pub returns-clause-say : goal.returns-clause-say
 returns-clause-say c = say_quiet

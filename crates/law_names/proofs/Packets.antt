@@ -20,11 +20,11 @@ use Rattle.neighbour_resolve.specs.Table.{resolved, stays}
 use Rattle.ctl_world.specs.Saying.{packet_out, say}
 use Rattle.ctl_world.specs.World.{World, running}
 use Rattle.ctl_packets.specs.Packets.{destination, gateways, glean, glean_at, glean_in, glean_to, hear_neighbour, hear_sender, is_for_gateway, is_resolved, learn, least_time, network_vlan, outgoing, packet_at, packet_by, packet_in, packet_of_table, reply, routes, sources, want}
-use Rattle.law_units.specs.declared.change.Change.{Change}
-use Rattle.law_units.specs.declared.change.Change.TheVariants as change
-use Rattle.law_changes.specs.Names.{Names}
-use Rattle.law_changes.specs.Packets.{by_packet_in, by_parts, by_port, by_table}
-use Rattle.law_changes.proofs.Stepped.{learn_named, nothing, of_either, of_option, of_two, quiet_option, say_quiet, some, then_quiet, told_named, want_quiet}
+use Rattle.conf_types.specs.declared.change.Change.{Change}
+use Rattle.conf_types.specs.declared.change.Change.TheVariants as change
+use Rattle.law_names.specs.Names.{Names}
+use Rattle.law_names.specs.Packets.{by_packet_in, by_parts, by_port, by_table}
+use Rattle.law_names.proofs.Stepped.{learn_named, nothing, of_either, of_option, of_two, quiet_option, say_quiet, some, then_quiet, told_named, want_quiet}
 
 glean_in_quiet : (group : DpId) (ip : Ip4) (w : World) (vid : ℕ) → Names w (glean_in group ip w vid) []
 glean_in_quiet group ip w vid = of_either w w (want group vid ip w) [] (is_resolved w.neighbours.neighbours group vid ip.0) (nothing w) (want_quiet group vid ip w)

@@ -1,0 +1,11 @@
+pub mod Alone
+pub mod Counted
+pub mod Differences
+pub mod Hosts
+pub mod Joined
+pub mod Left
+pub mod Moments
+pub mod Neighbours
+pub mod Packets
+pub mod Places
+pub mod Stepped
