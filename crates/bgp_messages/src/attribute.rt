@@ -1,5 +1,5 @@
-ghost use Rattle.std.specs.Prelude.{◌≡◌, ◌<◌, [], length, find, IfSome, IfNone, IfOk};
-ghost use Rattle.bgp_messages.specs.Numbers.{has_bit};
+ghost use Rattle.std.specs.Prelude.{◌≡◌, ◌≤◌, ◌<◌, ◌+◌, [], length, find, IfSome, IfNone, IfOk};
+ghost use Rattle.bgp_messages.specs.Numbers.{has_bit, number_in};
 ghost use Rattle.bgp_messages.specs.Grammar.{Begins, BeginsNone, Joined, Parsed};
 ghost use Rattle.bgp_messages.specs.Attributes.{is_optional, is_transitive, length_octets, SpellsAttribute, AreSizes, is_recognized, is_mandatory, has_wrong_flags, has_wrong_length, has_kind, attribute_fault, attributes_fault, is_of, value_or_none, value_of};
 ghost use Rattle.std.specs.Option.{option_copied};
@@ -63,6 +63,19 @@ fn length_octets(flags: u8) -> usize
     if flags & EXTENDED != 0 { 2 } else { 1 }
 }
 
+/// The number in the one or two bytes that tell the length of the attribute at the front.
+fn told_length(octets: usize, bytes: &[u8]) -> u16
+    requires octets { octets ≡ length_octets (number_in 0 1 bytes.now) }
+    requires there { 2 + octets ≤ length bytes.now }
+    ensures { result ≡ number_in 2 octets bytes.now }
+{
+    if octets == 2 {
+        u16_at(bytes, 2)
+    } else {
+        u16::from(u8_at(bytes, 2))
+    }
+}
+
 /// How many bytes stand before the value of the attribute at the front, and how many it takes with it.
 fn first_sizes(bytes: &[u8]) -> Option<(usize, usize)>
     requires { 0 < length bytes.now }
@@ -74,11 +87,7 @@ fn first_sizes(bytes: &[u8]) -> Option<(usize, usize)>
     if bytes.len() < head {
         return None;
     }
-    let len = if octets == 2 {
-        usize::from(u16_at(bytes, 2))
-    } else {
-        usize::from(u8_at(bytes, 2))
-    };
+    let len = usize::from(told_length(octets, bytes));
     if bytes.len() < head + len {
         return None;
     }

@@ -1,5 +1,5 @@
 ghost use Rattle.std.specs.Prelude.{◌≡◌};
-ghost use Rattle.bgp_messages.specs.Faults.{code_of, subcode_of};
+ghost use Rattle.bgp_messages.specs.Faults.{code_of, row, subcode_of};
 ghost use Rattle.bgp_messages.specs.declared.fault.Refused.TheVariants.{Memory};
 
 use net_base::NoMemory;
@@ -50,56 +50,46 @@ pub enum Fault {
 }
 
 impl Fault {
+    /// The error code, and the subcode, which is 0 where there is none.
+    fn row(self) -> (u8, u8)
+        ensures { result ≡ row self }
+    {
+        match self {
+            Fault::ConnectionNotSynchronized => (1, 1),
+            Fault::BadMessageLength => (1, 2),
+            Fault::BadMessageType => (1, 3),
+            Fault::OpenUnspecific => (2, 0),
+            Fault::UnsupportedVersionNumber => (2, 1),
+            Fault::BadPeerAs => (2, 2),
+            Fault::BadBgpIdentifier => (2, 3),
+            Fault::UnsupportedOptionalParameter => (2, 4),
+            Fault::UnacceptableHoldTime => (2, 6),
+            Fault::MalformedAttributeList => (3, 1),
+            Fault::UnrecognizedWellKnownAttribute => (3, 2),
+            Fault::MissingWellKnownAttribute => (3, 3),
+            Fault::AttributeFlagsError => (3, 4),
+            Fault::AttributeLengthError => (3, 5),
+            Fault::InvalidOriginAttribute => (3, 6),
+            Fault::InvalidNetworkField => (3, 10),
+            Fault::MalformedAsPath => (3, 11),
+            Fault::HoldTimerExpired => (4, 0),
+            Fault::FiniteStateMachineError => (5, 0),
+            Fault::Cease => (6, 0),
+        }
+    }
+
     /// The error code.
     pub fn code(self) -> u8
         ensures { result ≡ code_of self }
     {
-        match self {
-            Fault::ConnectionNotSynchronized | Fault::BadMessageLength | Fault::BadMessageType => 1,
-            Fault::OpenUnspecific
-            | Fault::UnsupportedVersionNumber
-            | Fault::BadPeerAs
-            | Fault::BadBgpIdentifier
-            | Fault::UnsupportedOptionalParameter
-            | Fault::UnacceptableHoldTime => 2,
-            Fault::MalformedAttributeList
-            | Fault::UnrecognizedWellKnownAttribute
-            | Fault::MissingWellKnownAttribute
-            | Fault::AttributeFlagsError
-            | Fault::AttributeLengthError
-            | Fault::InvalidOriginAttribute
-            | Fault::InvalidNetworkField
-            | Fault::MalformedAsPath => 3,
-            Fault::HoldTimerExpired => 4,
-            Fault::FiniteStateMachineError => 5,
-            Fault::Cease => 6,
-        }
+        self.row().0
     }
 
     /// The error subcode, 0 where there is none.
     pub fn subcode(self) -> u8
         ensures { result ≡ subcode_of self }
     {
-        match self {
-            Fault::ConnectionNotSynchronized => 1,
-            Fault::BadMessageLength => 2,
-            Fault::BadMessageType => 3,
-            Fault::OpenUnspecific => 0,
-            Fault::UnsupportedVersionNumber => 1,
-            Fault::BadPeerAs => 2,
-            Fault::BadBgpIdentifier => 3,
-            Fault::UnsupportedOptionalParameter => 4,
-            Fault::UnacceptableHoldTime => 6,
-            Fault::MalformedAttributeList => 1,
-            Fault::UnrecognizedWellKnownAttribute => 2,
-            Fault::MissingWellKnownAttribute => 3,
-            Fault::AttributeFlagsError => 4,
-            Fault::AttributeLengthError => 5,
-            Fault::InvalidOriginAttribute => 6,
-            Fault::InvalidNetworkField => 10,
-            Fault::MalformedAsPath => 11,
-            Fault::HoldTimerExpired | Fault::FiniteStateMachineError | Fault::Cease => 0,
-        }
+        self.row().1
     }
 }
 
