@@ -38,8 +38,8 @@ def record(kind, body, conn=1):
     return bytes(8) + bytes([kind]) + conn.to_bytes(4, "big") + len(body).to_bytes(4, "big") + body
 
 
-def run(status, written, err):
-    out = [f"run replay f.yaml r.rec => {status}"]
+def run(name, status, written, err):
+    out = [f"run replay f.yaml {name} => {status}"]
     if written:
         out.append(f" out, {sum(len(line) // 2 for line in written)} bytes:")
         out += [f"  {line}" for line in written]
@@ -58,27 +58,30 @@ def cases():
         stdin.append(line)
         stdout.append(line)
 
-    def one(recording, status, lines, err):
-        tell(f"hex r.rec {recording.hex()}")
-        stdin.append("run replay f.yaml r.rec")
-        stdout.extend(run(status, lines, err))
+    def one(name, status, lines, err):
+        stdin.append(f"run replay f.yaml {name}")
+        stdout.extend(run(name, status, lines, err))
 
     tell("")
     tell("# quick start's recording, cut behind each of its bytes")
     tell("no files")
     tell(conf)
+    tell(f"hex r.rec {whole.hex()}")
     for cut in range(1, len(whole)):
         read = max(n for n, end in enumerate(ends) if end <= cut)
         lines = written[:sum(SAID[:read])]
+        tell(f"cut r.rec {cut}")
         if cut == ends[read]:
-            one(whole[:cut], 0, lines, "")
+            one("cut", 0, lines, "")
         else:
-            one(whole[:cut], 5, lines, f"recording: record {read + 1}: Cut")
+            one("cut", 5, lines, f"recording: record {read + 1}: Cut")
     tell("# behind it, barrier replies with the ids 24, 24, 9 and 24: nothing more is said")
     replies = b"".join(bytes.fromhex("04150008") + xid.to_bytes(4, "big") for xid in (24, 24, 9, 24))
-    one(whole + record(2, replies), 0, written, "")
+    tell(f"hex more.rec {(whole + record(2, replies)).hex()}")
+    one("more.rec", 0, written, "")
     tell("# behind it, a header that tells less than its own length: the connection is closed")
-    one(whole + record(2, bytes.fromhex("0400000700000001")), 0, written + [record(131, b"\2").hex()], "conn 1: BadFrame")
+    tell(f"hex bad.rec {(whole + record(2, bytes.fromhex('0400000700000001'))).hex()}")
+    one("bad.rec", 0, written + [record(131, b"\2").hex()], "conn 1: BadFrame")
     return {"stdin": stdin, "stdout": stdout}
 
 

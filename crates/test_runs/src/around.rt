@@ -1,14 +1,11 @@
 //! What is around a run: the hub that `serve` is handed, and what it was told.
 
-ghost use Rattle.std.specs.Prelude.{◌≤◌, IfOk};
-ghost use Rattle.fg_links.specs.Nexts.{links_in};
-
 use crate::bench::Outside;
-use crate::runs::{answer, put_messages};
-use fg_links::{MemHub, MemLink, MemNext, MemNexts, MemPoller, StoryStep};
+use crate::links::{run_heard, run_link};
+use crate::runs::answer;
+use fg_links::{MemHub, StoryStep};
 use fg_outside::{CallNos, EndCause, Happening, Happenings, MemFiles, NoHub};
-use link_hub::LinkHub;
-use net_base::{Bytes, NoMemory};
+use net_base::NoMemory;
 use std::alloc::Global;
 use std::fmt::Write;
 use test_lines::bytes_of;
@@ -23,6 +20,8 @@ pub enum Around {
     Link,
     /// One over a poller that fails at once.
     Broken,
+    /// One over a poller and a link that is heard, as this line says.
+    Heard(String),
 }
 
 /// A turn: `opened:N`, `heard:N:DIGITS`, `closed:N` or `moment:N`.
@@ -74,39 +73,6 @@ pub fn put_told(alloc: Global, text: &mut String, story: &[StoryStep]) -> Result
     Ok(())
 }
 
-/// What a poller gives that opens a link.
-fn one_link(alloc: Global) -> Result<MemNexts<MemLink>, NoMemory>
-    ensures { IfOk result (λ nexts. links_in nexts ≤ 1) }
-{
-    let link = MemLink::new(
-        alloc,
-        Bytes::new(alloc),
-        10_000,
-        CallNos::new(alloc),
-        CallNos::new(alloc),
-    )?;
-    let mut nexts = MemNexts::new(alloc);
-    nexts.push(MemNext::New(link))?;
-    Ok(nexts)
-}
-
-/// A run over a link in memory, where the listed calls of the poller fail.
-fn run_links(
-    alloc: Global,
-    line: &str,
-    files: MemFiles,
-    outside: Outside,
-    fail: CallNos,
-) -> Result<String, NoMemory> {
-    let poller = MemPoller::new(alloc, one_link(alloc)?, 10, fail)?;
-    let (mut text, hub) = answer(alloc, line, files, LinkHub::new(alloc, poller), outside)?;
-    if let Some(link) = hub.link(1) {
-        text.push_str("\n link 1 holds")?;
-        put_messages(alloc, &mut text, link.written())?;
-    }
-    Ok(text)
-}
-
 /// Runs the program with what is around it, and tells its status, what it wrote and what its hub was told.
 pub fn run_around(
     alloc: Global,
@@ -123,10 +89,8 @@ pub fn run_around(
             put_told(alloc, &mut text, hub.story())?;
             Ok(text)
         }
-        Around::Link => run_links(alloc, line, files, outside, CallNos::new(alloc)),
-        Around::Broken => {
-            let fail = CallNos::from_slice(alloc, &[1])?;
-            run_links(alloc, line, files, outside, fail)
-        }
+        Around::Link => run_link(alloc, line, files, outside, 0),
+        Around::Broken => run_link(alloc, line, files, outside, 1),
+        Around::Heard(given) => run_heard(alloc, line, files, outside, given.as_str()),
     }
 }

@@ -4,7 +4,7 @@ use crate::around::{Around, run_around};
 use crate::flights::run_recorded;
 use crate::runs::refuse;
 use fg_outside::{CallNos, Folder, Folders, HeldFile, HeldFiles, MemFiles};
-use net_base::{NoMemory, Text, TryCopy};
+use net_base::{Bytes, NoMemory, Text, TryCopy};
 use std::alloc::Global;
 use test_lines::{Answers, bytes_of, unescaped, write_repeated};
 
@@ -60,6 +60,18 @@ fn bytes_file(alloc: Global, line: &str) -> Result<HeldFile, NoMemory> {
     })
 }
 
+/// The name of a file that was cut.
+const CUT: &str = "cut";
+
+/// The first bytes of a file, as the file `cut`.
+fn front_of(alloc: Global, file: &HeldFile, count: usize) -> Result<HeldFile, NoMemory> {
+    let bytes = file.bytes.as_slice();
+    Ok(HeldFile {
+        name: Text::from_str(alloc, CUT)?,
+        bytes: Bytes::from_slice(alloc, &bytes[..count.min(bytes.len())])?,
+    })
+}
+
 impl Bench {
     /// No file, and nothing fails.
     pub fn new(alloc: Global) -> Bench {
@@ -96,6 +108,23 @@ impl Bench {
             "tape" => self.outside.record_room = number as usize,
             _ => self.outside.room = number as usize,
         }
+    }
+
+    /// The first bytes of a file, as the file `cut` of the next runs, in place of that of the last cut: `NAME COUNT`.
+    fn cut(&mut self, alloc: Global, line: &str) -> Result<(), NoMemory> {
+        let (name, count) = line.split_once(' ').unwrap_or((line, ""));
+        let count = count.parse::<usize>().unwrap_or(0);
+        let mut held = HeldFiles::new(alloc);
+        for file in self.held.as_slice() {
+            if file.name.as_str() == name {
+                held.push(front_of(alloc, file, count)?)?;
+            }
+            if file.name.as_str() != CUT {
+                held.push(file.copy(alloc)?)?;
+            }
+        }
+        self.held = held;
+        Ok(())
     }
 
     /// The hub of this run, and none in the next.
@@ -142,6 +171,8 @@ impl Answers for Bench {
                 self.later = HeldFiles::new(alloc);
             }
             ("hub", turns) => self.around = Around::Turns(String::from_str(alloc, turns)?),
+            ("cut", cut_line) => self.cut(alloc, cut_line)?,
+            ("links", given) => self.around = Around::Heard(String::from_str(alloc, given)?),
             ("poller", "opens") => self.around = Around::Link,
             ("poller", "fails") => self.around = Around::Broken,
             ("fail", fault) => self.take_fault(fault),

@@ -5,6 +5,7 @@
 mod around;
 mod bench;
 mod flights;
+mod links;
 mod runs;
 
 use bench::Bench;
