@@ -8,6 +8,7 @@ import glob
 import os
 import random
 import resource
+import signal
 import socket
 import statistics
 import struct
@@ -221,4 +222,5 @@ def main():
 
 
 if __name__ == "__main__":
+    signal.signal(signal.SIGTERM, lambda *_: sys.exit("stopped"))
     sys.exit(main())

@@ -10,33 +10,7 @@ work=$(mktemp -d)
 trap 'rm -rf "$work"' EXIT
 "$top/bin/faucet" plan "$top/examples/quick-start/faucet.yaml" sw1 >/dev/null
 
-cat >"$work/fail.c" <<'SHIM'
-#include <errno.h>
-#include <fcntl.h>
-#include <stdlib.h>
-#include <unistd.h>
-
-extern void *__libc_malloc(size_t), *__libc_realloc(void *, size_t), *__libc_calloc(size_t, size_t);
-static long failing = -1, count = 0;
-
-static int fails(void) {
-  if (failing < 0) failing = atol(getenv("FAILING"));
-  if (++count != failing) return 0;
-  errno = ENOMEM;
-  return 1;
-}
-
-void *malloc(size_t n) { return fails() ? NULL : __libc_malloc(n); }
-void *realloc(void *p, size_t n) { return fails() ? NULL : __libc_realloc(p, n); }
-void *calloc(size_t n, size_t size) { return fails() ? NULL : __libc_calloc(n, size); }
-
-/* the number of allocations, as the length of a file */
-__attribute__((destructor)) static void tell(void) {
-  int file = open(getenv("COUNTED"), O_CREAT | O_WRONLY, 0600);
-  if (file < 0 || ftruncate(file, count) || close(file)) _exit(99);
-}
-SHIM
-gcc -O2 -shared -fPIC -o "$work/fail.so" "$work/fail.c"
+gcc -O2 -shared -fPIC -o "$work/fail.so" "$top/bench/fail.c"
 
 python3 - "$top" "$work" <<'RUNS'
 import collections, os, re, subprocess, sys
