@@ -32,7 +32,11 @@ for name in stands_on:
 CLOSURE
 cut -d: -f1 "$work/crates.txt" | while read -r name; do
   mkdir -p "$work/crates/$name/out"
-  cp -a "$top/crates/$name/src" "$top/crates/$name/specs" "$top/crates/$name/proofs" "$work/crates/$name"
+  for part in src specs proofs; do
+    if [ -d "$top/crates/$name/$part" ]; then
+      cp -a "$top/crates/$name/$part" "$work/crates/$name"
+    fi
+  done
   if [ -d "$top/crates/$name/out/rlib" ]; then
     cp -a --reflink=auto "$top/crates/$name/out/rlib" "$work/crates/$name/out"
   fi
