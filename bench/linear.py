@@ -75,6 +75,22 @@ def files_in_a_list(n):
     return ["check", put("f.yaml", ONE + f"include: [{', '.join(f'i{k}.yaml' for k in range(n))}]\n")], 0
 
 
+def files_behind_many_keys(n):
+    """A file of many keys, and files that each give a name of a section that stands behind these keys."""
+    for k in range(n):
+        put(f"i{k}.yaml", f"acls: {{acl{k}: []}}\n")
+    keys = "".join(f"key{k}: {k}\n" for k in range(16 * n))
+    return ["check", put("f.yaml", f"{keys}{ONE}acls:\ninclude: [{', '.join(f'i{k}.yaml' for k in range(n))}]\n")], 2
+
+
+def names_of_each_section(n):
+    """Datapaths, ACLs and routers, as many of each; the datapaths are more than there may be."""
+    dps = "".join(f"  s{k}: {{dp_id: {k + 1}, interfaces: {{1: {{native_vlan: 100}}}}}}\n" for k in range(n))
+    acls = "".join(f"  acl{k}: []\n" for k in range(n))
+    routers = "".join(f"  router{k}: {{vlans: []}}\n" for k in range(n))
+    return ["check", put("f.yaml", f"vlans: {{100: }}\ndps:\n{dps}acls:\n{acls}routers:\n{routers}")], 2
+
+
 def files_8_deep(n):
     """Chains of files, of which each includes the next, 8 deep."""
     for chain in range(n // 8):
@@ -201,8 +217,9 @@ def gleaned(number):
 
 INPUTS = [
     (keys_of_a_map, 12_000), (keys_of_a_flow_map, 12_000), (acls_of_a_file, 2_000), (acls_of_two_files, 2_000), (files_in_a_list, 500),
-    (files_8_deep, 512), (acl_outputs, 16_384), (acl_rules, 4_000), (connections, 8_000), (connections_that_speak, 20_000),
-    (connections_one_by_one, 20_000), (moments, 100_000), (hosts_due_at_once, 1_000), (neighbours_due_at_once, 512),
+    (files_behind_many_keys, 500), (names_of_each_section, 2_000), (files_8_deep, 512), (acl_outputs, 16_384), (acl_rules, 4_000),
+    (connections, 8_000), (connections_that_speak, 20_000), (connections_one_by_one, 20_000), (moments, 100_000),
+    (hosts_due_at_once, 1_000), (neighbours_due_at_once, 512),
 ]
 
 

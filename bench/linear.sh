@@ -1,9 +1,9 @@
 #!/usr/bin/env bash
-# Measures whether the time of a run grows as its input does: keys of one map, names that several files give, ACLs and their outputs,
-# files that include files 8 deep, many connections in one recording, hosts and neighbours that are due at once. Each at three sizes,
-# of which each is twice the one before: prints the seconds of a processor of each (the least of three runs, less those of a run on
-# nothing) and their ratios, 2 where the time is linear, 4 where it grows with the square. A run that takes more than MOST seconds of a
-# processor is ended. Checks nothing but that the others end as they should.
+# Measures whether the time of a run grows as its input does: keys of one map, names of the sections and such as several files give,
+# ACLs and their outputs, files that include files 8 deep, many connections in one recording, hosts and neighbours that are due at once.
+# Each at three sizes, of which each is twice the one before: prints the seconds of a processor of each (the least of three runs, less
+# those of a run on nothing) and their ratios, 2 where the time is linear, 4 where it grows with the square. A run that takes more than
+# MOST seconds of a processor is ended. Checks nothing but that the others end as they should.
 # Usage: [ONLY=NAME,NAME..] [MOST=SECONDS] bench/linear.sh [PROGRAM]    ONLY names functions of linear.py, MOST is 20 else; PROGRAM is
 # another one than bin/faucet
 set -eu

@@ -1,9 +1,9 @@
 -- What becomes of the files over steps that stand one behind the other.
-use Rattle.std.proofs.Common.{◌≡◌, ◌∙◌, ℕ, List, Option, Result, Ok, subst, arith}
+use Rattle.std.proofs.Common.{◌≡◌, ◌∙◌, ℕ, List, Option, Result, Ok, Err, subst, arith}
 use Rattle.std.specs.Prelude.{IfErr, IsErrOf}
 use Rattle.fg_outside.specs.Contents.{Contents}
 use Rattle.conf_gather.specs.declared.refused.LoadRefused.{LoadRefused}
-use Rattle.conf_gather.specs.declared.refused.LoadRefused.TheVariants.{Read}
+use Rattle.conf_gather.specs.declared.refused.LoadRefused.TheVariants.{Read, Absent}
 use Rattle.conf_gather.specs.Gives.{IsWithin}
 use Rattle.conf_gather.specs.Files.{ReadsFiles}
 
@@ -13,6 +13,9 @@ never_unread {Y} r file within is = subst (λ (x : Result Y LoadRefused). IfErr 
 
 never_refused : {X : Type 0} (x : X) (e : LoadRefused) → IsErrOf (Ok x) e → ⊥
 never_refused x e is = cc
+
+same_refusal : {X Y : Type 0} (e other : LoadRefused) → IsErrOf {T = X} (Err e) other → IsErrOf {T = Y} (Err e) other
+same_refusal e other is = cc
 
 module _ {F X Y : Type 0} {contents : F → Option Contents} {faults absences : F → ℕ} {refused : F → List ℕ} where
   -- files are read, and then more of them
@@ -30,3 +33,16 @@ module _ {F X Y : Type 0} {contents : F → Option Contents} {faults absences : 
         counted_absences = omega (arith, first.counted_absences, later.counted_absences);
         same_contents = later.same_contents ∙ first.same_contents;
       }
+
+  -- a refusal is passed on
+  pub passed_on : {old new : F} {e : LoadRefused} → ReadsFiles {Y = X} contents faults absences refused old new (Err e) → ReadsFiles {Y = Y} contents faults absences refused old new (Err e)
+  passed_on {old} {new} {e} first = record {
+    read = λ file is. first.read file (same_refusal e (Read file) is);
+    no_fault = λ never. first.no_fault (λ file is. never file (same_refusal e (Read file) is));
+    absent = λ file is. first.absent file (same_refusal e (Absent file) is);
+    unread_file = λ file is. first.unread_file file (same_refusal e (Read file) is);
+    absent_file = λ file is. first.absent_file file (same_refusal e (Absent file) is);
+    counted_faults = first.counted_faults;
+    counted_absences = first.counted_absences;
+    same_contents = first.same_contents;
+  }

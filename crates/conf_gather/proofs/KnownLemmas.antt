@@ -1,5 +1,5 @@
 -- What a set of keys tells of entries.
-use Rattle.std.proofs.Common.{◌≡◌, ℕ, ℤ, Bool, true, false, cond, ◌||◌, List, [], ◌∷◌, ◌++◌, ◌+◌, ◌<◌, length, get_or, take, drop, Some, None, refl, sym, ap, ◌∙◌}
+use Rattle.std.proofs.Common.{◌≡◌, ℕ, ℤ, Bool, true, false, cond, ◌||◌, List, [], ◌∷◌, ◌++◌, ◌+◌, ◌<◌, length, get_or, take, drop, Some, refl, sym, ap, ◌∙◌}
 use Rattle.std.specs.Prelude.{is_some, if◌then◌else◌}
 use Rattle.std.specs.Ordering.{int_cmp, int_eq, nat_cmp}
 use Rattle.std.specs.List.{list_any}
@@ -10,7 +10,6 @@ use Rattle.std.specs.BTreeSet.{BTreeSet, UpdatesBy, contains_text}
 use Rattle.std.specs.declared.string.String.{String}
 use Rattle.std.specs.declared.alloc.Global.{Global}
 use Rattle.std.proofs.lemmas.Bool.{cond-true, cond-false}
-use Rattle.std.proofs.lemmas.Bool.Decides.{Decides-int_eq}
 use Rattle.std.proofs.lemmas.List.{drop_more, take_more}
 use Rattle.std.proofs.lemmas.List.Folds.{list_any-append}
 use Rattle.std.proofs.lemmas.Map.Text.{btree_set_updates_text}
@@ -23,7 +22,7 @@ use Rattle.conf_gather.specs.declared.key_set.KeySet.{KeySet}
 use Rattle.conf_gather.specs.Known.{knows, AreKeysOf}
 use Rattle.conf_gather.specs.WrongTypes.{value_of}
 use Rattle.conf_gather.specs.Joined.{first_in_both, extended, with_more}
-use Rattle.conf_gather.proofs.SoundLemmas.{same_key, found_has, or_first, or_second}
+use Rattle.conf_gather.proofs.SoundLemmas.{found_has}
 
 or_false : (a : Bool) → a || false ≡ a
 or_false true = refl
@@ -63,12 +62,6 @@ has_key-push (q ∷ qs) p k = ap (λ b. key_eq q.key k || b) (has_key-push qs p 
 pub keys_push : (pairs : List Pair) (p : Pair) (old new : KeySet) → AreKeysOf pairs old → ((k : Key) → knows new k ≡ (knows old k || key_eq p.key k)) → AreKeysOf (pairs ++ p ∷ []) new
 keys_push pairs p old new are more = λ k. more k ∙ ap (λ b. b || key_eq p.key k) (are k) ∙ sym (has_key-push pairs p k)
 
-pub next_keys : (pairs : List Pair) (i : ℕ) (p : Pair) (old new : KeySet) → i < length pairs → p ≡ get_or pairs i p → AreKeysOf (take i pairs) old
-    → ((k : Key) → knows new k ≡ (knows old k || key_eq p.key k)) → AreKeysOf (take (i + 1) pairs) new
-next_keys pairs i p old new below here are more =
-    let one : take (i + 1) pairs ≡ take i pairs ++ p ∷ [] = take_more pairs i p below ∙ ap (λ (x : Pair). take i pairs ++ x ∷ []) (sym here) in
-    rw one (keys_push (take i pairs) p old new are more)
-
 more_keys_step : (k : Key) (more ps joint : List Pair) (p : Pair) (b : Bool) → has_key joint k ≡ has_key ps k → has_key (if b then extended p more ∷ ps else p ∷ joint) k ≡ has_key (p ∷ ps) k
 unfolding has_key
 more_keys_step k more ps joint p true later = refl
@@ -85,54 +78,33 @@ pub no_keys : (keys : KeySet) → ((k : Key) → knows keys k ≡ false) → Are
 unfolding has_key
 no_keys keys none = none
 
+has_key-append : (xs ys : List Pair) (k : Key) → has_key (xs ++ ys) k ≡ (has_key xs k || has_key ys k)
+unfolding has_key
+has_key-append [] ys k = refl
+has_key-append (q ∷ qs) ys k = ap (λ b. key_eq q.key k || b) (has_key-append qs ys k) ∙ or_assoc (key_eq q.key k) (has_key qs k) (has_key ys k)
+
+-- ---- the keys of more entries, one by one
+
+-- the set knows what it knew first, and the keys of these entries
+abbrev pub KnowsMore : KeySet → List Pair → KeySet → Type 0
+KnowsMore first more keys = (k : Key) → knows keys k ≡ (knows first k || has_key more k)
+
+pub none_more : (keys : KeySet) → KnowsMore keys [] keys
+unfolding has_key
+none_more keys = λ k. sym (or_false (knows keys k))
+
+pub next_more : (first : KeySet) (pairs : List Pair) (i : ℕ) (p : Pair) (old new : KeySet) → i < length pairs → p ≡ get_or pairs i p → KnowsMore first (take i pairs) old
+    → ((k : Key) → knows new k ≡ (knows old k || key_eq p.key k)) → KnowsMore first (take (i + 1) pairs) new
+next_more first pairs i p old new below here so_far more = λ k.
+    more k ∙ ap (λ b. b || key_eq p.key k) (so_far k) ∙ sym (or_assoc (knows first k) (has_key (take i pairs) k) (key_eq p.key k))
+    ∙ ap (λ b. knows first k || b) (sym (has_key-push (take i pairs) p k))
+    ∙ ap (λ (l : List Pair). knows first k || has_key l k) (sym (take_more pairs i p below ∙ ap (λ (x : Pair). take i pairs ++ x ∷ []) (sym here)))
+
+-- of the keys of these entries, and of more
+pub keys_append : (pairs more : List Pair) (old new : KeySet) → AreKeysOf pairs old → KnowsMore old more new → AreKeysOf (pairs ++ more) new
+keys_append pairs more old new are grown = λ k. grown k ∙ ap (λ b. b || has_key more k) (are k) ∙ sym (has_key-append pairs more k)
+
 -- ---- keys that stand in two lists
-
-same_text : (text : List ℕ) → bytes_eq text text ≡ true
-same_text text = (bytes_eq-Decides text text).1 refl
-
-key_itself : (k : Key) → key_eq k k ≡ true
-key_itself (key.Int n) = (Decides-int_eq n n).1 refl
-key_itself (key.Text text) = same_text text
-
-first_has : (p : Pair) (ps : List Pair) → has_key (p ∷ ps) p.key ≡ true
-unfolding has_key
-first_has p ps = rw (key_itself p.key) refl
-
-or_true : (a b : Bool) → b ≡ true → a || b ≡ true
-or_true true b e = refl
-or_true false b e = e
-
-later_has : (p : Pair) (ps : List Pair) (k : Key) → has_key ps k ≡ true → has_key (p ∷ ps) k ≡ true
-unfolding has_key
-later_has p ps k e = or_true (key_eq p.key k) (has_key ps k) e
-
--- a key of one list stands in the other, none of whose keys stands in the first
-apart_step : (b c : Bool) → (b ≡ true → ⊥) → c ≡ false → b || c ≡ false
-apart_step true c differs e = absurd (differs refl)
-apart_step false c differs e = e
-
-apart : (has : Key → Bool) (before : List Pair) (k : Key) → list_any (λ p. has p.key) before ≡ false → has k ≡ true → has_key before k ≡ false
-unfolding has_key
-apart has [] k none is = refl
-apart has (q ∷ qs) k none is =
-    apart_step (key_eq q.key k) (has_key qs k)
-    (λ same. let here : has q.key ≡ false = or_first (has q.key) (list_any (λ p. has p.key) qs) none in
-    let there : has k ≡ false = ap has (sym (same_key q.key k same)) ∙ here in
-    absurd (clash (has k) is there))
-    (apart has qs k (or_second (has q.key) (list_any (λ p. has p.key) qs) none) is)
-  where
-    clash : (b : Bool) → b ≡ true → b ≡ false → ⊥
-    clash true t f = cc
-    clash false t f = cc
-
-none_from : (has : Key → Bool) (before pairs : List Pair) → list_any (λ p. has p.key) before ≡ false → ((k : Key) → has_key pairs k ≡ true → has k ≡ true) → first_in_both before pairs ≡ None
-none_from has before [] none all = refl
-none_from has before (p ∷ ps) none all =
-    let new : is_some (value_of p.key before) ≡ false = found_has p.key before ∙ apart has before p.key none (all p.key (first_has p ps)) in
-    cond-false (is_some (value_of p.key before)) (Some p.key) (first_in_both before ps) new ∙ none_from has before ps none (λ k e. all k (later_has p ps k e))
-
-pub none_in_both : (before pairs : List Pair) (named : KeySet) → AreKeysOf pairs named → list_any (λ p. knows named p.key) before ≡ false → first_in_both before pairs ≡ None
-none_in_both before pairs named are none = none_from (knows named) before pairs none (λ k e. are k ∙ e)
 
 -- the first of the known keys
 module _ (before pairs : List Pair) (known : KeySet) (i : ℕ) (p : Pair) (below : i < length pairs) (here : p ≡ get_or pairs i p) (are : AreKeysOf before known)

@@ -8,3 +8,4 @@ pub mod SoundLemmas
 mod IncludeKeys
 mod OwnEntries
 pub mod KnownLemmas
+pub mod SectionLemmas

@@ -33,7 +33,7 @@ use Rattle.conf_gather.proofs.SoundLemmas.{or_first, or_second, found_has, parts
 out_map : (pairs : List Pair) → out-Tree (trees.Map pairs) ≡ open_tree.Map pairs
 out_map pairs = ap out-Tree (sym (trees.rolls-Map pairs)) ∙ out-roll-Tree (open_tree.Map pairs)
 
-own_entries : (pairs : List Pair) → entries_of (trees.Map pairs) ≡ pairs
+pub own_entries : (pairs : List Pair) → entries_of (trees.Map pairs) ≡ pairs
 own_entries pairs = ap entries_in (out_map pairs)
 
 -- ---- no include key

@@ -186,7 +186,7 @@ by_ways P false true d old pushed more o p m = p refl
 by_ways P false false true old pushed more o p m = m refl
 by_ways P false false false old pushed more o p m = o
 
-push_value : (k : Key) (ps : List Pair) (q : Pair) → key_eq q.key k ≡ false → value_of k (ps ++ q ∷ []) ≡ value_of k ps
+pub push_value : (k : Key) (ps : List Pair) (q : Pair) → key_eq q.key k ≡ false → value_of k (ps ++ q ∷ []) ≡ value_of k ps
 push_value k [] q other = cond-false (key_eq q.key k) (Some q.value) None other
 push_value k (p ∷ ps) q other = ap (λ (found : Option Tree). if key_eq p.key k then Some p.value else found) (push_value k ps q other)
 
@@ -197,7 +197,7 @@ more_value_step k key more ps p other true is later =
     cond-false (key_eq p.key k) (Some (extended p more).value) (value_of k ps) unlike ∙ sym (cond-false (key_eq p.key k) (Some p.value) (value_of k ps) unlike)
 more_value_step k key more ps p other false is later = ap (λ (found : Option Tree). if key_eq p.key k then Some p.value else found) later
 
-more_value : (k key : Key) (more ps : List Pair) → key_eq key k ≡ false → value_of k (with_more key more ps) ≡ value_of k ps
+pub more_value : (k key : Key) (more ps : List Pair) → key_eq key k ≡ false → value_of k (with_more key more ps) ≡ value_of k ps
 more_value k key more [] other = refl
 more_value k key more (p ∷ ps) other = more_value_step k key more ps p other (key_eq p.key key) refl (more_value k key more ps other)
 

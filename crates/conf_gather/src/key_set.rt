@@ -1,10 +1,9 @@
 //! Keys that were met, each found by one look.
 
-ghost use Rattle.std.specs.Prelude.{◌≡◌, ◌||◌, false, IfOk, OnOk};
-ghost use Rattle.std.specs.List.{list_any};
+ghost use Rattle.std.specs.Prelude.{◌≡◌, ◌||◌, false, OnOk};
 ghost use Rattle.yaml_tree.specs.declared.tree.Key.{Key};
-ghost use Rattle.yaml_subset.specs.Entries.{key_eq};
-ghost use Rattle.conf_gather.specs.Known.{knows, AreKeysOf};
+ghost use Rattle.yaml_subset.specs.Entries.{key_eq, has_key};
+ghost use Rattle.conf_gather.specs.Known.{knows};
 
 use net_base::NoMemory;
 use std::alloc::Global;
@@ -54,22 +53,14 @@ impl KeySet {
         }
         Ok(())
     }
-}
 
-/// The keys of these entries.
-pub fn keys_of(alloc: Global, pairs: &[Pair]) -> Result<KeySet, NoMemory>
-    ensures { IfOk result (λ keys. AreKeysOf pairs.now keys) }
-{
-    let mut keys = KeySet::new(alloc);
-    for pair in pairs {
-        keys.add(alloc, &pair.key)?;
+    /// From now on the keys of these entries are among them.
+    pub fn add_all(&mut self, alloc: Global, pairs: &[Pair]) -> Result<(), NoMemory>
+        ensures { OnOk result ((k : Key) → knows self.new k ≡ (knows self.old k || has_key pairs.now k)) }
+    {
+        for pair in pairs {
+            self.add(alloc, &pair.key)?;
+        }
+        Ok(())
     }
-    Ok(keys)
-}
-
-/// Whether one of the entries has one of the keys.
-pub fn has_one_of(pairs: &[Pair], keys: &KeySet) -> bool
-    ensures { result ≡ list_any (λ p. knows keys.now p.key) pairs.now }
-{
-    pairs.iter().any(|pair| keys.has(&pair.key))
 }

@@ -1,23 +1,20 @@
-//! Keys that include files and keys of sections; what stands under a key.
+//! Keys that include files, and keys of sections.
 
-ghost use Rattle.std.specs.Prelude.{◌≡◌};
-ghost use Rattle.std.specs.Option.{option_copied};
-ghost use Rattle.yaml_subset.specs.Entries.{key_eq};
+ghost use Rattle.std.specs.Prelude.{◌≡◌, is_some, IfSome};
 ghost use Rattle.conf_gather.specs.Includes.{is_include_key};
-ghost use Rattle.conf_gather.specs.WrongTypes.{is_section, value_of};
+ghost use Rattle.conf_gather.specs.WrongTypes.{is_section};
+ghost use Rattle.conf_gather.specs.Known.{section_key};
 
 use conf_shape::is_key;
-use yaml_tree::{Key, Pair, Tree};
+use yaml_tree::Key;
 
-/// Whether two keys are one: their types are alike, and their values.
-pub fn key_eq(a: &Key, b: &Key) -> bool
-    ensures { result ≡ key_eq a.now b.now }
-{
-    match (a, b) {
-        (Key::Int(m), Key::Int(n)) => *m == *n,
-        (Key::Text(s), Key::Text(t)) => s.as_str() == t.as_str(),
-        _ => false,
-    }
+/// What is joined from all files: maps under one key.
+#[derive(Clone, Copy, Debug)]
+pub enum Section {
+    Vlans,
+    Dps,
+    Acls,
+    Routers,
 }
 
 pub fn is_include_key(key: &Key) -> bool
@@ -26,21 +23,20 @@ pub fn is_include_key(key: &Key) -> bool
     is_key("include", key) || is_key("include-optional", key)
 }
 
-/// Whether maps under this key are joined.
-pub fn is_section(key: &Key) -> bool
-    ensures { result ≡ is_section key.now }
+/// The section of a key; of any other key the maps aren't joined.
+pub fn section_of(key: &Key) -> Option<Section>
+    ensures found { is_some result ≡ is_section key.now }
+    ensures key { IfSome result (λ section. key.now ≡ section_key section) }
 {
-    is_key("vlans", key) || is_key("dps", key) || is_key("acls", key) || is_key("routers", key)
-}
-
-/// What stands under a key.
-pub fn value_of<'a>(pairs: &'a [Pair], key: &Key) -> Option<&'a Tree>
-    ensures { option_copied result ≡ value_of key.now pairs.now }
-{
-    for pair in pairs {
-        if key_eq(&pair.key, key) {
-            return Some(&pair.value);
-        }
+    if is_key("vlans", key) {
+        Some(Section::Vlans)
+    } else if is_key("dps", key) {
+        Some(Section::Dps)
+    } else if is_key("acls", key) {
+        Some(Section::Acls)
+    } else if is_key("routers", key) {
+        Some(Section::Routers)
+    } else {
+        None
     }
-    None
 }

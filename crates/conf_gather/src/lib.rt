@@ -1,16 +1,18 @@
 //! A configuration file with the files that it includes, as one tree.
 #![tactic(auto)]
 
+mod again;
+mod extend;
 mod gathering;
 mod grown;
 mod include;
-mod join;
 mod key_set;
 mod keys;
 pub mod laws;
 mod names;
 mod reached;
 mod refused;
+mod sections;
 mod take;
 mod wrong;
 

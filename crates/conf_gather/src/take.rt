@@ -8,9 +8,9 @@ ghost use Rattle.conf_gather.specs.Files.{ReadsFiles};
 ghost use Rattle.conf_gather.specs.Gives.{Gives, GivesTold, IsWithin};
 ghost use Rattle.conf_gather.specs.Gathered.{tree_of, text_tree, unread, fault_at, entries_fault, tree_fault, taken, was_reached};
 
+use crate::again::all_given_again;
 use crate::grown::{Grown, join};
 use crate::include::{Include, Role};
-use crate::join::all_given_again;
 use crate::reached::Reached;
 use crate::refused::LoadRefused;
 use crate::wrong::{is_document, wrong_entries};
@@ -96,7 +96,7 @@ fn fault_at(cause: ConfCause, path: Option<Text>) -> Option<ConfFault>
 fn entries_fault(
     alloc: Global,
     role: Role,
-    gathered: &[Pair],
+    gathered: &Grown,
     pairs: &[Pair],
 ) -> Result<Option<ConfFault>, NoMemory>
     ensures { IfOk result (λ fault. fault ≡ entries_fault role gathered.now pairs.now) }
@@ -113,7 +113,7 @@ fn entries_fault(
 fn tree_fault(
     alloc: Global,
     role: Role,
-    gathered: &[Pair],
+    gathered: &Grown,
     tree: &Tree,
 ) -> Result<Option<ConfFault>, NoMemory>
     ensures { IfOk result (λ fault. fault ≡ tree_fault role gathered.now tree.now) }
@@ -136,7 +136,7 @@ pub fn take_tree(
     ensures within { IfErr result IsWithin }
 {
     let Gathered { reached, pairs } = so_far;
-    if let Some(fault) = tree_fault(alloc, include.role, pairs.as_slice(), tree)? {
+    if let Some(fault) = tree_fault(alloc, include.role, &pairs, tree)? {
         return Err(LoadRefused::Conf(fault));
     }
     let reached = reached.with(alloc, &include.name)?;

@@ -5,9 +5,11 @@ ghost use Rattle.std.specs.Option.{option_map};
 ghost use Rattle.std.specs.Fmt.{decimal};
 ghost use Rattle.conf_shape.specs.Sections.{key_text};
 ghost use Rattle.yaml_tree.specs.declared.tree.Tree.{out-Tree};
+ghost use Rattle.conf_gather.specs.Known.{section_key};
 ghost use Rattle.conf_gather.specs.WrongTypes.{is_map_in, is_document, fits, section_fits, is_text_in, place_of_no_text, no_names, wrong_entry, wrong_entries};
 
-use crate::keys::{is_include_key, is_section, value_of};
+use crate::grown::Grown;
+use crate::keys::{Section, is_include_key, section_of};
 use conf_shape::{is_key, key_text};
 use net_base::{NoMemory, Text};
 use std::alloc::Global;
@@ -38,13 +40,14 @@ fn fits(key: &Key, tree: &Tree) -> bool
 }
 
 /// Whether a section is of the right type, and what was gathered of it.
-fn section_fits(gathered: &[Pair], pair: &Pair) -> bool
+fn section_fits(gathered: &Grown, section: Section, pair: &Pair) -> bool
+    requires { pair.now.key ≡ section_key section }
     ensures { result ≡ section_fits gathered.now pair.now }
 {
     if !fits(&pair.key, &pair.value) {
         return false;
     }
-    match value_of(gathered, &pair.key) {
+    match gathered.section(section) {
         Some(tree) => fits(&pair.key, tree),
         None => true,
     }
@@ -95,7 +98,7 @@ fn no_names(alloc: Global, path: Text, tree: &Tree) -> Result<Option<Text>, NoMe
 fn wrong_entry(
     alloc: Global,
     included: bool,
-    gathered: &[Pair],
+    gathered: &Grown,
     pair: &Pair,
 ) -> Result<Option<Text>, NoMemory>
     ensures { IfOk result (λ found. found ≡ wrong_entry included gathered.now pair.now) }
@@ -103,10 +106,12 @@ fn wrong_entry(
     if is_include_key(&pair.key) {
         return no_names(alloc, key_text(alloc, &pair.key)?, &pair.value);
     }
-    if included && is_section(&pair.key) && !section_fits(gathered, pair) {
-        return Ok(Some(key_text(alloc, &pair.key)?));
+    match section_of(&pair.key) {
+        Some(section) if included && !section_fits(gathered, section, pair) => {
+            Ok(Some(key_text(alloc, &pair.key)?))
+        }
+        _ => Ok(None),
     }
-    Ok(None)
 }
 
 /// The path of the first entry that is of a wrong type: an include list that isn't a list of texts,
@@ -114,7 +119,7 @@ fn wrong_entry(
 pub fn wrong_entries(
     alloc: Global,
     included: bool,
-    gathered: &[Pair],
+    gathered: &Grown,
     pairs: &[Pair],
 ) -> Result<Option<Text>, NoMemory>
     ensures { IfOk result (λ found. found ≡ wrong_entries included gathered.now pairs.now) }

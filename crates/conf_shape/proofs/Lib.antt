@@ -1,4 +1,5 @@
 pub mod Asked
 pub mod FaultLaws
 pub mod Parsed
+mod SeenNames
 pub mod Written

@@ -6,5 +6,6 @@ pub mod Reads
 pub mod Refused
 pub mod Scalars
 pub mod Sections
+pub mod Seen
 pub mod Values
 pub mod Written

@@ -9,6 +9,7 @@ use crate::keys::{key_text, lacks, number_of, under_key};
 use crate::kinds::{Kind, MapKind};
 use crate::refused::{ConfCause, ConfFault};
 use crate::scalars::{flag_cause, item_kind, map_kind, number_cause, text_cause};
+use crate::seen::Seen;
 use crate::tables::{Row, table_of};
 use net_base::{Names, NoMemory, Text};
 use std::alloc::Global;
@@ -139,8 +140,9 @@ fn items_fault(alloc: Global, kind: Kind, items: &[Tree]) -> Result<Option<Found
 fn entries_fault(alloc: Global, map: MapKind, pairs: &[Pair]) -> Result<Option<Found>, NoMemory>
     ensures { IfOk result (λ found. found ≡ first (map_faults map [] (entries_of pairs.now))) }
 {
+    let mut seen = Seen::new(alloc);
     for (i, pair) in pairs.iter().enumerate() {
-        let found = match under_key(alloc, map, &pairs[..i], &pair.key)? {
+        let found = match under_key(alloc, map, &pairs[..i], &mut seen, &pair.key)? {
             Ok(kind) => value_fault(alloc, kind, &pair.value)?,
             Err(cause) => here(alloc, Some(cause)),
         };

@@ -1,15 +1,18 @@
-ghost use Rattle.std.specs.Prelude.{◌≡◌, map, IfOk};
+ghost use Rattle.std.specs.Prelude.{◌≡◌, List, [], ◌∷◌, ◌++◌, map, IfOk, OnOk};
 ghost use Rattle.std.specs.List.{list_any};
 ghost use Rattle.std.specs.Option.{option_map};
 ghost use Rattle.std.specs.Str.{bytes_eq};
+ghost use Rattle.yaml_tree.specs.declared.tree.Key.{Key};
 ghost use Rattle.conf_shape.specs.declared.kinds.MapKind.TheVariants.{Interface, Vlan};
 ghost use Rattle.conf_shape.specs.declared.kinds.TheConstants.{MOST_PORT_NO, MOST_VID};
 ghost use Rattle.conf_shape.specs.Keys.{seen_row, seen_pair, seen_table};
-ghost use Rattle.conf_shape.specs.Sections.{map_keys, key_text, is_key, canonical, row_at, spells, given, number_of, row_kind, text_kind, listed_kind, has_text, number_or_name, named_kind, named_once, numbered, under_key, is_needed, lacks};
+ghost use Rattle.conf_shape.specs.Sections.{map_keys, key_text, is_key, canonical, row_at, spells, given, number_of, row_kind, text_kind, listed_kind, number_or_name, named_kind, named_once, numbered, under_key, is_needed, lacks};
+ghost use Rattle.conf_shape.specs.Seen.{HasTexts, IsSeen};
 
 use crate::kinds::{Kind, MOST_PORT_NO, MOST_VID, MapKind, Need, Scalar};
 use crate::refused::ConfCause;
 use crate::scalars::{is_name, within};
+use crate::seen::{Seen, see_name};
 use crate::tables::{Row, Table, table_of};
 use net_base::{NoMemory, Text};
 use std::alloc::Global;
@@ -162,25 +165,6 @@ fn listed_kind(
     }
 }
 
-fn has_text(alloc: Global, name: &str, key: &Key) -> Result<bool, NoMemory>
-    ensures { IfOk result (λ found. found ≡ has_text name.now key.now) }
-{
-    let text = key_text(alloc, key)?;
-    Ok(text.as_str() == name)
-}
-
-/// Whether one of the entries has a key of this text.
-fn is_named(alloc: Global, name: &str, earlier: &[Pair]) -> Result<bool, NoMemory>
-    ensures { IfOk result (λ found. found ≡ list_any (has_text name.now) (map_keys earlier.now)) }
-{
-    for pair in earlier {
-        if has_text(alloc, name, &pair.key)? {
-            return Ok(true);
-        }
-    }
-    Ok(false)
-}
-
 /// The number that a key gives, or none where it is a name.
 fn number_or_name(low: u64, high: u64, key: &Key) -> Result<Option<u64>, ConfCause>
     ensures { result ≡ number_or_name low high key.now }
@@ -210,31 +194,34 @@ fn named_kind(name: &str, map: MapKind) -> Result<Kind, ConfCause>
 fn named_once(
     alloc: Global,
     map: MapKind,
-    earlier: &[Pair],
+    seen: &mut Seen,
     key: &Key,
 ) -> Result<Result<Kind, ConfCause>, NoMemory>
-    ensures { IfOk result (λ kind. kind ≡ named_once map (map_keys earlier.now) key.now) }
+    ensures kind { (earlier : List Key) → HasTexts seen.old earlier → IfOk result (λ kind. kind ≡ named_once map earlier key.now) }
+    ensures more { (earlier : List Key) → HasTexts seen.old earlier → OnOk result (HasTexts seen.new (earlier ++ key.now ∷ [])) }
 {
     let name = key_text(alloc, key)?;
-    if is_named(alloc, name.as_str(), earlier)? {
+    if see_name(alloc, seen, &name)? {
         return Ok(Err(ConfCause::Duplicate));
     }
     Ok(named_kind(name.as_str(), map))
 }
 
-/// What stands under a key, behind these entries of the map, or what is wrong with the key.
+/// What stands under a key, behind these entries of the map, or what is wrong with the key. Of a map
+/// of names those so far are seen, and from now on this one too.
 pub fn under_key(
     alloc: Global,
     map: MapKind,
     earlier: &[Pair],
+    seen: &mut Seen,
     key: &Key,
 ) -> Result<Result<Kind, ConfCause>, NoMemory>
-    ensures { IfOk result (λ kind. kind ≡ under_key map (map_keys earlier.now) key.now) }
+    requires { IsSeen map seen.old (map_keys earlier.now) }
+    ensures kind { IfOk result (λ kind. kind ≡ under_key map (map_keys earlier.now) key.now) }
+    ensures more { OnOk result (IsSeen map seen.new (map_keys earlier.now ++ key.now ∷ [])) }
 {
     match map {
-        MapKind::Datapaths | MapKind::Acls | MapKind::Routers => {
-            named_once(alloc, map, earlier, key)
-        }
+        MapKind::Datapaths | MapKind::Acls | MapKind::Routers => named_once(alloc, map, seen, key),
         MapKind::Interfaces => Ok(interface_kind(key)),
         MapKind::Vlans => Ok(vlan_kind(key)),
         _ => Ok(listed_kind(&table_of(map), number_of(map), earlier, key)),

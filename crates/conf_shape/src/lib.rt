@@ -15,6 +15,7 @@ mod raw;
 mod reads;
 mod refused;
 mod scalars;
+mod seen;
 mod tables;
 mod values;
 mod vlans;

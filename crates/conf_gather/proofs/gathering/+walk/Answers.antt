@@ -98,3 +98,6 @@ pub gather_all-returns-in_err-all-clause-files : goal.gather_all-returns-in_err-
 gather_all-returns-in_err-all-clause-files g t c =
     let result : c.from_residual.result ≡ Err c.in_err-all.field-0.0 = grind (arith, common_steps) in
     rw result (read_on c.loop-include.invariant.files c.in_err-all.ensures.files)
+
+pub gather_file-returns-in_ok-includes-in-Some-clause-files : goal.gather_file-returns-in_ok-includes-in-Some-clause-files
+gather_file-returns-in_ok-includes-in-Some-clause-files g t c = read_on c.in_ok-tree.ensures.files c.gather_all.ensures.files

@@ -1,5 +1,5 @@
 use Rattle.std.proofs.Common.{◌≡◌, ◌++◌, drop}
-use Rattle.conf_gather.proofs.join.push_copies.Given as goal
+use Rattle.conf_gather.proofs.extend.push_copies.Given as goal
 
 -- what is left completes the list
 abbrev pub invariant-loop-pair : goal.invariant-loop-pair

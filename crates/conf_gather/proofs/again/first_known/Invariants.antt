@@ -2,7 +2,7 @@ use Rattle.std.proofs.Common.{◌≡◌, List, drop}
 use Rattle.yaml_tree.specs.declared.tree.Pair.{Pair}
 use Rattle.conf_gather.specs.Known.{AreKeysOf}
 use Rattle.conf_gather.specs.Joined.{first_in_both}
-use Rattle.conf_gather.proofs.join.first_known.Given as goal
+use Rattle.conf_gather.proofs.again.first_known.Given as goal
 
 -- no key so far is known
 abbrev pub invariant-loop-pair : goal.invariant-loop-pair

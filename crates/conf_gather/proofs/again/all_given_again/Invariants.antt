@@ -1,6 +1,6 @@
 use Rattle.std.proofs.Common.{◌≡◌, drop}
 use Rattle.conf_gather.specs.Joined.{all_given_again}
-use Rattle.conf_gather.proofs.join.all_given_again.Given as goal
+use Rattle.conf_gather.proofs.again.all_given_again.Given as goal
 
 -- no entry so far gives a name again
 abbrev pub invariant-loop-pair : goal.invariant-loop-pair

@@ -1,6 +1,6 @@
 use Rattle.std.proofs.Common.{sym, ◌∙◌}
 use Rattle.conf_gather.proofs.KnownLemmas.{found_here, passed_here}
-use Rattle.conf_gather.proofs.join.first_known.Goals as goal
+use Rattle.conf_gather.proofs.again.first_known.Goals as goal
 
 pub returns-then-has : goal.returns-then-has
 returns-then-has c = λ before are.
