@@ -203,30 +203,42 @@ def shown_heard(peer, kind, body):
     found = read(peer, kind, body)
     return found if isinstance(found, str) else found["text"]
 
-# ---- a session
+# ---- a speaker
 
 
-class Peer:
+def codes(fault):
+    return bytes(int(part) for part in fault.split("/"))
+
+
+class Speaker:
+    """Who waits for the peer: one session at a time, with its connection."""
+
     def __init__(self):
-        self.state, self.hold, self.heard, self.said, self.now = "Idle", 0, 0, 0, 0
+        self.conn, self.state, self.hold, self.heard, self.said, self.now = None, "Idle", 0, 0, 0, 0
         self.unread, self.routes, self.out = b"", {}, ""
 
-    def say(self, data):
-        self.out += data.hex() + "; "
+    def say(self, conn, data):
+        self.out += "%d: %s; " % (conn, data.hex())
+
+    def speak(self, data):
+        self.say(self.conn, data)
         self.said = self.now
 
-    def close(self, word):
-        self.out += word + "; "
-        self.state, self.hold, self.routes = "Idle", 0, {}
+    def close(self, why):
+        self.out += "%d %s; " % (self.conn, why)
+        self.conn, self.state, self.hold, self.routes = None, "Idle", 0, {}
 
     def refuse(self, fault):
-        self.say(message(NOTIFICATION, bytes(int(part) for part in fault.split("/"))))
+        self.speak(message(NOTIFICATION, codes(fault)))
         self.close("sent " + fault)
 
-    def connects(self):
-        if self.state == "Idle":
-            self.state, self.hold, self.unread = "OpenSent", 0, b""
-            self.say(message(OPEN, opening(asn=OURS, ident=ID)))
+    def opens(self, conn):
+        if self.conn is None:
+            self.conn, self.state, self.unread = conn, "OpenSent", b""
+            self.speak(message(OPEN, opening(asn=OURS, ident=ID)))
+        elif self.conn != conn:
+            self.say(conn, message(NOTIFICATION, codes("6/0")))
+            self.out += "%d sent 6/0; " % conn
 
     def hears_update(self, said):
         routes = dict(self.routes)
@@ -255,7 +267,7 @@ class Peer:
             self.close("heard " + said["codes"])
         elif kind == OPEN:
             self.state, self.hold = "OpenConfirm", min(90, said["hold"])
-            self.say(message(KEEPALIVE))
+            self.speak(message(KEEPALIVE))
         elif kind == KEEPALIVE:
             self.state = "Established"
         else:
@@ -263,7 +275,7 @@ class Peer:
 
     def comes(self, data):
         self.unread += data
-        while self.state != "Idle":
+        while self.conn is not None:
             found = front(self.unread)
             if found is None:
                 return
@@ -273,39 +285,57 @@ class Peer:
             self.hears(found[0], whole[19:])
 
     def moment(self, now):
-        self.now = now
+        self.now = max(self.now, now)
         if not self.hold:
             return
-        if now - self.heard >= self.hold * 1000:
+        if self.now - self.heard >= self.hold * 1000:
             self.refuse("4/0")
-        elif 3 * (now - self.said) >= self.hold * 1000:
-            self.say(message(KEEPALIVE))
+        elif 3 * (self.now - self.said) >= self.hold * 1000:
+            self.speak(message(KEEPALIVE))
 
     def shows(self):
-        self.out += "%s, %d routes" % (self.state, len(self.routes))
+        self.out += "%d routes" % len(self.routes)
         for (ip, length), hop in sorted(self.routes.items())[:4]:
             self.out += ", %s/%d by %s" % (shown_ip(ip), length, shown_ip(hop))
         self.out += "; "
 
     def takes(self, word):
-        if word == "connects":
-            self.connects()
-        elif word == "ends":
-            self.state, self.hold, self.routes = "Idle", 0, {}
-        elif word == "routes":
+        what, _, rest = word.partition(":")
+        if what == "routes":
             self.shows()
-        elif word.startswith("at="):
-            self.moment(int(word[3:]))
-        else:
-            self.comes(bytes.fromhex(word))
+        elif what == "open":
+            self.opens(int(rest))
+        elif what in ("end", "fault", "overfull"):
+            if self.conn == int(rest):
+                self.close({"end": "end", "fault": "link fault", "overfull": "overfull"}[what])
+        elif what == "at":
+            self.moment(int(rest))
+        elif what != "reload" and self.conn == int(what):
+            self.comes(bytes.fromhex(rest))
 
 
-def session(words):
-    peer = Peer()
+def story(words):
+    speaker = Speaker()
     for word in words:
-        peer.takes(word)
-    peer.shows()
-    return peer.out
+        speaker.takes(word)
+    speaker.shows()
+    return speaker.out
+
+
+def addressed(words):
+    """The words with connections: `connects` opens a new one, bytes and `ends` are of the session's one, or of the last."""
+    speaker, last, found = Speaker(), 0, []
+    for word in words:
+        if word == "connects":
+            last += 1
+            word = "open:%d" % last
+        elif word == "ends":
+            word = "end:%d" % (speaker.conn or last)
+        elif isinstance(word, bytes):
+            word = "%d:%s" % (speaker.conn or last, word.hex())
+        found.append(word)
+        speaker.takes(word)
+    return found
 
 # ---- the cases
 
@@ -406,10 +436,6 @@ def attributes():
     yield "twice comes before unknown", update(attributes=attribute(9, b"", 0x80) + attribute(9, b"", 0x40))
 
 
-def hexed(*words):
-    return [word if isinstance(word, str) else word.hex() for word in words]
-
-
 ALIVE = message(KEEPALIVE)
 UP = ["connects", message(OPEN, opening()), ALIVE]
 OFFICE = message(UPDATE, update(attributes=ROUTE, announced=prefixes("172.16.0.0/16")))
@@ -442,7 +468,7 @@ def sessions():
     yield "byte by byte", ["connects", *[bytes([byte]) for byte in whole]]
     yield "what came before a fault counts, what comes behind it doesn't", ["connects", whole + message(5) + OFFICE, "connects", "routes", UP[1]]
     yield "another connection changes nothing", [*UP, OFFICE, "connects", "routes", OFFICE[:9], "connects", OFFICE[9:]]
-    yield "no connection", [OFFICE, "at=100000", ALIVE]
+    yield "no connection", [OFFICE, "at:100000", ALIVE]
     yield "routes by address and length, host bits cleared", [*UP, message(UPDATE, update(attributes=ROUTE, announced=prefixes("172.16.5.9/24", "172.16.5.9/16", "10.9.9.9/8", "172.16.4.1/24")))]
     yield "the same network twice in one UPDATE", [*UP, message(UPDATE, update(prefixes("10.1.0.0/16"), ROUTE, prefixes("10.1.0.0/16", "10.1.7.0/16")))]
     other = ORIGIN + PATH + attribute(3, bytes([10, 0, 100, 2]))
@@ -458,21 +484,70 @@ def sessions():
     yield "one more for one that goes", [*UP, announces(1024), message(UPDATE, update(prefixes("0.7.0.0/16"), ROUTE, prefixes("5.0.0.0/16"))), "routes"]
 
 
+def each_fault():
+    """One for each fault that is answered: what its NOTIFICATION tells, the state in which it comes, and the bytes."""
+    def updated(*parts, **lengths):
+        return message(UPDATE, update(*parts, **lengths))
+    net = prefixes("10.0.0.0/8")
+    yield "1/1", 3, message(KEEPALIVE, marker=MARKER[:-1] + b"\0")
+    yield "1/2", 3, message(KEEPALIVE, length=18)
+    yield "1/3", 3, message(9)
+    yield "5/0", 3, message(OPEN, opening())
+    for fault, body in (("2/1", opening(5)), ("2/2", opening(asn=65003)), ("2/3", opening(ident=0)), ("2/0", opening(length=9)), ("2/4", opening(parameters=b"\1\0")), ("2/6", opening(hold=2))):
+        yield fault, 1, message(OPEN, body)
+    yield "3/1", 3, updated(w=99)
+    yield "3/10", 3, updated(attributes=ROUTE, announced=b"\x21\0\0\0\0\0")
+    yield "3/1", 3, updated(attributes=ROUTE + HOP, announced=net)
+    yield "3/2", 3, updated(attributes=ROUTE + attribute(8, b""), announced=net)
+    yield "3/4", 3, updated(attributes=attribute(1, b"\0", 0xc0) + PATH + HOP, announced=net)
+    yield "3/5", 3, updated(attributes=ORIGIN + PATH + attribute(3, b"\0"), announced=net)
+    yield "3/6", 3, updated(attributes=attribute(1, b"\3") + PATH + HOP, announced=net)
+    yield "3/11", 3, updated(attributes=ORIGIN + attribute(2, b"\2\0") + HOP, announced=net)
+    yield "3/3", 3, updated(attributes=ORIGIN + PATH, announced=net)
+    yield "6/0", 3, announces(1025)
+
+
+def faults():
+    for fault, state, data in each_fault():
+        words = addressed([*UP[:state], *([OFFICE] if state == 3 else []), "routes", data + ALIVE, "routes", *UP, OFFICE])
+        assert "sent " + fault in story(words), fault
+        yield fault + ", and a session behind it", words
+    yield "4/0, and a session behind it", [*UP, OFFICE, "routes", "at:90000", "routes", *UP, OFFICE]
+
+
+def connections():
+    for state in (1, 2, 3):
+        yield "a further connection, and what comes on it, in the state %d" % state, [*UP[:state], "open:7", "7:" + UP[1].hex(), "7:" + message(5).hex(), "end:7", "routes", *UP[state:], OFFICE]
+    yield "further connections while the timers run", [*UP, "at:29999", "open:7", "at:30000", "open:8", "at:59999", "at:60000", "at:89999", "open:9", "at:90000"]
+    yield "the same connection opens again", [*UP, OFFICE, "open:1", "routes"]
+    yield "connection 0, and the greatest one", ["open:0", "0:" + UP[1].hex(), "open:4294967295", "end:0", "open:4294967295", "4294967295:" + UP[1].hex()]
+    yield "a number that comes again", ["open:3", "3:" + UP[1].hex(), "open:4", "end:3", "open:4", "4:" + UP[1].hex(), "end:4", "open:3", "3:" + UP[1].hex()]
+    for end in ("end", "fault", "overfull"):
+        yield "an end: %s" % end, [*UP, OFFICE, "routes", end + ":1", "routes", end + ":1", "1:" + ALIVE.hex(), "at:500000", *UP, "routes"]
+        yield "an end of another connection: %s" % end, [*UP, OFFICE, end + ":2", "routes"]
+    yield "bytes that were left by a connection aren't heard on the next", ["connects", UP[1][:20], "ends", "connects", UP[1][20:], UP[1]]
+    yield "bytes behind the end of a session", [*UP, message(NOTIFICATION, b"\6\4") + b"".join(UP[1:]), "connects", UP[1]]
+    yield "an empty piece", ["connects", b"", UP[1], b"", ALIVE, b"", "routes"]
+    yield "a reload", [*UP, OFFICE, "reload:", "routes"]
+    yield "nothing is heard: the connection stays, and keeps others out", ["connects", "at:86400000", "open:2", "at:172800000"]
+    yield "what is said on a connection counts from its opening", ["at:1000", *UP, "at:31000", "ends", "at:40000", *UP, "at:69999", "at:70000"]
+
+
 def timers():
     for hold in (0, 3, 4, 10, 30, 90, 91, 65535):
         up = ["connects", message(OPEN, opening(hold=hold)), ALIVE]
         agreed = min(90, hold) * 1000
         third = -(-agreed // 3)
         at = [third - 1, third, third + 1, 2 * third - 1, 2 * third, agreed - 1, agreed, agreed + 1]
-        yield "a hold time of %d" % hold, [*up, *["at=%d" % max(0, now) for now in at]]
-        yield "a hold time of %d, and a message" % hold, [*up, "at=%d" % max(0, agreed - 1), ALIVE, "at=%d" % agreed, "at=%d" % max(0, 2 * agreed - 2), "at=%d" % max(0, 2 * agreed - 1)]
-        yield "a hold time of %d before a KEEPALIVE is heard" % hold, [*up[:2], "at=%d" % third, "at=%d" % agreed]
-        yield "a hold time of %d, late" % hold, [*up, "at=%d" % (10 * agreed)]
-    yield "no OPEN is heard", ["connects", "at=1000000", "at=2000000"]
-    yield "moments count from the last OPEN", ["at=500000", *UP, "at=529999", "at=530000", "at=589999", "at=590000"]
-    yield "an UPDATE is heard too, a cut message isn't", [*UP, "at=60000", OFFICE, "at=149999", OFFICE[:-1], "at=150000"]
-    yield "moments that fall", ["at=100000", *UP, "at=50000", "at=129999", "at=130000"]
-    yield "a second session has its own hold time", ["connects", message(OPEN, opening(hold=3)), ALIVE, "at=3000", *UP, "at=3001", "at=33000", "at=93000"]
+        yield "a hold time of %d" % hold, [*up, *["at:%d" % max(0, now) for now in at]]
+        yield "a hold time of %d, and a message" % hold, [*up, "at:%d" % max(0, agreed - 1), ALIVE, "at:%d" % agreed, "at:%d" % max(0, 2 * agreed - 2), "at:%d" % max(0, 2 * agreed - 1)]
+        yield "a hold time of %d before a KEEPALIVE is heard" % hold, [*up[:2], "at:%d" % third, "at:%d" % agreed]
+        yield "a hold time of %d, late" % hold, [*up, "at:%d" % (10 * agreed)]
+    yield "no OPEN is heard", ["connects", "at:1000000", "at:2000000"]
+    yield "moments count from the last OPEN", ["at:500000", *UP, "at:529999", "at:530000", "at:589999", "at:590000"]
+    yield "an UPDATE is heard too, a cut message isn't", [*UP, "at:60000", OFFICE, "at:149999", OFFICE[:-1], "at:150000"]
+    yield "moments that fall", ["at:100000", *UP, "at:50000", "at:129999", "at:130000"]
+    yield "a second session has its own hold time", ["connects", message(OPEN, opening(hold=3)), ALIVE, "at:3000", *UP, "at:3001", "at:33000", "at:93000"]
 
 
 def chance():
@@ -494,12 +569,64 @@ def chance():
             if draw.random() < 0.05:
                 body = body[:draw.randrange(4, len(body))]
             words += draw.choice([
-                ["at=%d" % now], ["at=%d" % now], [ALIVE], ["routes"],
+                ["at:%d" % now], ["at:%d" % now], [ALIVE], ["routes"],
                 [message(UPDATE, body)], [message(UPDATE, body)], [message(UPDATE, body) + ALIVE],
                 [message(UPDATE, body)[:30], message(UPDATE, body)[30:]]])
             if draw.random() < 0.04:
                 words += draw.choice([["ends", *UP], [message(NOTIFICATION, b"\6\4"), *UP], ["connects"]])
+            if draw.random() < 0.04:
+                words += draw.choice([["open:1", "open:77", "end:77"], ["77:" + ALIVE.hex()], ["fault:1", *UP], ["reload:"]])
         yield "by chance", words
+
+
+# ---- texts of configurations
+
+
+def document(vlans, routers=()):
+    """A document in its canonical form: VLANs with name, number, addresses and routes; routers with their VLANs."""
+    lines = ["vlans:"]
+    for name, vid, vips, routes in vlans:
+        lines += ["  %s:" % name, "    vid: %d" % vid]
+        lines += ["    faucet_vips:", *['      - "%s"' % vip for vip in vips]] if vips else []
+        lines += ["    routes:"] if routes else []
+        for dst, gw in routes:
+            lines += ["      -", "        route:", '          ip_dst: "%s"' % dst, '          ip_gw: "%s"' % gw]
+    lines += ["dps:", "  sw1:", "    dp_id: 1", '    hardware: "Open vSwitch"', "    interfaces:"]
+    for number, vlan in enumerate(vlans, 1):
+        lines += ["      %d:" % number, "        native_vlan: %s" % vlan[0]]
+    if routers:
+        lines += ["routers:", *[line for name, members in routers for line in ("  %s:" % name, "    vlans:", *["      - %s" % member for member in members])]]
+    return "".join(line + "\n" for line in lines)
+
+
+def texts():
+    """Each with the routes that are announced, by address and length, and those of them that are taken."""
+    net, hop = "172.16.0.0/16", "10.0.100.1"
+    vips = ["10.0.100.254/24"]
+
+    def one(own, announced, taken, vips=vips, name="office", key=None):
+        return key or name, announced, document([(name, 100, vips, own)]), document([(name, 100, vips, own + taken)])
+    yield "no route", one([], [], [])
+    yield "a route", one([], [(net, hop)], [(net, hop)])
+    yield "behind the VLAN's own", one([("192.0.2.0/24", hop)], [(net, hop)], [(net, hop)])
+    yield "gateways: one in no network of the VLAN, one that is its own address", one([], [("10.0.0.0/8", "10.0.101.1"), (net, "10.0.100.254"), ("192.0.2.0/24", hop)], [("192.0.2.0/24", hop)])
+    yield "into the network of the VLAN, and around it", one(
+        [], [("0.0.0.0/0", hop), ("10.0.0.0/8", hop), ("10.0.100.0/24", hop), ("10.0.100.0/25", hop), ("10.0.100.7/32", hop), ("10.0.101.0/24", hop)],
+        [("0.0.0.0/0", hop), ("10.0.0.0/8", hop), ("10.0.101.0/24", hop)])
+    yield "to the network of the VLAN's own route", one([(net, "10.0.100.9")], [("172.16.0.0/15", hop), (net, hop), ("172.16.0.0/17", hop)], [("172.16.0.0/15", hop), ("172.16.0.0/17", hop)])
+    yield "a VLAN without addresses", one([], [(net, hop)], [], vips=[])
+    yield "a VLAN that isn't there", one([], [(net, hop)], [], key="branch")
+    yield "a VLAN by its number", one([], [(net, hop)], [(net, hop)], name="100", key="#100")
+    yield "a VLAN by a number that is no key", one([], [(net, hop)], [], key="#100")
+    other = ("branch", 200, ["10.0.200.254/24"], [("192.0.2.0/24", "10.0.200.1")])
+    announced = [("10.0.200.0/24", hop), (net, hop), ("192.0.2.0/24", hop)]
+    for routers, taken in (((), announced), ((("r", ("office", "branch")),), [(net, hop)])):
+        yield "the network and the route of another VLAN, %s" % ("which is routed to" if routers else "which isn't routed to"), (
+            "office", announced, document([("office", 100, vips, []), other], routers), document([("office", 100, vips, taken), other], routers))
+
+
+def escaped(text):
+    return text.replace("\\", "\\\\").replace("\n", "\\n")
 
 
 # error codes and subcodes (RFC 4271, 4.5)
@@ -535,13 +662,19 @@ def cases():
     yield "The other types.", None
     for kind, body in ((NOTIFICATION, b"\6\2"), (NOTIFICATION, b"\0\xffdata"), (KEEPALIVE, b"")):
         yield ("heard %d %d %s" % (THEIRS, kind, body.hex())), shown_heard(THEIRS, kind, body)
-    for title, found in (("Sessions.", sessions), ("The timers.", timers), ("Sessions by chance.", chance)):
+    for title, found in (("Sessions.", sessions), ("Each fault.", faults), ("Connections.", connections), ("The timers.", timers), ("Stories by chance.", chance)):
         yield title, None
         for why, words in found():
             if why != "by chance":
                 yield why, None
-            words = hexed(*words)
-            yield "peer %d %d %d %s" % (OURS, ID, THEIRS, " ".join(words)), session(words)
+            words = addressed(words)
+            yield "story %d %s %d %s" % (OURS, shown_ip(ID), THEIRS, " ".join(words)), story(words)
+
+
+    yield "Texts: a VLAN's key, the routes that are announced, and a document, with that with the routes that it takes.", None
+    for why, (key, announced, before, after) in texts():
+        yield why, None
+        yield "text %s %s %s" % (key, ",".join("%s>%s" % route for route in announced) or "none", escaped(before)), escaped(after)
 
 
 def repeated(line):

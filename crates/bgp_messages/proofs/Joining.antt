@@ -20,7 +20,7 @@ pub record Left {A : Type 0} (spells : A → List ℕ → Type 0) (bytes : List 
 pub starts : {A : Type 0} (spells : A → List ℕ → Type 0) (bytes : List ℕ) → Left spells bytes [] bytes
 starts spells bytes = record { goes_on = λ more j. j; alone = λ all j. (all, refl, j) }
 
-behind_one : {A : Type 0} (spells : A → List ℕ → Type 0) → Alone spells → (made : List A) (rest : List ℕ) (x : A) (n : ℕ) → Begins (spells x) n rest
+pub behind_one : {A : Type 0} (spells : A → List ℕ → Type 0) → Alone spells → (made : List A) (rest : List ℕ) (x : A) (n : ℕ) → Begins (spells x) n rest
     → (all more : List A) → all ≡ made ++ more → Joined spells more rest → (others : List A) × (all ≡ (made ++ x ∷ []) ++ others) × Joined spells others (drop n rest)
 behind_one spells one made rest x n b all [] e j = absurd (omega (arith, b.some, b.within, ap length j))
 behind_one spells one made rest x n b all (y ∷ ys) e j =
@@ -40,7 +40,7 @@ pub done : {A : Type 0} (spells : A → List ℕ → Type 0) (bytes : List ℕ) 
 done spells bytes made [] e left = subst (λ l. Joined spells l bytes) (append-nil made) (left.goes_on [] refl)
 done spells bytes made (b ∷ rest) e left = absurd (omega arith)
 
-stops : {A : Type 0} (spells : A → List ℕ → Type 0) (rest : List ℕ) → 0 < length rest → BeginsNone spells rest → (more : List A) → Joined spells more rest → ⊥
+pub stops : {A : Type 0} (spells : A → List ℕ → Type 0) (rest : List ℕ) → 0 < length rest → BeginsNone spells rest → (more : List A) → Joined spells more rest → ⊥
 stops spells rest some none [] j = omega (arith, some, ap length j)
 stops spells rest some none (y ∷ ys) j = none y j.first j.rest j.in_front j.whole
 

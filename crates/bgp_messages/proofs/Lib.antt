@@ -1,4 +1,5 @@
 pub mod Attributes
+pub mod Decoding
 pub mod Joining
 pub mod MessageLaws
 pub mod Numbers

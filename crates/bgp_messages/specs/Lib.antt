@@ -1,4 +1,5 @@
 pub mod Attributes
+pub mod Decoding
 pub mod Faults
 pub mod Grammar
 pub mod Heads

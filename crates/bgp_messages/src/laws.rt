@@ -1,11 +1,12 @@
 //! Laws of the definitions: each function is empty, and its contract is the law.
 
-ghost use Rattle.std.specs.Prelude.{◌≡◌, ◌≤◌, ◌++◌, ℕ, List, [], length};
+ghost use Rattle.std.specs.Prelude.{◌≡◌, ◌≤◌, ◌++◌, ◌↔◌, ℕ, List, [], length, Ok, Err};
 ghost use Rattle.bgp_messages.specs.declared.fault.Fault.{Fault};
 ghost use Rattle.bgp_messages.specs.declared.head.Front.TheVariants.{Whole};
 ghost use Rattle.bgp_messages.specs.declared.kind.Kind.{Kind};
 ghost use Rattle.bgp_messages.specs.declared.message.Message.{Message};
 ghost use Rattle.bgp_messages.specs.declared.said.Said.{Said};
+ghost use Rattle.bgp_messages.specs.Decoding.{decoded};
 ghost use Rattle.bgp_messages.specs.Heads.{front_of};
 ghost use Rattle.bgp_messages.specs.Messages.{kind_of_message, SpellsBody, BodyFault, Spells};
 ghost use Rattle.bgp_messages.specs.Updates.{SpellsUpdate};
@@ -23,6 +24,13 @@ pub fn a_body_has_one_answer()
     ensures never_both { (peer : ℕ) (message : Message) (body : List ℕ) (fault : Fault) → SpellsBody peer message body
         → BodyFault peer (kind_of_message message) body fault → ⊥ }
     ensures one_fault { (peer : ℕ) (kind : Kind) (body : List ℕ) (a b : Fault) → BodyFault peer kind body a → BodyFault peer kind body b → a ≡ b }
+{}
+
+/// A body is decoded to the message that it spells, and to the first thing that is wrong with it.
+pub fn a_body_is_decoded_to_what_it_spells()
+    ensures message { (peer : ℕ) (kind : Kind) (body : List ℕ) (message : Message)
+        → (decoded peer kind body ≡ Ok message) ↔ ((kind_of_message message ≡ kind) × SpellsBody peer message body) }
+    ensures fault { (peer : ℕ) (kind : Kind) (body : List ℕ) (fault : Fault) → (decoded peer kind body ≡ Err fault) ↔ BodyFault peer kind body fault }
 {}
 
 /// No spelling of a message is the front of another, and one spelling spells one message.

@@ -20,13 +20,13 @@ use Rattle.bgp_session.specs.Stories.{Happened, Story, session_of, step_at}
 use Rattle.bgp_session.proofs.Kept.{session}
 
 -- the OPEN stays as it was, and what is said may be
-abbrev SaysWell : (peer : ℕ) → Step → Type 0
+abbrev pub SaysWell : (peer : ℕ) → Step → Type 0
 SaysWell peer Nothing = Unit {0}
 SaysWell peer (Say said) = MayBeSaid peer said
 SaysWell peer (Refuse fault) = Unit {0}
 SaysWell peer (Told notification) = Unit {0}
 
-record Well (peer : ℕ) (o : Open) (r : Session × Step) : Type 0 where
+pub record Well (peer : ℕ) (o : Open) (r : Session × Step) : Type 0 where
   pub ours : r.0.ours ≡ o
   pub says : SaysWell peer r.1
 
@@ -76,7 +76,7 @@ of_step peer (Refuse fault) said w e = let q : words.Notification fault ≡ said
 of_step peer (Told notification) said w e = absurd (cc)
 
 module _ (our_as id : ℕ) (as_fits : our_as < 2 ^ 16) (id_fits : id < 2 ^ 32) (some : id ≢ 0) where
-  abbrev ours : Open
+  abbrev pub ours : Open
   ours = record { sender_as = our_as; hold = 90; id = id }
 
   may_open : IsOpening our_as ours
@@ -90,7 +90,7 @@ module _ (our_as id : ℕ) (as_fits : our_as < 2 ^ 16) (id_fits : id < 2 ^ 32) (
     not_two = λ e. omega (arith, e);
   }
 
-  step_well : (s : Session) (now : Moment) (e : Event) → s.ours ≡ ours → Well our_as ours (leads s now e)
+  pub step_well : (s : Session) (now : Moment) (e : Event) → s.ours ≡ ours → Well our_as ours (leads s now e)
   step_well s now e same =
       let f = λ (o : Open). Well our_as ours (leads (session o s.state s.hold s.heard s.said) now e) in
       subst f (sym same) (next our_as ours may_open s.hold s.heard s.said now s.state e)

@@ -1,11 +1,12 @@
-//! Cases of a BGP peer: what stands at the front of bytes, messages, and whole sessions with their routes.
+//! Cases of a BGP peer: what stands at the front of bytes, messages, and whole stories with the routes that they lead to.
 //! Each line of the input is a case, and is printed with its answer; an empty line, and one that begins with
 //! `#`, is printed as it is. Bytes stand in hexadecimal digits, and `«COUNT:PIECE»` for the piece so many
 //! times.
 #![tactic(auto)]
 
 mod messages;
-mod peer;
+mod story;
+mod texts;
 
 use net_base::NoMemory;
 use std::alloc::Global;
@@ -22,7 +23,8 @@ fn write_answer(out: &mut String, alloc: Global, kind: &str, text: &str) -> Resu
         "front" => messages::write_front(out, bytes_of(alloc, text)?.as_slice()),
         "heard" => messages::write_heard(out, alloc, text),
         "faults" => messages::write_faults(out),
-        "peer" => peer::write_session(out, alloc, text),
+        "story" => story::write_story(out, alloc, text),
+        "text" => texts::write_text(out, alloc, text),
         _ => out.push_str("no such kind"),
     }
 }

@@ -7,7 +7,7 @@ use std::fmt::Write;
 use test_lines::bytes_of;
 
 /// Writes the codes of a fault.
-pub fn write_fault(out: &mut String, fault: Fault) -> Result<(), NoMemory> {
+fn write_fault(out: &mut String, fault: Fault) -> Result<(), NoMemory> {
     write!(out, "{}/{}", fault.code(), fault.subcode())
 }
 
@@ -17,24 +17,6 @@ pub fn write_front(out: &mut String, bytes: &[u8]) -> Result<(), NoMemory> {
         Front::NotYet => out.push_str("not yet"),
         Front::Refused(fault) => write_fault(out, fault),
         Front::Whole(head) => write!(out, "type {}, {} bytes", head.kind.number(), head.len),
-    }
-}
-
-/// What a body of a type says that a peer of this AS says; nothing where no message of the type has so
-/// many bytes.
-pub fn message_in(
-    alloc: Global,
-    peer: u16,
-    kind: Kind,
-    body: &[u8],
-) -> Result<Option<Message>, Refused> {
-    let len = HEADER + body.len();
-    if len > 4096 || !kind.may_have(len as u16) {
-        return Ok(None);
-    }
-    match read_body(alloc, peer, kind, body) {
-        Ok(message) => Ok(Some(message)),
-        Err(refused) => Err(refused),
     }
 }
 
@@ -96,9 +78,12 @@ pub fn write_heard(out: &mut String, alloc: Global, text: &str) -> Result<(), No
     let Some(kind) = Kind::of_number(kind.parse::<u8>().unwrap_or(0)) else {
         return out.push_str("no such type");
     };
-    match message_in(alloc, peer, kind, body.as_slice()) {
-        Ok(Some(message)) => write_message(out, alloc, &message),
-        Ok(None) => out.push_str("no such length"),
+    let len = HEADER + body.len();
+    if len > 4096 || !kind.may_have(len as u16) {
+        return out.push_str("no such length");
+    }
+    match read_body(alloc, peer, kind, body.as_slice()) {
+        Ok(message) => write_message(out, alloc, &message),
         Err(Refused::Fault(fault)) => write_fault(out, fault),
         Err(Refused::Memory) => Err(AllocError),
     }

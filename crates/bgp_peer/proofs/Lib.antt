@@ -1,0 +1,15 @@
+pub mod Behind
+pub mod Cutting
+pub mod Ends
+pub mod Fronts
+pub mod Further
+pub mod Keeping
+pub mod Led
+pub mod Pieces
+pub mod SaidBefore
+pub mod Sound
+pub mod Spoken
+pub mod Steps
+pub mod Timers
+pub mod Waiting
+pub mod Whole

@@ -1,0 +1,5 @@
+pub mod Peers
+pub mod Sayings
+pub mod StandsFor
+pub mod Stories
+pub mod Turns

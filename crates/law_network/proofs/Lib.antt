@@ -1,0 +1,10 @@
+pub mod Ports
+pub mod Parts
+pub mod Sends
+pub mod Floods
+pub mod Hosts
+pub mod Start
+pub mod Outcomes
+pub mod Runs
+pub mod Counts
+pub mod Results
