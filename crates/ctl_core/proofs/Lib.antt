@@ -1,11 +1,14 @@
+pub mod Bounded
 pub mod HeardOn
 pub mod InOrder
 pub mod Numbered
 pub mod Ordered
 pub mod PacketSteps
+pub mod Planned
 pub mod ReloadSteps
 pub mod Rests
 pub mod SaidTables
+pub mod Settled
 pub mod SoundFrames
 pub mod SoundGateways
 pub mod SoundReloads
@@ -13,4 +16,5 @@ pub mod SoundSteps
 pub mod SoundTurns
 pub mod Stands
 pub mod Stays
+pub mod Telling
 pub mod Walk

@@ -1,9 +1,8 @@
 -- When what happens changes something that a settling looks at.
-use Rattle.std.specs.Prelude.{ℕ, zero, suc, ◌-◌, ◌&&◌, ◌||◌, not, max, Bool, true, false, is_ok, [], length, map, Option, Some, None}
+use Rattle.std.specs.Prelude.{ℕ, zero, suc, ◌&&◌, ◌||◌, not, max, Bool, true, false, is_ok, [], length, map, Option, Some, None}
 use Rattle.std.specs.List.{list_any}
 use Rattle.std.specs.Option.{option_map_or}
 use Rattle.net_base.specs.declared.numbers.DpId.{DpId}
-use Rattle.net_base.specs.declared.numbers.Moment.{Moment}
 use Rattle.fg_outside.specs.declared.hub.Happening.{Happening}
 use Rattle.fg_outside.specs.declared.hub.Happening.TheVariants as happenings
 use Rattle.of13_codec.specs.declared.message.Message.{Message}

@@ -10,7 +10,6 @@ use Rattle.conf_types.specs.Configuration.{Configuration, dp_with}
 use Rattle.conf_types.specs.Groups.{group_of}
 use Rattle.of13_codec.specs.declared.message.Message.{Message}
 use Rattle.of13_codec.specs.declared.message.Message.TheVariants as messages
-use Rattle.of13_codec.specs.declared.packet_in.PacketIn.{PacketIn}
 use Rattle.neighbour_resolve.specs.Table.{Table as Neighbours, after_told, stays, unresolved}
 use Rattle.flow_messages.specs.Messages.{delete_all}
 use Rattle.switch_session.specs.declared.closing.Closing.{Closing}

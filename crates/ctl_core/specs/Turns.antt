@@ -1,12 +1,8 @@
 -- A controller's turn: what happens, what is done about it, and the settling.
 use Rattle.std.specs.Prelude.{ℕ, not, map, if◌then◌else◌, List, [], length, filter}
-use Rattle.net_base.specs.declared.numbers.Moment.{Moment}
-use Rattle.fg_outside.specs.declared.hub.EndCause.TheVariants as ends
 use Rattle.fg_outside.specs.declared.hub.Happening.{Happening}
 use Rattle.fg_outside.specs.declared.hub.Happening.TheVariants as happenings
 use Rattle.conf_types.specs.State.{is_to_forget}
-use Rattle.of13_codec.specs.declared.message.Message.TheVariants as messages
-use Rattle.switch_session.specs.declared.quiet.Quiet.TheVariants as quiet
 use Rattle.ctl_world.specs.Connections.{is_open}
 use Rattle.ctl_world.specs.Ends.{ended}
 use Rattle.ctl_world.specs.World.{World}

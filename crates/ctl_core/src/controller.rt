@@ -5,6 +5,7 @@ ghost use Rattle.packet_way.specs.Present.{state_of};
 ghost use Rattle.ctl_world.specs.World.{first, is_at_work, now, running, ups, World as Seen};
 ghost use Rattle.ctl_settle.specs.Rest.{rests_until};
 ghost use Rattle.ctl_core.specs.Changes.{latest, turn_changes};
+ghost use Rattle.ctl_core.specs.Known.{HasSettled};
 ghost use Rattle.ctl_core.specs.Turns.{turn};
 ghost use Rattle.ctl_life.specs.Sayings.{saying_of};
 ghost use Rattle.ctl_core.specs.Story.{tables_of};
@@ -14,6 +15,7 @@ use crate::known::Known;
 use crate::turns::work;
 use conf_types::{Conf, Dp, DpIds, Tally, UpRecs};
 use ctl_life::{Sayings, make_sayings};
+use ctl_settle::Plans;
 use ctl_world::laws::what_is_known_first_is_sound;
 use ctl_world::{Conns, Saids, World};
 use fg_outside::Happening;
@@ -65,14 +67,15 @@ fn is_running(world: &World, id: DpId) -> bool
         .any(|dp| is_at_work(&world.conns, dp) && dp.id == id)
 }
 
-fn tables_of(world: &World, dp: DpId) -> Option<&Tables>
-    ensures { option_copied result ≡ tables_of world.now dp }
+fn tables_of(known: &Known, dp: DpId) -> Option<&Tables>
+    requires { HasSettled known.now }
+    ensures { option_copied result ≡ tables_of known.now.world dp }
 {
-    if !is_running(world, dp) {
+    if !is_running(&known.world, dp) {
         return None;
     }
-    match world.conns.of(dp) {
-        Some(conn) => Some(&conn.sent),
+    match known.world.conns.of(dp) {
+        Some(conn) => known.plans.sent(conn.number),
         None => None,
     }
 }
@@ -89,6 +92,7 @@ impl Controller {
             alloc,
             known: Known {
                 world,
+                plans: Plans::new(alloc),
                 until: u64::MAX,
             },
             is_spent: false,
@@ -160,6 +164,6 @@ impl Controller {
         if self.is_spent {
             return None;
         }
-        tables_of(&self.known.world, dp)
+        tables_of(&self.known, dp)
     }
 }

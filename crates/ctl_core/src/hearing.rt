@@ -3,32 +3,39 @@
 ghost use Rattle.std.specs.Prelude.{◌≡◌, false, IfOk, OnOk};
 ghost use Rattle.conf_types.specs.Valid.{IsValid};
 ghost use Rattle.switch_session.specs.declared.closing.Closing.TheVariants.{BadFrame};
-ghost use Rattle.ctl_world.specs.Alike.{IsAlike};
 ghost use Rattle.ctl_world.specs.Connections.{conn_with};
 ghost use Rattle.ctl_world.specs.Ends.{close};
 ghost use Rattle.ctl_world.specs.Frames.{front};
 ghost use Rattle.ctl_world.specs.World.{IsSound};
+ghost use Rattle.ctl_settle.specs.Rest.{AreInOrder};
 ghost use Rattle.ctl_settle.specs.Settling.{settle};
 ghost use Rattle.ctl_core.specs.Changes.{any_changes, frame_changes, heard_packet_changes, message_changes, next_changes, step_changes};
 ghost use Rattle.ctl_life.specs.Life.{echo, has_frame, read, says, tell_version, turn_away, unread};
+ghost use Rattle.ctl_packets.specs.Changes.{packet_changes};
+ghost use Rattle.ctl_packets.specs.Packets.{packet_in};
+ghost use Rattle.ctl_core.specs.Found.{Tells, is_settled, is_touched};
 ghost use Rattle.ctl_core.specs.Hearing.{follow, hear_frame, hear_frames, hear_message, hear_next, packet};
 ghost use Rattle.ctl_core.specs.Known.{HasSettled, IsEarly};
 
+use crate::found::{Found, behind_step, by_end, by_packet};
 use crate::gateways::begin;
 use crate::known::{Known, settle_anew, settle_where_due};
-use crate::laws::{a_frame_leaves_it_sound, what_happens_keeps_connections_in_order};
+use crate::laws::{
+    a_frame_leaves_it_sound, what_happens_keeps_connections_in_order, what_happens_keeps_the_plans,
+};
 use crate::setup::{introduce, unfit, wipe};
 use conf_types::{Conf, Tally};
 use ctl_life::{answer_echo, read_message, turn_away};
 use ctl_packets::packet_in;
-use ctl_settle::laws::alike_worlds_rest_alike;
+use ctl_settle::laws::{alike_worlds_have_the_same_plans, alike_worlds_rest_alike};
 use ctl_world::laws::{
     a_sound_world_has_lost_nothing, alike_worlds_run_alike, forgetting_what_is_lost_makes_it_sound,
-    what_is_said_is_alike,
+    such_changes_leave_it_sound, what_is_said_is_alike,
 };
 use ctl_world::{Front, World};
+use law_names::steps::strangers_change_nothing;
 use net_base::{DpId, NoMemory};
-use of13_codec::Message;
+use of13_codec::{Message, PacketIn};
 use std::alloc::Global;
 use switch_session::{Closing, Step};
 
@@ -39,27 +46,46 @@ pub(crate) fn a_configuration_is_valid(conf: &Conf)
     let _ = conf.dps();
 }
 
-/// Takes a packet, and tells whether something changed that a settling looks at.
+/// Takes a packet of a datapath.
+fn take_packet(
+    alloc: Global,
+    world: &mut World,
+    packet: &PacketIn,
+    conn: u32,
+    dp: DpId,
+) -> Result<Found, NoMemory>
+    ensures done { OnOk result (world.new ≡ packet_in packet.now conn dp world.old) }
+    ensures told { IfOk result (λ found. is_touched found ≡ packet_changes packet.now dp world.old) }
+    ensures tells { IfOk result (λ found. Tells world.old world.new found) }
+{
+    let found = by_packet(world, packet, dp);
+    if packet_in(alloc, world, packet, conn, dp)? {
+        Ok(found)
+    } else {
+        Ok(Found::Nothing)
+    }
+}
+
+/// Takes a packet, and tells what may differ.
 fn hear_packet(
     alloc: Global,
     world: &mut World,
     message: &Message,
     conn: u32,
     dp: Option<DpId>,
-) -> Result<bool, NoMemory>
+) -> Result<Found, NoMemory>
     ensures done { OnOk result (world.new ≡ packet message.now conn dp world.old) }
-    ensures alike { IfOk result (λ changed. changed ≡ false → IsAlike world.new world.old) }
-    ensures told { IfOk result (λ changed. changed ≡ heard_packet_changes message.now dp world.old) }
+    ensures told { IfOk result (λ found. is_touched found ≡ heard_packet_changes message.now dp world.old) }
+    ensures tells { IfOk result (λ found. Tells world.old world.new found) }
 {
     alike_worlds_run_alike();
     match (message, dp) {
-        (Message::PacketIn(packet), Some(dp)) => packet_in(alloc, world, packet, conn, dp),
-        _ => Ok(false),
+        (Message::PacketIn(packet), Some(dp)) => take_packet(alloc, world, packet, conn, dp),
+        _ => Ok(Found::Nothing),
     }
 }
 
-/// Does what follows from the step that a connection took, and tells whether something changed that a
-/// settling looks at.
+/// Does what follows from the step that a connection took, and tells what may differ.
 fn follow(
     alloc: Global,
     world: &mut World,
@@ -68,20 +94,23 @@ fn follow(
     xid: u32,
     conn: u32,
     dp: Option<DpId>,
-) -> Result<bool, NoMemory>
+) -> Result<Found, NoMemory>
     ensures done { OnOk result (world.new ≡ follow step message.now xid conn dp world.old) }
-    ensures alike { IfOk result (λ changed. changed ≡ false → IsAlike world.new world.old) }
-    ensures told { IfOk result (λ changed. changed ≡ step_changes step message.now dp world.old) }
+    ensures told { IfOk result (λ found. is_touched found ≡ step_changes step message.now dp world.old) }
+    ensures tells { IfOk result (λ found. Tells world.old world.new found) }
 {
     alike_worlds_run_alike();
     match step {
-        Step::Nothing | Step::Settled | Step::PortChanged(_) => return Ok(false),
+        Step::Nothing | Step::Settled | Step::PortChanged(_) => return Ok(Found::Nothing),
         Step::Packet => return hear_packet(alloc, world, message, conn, dp),
         Step::Echo => {
             answer_echo(alloc, world, message, conn, xid)?;
-            return Ok(false);
+            return Ok(Found::Nothing);
         }
-        Step::AskFeatures => world.say(conn, Message::FeaturesRequest)?,
+        Step::AskFeatures => {
+            world.say(conn, Message::FeaturesRequest)?;
+            return Ok(Found::Due);
+        }
         Step::Features {
             dp,
             n_tables,
@@ -94,52 +123,66 @@ fn follow(
         Step::Wiped => begin(alloc, world, dp)?,
         Step::Close(cause) => turn_away(alloc, world, cause, conn, xid)?,
     }
-    Ok(true)
+    Ok(Found::Any)
 }
 
-/// A connection hears a message. Where its state stays as it is, nothing is lost that was known, so that
-/// nothing is looked through.
+fn is_settled(step: &Step) -> bool
+    ensures { result ≡ is_settled step.now }
+{
+    matches!(step, Step::Settled)
+}
+
+/// A connection hears a message. Where its state stays as it is, or it only awaits no reply any more, nothing is
+/// lost that was known, so that nothing is looked through.
 fn hear_message(
     alloc: Global,
     world: &mut World,
     message: &Message,
     xid: u32,
     conn: u32,
-) -> Result<bool, NoMemory>
-    requires { IsSound world.old }
+) -> Result<Found, NoMemory>
+    requires sound { IsSound world.old }
+    requires in_order { AreInOrder world.old }
     ensures heard { OnOk result (world.new ≡ hear_message message.now xid conn world.old) }
-    ensures alike { IfOk result (λ changed. changed ≡ false → IsAlike world.new world.old) }
-    ensures told { IfOk result (λ changed. changed ≡ message_changes message.now xid conn world.old) }
+    ensures told { IfOk result (λ found. is_touched found ≡ message_changes message.now xid conn world.old) }
+    ensures tells { IfOk result (λ found. Tells world.old world.new found) }
 {
     alike_worlds_run_alike();
+    such_changes_leave_it_sound();
     a_sound_world_has_lost_nothing();
+    strangers_change_nothing();
     let dp = match world.conns.get(conn) {
         Some(found) => found.dp,
-        None => return Ok(false),
+        None => return Ok(Found::Nothing),
     };
     let stays = world.conns.stays(conn, message, xid);
     let step = world.conns.hear(conn, message, xid)?;
     if stays {
         return follow(alloc, world, step, message, xid, conn, dp);
     }
+    if is_settled(&step) {
+        return Ok(Found::Due);
+    }
     world.forget_lost(alloc)?;
-    follow(alloc, world, step, message, xid, conn, dp)?;
-    Ok(true)
+    let found = follow(alloc, world, step, message, xid, conn, dp)?;
+    Ok(behind_step(dp, found))
 }
 
-/// A connection hears a frame; one that spells no message closes it. Tells whether something changed that
-/// a settling looks at.
-fn hear_frame(alloc: Global, world: &mut World, frame: &[u8], conn: u32) -> Result<bool, NoMemory>
-    requires { IsSound world.old }
+/// A connection hears a frame; one that spells no message closes it. Tells what may differ.
+fn hear_frame(alloc: Global, world: &mut World, frame: &[u8], conn: u32) -> Result<Found, NoMemory>
+    requires sound { IsSound world.old }
+    requires in_order { AreInOrder world.old }
     ensures heard { OnOk result (world.new ≡ hear_frame (says frame.now) conn world.old) }
-    ensures alike { IfOk result (λ changed. changed ≡ false → IsAlike world.new world.old) }
-    ensures told { IfOk result (λ changed. changed ≡ frame_changes (says frame.now) conn world.old) }
+    ensures told { IfOk result (λ found. is_touched found ≡ frame_changes (says frame.now) conn world.old) }
+    ensures tells { IfOk result (λ found. Tells world.old world.new found) }
 {
+    strangers_change_nothing();
     match read_message(alloc, frame)? {
         Some((message, xid)) => hear_message(alloc, world, &message, xid, conn),
         None => {
+            let found = by_end(&world.conns, conn);
             world.close(alloc, Closing::BadFrame, conn)?;
-            Ok(true)
+            Ok(found)
         }
     }
 }
@@ -156,6 +199,7 @@ fn read_front(alloc: Global, known: &mut Known, conn: u32) -> Result<Front, NoMe
     what_happens_keeps_connections_in_order();
     what_is_said_is_alike();
     alike_worlds_rest_alike();
+    alike_worlds_have_the_same_plans();
     known.world.conns.next_frame(alloc, conn)
 }
 
@@ -175,10 +219,12 @@ fn hear_one<T: Tally>(
 {
     a_frame_leaves_it_sound();
     what_happens_keeps_connections_in_order();
+    what_happens_keeps_the_plans();
     alike_worlds_rest_alike();
+    alike_worlds_have_the_same_plans();
     a_configuration_is_valid(&known.world.conf);
-    let changed = hear_frame(alloc, &mut known.world, frame, conn)?;
-    settle_where_due(alloc, known, changed, units)
+    let found = hear_frame(alloc, &mut known.world, frame, conn)?;
+    settle_where_due(alloc, known, found, units)
 }
 
 /// A connection is closed for bytes that are no frame.
@@ -192,11 +238,15 @@ fn refuse<T: Tally>(
     ensures refused { OnOk result (known.new.world ≡ settle (close BadFrame conn known.old.world)) }
     ensures settled { OnOk result (HasSettled known.new) }
 {
+    strangers_change_nothing();
     what_happens_keeps_connections_in_order();
+    what_happens_keeps_the_plans();
     forgetting_what_is_lost_makes_it_sound();
     a_configuration_is_valid(&known.world.conf);
+    let found = by_end(&known.world.conns, conn);
     known.world.close(alloc, Closing::BadFrame, conn)?;
-    settle_anew(alloc, known, units)
+    let touched = found.touched(alloc, &known.world.conf)?;
+    settle_anew(alloc, known, touched, found.ends(), units)
 }
 
 /// Takes what stands at the front of the bytes that came, and settles; `false` where less than a frame

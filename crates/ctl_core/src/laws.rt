@@ -10,6 +10,8 @@ ghost use Rattle.ctl_world.specs.declared.said.Said.TheVariants.{Line};
 ghost use Rattle.ctl_world.specs.Connections.{is_open};
 ghost use Rattle.ctl_world.specs.Ends.{close, ended};
 ghost use Rattle.ctl_world.specs.World.{IsSound, World};
+ghost use Rattle.ctl_settle.specs.declared.plans.Held.{Held};
+ghost use Rattle.ctl_settle.specs.Plans.{AreHeld, Fit};
 ghost use Rattle.ctl_settle.specs.Rest.{AreInOrder, IsAtRest};
 ghost use Rattle.ctl_settle.specs.Settling.{settle};
 ghost use Rattle.ctl_life.specs.Life.{read, feed, open_conn};
@@ -61,6 +63,16 @@ pub fn what_happens_keeps_connections_in_order()
 {
     a_settling_leaves_nothing_waiting();
 }
+
+/// Whatever happens, the plans that are kept stay those of what was noted on their connections. What opens has none.
+pub fn what_happens_keeps_the_plans()
+    ensures opened { (number : ℕ) (w : World) (held : List Held) → is_open w.conns number ≡ false → AreHeld w held → Fit (open_conn number w).conns held }
+    ensures heard { (said : Option (Message × ℕ)) (number : ℕ) (w : World) (held : List Held) → Fit w.conns held → Fit (hear_frame said number w).conns held }
+    ensures closed { (cause : Closing) (number : ℕ) (w : World) (held : List Held) → Fit w.conns held → Fit (close cause number w).conns held }
+    ensures ended { (cause : Closing) (number : ℕ) (w : World) (held : List Held) → Fit w.conns held → Fit (ended cause number w).conns held }
+    ensures passed { (moment : ℕ) (w : World) (held : List Held) → Fit w.conns held → Fit (pass moment w).conns held }
+    ensures reloaded { (text : List ℕ) (w : World) (held : List Held) → Fit w.conns held → Fit (reload (accepted text) w).conns held }
+{}
 
 /// A reload that is refused changes nothing, where nothing waits to be said: all that is said is the line
 /// that tells why.

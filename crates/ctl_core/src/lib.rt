@@ -2,12 +2,15 @@
 #![tactic(auto)]
 
 mod controller;
+mod ends;
+mod found;
 mod gateways;
 mod hearing;
 mod known;
 pub mod laws;
 mod reloading;
 mod setup;
+mod turned;
 mod turns;
 
 pub use controller::Controller;

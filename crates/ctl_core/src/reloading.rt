@@ -2,11 +2,12 @@
 
 ghost use Rattle.std.specs.Prelude.{◌≡◌, ◌++◌, ℕ, List, map, false, is_ok, Ok, Err, IfOk, OnOk};
 ghost use Rattle.conf_types.specs.Groups.{group_of};
-ghost use Rattle.ctl_world.specs.Alike.{IsAlike};
 ghost use Rattle.ctl_world.specs.World.{running};
 ghost use Rattle.conf_check.specs.Accepted.{IsTextRefused};
+ghost use Rattle.ctl_core.specs.Found.{Tells, is_touched};
 ghost use Rattle.ctl_core.specs.Reloading.{Gives, accepted, close_each, close_stray, is_stray, of_text, of_tree, reload, renew, strays, want_all, want_each, yaml_fault_text};
 
+use crate::found::Found;
 use crate::gateways::want_in;
 use conf_causes::put_fault;
 use conf_check::{TextRefused, conf_of_bytes};
@@ -176,21 +177,21 @@ fn refuse(alloc: Global, world: &mut World, cause: &Text) -> Result<(), NoMemory
 
 /// A text is to take the place of the configuration. One that has a configuration does so: the
 /// connections of datapaths that it hasn't are closed, by number, what may stay is kept, and the gateways of the
-/// groups that run are wanted. Any other changes nothing, and a line says why. Tells whether it did so.
-pub(crate) fn reload(alloc: Global, world: &mut World, text: &[u8]) -> Result<bool, NoMemory>
+/// groups that run are wanted. Any other changes nothing, and a line says why. Tells what may differ.
+pub(crate) fn reload(alloc: Global, world: &mut World, text: &[u8]) -> Result<Found, NoMemory>
     ensures reloaded { OnOk result (world.new ≡ reload (accepted text.now) world.old) }
-    ensures alike { IfOk result (λ taken. taken ≡ false → IsAlike world.new world.old) }
-    ensures told { IfOk result (λ taken. taken ≡ is_ok (accepted text.now)) }
+    ensures tells { IfOk result (λ found. Tells world.old world.new found) }
+    ensures told { IfOk result (λ found. is_touched found ≡ is_ok (accepted text.now)) }
 {
     what_is_said_is_alike();
     match read_text(alloc, text)? {
         Read::Accepted(next) => {
             accept(alloc, world, next)?;
-            Ok(true)
+            Ok(Found::Any)
         }
         Read::Refused(cause) => {
             refuse(alloc, world, &cause)?;
-            Ok(false)
+            Ok(Found::Nothing)
         }
     }
 }

@@ -1,29 +1,38 @@
 //! What happens, turn by turn.
 
-ghost use Rattle.std.specs.Prelude.{◌≡◌, ◌<◌, max, false, OnOk};
+ghost use Rattle.std.specs.Prelude.{◌≡◌, ◌<◌, Some, None, if◌then◌else◌, max, false, IfOk, OnOk};
 ghost use Rattle.fg_outside.specs.declared.hub.Happening.TheVariants.{Opened, Heard, Closed, Moment as Shown, Reload};
 ghost use Rattle.ctl_life.specs.Silence.{closes, falls_silent, look, look_each, show, stir};
 ghost use Rattle.ctl_core.specs.Changes.{changes, latest, unread_changes};
+ghost use Rattle.ctl_settle.specs.Rest.{IsBound, RestsUntil, rests_until};
 ghost use Rattle.ctl_core.specs.Known.{HasSettled, IsEarly};
 ghost use Rattle.ctl_life.specs.Life.{closing_for, feed, open_conn};
+ghost use Rattle.ctl_core.specs.Turning.{turned};
 ghost use Rattle.ctl_core.specs.Turns.{age, hear, pass, pass_in, turn, work};
 
+use crate::ends::Ends;
+use crate::found::by_end;
 use crate::hearing::{a_configuration_is_valid, hear_frames};
 use crate::known::{Known, settle_anew, settle_where_due};
 use crate::laws::{
     a_moment_leaves_it_sound, a_reload_leaves_it_sound, what_comes_leaves_it_sound,
-    what_happens_keeps_connections_in_order,
+    what_happens_keeps_connections_in_order, what_happens_keeps_the_plans,
 };
 use crate::reloading::reload;
+use crate::turned::turned;
 use conf_types::Tally;
 use ctl_life::{closing_for, look_after, open};
-use ctl_settle::laws::{alike_worlds_rest_alike, what_rests_settles_as_it_is};
+use ctl_settle::laws::{
+    alike_worlds_have_the_same_plans, alike_worlds_rest_alike, what_rests_settles_as_it_is,
+};
+use ctl_settle::{Touched, rests_until};
 use ctl_world::World;
 use ctl_world::laws::{
     alike_worlds_run_alike, forgetting_what_is_lost_makes_it_sound, what_is_said_is_alike,
 };
 use fg_outside::{EndCause, Happening};
-use net_base::NoMemory;
+use law_names::steps::strangers_change_nothing;
+use net_base::{Moment, NoMemory};
 use std::alloc::Global;
 
 /// Bytes came on a connection.
@@ -37,6 +46,7 @@ fn feed(known: &mut Known, conn: u32, piece: &[u8]) -> Result<(), NoMemory>
     what_happens_keeps_connections_in_order();
     what_is_said_is_alike();
     alike_worlds_rest_alike();
+    alike_worlds_have_the_same_plans();
     let moment = known.world.moment;
     known.world.conns.feed(conn, piece, moment)
 }
@@ -76,7 +86,7 @@ pub(crate) fn work<T: Tally>(
     requires { HasSettled known.old }
     ensures done { OnOk result (known.new.world ≡ work what.now known.old.world) }
     ensures settled { OnOk result (HasSettled known.new) }
-    ensures left_out { changes what.now known.old.world ≡ false → latest what.now known.old.world < known.old.until → T.count units.new ≡ T.count units.old }
+    ensures left_out { changes what.now known.old.world ≡ false → latest what.now known.old.world < rests_until known.old.world → T.count units.new ≡ T.count units.old }
 {
     match what {
         Happening::Opened(conn) => opened(alloc, known, *conn, units),
@@ -103,8 +113,9 @@ fn opened<T: Tally>(
     }
     what_comes_leaves_it_sound();
     what_happens_keeps_connections_in_order();
+    what_happens_keeps_the_plans();
     open(alloc, &mut known.world, conn)?;
-    settle_anew(alloc, known, units)
+    settle_anew(alloc, known, Touched::nothing(alloc), Ends::Later, units)
 }
 
 fn heard<T: Tally>(
@@ -143,8 +154,44 @@ fn closed<T: Tally>(
     a_configuration_is_valid(&known.world.conf);
     forgetting_what_is_lost_makes_it_sound();
     what_happens_keeps_connections_in_order();
+    what_happens_keeps_the_plans();
+    strangers_change_nothing();
+    let found = by_end(&known.world.conns, conn);
     known.world.end(alloc, closing_for(cause), conn)?;
-    settle_anew(alloc, known, units)
+    let touched = found.touched(alloc, &known.world.conf)?;
+    settle_anew(alloc, known, touched, found.ends(), units)
+}
+
+/// What may differ where the clock showed a moment: the hosts that it turns, or anything where a connection was
+/// closed.
+fn touched_at(
+    alloc: Global,
+    world: &World,
+    before: Moment,
+    closed: bool,
+) -> Result<Touched, NoMemory>
+    ensures { IfOk result (λ touched. touched ≡ (if closed then None else Some (turned before.0 world.now))) }
+{
+    if closed {
+        Ok(Touched::anything(alloc))
+    } else {
+        turned(alloc, world, before)
+    }
+}
+
+/// Where the moment is shown until which nothing is due, the first one at which something is takes its place.
+fn until_at(world: &World, until: u64, moment: u64) -> u64
+    requires bound { IsBound world.now until }
+    requires rests { RestsUntil until world.now }
+    ensures bound { IsBound world.now result }
+    ensures rests { RestsUntil result world.now }
+    ensures ahead { max world.now.moment.0 moment < rests_until world.now → max world.now.moment.0 moment < result }
+{
+    if world.moment.0 < until && until <= moment {
+        rests_until(world)
+    } else {
+        until
+    }
 }
 
 /// Where no connection was closed and nothing is due yet, no host is looked at.
@@ -157,19 +204,24 @@ fn passed<T: Tally>(
     requires { HasSettled known.old }
     ensures done { OnOk result (known.new.world ≡ work (Shown moment) known.old.world) }
     ensures settled { OnOk result (HasSettled known.new) }
-    ensures left_out { changes (Shown moment) known.old.world ≡ false → max known.old.world.moment.0 moment < known.old.until → T.count units.new ≡ T.count units.old }
+    ensures left_out { changes (Shown moment) known.old.world ≡ false → max known.old.world.moment.0 moment < rests_until known.old.world → T.count units.new ≡ T.count units.old }
 {
     a_configuration_is_valid(&known.world.conf);
     a_moment_leaves_it_sound();
     what_happens_keeps_connections_in_order();
+    what_happens_keeps_the_plans();
     alike_worlds_rest_alike();
+    alike_worlds_have_the_same_plans();
     what_rests_settles_as_it_is();
+    known.until = until_at(&known.world, known.until, moment);
+    let before = known.world.moment;
     let closed = look_after(alloc, &mut known.world, moment)?;
     if !closed && known.world.moment.0 < known.until {
         return Ok(());
     }
+    let touched = touched_at(alloc, &known.world, before, closed)?;
     age(&mut known.world);
-    settle_anew(alloc, known, units)
+    settle_anew(alloc, known, touched, Ends::Any, units)
 }
 
 fn reloaded<T: Tally>(
@@ -186,7 +238,9 @@ fn reloaded<T: Tally>(
     a_configuration_is_valid(&known.world.conf);
     a_reload_leaves_it_sound();
     what_happens_keeps_connections_in_order();
+    what_happens_keeps_the_plans();
     alike_worlds_rest_alike();
-    let taken = reload(alloc, &mut known.world, text)?;
-    settle_where_due(alloc, known, taken, units)
+    alike_worlds_have_the_same_plans();
+    let found = reload(alloc, &mut known.world, text)?;
+    settle_where_due(alloc, known, found, units)
 }

@@ -3,10 +3,9 @@
 ghost use Rattle.std.specs.Prelude.{◌≡◌, OnOk};
 ghost use Rattle.ctl_life.specs.Life.{closing_for, open_conn, replace, take_dp};
 
-use ctl_world::{Conn, World};
+use ctl_world::{Conn, Sent, World};
 use fg_outside::EndCause;
 use net_base::{DpId, NoMemory};
-use of_match::Tables;
 use of13_codec::Message;
 use std::alloc::Global;
 use switch_session::{Closing, Session};
@@ -22,7 +21,7 @@ pub fn open(alloc: Global, world: &mut World, conn: u32) -> Result<(), NoMemory>
         number: conn,
         session: Session::open(alloc, world.moment),
         dp: None,
-        sent: Tables::new(alloc),
+        sent: Sent::none(alloc),
     })?;
     let hello = Message::Hello {
         version: 4,

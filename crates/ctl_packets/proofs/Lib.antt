@@ -1,2 +1,4 @@
 pub mod Gleaned
+pub mod Keeping
+pub mod PacketHosts
 pub mod Sound

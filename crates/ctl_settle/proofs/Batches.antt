@@ -1,7 +1,7 @@
 -- What is said in a batch changes one connection.
-use Rattle.std.proofs.Common.{◌≡◌, ℕ, ◌<◌, ◌==◌, ◌++◌, true, false, cond, Option, Some, None, List, [], ◌∷◌, map, filter, is_some, refl, inl, inr, sym, ap, ◌∙◌, arith, if◌then◌else◌}
+use Rattle.std.proofs.Common.{◌≡◌, ℕ, ◌<◌, ◌==◌, ◌++◌, true, false, cond, Option, Some, None, List, [], ◌∷◌, map, filter, is_some, refl, inl, inr, sym, ap, subst, ◌∙◌, arith, if◌then◌else◌}
 use Rattle.std.specs.Prelude.{◌⊎◌}
-use Rattle.std.specs.List.{AllByRecursion, flat_map}
+use Rattle.std.specs.List.{AllByRecursion}
 use Rattle.std.specs.Option.{option_map_or}
 use Rattle.std.proofs.lemmas.Bool.{cases_Bool}
 use Rattle.std.proofs.lemmas.Bool.Decides.{nat_tests}
@@ -228,6 +228,33 @@ each_step number (m ∷ more) w =
     both_steps number with_said (said_times more) w (say number (command_message m) w) (say_each number more (say number (command_message m) w)) said_quiet
     (say_step number (command_message m) w) (each_step number more (say number (command_message m) w))
 
+-- a batch was said: the one connection has a barrier outstanding, and these entries
+pub record IsNoted (number : ℕ) (entries : List Entry) (w v : World) : Type 0 where
+  pub f : Conn → Conn
+  pub quiet : IsQuiet f
+  pub asked : (c : Conn) → is_some (f c).session.state.awaited ≡ true
+  pub noted : (c : Conn) → (f c).sent ≡ entries
+  pub step : IsStep number f w v
+
+pub noted_case : (number : ℕ) (commands : List Command) (entries : List Entry) (w : World)
+    → ((commands ≡ []) × (say_batch number commands entries w ≡ w)) ⊎ IsNoted number entries w (say_batch number commands entries w)
+noted_case number [] entries w = inl (refl, refl)
+noted_case number (m ∷ more) entries w =
+    let f : Conn → Conn = said_times (m ∷ more) in
+    let quiet : IsQuiet f = times_quiet (m ∷ more) in
+    let asked_quiet : IsQuiet (λ c. with_asked (f c)) = record { number = λ c. quiet.number c; dp = λ c. quiet.dp c; stage = λ c. quiet.stage c; ports = λ c. quiet.ports c } in
+    let v1 : World = say_each number (m ∷ more) w in
+    let v2 : World = ask number messages.BarrierRequest v1 in
+    inr (record {
+      f = λ c. with_sent entries (with_asked (f c));
+      quiet = record { number = λ c. quiet.number c; dp = λ c. quiet.dp c; stage = λ c. quiet.stage c; ports = λ c. quiet.ports c };
+      asked = λ c. refl;
+      noted = λ c. refl;
+      step = both_steps number (λ c. with_asked (f c)) (with_sent entries) w v2 (note_sent number entries v2) asked_quiet
+          (both_steps number f with_asked w v1 v2 quiet (each_step number (m ∷ more) w) (ask_step number messages.BarrierRequest v1))
+          (note_step number entries v2);
+    })
+
 -- a batch was said: the one connection has a barrier outstanding, and its entries are in key order
 pub record IsSaid (number : ℕ) (w v : World) : Type 0 where
   pub f : Conn → Conn
@@ -238,22 +265,11 @@ pub record IsSaid (number : ℕ) (w v : World) : Type 0 where
 
 pub said_case : (number : ℕ) (commands : List Command) (entries : List Entry) (w : World) → IsInKeyOrder entries
     → ((commands ≡ []) × (say_batch number commands entries w ≡ w)) ⊎ IsSaid number w (say_batch number commands entries w)
-said_case number [] entries w keys = inl (refl, refl)
-said_case number (m ∷ more) entries w keys =
-    let f : Conn → Conn = said_times (m ∷ more) in
-    let quiet : IsQuiet f = times_quiet (m ∷ more) in
-    let asked_quiet : IsQuiet (λ c. with_asked (f c)) = record { number = λ c. quiet.number c; dp = λ c. quiet.dp c; stage = λ c. quiet.stage c; ports = λ c. quiet.ports c } in
-    let v1 : World = say_each number (m ∷ more) w in
-    let v2 : World = ask number messages.BarrierRequest v1 in
-    inr (record {
-      f = λ c. with_sent entries (with_asked (f c));
-      quiet = record { number = λ c. quiet.number c; dp = λ c. quiet.dp c; stage = λ c. quiet.stage c; ports = λ c. quiet.ports c };
-      asked = λ c. refl;
-      keys = λ c. keys;
-      step = both_steps number (λ c. with_asked (f c)) (with_sent entries) w v2 (note_sent number entries v2) asked_quiet
-          (both_steps number f with_asked w v1 v2 quiet (each_step number (m ∷ more) w) (ask_step number messages.BarrierRequest v1))
-          (note_step number entries v2);
-    })
+said_case number commands entries w keys =
+    elim (noted_case number commands entries w) [
+      | inl nothing ↦ inl nothing
+      | inr it ↦ inr (record { f = it.f; quiet = it.quiet; asked = it.asked; keys = λ c. subst IsInKeyOrder (sym (it.noted c)) keys; step = it.step })
+    ]
 
 -- ---- what holds behind a step
 

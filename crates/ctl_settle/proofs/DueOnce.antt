@@ -28,3 +28,6 @@ module _ (most i : ℕ) (w : World) (within : i < most) where
   due_none none =
       one_more ∙ ap (λ o. option_map_or (λ due. ask_due (most - (i + 1)) (say_due due (take_due w))) o w) none
       ∙ ap (λ (ns : List NeighRec). record w { neighbours = record w.neighbours { neighbours = ns } }) (sym (none_after w.conf w.moment.0 w.neighbours.neighbours none))
+
+pub none_taken : (w : World) → due_said w.conf w.moment.0 w.neighbours.neighbours ≡ None → take_due w ≡ w
+none_taken w none = ap (λ (ns : List NeighRec). record w { neighbours = record w.neighbours { neighbours = ns } }) (none_after w.conf w.moment.0 w.neighbours.neighbours none)

@@ -1,8 +1,16 @@
 pub mod Asked
+pub mod AskedNames
 pub mod Batches
+pub mod Brought
 pub mod DueOnce
+pub mod Fitting
+pub mod Following
+pub mod Learned
+pub mod PlanPlaces
 pub mod Placing
+pub mod SamePlans
 pub mod Settled
 pub mod Sound
+pub mod Taking
 pub mod Until
 pub mod Waiting

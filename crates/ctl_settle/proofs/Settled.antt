@@ -37,7 +37,7 @@ none_asked : (most : ℕ) (w : World) → due_said w.conf w.moment.0 w.neighbour
 none_asked zero w none = refl
 none_asked (suc most) w none = ap (λ o. option_map_or (λ due. ask_due most (say_due due (take_due w))) o w) none
 
-all_run : (dps ids : List DpId) → ((dp : DpId) → is_running ids dp ≡ true → is_running dps dp ≡ true) → AllByRecursion (λ dp. is_running dps dp ≡ true) ids
+pub all_run : (dps ids : List DpId) → ((dp : DpId) → is_running ids dp ≡ true → is_running dps dp ≡ true) → AllByRecursion (λ dp. is_running dps dp ≡ true) ids
 all_run dps [] within = tt
 all_run dps (id ∷ ids) within =
     (within id (ap (λ b. b || is_running ids id) (eq-eqb id.0 id.0 refl)), all_run dps ids (λ dp runs. within dp (or_right (id.0 == dp.0) (is_running ids dp) runs)))

@@ -1,10 +1,11 @@
 -- Until the first host turns stale or is to be forgotten, or a neighbour is due, what rests goes on resting.
-use Rattle.std.proofs.Common.{◌≡◌, ℕ, ◌<◌, ◌≤◌, ◌==◌, ◌&&◌, ◌||◌, ◌++◌, Bool, true, false, cond, not, Option, Some, None, List, [], ◌∷◌, map, filter, find, nat_lt, nat_le, refl, inl, inr, sym, ap, ◌∙◌, arith, if◌then◌else◌}
+use Rattle.std.proofs.Common.{◌≡◌, ℕ, ◌<◌, ◌≤◌, ◌==◌, ◌&&◌, ◌||◌, ◌++◌, Bool, true, false, cond, not, Option, Some, None, List, [], ◌∷◌, map, filter, find, nat_lt, nat_le, refl, inl, inr, sym, ap, subst, ◌∙◌, arith, if◌then◌else◌}
 use Rattle.std.specs.Prelude.{min}
 use Rattle.std.specs.List.{AllByRecursion, flat_map, fold}
 use Rattle.std.specs.Option.{option_map, option_map_or}
 use Rattle.std.proofs.lemmas.Bool.{le-ltb, lt-leb, lt-ltb, ltb-false}
 use Rattle.net_base.specs.declared.numbers.DpId.{DpId}
+use Rattle.net_base.specs.declared.numbers.Moment.{Moment}
 use Rattle.of_match.specs.declared.entry.Command.TheVariants.{Add}
 use Rattle.of_match.specs.declared.entry.Entry.{Entry}
 use Rattle.of_match.specs.Settled.{after_all}
@@ -12,7 +13,8 @@ use Rattle.conf_types.specs.declared.datapath.Dp.{Dp}
 use Rattle.conf_types.specs.declared.state.HostRec.{HostRec}
 use Rattle.conf_types.specs.declared.state.NeighRec.{NeighRec}
 use Rattle.conf_types.specs.Configuration.{Configuration, dp_with}
-use Rattle.conf_types.specs.State.{State, forgotten_at, is_permanent, is_stale, is_to_forget, stale_at}
+use Rattle.conf_types.specs.State.{State, forgotten_at, is_fresh, is_permanent, is_stale, is_to_forget, stale_at}
+use Rattle.host_learn.specs.Table.{Table as Hosts}
 use Rattle.packet_way.specs.Known.{stack_of}
 use Rattle.plan_base.specs.declared.table.Table.TheVariants.{Source, Ipv4Route}
 use Rattle.plan_base.specs.Actions.{to_controller}
@@ -26,7 +28,7 @@ use Rattle.cold_start.specs.Cold.{cold}
 use Rattle.neighbour_resolve.specs.Due.{is_due, never, said_of}
 use Rattle.ctl_world.specs.Alike.{IsAlike}
 use Rattle.ctl_world.specs.World.{World, now}
-use Rattle.ctl_settle.specs.Rest.{IsAtRest, NoneIsOver, RestsUntil, at_moment, host_until, hosts_until, neighbours_until, rests_until}
+use Rattle.ctl_settle.specs.Rest.{AreBounded, IsAtRest, NoneIsOver, RestsUntil, at_moment, host_until, hosts_until, neighbours_until, rests_until}
 use Rattle.ctl_settle.specs.Settling.{wanted}
 
 -- ---- the least of a list
@@ -39,6 +41,15 @@ module _ {A : Type 0} (f : A → ℕ) where
   least_each : (m first : ℕ) (xs : List A) → m < fold (λ least x. min least (f x)) first xs → AllByRecursion (λ x. m < f x) xs
   least_each m first [] less = tt
   least_each m first (x ∷ xs) less = (omega (arith, less, least_first (min first (f x)) xs), least_each m (min first (f x)) xs less)
+
+  -- a bound of each is one of the least
+  bounded_least : (bound first : ℕ) (xs : List A) → bound ≤ first → AllByRecursion (λ x. bound ≤ f x) xs → bound ≤ fold (λ least x. min least (f x)) first xs
+  bounded_least bound first [] less all = less
+  bounded_least bound first (x ∷ xs) less all = bounded_least bound (min first (f x)) xs (omega (arith, less, all.0)) all.1
+
+  least_bounded : (bound first : ℕ) (xs : List A) → bound ≤ fold (λ least x. min least (f x)) first xs → AllByRecursion (λ x. bound ≤ f x) xs
+  least_bounded bound first [] less = tt
+  least_bounded bound first (x ∷ xs) less = (omega (arith, less, least_first (min first (f x)) xs), least_bounded bound (min first (f x)) xs less)
 
 -- ---- hosts
 
@@ -95,6 +106,22 @@ module _ (conf : Configuration) (moment m : ℕ) (from : moment ≤ m) where
   none_over (h ∷ hosts) before =
       let rest = filter (λ g. not (is_to_forget conf m g)) hosts in
       ap (λ b. cond b (h ∷ rest) rest) (as_fresh h before.0).1 ∙ ap (λ hs. h ∷ hs) (none_over hosts before.1)
+
+not_same : (a b : Bool) → not a ≡ not b → a ≡ b
+not_same true true same = refl
+not_same true false same = sym same
+not_same false true same = sym same
+not_same false false same = refl
+
+fresh_each : (conf : Configuration) (moment m : ℕ) → moment ≤ m → (hosts : List HostRec) → AllByRecursion (λ h. m < host_until conf moment h) hosts
+    → AllByRecursion (λ h. is_fresh conf m h ≡ is_fresh conf moment h) hosts
+fresh_each conf moment m from [] before = tt
+fresh_each conf moment m from (h ∷ hosts) before =
+    (not_same (is_fresh conf m h) (is_fresh conf moment h) (as_fresh conf moment m from h before.0).0, fresh_each conf moment m from hosts before.1)
+
+-- before a settling is due no host turns stale
+pub fresh_before : (w : World) (m : ℕ) → w.moment.0 ≤ m → m < rests_until w → AllByRecursion (λ h. is_fresh w.conf m h ≡ is_fresh w.conf w.moment.0 h) w.hosts.hosts
+fresh_before w m from before = fresh_each w.conf w.moment.0 m from w.hosts.hosts (least_each (host_until w.conf w.moment.0) m never w.hosts.hosts (omega (arith, before)))
 
 -- ---- neighbours
 
@@ -161,3 +188,30 @@ until_stays w m from before =
 -- what looks the same to a settling has the same one
 pub end_alike : (v w : World) → IsAlike v w → rests_until v ≡ rests_until w
 end_alike v w alike = λ i. min (hosts_until (alike.conf i) (alike.moment i).0 (alike.hosts i).hosts) (neighbours_until (alike.neighbours i).neighbours)
+
+-- ---- bounds
+
+-- what bounds the hosts and the neighbours
+pub bounds_rest : (w : World) (bound : ℕ) → bound ≤ never → AreBounded bound w → bound ≤ neighbours_until w.neighbours.neighbours → bound ≤ rests_until w
+bounds_rest w bound most hosts neighbours =
+    let least = bounded_least (host_until w.conf w.moment.0) bound never w.hosts.hosts most hosts in omega (arith, least, neighbours)
+
+pub are_bounded : (w : World) (until : ℕ) → until ≤ rests_until w → AreBounded until w
+are_bounded w until less = least_bounded (host_until w.conf w.moment.0) until never w.hosts.hosts (omega (arith, less))
+
+fewer_in : (conf : Configuration) (moment bound less : ℕ) → less ≤ bound → (hosts : List HostRec) → AllByRecursion (λ h. bound ≤ host_until conf moment h) hosts → AllByRecursion (λ h. less ≤ host_until conf moment h) hosts
+fewer_in conf moment bound less le [] all = tt
+fewer_in conf moment bound less le (h ∷ hosts) all = (omega (arith, le, all.0), fewer_in conf moment bound less le hosts all.1)
+
+-- what comes before a bound is one
+pub less_bounded : (w : World) (bound less : ℕ) → less ≤ bound → AreBounded bound w → AreBounded less w
+less_bounded w bound less le all = fewer_in w.conf w.moment.0 bound less le w.hosts.hosts all
+
+pub same_bounded : (v w : World) (bound : ℕ) → v.conf ≡ w.conf → v.moment ≡ w.moment → v.hosts ≡ w.hosts → AreBounded bound w → AreBounded bound v
+same_bounded v w bound conf moment hosts all =
+    subst (λ (c : Configuration). AllByRecursion (λ h. bound ≤ host_until c v.moment.0 h) v.hosts.hosts) (sym conf)
+    (subst (λ (m : Moment). AllByRecursion (λ h. bound ≤ host_until w.conf m.0 h) v.hosts.hosts) (sym moment)
+    (subst (λ (hs : Hosts). AllByRecursion (λ h. bound ≤ host_until w.conf w.moment.0 h) hs.hosts) (sym hosts) all))
+
+pub shorter_rest : (w : World) (until first : ℕ) → until ≤ first → RestsUntil first w → RestsUntil until w
+shorter_rest w until first le rests = λ m from before. rests m from (omega (arith, before, le))

@@ -57,6 +57,9 @@ due_ordered (suc most) w ordered =
       | None ↦ ordered
     ]
 
+pub asks_ordered : (w : World) → AreByNumber w.conns → AreInKeyOrder w.conns → AreByNumber (ask_all w).conns × AreInKeyOrder (ask_all w).conns
+asks_ordered w numbers keys = due_ordered (length w.neighbours.neighbours) w (numbers, keys)
+
 -- ---- batches
 
 -- the datapath has a barrier outstanding, or the entries that it is to have
@@ -80,12 +83,12 @@ module _ (cold_order : (conf : Configuration) (state : State) (d : Dp) → IsInK
   pub batch_case : (dp : DpId) (w : World) → Case w (batch dp w)
   batch_case dp w = elim (conn_of w.conns dp) as (λ o. Case w (option_map_or (batch_on dp w) o w)) [ Some c ↦ on_case dp w c | None ↦ inl refl ]
 
-  case_ordered : (w v : World) → Case w v → AreOrdered w → AreOrdered v
+  pub case_ordered : (w v : World) → Case w v → AreOrdered w → AreOrdered v
   case_ordered w v (inl same) ordered = subst AreOrdered (sym same) ordered
   case_ordered w v (inr is) ordered =
       (step_numbers is.0 is.1.f is.1.quiet w v is.1.step ordered.0, step_keys is.0 is.1.f is.1.quiet w v is.1.step (λ c keys. is.1.keys c) ordered.1)
 
-  case_running : (w v : World) → Case w v → running v ≡ running w
+  pub case_running : (w v : World) → Case w v → running v ≡ running w
   case_running w v (inl same) = ap running same
   case_running w v (inr is) = ap (λ (s : State). s.running) (step_now is.0 is.1.f is.1.quiet w v is.1.step)
 

@@ -1,2 +1,4 @@
 pub mod Settling
 pub mod Rest
+pub mod Plans
+pub mod Touched

@@ -52,6 +52,17 @@ neighbours_until neighbours = fold (λ least n. min least n.due.0) never neighbo
 abbrev pub rests_until : World → ℕ
 rests_until w = min (hosts_until w.conf w.moment.0 w.hosts.hosts) (neighbours_until w.neighbours.neighbours)
 
+-- ---- a bound of it
+
+-- no host's moment comes before this one
+abbrev pub AreBounded : (bound : ℕ) → World → Type 0
+AreBounded bound w = AllByRecursion (λ h. bound ≤ host_until w.conf w.moment.0 h) w.hosts.hosts
+
+-- it comes no later than that first moment; and it lies ahead, or is that moment
+pub record IsBound (w : World) (until : ℕ) : Type 0 where
+  pub least : until ≤ rests_until w
+  pub ahead : (w.moment.0 < until) ⊎ (until ≡ rests_until w)
+
 -- the connections stand by number, and what was noted of each is in key order
 pub record AreInOrder (w : World) : Type 0 where
   pub numbers : EachBefore (λ a b. a.number < b.number) w.conns

@@ -1,13 +1,17 @@
 ghost use Rattle.std.specs.Prelude.{◌≡◌, OnOk};
 ghost use Rattle.neighbour_resolve.specs.Asks.{asks};
 ghost use Rattle.ctl_world.specs.World.{running};
+ghost use Rattle.law_names.specs.Dues.{due as change_of};
+ghost use Rattle.ctl_settle.specs.Touched.{Goes};
 ghost use Rattle.ctl_settle.specs.Settling.{ask_all, ask_by, ask_by_each, ask_due, ask_each, ask_on, say_due};
 
 use crate::order::in_order;
+use crate::touched::Touched;
 use ctl_world::{World, packet_out};
 use neighbour_resolve::{Due, Outgoing, ask};
 use net_base::{DpId, Ip4, NoMemory, Vid};
 use std::alloc::Global;
+use warm_plan::Change;
 
 /// A datapath is told to send a frame that asks.
 fn say_on(world: &mut World, dp: DpId, out: Outgoing) -> Result<(), NoMemory>
@@ -77,20 +81,48 @@ fn say_due(alloc: Global, world: &mut World, due: Due) -> Result<(), NoMemory>
     }
 }
 
-/// Asks for the neighbours that are due, in their order, and gives up those that were asked too often.
-pub(crate) fn ask_all(alloc: Global, world: &mut World) -> Result<(), NoMemory>
-    ensures { OnOk result (world.new ≡ ask_all world.old) }
+/// The neighbour that is due.
+fn change_of(due: &Due) -> Change
+    ensures { result ≡ change_of due.now }
 {
-    let most = world.neighbours.list().len();
-    ask_due(alloc, world, most)
+    match due {
+        Due::Ask { group, vid, ip } | Due::Gone { group, vid, ip } => Change::Neighbour {
+            group: *group,
+            vid: *vid,
+            ip: *ip,
+        },
+    }
 }
 
-fn ask_due(alloc: Global, world: &mut World, most: usize) -> Result<(), NoMemory>
-    ensures { OnOk result (world.new ≡ ask_due most world.old) }
+/// Asks for the neighbours that are due, in their order, and gives up those that were asked too often. They
+/// are touched.
+pub(crate) fn ask_all(
+    alloc: Global,
+    world: &mut World,
+    touched: &mut Touched,
+) -> Result<(), NoMemory>
+    ensures asked { OnOk result (world.new ≡ ask_all world.old) }
+    ensures goes { OnOk result (Goes world.old world.new touched.old touched.new) }
+{
+    let most = world.neighbours.list().len();
+    ask_due(alloc, world, touched, most)
+}
+
+fn ask_due(
+    alloc: Global,
+    world: &mut World,
+    touched: &mut Touched,
+    most: usize,
+) -> Result<(), NoMemory>
+    ensures asked { OnOk result (world.new ≡ ask_due most world.old) }
+    ensures goes { OnOk result (Goes world.old world.new touched.old touched.new) }
 {
     for _ in 0..most {
         match world.neighbours.due(&world.conf, world.moment) {
-            Some(due) => say_due(alloc, world, due)?,
+            Some(due) => {
+                touched.push(change_of(&due))?;
+                say_due(alloc, world, due)?;
+            }
             None => return Ok(()),
         }
     }

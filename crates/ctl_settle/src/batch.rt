@@ -1,32 +1,15 @@
-ghost use Rattle.std.specs.Prelude.{◌≡◌, IfOk, OnOk};
-ghost use Rattle.ctl_world.specs.World.{IsSound};
-ghost use Rattle.ctl_settle.specs.Settling.{batch, say_batch, say_each, wanted};
+ghost use Rattle.std.specs.Prelude.{◌≡◌, IfOk, IfSome, OnOk};
+ghost use Rattle.plan_difference.specs.Difference.{difference};
+ghost use Rattle.ctl_settle.specs.Plans.{IsReady, plan_for, taken, took, with_batch};
+ghost use Rattle.ctl_settle.specs.Settling.{batch, say_batch, say_each};
 
-use cold_start::cold;
-use conf_types::Tally;
-use ctl_world::World;
+use crate::plans::{Held, Plans, place};
+use ctl_world::{Sent, World};
 use flow_messages::make_command;
 use net_base::{DpId, NoMemory};
-use of_match::{Command, Tables};
+use of_match::{Command, Commands};
 use of13_codec::Message;
-use plan_difference::difference;
 use std::alloc::Global;
-
-/// The entries that a datapath is to have.
-fn make_wanted<T: Tally>(
-    alloc: Global,
-    world: &World,
-    dp: DpId,
-    units: &mut T,
-) -> Result<Tables, NoMemory>
-    requires { IsSound world.now }
-    ensures { IfOk result (λ made. made ≡ wanted world.now dp) }
-{
-    let running = world.running(alloc)?;
-    let ups = world.ups(alloc)?;
-    let now = world.now(&running, &ups);
-    cold(alloc, &world.conf, &now, dp, units)
-}
 
 /// Says commands on a connection, in order.
 fn say_each(
@@ -50,7 +33,7 @@ fn say_batch(
     world: &mut World,
     conn: u32,
     commands: &[Command],
-    entries: Tables,
+    entries: Sent,
 ) -> Result<(), NoMemory>
     ensures { OnOk result (world.new ≡ say_batch conn commands.now entries world.old) }
 {
@@ -63,16 +46,37 @@ fn say_batch(
     Ok(())
 }
 
-/// Says to a datapath what leads from the entries that it has to those that it is to have; nothing while a
-/// barrier is outstanding.
-pub(crate) fn batch<T: Tally>(
+fn take(held: &mut Held, alloc: Global) -> Result<Commands, NoMemory>
+    ensures batch { IfOk result (λ batch. batch ≡ difference held.old.plan.sent held.old.plan.wanted) }
+    ensures taken { OnOk result (held.new ≡ took held.old) }
+{
+    held.plan.take(alloc)
+}
+
+/// Takes what leads from the entries that a connection's switch has to those that it is to have, with these.
+fn take_for(plans: &mut Plans, alloc: Global, number: u32) -> Result<(Commands, Sent), NoMemory>
+    ensures batch { IfOk result (λ made. IfSome (plan_for plans.old number) (λ p. (made.0 ≡ difference p.sent p.wanted) × (made.1 ≡ p.wanted))) }
+    ensures taken { OnOk result (plans.new ≡ taken number plans.old) }
+{
+    let Some(at) = place(plans.held.as_slice(), number) else {
+        return Ok((Commands::new(alloc), Sent::none(alloc)));
+    };
+    let commands = take(&mut plans.held[at], alloc)?;
+    let entries = Sent::of(plans.held[at].plan.sent());
+    Ok((commands, entries))
+}
+
+/// Says to a datapath what leads from the entries that it has to those that it is to have, which its plan wants;
+/// nothing while a barrier is outstanding.
+pub(crate) fn batch(
     alloc: Global,
     world: &mut World,
+    plans: &mut Plans,
     dp: DpId,
-    units: &mut T,
 ) -> Result<(), NoMemory>
-    requires { IsSound world.old }
-    ensures { OnOk result (world.new ≡ batch dp world.old) }
+    requires { IsReady world.old plans.old dp }
+    ensures said { OnOk result (world.new ≡ batch dp world.old) }
+    ensures taken { OnOk result (plans.new ≡ with_batch dp world.old plans.old) }
 {
     let Some(conn) = world.conns.of(dp) else {
         return Ok(());
@@ -81,7 +85,6 @@ pub(crate) fn batch<T: Tally>(
         return Ok(());
     }
     let number = conn.number;
-    let wanted = make_wanted(alloc, world, dp, units)?;
-    let commands = difference(alloc, &conn.sent, &wanted)?;
-    say_batch(alloc, world, number, commands.as_slice(), wanted)
+    let (commands, entries) = take_for(plans, alloc, number)?;
+    say_batch(alloc, world, number, commands.as_slice(), entries)
 }

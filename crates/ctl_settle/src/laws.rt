@@ -16,6 +16,8 @@ ghost use Rattle.ctl_world.specs.declared.conns.Conn.{Conn};
 ghost use Rattle.ctl_world.specs.Alike.{IsAlike};
 ghost use Rattle.ctl_world.specs.Connections.{conn_of};
 ghost use Rattle.ctl_world.specs.World.{IsSound, World, running};
+ghost use Rattle.ctl_settle.specs.declared.plans.Held.{Held};
+ghost use Rattle.ctl_settle.specs.Plans.{AreBrought, AreHeld, IsReady, with_batch};
 ghost use Rattle.ctl_settle.specs.Rest.{AreInOrder, IsAtRest, NoneIsOver, RestsUntil};
 ghost use Rattle.ctl_settle.specs.Settling.{ask_all, batch, settle, wanted};
 
@@ -44,6 +46,24 @@ pub fn a_batch_leaves_the_state()
     what_is_said_leaves_it_sound();
     such_changes_leave_it_sound();
 }
+
+/// A batch leaves the plans as they are kept, with that of its datapath taken; and it leaves the connections in order,
+/// and which datapaths run.
+pub(crate) fn a_batch_keeps_the_plans()
+    ensures ready { (dp : DpId) (w : World) (held : List Held) → AreInOrder w → AreBrought w held → is_running (running w) dp ≡ true → IsReady w held dp }
+    ensures brought { (dp : DpId) (w : World) (held : List Held) → AreInOrder w → AreBrought w held → is_running (running w) dp ≡ true
+        → AreBrought (batch dp w) (with_batch dp w held) }
+    ensures in_order { (dp : DpId) (w : World) → AreInOrder w → AreInOrder (batch dp w) }
+    ensures running { (dp : DpId) (w : World) → running (batch dp w) ≡ running w }
+{
+    a_cold_start_is_the_plan_in_key_order();
+    equal_plans_have_no_difference();
+}
+
+/// Worlds that look the same to a settling have the same plans.
+pub fn alike_worlds_have_the_same_plans()
+    ensures { (v w : World) (held : List Held) → IsAlike v w → AreHeld w held → AreHeld v held }
+{}
 
 /// Where a turn has settled, nothing waits: each running datapath has a barrier outstanding, or the entries
 /// that it is to have. The connections stand by number and what was noted of each is in key order, before

@@ -6,9 +6,13 @@ mod asking;
 mod batch;
 pub mod laws;
 mod order;
+mod plans;
 mod resting;
 mod settling;
+mod touched;
 
 pub use order::in_order;
-pub use resting::rests_until;
+pub use plans::{Held, Plans};
+pub use resting::{host_until, rests_at_least, rests_until};
 pub use settling::settle;
+pub use touched::Touched;

@@ -1,5 +1,5 @@
 ghost use Rattle.std.specs.Prelude.{◌≡◌};
-ghost use Rattle.ctl_settle.specs.Rest.{IsAtRest, RestsUntil, host_until, hosts_until, neighbours_until, rests_until};
+ghost use Rattle.ctl_settle.specs.Rest.{AreBounded, IsAtRest, IsBound, RestsUntil, host_until, hosts_until, neighbours_until, rests_until};
 
 use conf_types::{Conf, HostRec, NeighRec};
 use ctl_world::World;
@@ -8,8 +8,9 @@ use net_base::Moment;
 /// The greatest moment, which never comes.
 const NEVER: u64 = u64::MAX;
 
-/// The moment at which a host turns stale, or of one that is stale the moment at which it is to be forgotten.
-fn host_until(conf: &Conf, now: Moment, host: &HostRec) -> u64
+/// The moment at which a host turns stale, or of one that is stale the moment at which it is to be forgotten,
+/// in milliseconds; of one that stays for good the moment that never comes.
+pub fn host_until(conf: &Conf, now: Moment, host: &HostRec) -> u64
     ensures { result ≡ host_until conf.now now.0 host.now }
 {
     if conf.is_permanent(host) {
@@ -51,4 +52,19 @@ pub fn rests_until(world: &World) -> u64
     ensures rests { IsAtRest world.now → RestsUntil result world.now }
 {
     hosts_until(world).min(neighbours_until(world.neighbours.list()))
+}
+
+/// Until which moment a world that rests goes on resting at least, where it is known that no host's moment comes
+/// before `bound`: no host is looked at, unless the bound or a neighbour's moment has come. In milliseconds.
+pub fn rests_at_least(world: &World, bound: u64) -> u64
+    requires { AreBounded bound world.now }
+    ensures bound { IsBound world.now result }
+    ensures rests { IsAtRest world.now → RestsUntil result world.now }
+{
+    let least = bound.min(neighbours_until(world.neighbours.list()));
+    if world.moment.0 < least {
+        least
+    } else {
+        rests_until(world)
+    }
 }

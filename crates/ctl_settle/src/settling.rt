@@ -1,49 +1,77 @@
-ghost use Rattle.std.specs.Prelude.{◌≡◌, OnOk};
-ghost use Rattle.ctl_world.specs.World.{IsSound};
+ghost use Rattle.std.specs.Prelude.{◌≡◌, true, [], Some, OnOk};
+ghost use Rattle.std.specs.List.{AllByRecursion};
+ghost use Rattle.conf_types.specs.State.{is_running};
+ghost use Rattle.ctl_world.specs.World.{IsSound, running};
+ghost use Rattle.ctl_settle.specs.Plans.{AreBrought, AreHeld, Fit};
 ghost use Rattle.ctl_settle.specs.Rest.{AreInOrder, IsAtRest};
 ghost use Rattle.ctl_settle.specs.Settling.{batches, settle};
+ghost use Rattle.ctl_settle.specs.Touched.{AllFollow};
 
 use crate::asking::ask_all;
 use crate::batch::batch;
-use crate::laws::{a_batch_leaves_the_state, a_settling_leaves_it_at_rest, asks_leave_the_state};
+use crate::laws::{
+    a_batch_keeps_the_plans, a_batch_leaves_the_state, a_settling_leaves_it_at_rest,
+    asks_leave_the_state,
+};
 use crate::order::in_order;
+use crate::plans::{Plans, bring};
+use crate::touched::Touched;
 use conf_types::Tally;
 use ctl_world::World;
 use net_base::{DpId, NoMemory};
 use std::alloc::Global;
 
-/// Says the batches of datapaths, in order.
-fn say_batches<T: Tally>(
+/// Says the batches of datapaths that run, in order. Their plans are kept.
+fn say_batches(
     alloc: Global,
     world: &mut World,
+    plans: &mut Plans,
     dps: &[DpId],
-    units: &mut T,
 ) -> Result<(), NoMemory>
-    requires { IsSound world.old }
+    requires sound { IsSound world.old }
+    requires in_order { AreInOrder world.old }
+    requires brought { AreBrought world.old plans.old }
+    requires run { AllByRecursion (λ dp. is_running (running world.old) dp ≡ true) dps.now }
     ensures batches { OnOk result (world.new ≡ batches dps.now world.old) }
     ensures sound { OnOk result (IsSound world.new) }
+    ensures brought { OnOk result (AreBrought world.new plans.new) }
 {
     a_batch_leaves_the_state();
+    a_batch_keeps_the_plans();
     for dp in dps {
-        batch(alloc, world, *dp, units)?;
+        batch(alloc, world, plans, *dp)?;
     }
     Ok(())
 }
 
 /// Settles a turn: the neighbours that are due are asked for, and then each running datapath, by identifier,
 /// is said what leads from the entries that it has to those that it is to have, unless a barrier is
-/// outstanding. What was in order then rests. After `NoMemory` nothing is known of what is left.
-pub fn settle<T: Tally>(alloc: Global, world: &mut World, units: &mut T) -> Result<(), NoMemory>
-    requires { IsSound world.old }
+/// outstanding. What is to be said is taken from the datapath's plan, which is made where it begins to run, and
+/// brought up to what is known, also while a barrier is outstanding: what may differ is what was touched since the last
+/// settling. It rests then. After `NoMemory` nothing is known of what is left.
+pub fn settle<T: Tally>(
+    alloc: Global,
+    world: &mut World,
+    plans: &mut Plans,
+    touched: &mut Touched,
+    units: &mut T,
+) -> Result<(), NoMemory>
+    requires sound { IsSound world.old }
+    requires in_order { AreInOrder world.old }
+    requires fit { Fit world.old.conns plans.old }
+    requires follow { AllFollow world.old touched.old plans.old }
     ensures settled { OnOk result (world.new ≡ settle world.old) }
     ensures sound { OnOk result (IsSound world.new) }
-    ensures rests { OnOk result (AreInOrder world.old → IsAtRest world.new) }
-    ensures in_order { OnOk result (AreInOrder world.old → AreInOrder world.new) }
+    ensures rests { OnOk result (IsAtRest world.new) }
+    ensures in_order { OnOk result (AreInOrder world.new) }
+    ensures held { OnOk result (AreHeld world.new plans.new) }
+    ensures follow { OnOk result (AllFollow world.new (Some []) plans.new) }
 {
     asks_leave_the_state();
     a_settling_leaves_it_at_rest();
-    ask_all(alloc, world)?;
+    ask_all(alloc, world, touched)?;
+    bring(plans, alloc, world, touched, units)?;
     let running = world.running(alloc)?;
     let dps = in_order(alloc, running.as_slice())?;
-    say_batches(alloc, world, dps.as_slice(), units)
+    say_batches(alloc, world, plans, dps.as_slice())
 }

@@ -7,8 +7,8 @@ ghost use Rattle.switch_session.specs.Stages.{leads};
 ghost use Rattle.switch_session.specs.Staying.{leaves};
 ghost use Rattle.ctl_world.specs.Connections.{change, conn_of, conn_with, has_number, is_of, is_open, put, upper_bound, with_asked, with_dp, with_fed, with_heard, with_looked, with_said, with_sent, without};
 
+use crate::sent::Sent;
 use net_base::{DpId, Moment, NoMemory};
-use of_match::Tables;
 use of13_codec::Message;
 use std::alloc::Global;
 use std::marker::Model;
@@ -22,7 +22,7 @@ pub struct Conn {
     /// The datapath that the switch said to be, once that was accepted.
     pub dp: Option<DpId>,
     /// The entries that the switch holds once it has done all that was said since its tables were wiped.
-    pub sent: Tables,
+    pub sent: Sent,
 }
 
 /// The open connections, by number. Contracts see the list.
@@ -214,7 +214,7 @@ impl Conns {
     }
 
     /// The switch of a connection holds these entries once it has done all that was said.
-    pub fn set_sent(&mut self, number: u32, sent: Tables)
+    pub fn set_sent(&mut self, number: u32, sent: Sent)
         ensures { self.new ≡ change number (with_sent sent) self.old }
     {
         if let Some(at) = place(self.conns.as_slice(), number) {

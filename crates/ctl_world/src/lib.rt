@@ -9,10 +9,12 @@ pub mod laws;
 mod now;
 mod said;
 mod saying;
+mod sent;
 mod world;
 
 pub use conns::{Conn, Conns};
 pub use frames::Front;
 pub use said::{Said, Saids};
 pub use saying::packet_out;
+pub use sent::Sent;
 pub use world::World;

@@ -24,7 +24,7 @@ use Rattle.hub_drive.specs.Machine.{Workings}
 use Rattle.hub_drive.specs.Replay.{Replays}
 use Rattle.ctl_drive.specs.Controller.{controller}
 use Rattle.ctl_drive.specs.Driving.{records_of}
-use Rattle.gauge_drive.specs.Gauge.{ended_lines, monitor}
+use Rattle.gauge_drive.specs.Gauge.{joined, monitor}
 use Rattle.faucet_top.specs.Answer.{Answer, GaugeLoad, Load, refusal, last_line}
 use Rattle.faucet_top.specs.Ends.{status_after}
 use Rattle.faucet_top.specs.Given.{GaugeLoads, Loads, LoadsBy, GoesByFile, RepliesGauge, RepliesReplay, RepliesRun, StatusFor, IsRun, IsRunStatus, IsLoadedStatus, IsReplayed, IsWatched}
@@ -231,17 +231,17 @@ module _ (held : Contents) (absence fault : Type 0) where
           let ran : (why : RecordRefused) × ControllerRan conf (Some why) = run_refused controller outlets.Records recording (first conf) (λ story. written_records (records_of (first conf) story)) (λ story. refl) o0 o1 e0 e1 a wrote said replies s in
           (ran.0, replayed_right conf (Some ran.0) (loads.told held refl) ran.1)
 
-    module _ (lines_are : (k : Monitor) (story : List Happening) → out_of monitor outlets.Nowhere k story ≡ ended_lines (gauge_lines k story)) where
+    module _ (lines_are : (k : Monitor) (story : List Happening) → out_of monitor outlets.Nowhere k story ≡ joined (gauge_lines k story)) where
       pub gauge_done : (made : GaugeLoad) → GaugeLoads (Some held) absence fault refused config made → RepliesGauge (Some held) absence fault config recording made a
           → a.status ≡ 0 → IsWatched config recording None (held 0) o0 o1 e0 e1
       gauge_done (Err why) loads is s = absurd (refusal_undone config why (sym (ap (λ (b : Answer). b.status) is) ∙ s))
       gauge_done (Ok conf) loads replies s =
-          let ran = run_done monitor outlets.Nowhere recording (begun conf) (λ story. ended_lines (gauge_lines (begun conf) story)) (lines_are (begun conf)) o0 o1 e0 e1 a wrote said replies s in
+          let ran = run_done monitor outlets.Nowhere recording (begun conf) (λ story. joined (gauge_lines (begun conf) story)) (lines_are (begun conf)) o0 o1 e0 e1 a wrote said replies s in
           record { conf = conf; accepted = loads.told held refl; run = ran }
 
       pub gauge_refused : (made : GaugeLoad) → GaugeLoads (Some held) absence fault refused config made → RepliesGauge (Some held) absence fault config recording made a
           → a.status ≡ 5 → (why : RecordRefused) × IsWatched config recording (Some why) (held 0) o0 o1 e0 e1
       gauge_refused (Err why) loads is s = absurd (refusal_unread_record config why (sym (ap (λ (b : Answer). b.status) is) ∙ s))
       gauge_refused (Ok conf) loads replies s =
-          let ran = run_refused monitor outlets.Nowhere recording (begun conf) (λ story. ended_lines (gauge_lines (begun conf) story)) (lines_are (begun conf)) o0 o1 e0 e1 a wrote said replies s in
+          let ran = run_refused monitor outlets.Nowhere recording (begun conf) (λ story. joined (gauge_lines (begun conf) story)) (lines_are (begun conf)) o0 o1 e0 e1 a wrote said replies s in
           (ran.0, record { conf = conf; accepted = loads.told held refl; run = ran.1 })

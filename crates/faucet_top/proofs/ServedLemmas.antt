@@ -24,7 +24,7 @@ use Rattle.gauge_poll.specs.Monitoring.{Monitor, lines_of as gauge_lines}
 use Rattle.recording.specs.declared.refused.RecordRefused.{RecordRefused}
 use Rattle.hub_drive.specs.declared.sayings.Outlet.TheVariants as outlets
 use Rattle.hub_drive.specs.Driving.{out_of}
-use Rattle.gauge_drive.specs.Gauge.{ended_lines, monitor}
+use Rattle.gauge_drive.specs.Gauge.{joined, monitor}
 use Rattle.ctl_world.specs.World.{first}
 use Rattle.hub_drive.specs.declared.drive.Drove.{Drove}
 use Rattle.hub_drive.specs.declared.drive.Drove.TheVariants as drove
@@ -373,8 +373,8 @@ module _ {H F : Type 0} (may : H → HubStep → H → Type 0) (contents : F →
           let replies : Any (Some (Serve config events reload_ms listen)) = subst Any is gives in
           served_right status o0 o1 e0 e1 m0 m1 n0 n1 may contents faults absence fault refused config reload_ms events hub0 hub1 files0 files1 replies held told_so valid right end its s
 
-    module _ (recorded : (k : Monitor) (story : List Happening) → out_of monitor outlets.Nowhere k story ≡ ended_lines (gauge_lines k story))
-        (served_lines : (k : Monitor) (story : List Happening) → out_of monitor outlets.Hub k story ≡ ended_lines (gauge_lines k story)) where
+    module _ (recorded : (k : Monitor) (story : List Happening) → out_of monitor outlets.Nowhere k story ≡ joined (gauge_lines k story))
+        (served_lines : (k : Monitor) (story : List Happening) → out_of monitor outlets.Hub k story ≡ joined (gauge_lines k story)) where
       pub watched : (config recording : List ℕ) (held : Contents) → job ≡ Some (Gauge config recording) → contents files0 ≡ Some held → status ≡ 0 → IsWatched config recording None (held 0) o0 o1 e0 e1
       watched config recording held is told_so s =
           by.watched job (contents files0) absence fault refused status o0 o1 e0 e1 m0 m1 n0 n1 (ours_where (λ c events reload_ms listen other. absurd cc, λ c events listen other. absurd cc)) recorded config recording held is told_so s

@@ -21,7 +21,7 @@ use Rattle.gauge_poll.specs.Monitoring.{Monitor, lines_of as gauge_lines}
 use Rattle.recording.specs.declared.refused.RecordRefused.{RecordRefused}
 use Rattle.hub_drive.specs.declared.sayings.Outlet.TheVariants as outlets
 use Rattle.hub_drive.specs.Driving.{out_of}
-use Rattle.gauge_drive.specs.Gauge.{ended_lines, monitor}
+use Rattle.gauge_drive.specs.Gauge.{joined, monitor}
 use Rattle.faucet_top.specs.declared.deliver.Status.{Status}
 use Rattle.faucet_top.specs.declared.deliver.Status.TheVariants as statuses
 use Rattle.faucet_top.specs.Answer.{Answer, Load, usage, out_of_memory, refusal, behind_bytes, json_line, check_step, check_answer, planned, plan_answer, job_answer}
@@ -332,7 +332,7 @@ module _ (job : Option Job) (contents : Option Contents) (absence fault : Type 0
         let reply = job_reply held told 5 five.0 (λ e. omega arith) (Some (Replay config recording)) is in
         replay_refused held absence fault refused config recording o0 o1 e0 e1 gives.0 five.1 five.2 valid right reply.0 reply.1 reply.2 five.0
 
-  module _ (lines_are : (k : Monitor) (story : List Happening) → out_of monitor outlets.Nowhere k story ≡ ended_lines (gauge_lines k story)) where
+  module _ (lines_are : (k : Monitor) (story : List Happening) → out_of monitor outlets.Nowhere k story ≡ joined (gauge_lines k story)) where
     pub watched : (config recording : List ℕ) (held : Contents) → job ≡ Some (Gauge config recording) → contents ≡ Some held → status ≡ 0
         → IsWatched config recording None (held 0) o0 o1 e0 e1
     watched config recording held is told s =

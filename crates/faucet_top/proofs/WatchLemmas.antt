@@ -18,7 +18,7 @@ use Rattle.hub_drive.specs.Driven.{AnswersAll, Drives}
 use Rattle.hub_drive.specs.Driving.{lines_of, out_of}
 use Rattle.hub_drive.proofs.Deeds.{whole_happened}
 use Rattle.ctl_serve.specs.Served.{Ended, last_call}
-use Rattle.gauge_drive.specs.Gauge.{ended_lines, monitor}
+use Rattle.gauge_drive.specs.Gauge.{joined, monitor}
 use Rattle.faucet_top.specs.declared.deliver.Status.{Status}
 use Rattle.faucet_top.specs.Answer.{Answer, GaugeLoad, out_of_memory, refusal, served_line}
 use Rattle.faucet_top.specs.Ends.{Ends, status_served}
@@ -198,7 +198,7 @@ module _ {H : Type 0} (may : H → HubStep → H → Type 0) (contents : Option 
 
       -- ---- the command
 
-      module _ (served_lines : (k : Monitor) (story : List Happening) → out_of monitor Hub k story ≡ ended_lines (gauge_lines k story)) where
+      module _ (served_lines : (k : Monitor) (story : List Happening) → out_of monitor Hub k story ≡ joined (gauge_lines k story)) where
         abbrev Did : Drove → Type 0
         Did end = IsHubWatched may config (held 0) events end hub0 hub1 o0 o1 e0 e1
 

@@ -29,7 +29,7 @@ use Rattle.hub_drive.specs.Replay as runs
 use Rattle.recording.specs.Script.{IsStoryOf, IsStorySoFar}
 use Rattle.ctl_drive.specs.Controller.{controller}
 use Rattle.ctl_drive.specs.Driving.{records_of}
-use Rattle.gauge_drive.specs.Gauge.{ended_lines, monitor}
+use Rattle.gauge_drive.specs.Gauge.{joined, monitor}
 use Rattle.hub_drive.specs.declared.replay.Replayed.{Replayed}
 use Rattle.hub_drive.specs.declared.replay.Replayed.TheVariants as replayed
 use Rattle.faucet_top.specs.declared.deliver.Status.{Status}
@@ -226,4 +226,4 @@ pub record IsReplayed (config recording : List ℕ) (refused : Option RecordRefu
 pub record IsWatched (config recording : List ℕ) (refused : Option RecordRefused) (held : Held) (out_old out_new err_old err_new : Option (List ℕ)) : Type 0 where
   pub conf : GaugeConf
   pub accepted : gauge_of held config ≡ Ok conf
-  pub run : IsRun monitor (begun conf) (λ story. ended_lines (gauge_lines (begun conf) story)) recording refused held out_old out_new err_old err_new
+  pub run : IsRun monitor (begun conf) (λ story. joined (gauge_lines (begun conf) story)) recording refused held out_old out_new err_old err_new

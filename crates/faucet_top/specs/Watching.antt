@@ -16,7 +16,7 @@ use Rattle.hub_drive.specs.declared.sayings.Outlet.TheVariants.{Hub}
 use Rattle.hub_drive.specs.Driven.{Drives, goes_on}
 use Rattle.hub_drive.specs.Driving.{deeds, deeds_of, lines_of as hub_lines}
 use Rattle.ctl_serve.specs.Served.{Ended, last_call}
-use Rattle.gauge_drive.specs.Gauge.{ended_lines, monitor}
+use Rattle.gauge_drive.specs.Gauge.{joined, monitor}
 use Rattle.faucet_top.specs.Answer.{Answer, out_of_memory, refusal, served_line}
 use Rattle.faucet_top.specs.Ends.{status_served}
 use Rattle.faucet_top.specs.Given.{GaugeLoads}
@@ -53,5 +53,5 @@ pub record IsHubWatched {H : Type 0} (may : H → HubStep → H → Type 0) (con
   pub leads : Leads may hub_old (steps ++ last_call end) hub_new
   pub gave : happenings (story steps) ≡ happened
   pub told : deeds (story steps) ≡ deeds_of monitor Hub (begun conf) happened
-  pub out : out_new ≡ appended out_old (ended_lines (gauge_lines (begun conf) happened))
+  pub out : out_new ≡ appended out_old (joined (gauge_lines (begun conf) happened))
   pub err : err_new ≡ appended err_old (hub_lines monitor (begun conf) happened ++ served_line end)

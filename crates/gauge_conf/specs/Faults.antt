@@ -13,13 +13,13 @@ use Rattle.conf_shape.specs.declared.refused.ConfCause.{ConfCause}
 use Rattle.conf_shape.specs.declared.refused.ConfCause.TheVariants.{UnknownKey, LeftOut, Missing, WrongType, OutOfRange, BadText}
 use Rattle.conf_shape.specs.declared.refused.ConfFault.{ConfFault}
 use Rattle.conf_shape.specs.Scalars.{unless, within, if_within}
-use Rattle.conf_shape.specs.Sections.{key_text, is_key, map_keys, is_needed}
+use Rattle.conf_shape.specs.Sections.{key_text, is_key, map_keys}
 use Rattle.conf_rules.specs.Places.{fault, fault_if, fault_if_some, first, under, each_at}
 use Rattle.gauge_conf.specs.declared.forms.Form.{Form}
 use Rattle.gauge_conf.specs.declared.forms.Form.TheVariants.{Words, Texts, OneText, FileName, Word, Number, Only, Named}
 use Rattle.gauge_conf.specs.declared.forms.Part.{Part}
 use Rattle.gauge_conf.specs.declared.forms.Vocabulary.{Vocabulary}
-use Rattle.gauge_conf.specs.Keys.{KeyRow, row_at, top_keys, keys_of, words_of, left_out_of}
+use Rattle.gauge_conf.specs.Keys.{KeyRow, is_needed, row_at, top_keys, keys_of, words_of, left_out_of}
 
 -- ---- a value that is no list and no map, by what it has to be
 
@@ -106,7 +106,7 @@ entry_faults value rows site p = under_row value (under site (key_text p.key)) p
 
 -- a key that has to be there and isn't
 abbrev pub lacks : List Pair → KeyRow → Bool
-lacks pairs r = is_needed None r.need && not (list_any (is_key r.key) (map_keys pairs))
+lacks pairs r = is_needed pairs r.need && not (list_any (is_key r.key) (map_keys pairs))
 
 abbrev pub missing : List KeyRow → List (List ℕ) → List Pair → List ConfFault
 missing rows site pairs = flat_map (λ r. fault_if (lacks pairs r) Missing (under site r.key)) rows

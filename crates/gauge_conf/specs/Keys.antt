@@ -1,13 +1,15 @@
 -- The keys of Gauge's file, a table for each kind of map, in the order of the reference.
-use Rattle.std.specs.Prelude.{ℕ, true, false, if◌then◌else◌, List, [], ◌∷◌, codes, Option, Some, None}
+use Rattle.std.specs.Prelude.{ℕ, Bool, true, false, not, if◌then◌else◌, List, [], ◌∷◌, codes, Option, Some, None}
 use Rattle.std.specs.Option.{option_map_or}
 use Rattle.std.specs.Str.{bytes_eq}
-use Rattle.conf_shape.specs.declared.kinds.Need.{Need}
-use Rattle.conf_shape.specs.declared.kinds.Need.TheVariants.{Always, Never}
+use Rattle.yaml_tree.specs.declared.tree.Pair.{Pair}
 use Rattle.conf_shape.specs.declared.refused.ConfCause.TheVariants.{OutOfRange, LeftOut}
 use Rattle.conf_shape.specs.Keys.{KeyDefault, Nothing, Count, seen_default}
+use Rattle.conf_shape.specs.Reads.{words_at}
 use Rattle.gauge_conf.specs.declared.forms.Form.{Form}
 use Rattle.gauge_conf.specs.declared.forms.Form.TheVariants.{Words, Texts, OneText, FileName, Word, Number, Only, Named}
+use Rattle.gauge_conf.specs.declared.forms.Need.{Need}
+use Rattle.gauge_conf.specs.declared.forms.Need.TheVariants.{Always, UnlessPrometheus, Never}
 use Rattle.gauge_conf.specs.declared.forms.Part.{Part}
 use Rattle.gauge_conf.specs.declared.forms.Part.TheVariants.{Watcher, Db}
 use Rattle.gauge_conf.specs.declared.forms.Vocabulary.{Vocabulary}
@@ -44,7 +46,9 @@ watcher_keys =
 abbrev pub db_keys : List KeyRow
 db_keys =
     row (codes "type") (Word DbTypes) Always Nothing ∷
-    row (codes "file") FileName Always Nothing ∷
+    row (codes "file") FileName UnlessPrometheus Nothing ∷
+    row (codes "prometheus_addr") Words Never Nothing ∷
+    row (codes "prometheus_port") (Number 1 65535) Never Nothing ∷
     row (codes "compress") (Only false LeftOut) Never Nothing ∷
     []
 
@@ -54,12 +58,21 @@ keys_of Db = db_keys
 
 -- the texts of which a value has to be one, and others that are known and left out
 abbrev pub words_of : Vocabulary → List (List ℕ)
-words_of WatcherTypes = codes "port_state" ∷ codes "port_stats" ∷ []
-words_of DbTypes = codes "text" ∷ []
+words_of WatcherTypes = codes "port_state" ∷ codes "port_stats" ∷ codes "flow_table" ∷ []
+words_of DbTypes = codes "text" ∷ codes "prometheus" ∷ []
 
 abbrev pub left_out_of : Vocabulary → List (List ℕ)
-left_out_of WatcherTypes = codes "flow_table" ∷ []
-left_out_of DbTypes = codes "prometheus" ∷ codes "influx" ∷ []
+left_out_of WatcherTypes = []
+left_out_of DbTypes = codes "influx" ∷ []
+
+-- these are the entries of a db that is written to in Prometheus' text format
+abbrev pub is_prometheus : List Pair → Bool
+is_prometheus pairs = bytes_eq (words_at (codes "type") pairs) (codes "prometheus")
+
+abbrev pub is_needed : List Pair → Need → Bool
+is_needed pairs Always = true
+is_needed pairs UnlessPrometheus = not (is_prometheus pairs)
+is_needed pairs Never = false
 
 abbrev pub row_at : List ℕ → List KeyRow → Option KeyRow
 row_at name [] = None

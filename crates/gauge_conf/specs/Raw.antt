@@ -8,15 +8,20 @@ use Rattle.yaml_tree.specs.declared.tree.Tree.{Tree}
 use Rattle.conf_shape.specs.Sections.{key_text}
 use Rattle.conf_shape.specs.Reads.{value_at, number_of, words_of, items_of, entries_of, words_at, entries_at, default_number}
 use Rattle.conf_resolve.specs.InOrder.{in_order, is_text_before}
+use Rattle.gauge_conf.specs.declared.gauge.Db.{Db}
+use Rattle.gauge_conf.specs.declared.gauge.Db.TheVariants as db
 use Rattle.gauge_conf.specs.declared.gauge.WatchKind.{WatchKind}
-use Rattle.gauge_conf.specs.declared.gauge.WatchKind.TheVariants.{PortState, PortStats}
+use Rattle.gauge_conf.specs.declared.gauge.WatchKind.TheVariants.{PortState, PortStats, FlowTable}
 use Rattle.gauge_conf.specs.declared.raw.RawWatcher.{RawWatcher}
 use Rattle.gauge_conf.specs.declared.raw.RawDb.{RawDb}
 use Rattle.gauge_conf.specs.declared.raw.RawGauge.{RawGauge}
-use Rattle.gauge_conf.specs.Keys.{watcher_keys, default_of}
+use Rattle.gauge_conf.specs.Keys.{watcher_keys, default_of, is_prometheus}
 
 abbrev pub kind_of : List ℕ → WatchKind
-kind_of text = if bytes_eq text (codes "port_state") then PortState else PortStats
+kind_of text =
+    if bytes_eq text (codes "port_state") then PortState
+    else if bytes_eq text (codes "flow_table") then FlowTable
+    else PortStats
 
 abbrev pub names_of : Tree → List (List ℕ)
 names_of t = map words_of (items_of t)
@@ -42,8 +47,11 @@ watcher_with name pairs = record {
 abbrev pub watcher_of : Pair → RawWatcher
 watcher_of p = watcher_with (key_text p.key) (entries_of p.value)
 
+abbrev pub db_with : List Pair → Db
+db_with pairs = if is_prometheus pairs then db.Prometheus else db.Text (words_at (codes "file") pairs)
+
 abbrev pub db_of : Pair → RawDb
-db_of p = record { name = key_text p.key; file = words_at (codes "file") (entries_of p.value) }
+db_of p = record { name = key_text p.key; db = db_with (entries_of p.value) }
 
 abbrev pub is_before : RawWatcher → RawWatcher → Bool
 is_before w v = is_text_before w.name v.name

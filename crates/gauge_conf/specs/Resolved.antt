@@ -11,6 +11,7 @@ use Rattle.conf_shape.specs.declared.refused.ConfFault.{ConfFault}
 use Rattle.conf_resolve.specs.InOrder.{in_order}
 use Rattle.conf_resolve.specs.Resolved.{to_list}
 use Rattle.conf_rules.specs.Places.{fault_if, first, under, each_at}
+use Rattle.gauge_conf.specs.declared.gauge.Db.{Db}
 use Rattle.gauge_conf.specs.declared.gauge.Watcher.{Watcher}
 use Rattle.gauge_conf.specs.declared.gauge.GaugeConf.{GaugeConf}
 use Rattle.gauge_conf.specs.declared.raw.RawWatcher.{RawWatcher}
@@ -62,15 +63,15 @@ abbrev pub watched : List Dp → Option (List (List ℕ)) → List DpId
 watched dps (Some names) = by_number (filter_map (id_of dps) (once names))
 watched dps None = by_number (map (λ d. d.id) dps)
 
-abbrev pub file_of : List RawDb → List ℕ → Option (List ℕ)
-file_of dbs name = option_map (λ d. d.file) (db_named dbs name)
+abbrev pub found_db : List RawDb → List ℕ → Option Db
+found_db dbs name = option_map (λ d. d.db) (db_named dbs name)
 
 -- the names of dbs: `db`, or else those of `dbs`
 abbrev pub db_names : RawWatcher → List (List ℕ)
 db_names w = unwrap_or (option_map (λ name. name ∷ []) w.db) (unwrap_or w.dbs [])
 
-abbrev pub files_of : List RawDb → RawWatcher → List (List ℕ)
-files_of dbs w = filter_map (file_of dbs) (once (db_names w))
+abbrev pub dbs_of : List RawDb → RawWatcher → List Db
+dbs_of dbs w = filter_map (found_db dbs) (once (db_names w))
 
 abbrev pub watcher_of : List RawDb → List Dp → RawWatcher → Watcher
 watcher_of dbs dps w = record {
@@ -78,7 +79,7 @@ watcher_of dbs dps w = record {
   kind = w.kind;
   dps = watched dps w.dps;
   interval = w.interval;
-  files = files_of dbs w;
+  dbs = dbs_of dbs w;
 }
 
 -- what is written, with this configuration: what Gauge watches, or the first datapath that isn't there

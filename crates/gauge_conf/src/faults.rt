@@ -3,13 +3,14 @@ ghost use Rattle.std.specs.List.{list_any, flat_map};
 ghost use Rattle.std.specs.Option.{option_map};
 ghost use Rattle.conf_shape.specs.Sections.{is_key, map_keys};
 ghost use Rattle.conf_rules.specs.Places.{first, fault_if_some, each_at};
-ghost use Rattle.gauge_conf.specs.Keys.{seen_row, keys_of};
+ghost use Rattle.gauge_conf.specs.Keys.{is_needed, seen_row, keys_of};
 ghost use Rattle.gauge_conf.specs.Faults.{is_control, word_cause, text_cause, number_cause, agree, flag_cause, is_text, texts_faults, list_faults, plain_faults, row_of, entry_faults, lacks, missing, map_faults, part_faults, named_entry, value_faults, faults_of, first_fault};
 
-use crate::forms::{Form, Part, Vocabulary};
+use crate::forms::{Form, Need, Part, Vocabulary};
 use crate::tables::{Row, is_listed, left_out_of, row_at, rows_of, top_rows, words_of};
+use crate::values::is_prometheus;
 use conf_rules::{Found, broken, nth, under};
-use conf_shape::{ConfCause, Need, is_key, key_text};
+use conf_shape::{ConfCause, is_key, key_text};
 use net_base::{Names, TryCopy};
 use std::alloc::Global;
 use yaml_tree::{Key, Pair, Tree};
@@ -171,14 +172,21 @@ fn has_key(name: &str, pairs: &[Pair]) -> bool
     false
 }
 
+fn is_needed(pairs: &[Pair], need: Need) -> bool
+    ensures { result ≡ is_needed pairs.now need }
+{
+    match need {
+        Need::Always => true,
+        Need::UnlessPrometheus => !is_prometheus(pairs),
+        Need::Never => false,
+    }
+}
+
 /// Whether a key has to be there and isn't.
 fn lacks(pairs: &[Pair], row: &Row) -> bool
     ensures { result ≡ lacks pairs.now (seen_row row.now) }
 {
-    match row.need {
-        Need::Always | Need::UnlessNumbered => !has_key(row.key, pairs),
-        Need::Never => false,
-    }
+    is_needed(pairs, row.need) && !has_key(row.key, pairs)
 }
 
 /// The first key that has to be there and isn't.

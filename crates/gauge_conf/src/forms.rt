@@ -1,5 +1,15 @@
 use conf_shape::ConfCause;
 
+/// Whether a key has to be there.
+#[derive(Clone, Copy)]
+pub enum Need {
+    /// In each map.
+    Always,
+    /// In each map but one whose `type` is `prometheus`.
+    UnlessPrometheus,
+    Never,
+}
+
 /// A few texts of which a value has to be one.
 #[derive(Clone, Copy)]
 pub enum Vocabulary {
@@ -14,7 +24,7 @@ pub enum Vocabulary {
 pub enum Part {
     /// What is watched, and where it is written.
     Watcher,
-    /// Where lines are written.
+    /// What is written, and where.
     Db,
 }
 

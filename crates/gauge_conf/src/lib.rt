@@ -11,9 +11,10 @@ mod raw;
 mod reading;
 mod resolving;
 mod tables;
+mod values;
 
-pub use forms::{Form, Part, Vocabulary};
-pub use gauge::{GaugeConf, WatchKind, Watcher, Watchers};
+pub use forms::{Form, Need, Part, Vocabulary};
+pub use gauge::{Db, Dbs, GaugeConf, WatchKind, Watcher, Watchers};
 pub use raw::{RawDb, RawDbs, RawGauge, RawWatcher, RawWatchers};
 pub use reading::read_gauge;
 pub use resolving::resolve_gauge;

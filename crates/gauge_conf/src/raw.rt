@@ -1,6 +1,6 @@
 //! Gauge's file as it is written: names that aren't resolved yet.
 
-use crate::gauge::WatchKind;
+use crate::gauge::{Db, WatchKind};
 use net_base::{Items, Names, Text};
 
 /// A watcher as it is written.
@@ -27,7 +27,7 @@ pub type RawWatchers = Items<RawWatcher>;
 #[derive(Debug, Drop)]
 pub struct RawDb {
     pub name: Text,
-    pub file: Text,
+    pub db: Db,
 }
 
 /// Dbs as they are written, in the order of the text.

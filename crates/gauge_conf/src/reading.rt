@@ -1,18 +1,19 @@
 ghost use Rattle.std.specs.Prelude.{◌≡◌, ◌-◌, ◌^◌, [], map, codes, Ok, IfOk, IfErr, option_and_then, unwrap_or};
 ghost use Rattle.std.specs.Option.{option_map};
-ghost use Rattle.conf_shape.specs.Reads.{value_at, number_of, words_of, items_of, words_at, entries_at};
+ghost use Rattle.conf_shape.specs.Reads.{value_at, number_of, words_of, items_of, entries_at};
 ghost use Rattle.conf_shape.specs.Scalars.{within};
 ghost use Rattle.std.specs.Ordering.{is_lt};
 ghost use Rattle.conf_resolve.specs.InOrder.{in_order};
 ghost use Rattle.gauge_conf.specs.Conflicts.{written_in, IsRefused};
-ghost use Rattle.gauge_conf.specs.Raw.{kind_of, names_of, names_at, interval_at, watcher_with, watcher_of, db_of, is_before, first_text, raw_with, raw_of};
+ghost use Rattle.gauge_conf.specs.Raw.{kind_of, names_of, names_at, interval_at, watcher_with, watcher_of, db_with, db_of, is_before, first_text, raw_with, raw_of};
 
 use crate::conflicts::find_conflict;
 use crate::faults::find_fault;
 use crate::forms::Part;
-use crate::gauge::WatchKind;
+use crate::gauge::{Db, WatchKind};
 use crate::raw::{RawDb, RawDbs, RawGauge, RawWatcher, RawWatchers};
 use crate::tables::{default_number, rows_of};
+use crate::values::{is_prometheus, words_at};
 use conf_shape::{ConfFault, ConfRefused, as_entries, as_words, key_text, value_at};
 use net_base::{Names, NoMemory, Text};
 use std::alloc::Global;
@@ -24,6 +25,8 @@ fn kind_of(text: &str) -> WatchKind
 {
     if text == "port_state" {
         WatchKind::PortState
+    } else if text == "flow_table" {
+        WatchKind::FlowTable
     } else {
         WatchKind::PortStats
     }
@@ -66,16 +69,6 @@ fn text_at(alloc: Global, pairs: &[Pair], name: &str) -> Result<Option<Text>, No
     match value_at(pairs, name) {
         Some(tree) => Ok(Some(Text::from_str(alloc, as_words(tree))?)),
         None => Ok(None),
-    }
-}
-
-/// The text under a key, or an empty one.
-fn words_at<'a>(pairs: &'a [Pair], name: &str) -> &'a str
-    ensures { result.now ≡ words_at name.now pairs.now }
-{
-    match value_at(pairs, name) {
-        Some(tree) => as_words(tree),
-        None => "",
     }
 }
 
@@ -170,13 +163,22 @@ fn by_name(watchers: RawWatchers) -> Result<RawWatchers, NoMemory>
     Ok(RawWatchers::from(sorted))
 }
 
+fn db_with(alloc: Global, pairs: &[Pair]) -> Result<Db, NoMemory>
+    ensures { IfOk result (λ made. made ≡ db_with pairs.now) }
+{
+    if is_prometheus(pairs) {
+        Ok(Db::Prometheus)
+    } else {
+        Ok(Db::Text(Text::from_str(alloc, words_at(pairs, "file"))?))
+    }
+}
+
 fn read_db(alloc: Global, pair: &Pair) -> Result<RawDb, NoMemory>
     ensures { IfOk result (λ made. made ≡ db_of pair.now) }
 {
-    let pairs = as_entries(&pair.value);
     Ok(RawDb {
         name: key_text(alloc, &pair.key)?,
-        file: Text::from_str(alloc, words_at(pairs, "file"))?,
+        db: db_with(alloc, as_entries(&pair.value))?,
     })
 }
 

@@ -4,10 +4,10 @@ ghost use Rattle.std.specs.Option.{option_copied};
 ghost use Rattle.conf_resolve.specs.Resolved.{to_list};
 ghost use Rattle.conf_rules.specs.Places.{first, each_at};
 ghost use Rattle.gauge_conf.specs.Conflicts.{IsRefused};
-ghost use Rattle.gauge_conf.specs.Resolved.{unknown_dp, unknown_of, unknown_dps, id_of, by_number, watched, file_of, db_names, files_of, watcher_of, gauge_with, once};
+ghost use Rattle.gauge_conf.specs.Resolved.{unknown_dp, unknown_of, unknown_dps, id_of, by_number, watched, found_db, db_names, dbs_of, watcher_of, gauge_with, once};
 
 use crate::conflicts::under_watcher;
-use crate::gauge::{GaugeConf, Watcher, Watchers};
+use crate::gauge::{Db, Dbs, GaugeConf, Watcher, Watchers};
 use crate::names::{db_named, dp_named, once};
 use crate::raw::{RawDb, RawGauge, RawWatcher};
 use conf_rules::{Found, broken, nth};
@@ -124,32 +124,32 @@ fn watched(alloc: Global, dps: &[Dp], names: &Option<Names>) -> Result<DpIds, No
     }
 }
 
-fn file_named<'a>(dbs: &'a [RawDb], name: &Text) -> Option<&'a Text>
-    ensures { option_copied result ≡ file_of dbs.now name.now }
+fn found_db<'a>(dbs: &'a [RawDb], name: &Text) -> Option<&'a Db>
+    ensures { option_copied result ≡ found_db dbs.now name.now }
 {
     match db_named(dbs, name.as_str()) {
-        Some(db) => Some(&db.file),
+        Some(found) => Some(&found.db),
         None => None,
     }
 }
 
-fn push_file(alloc: Global, files: &mut Names, file: Option<&Text>) -> Result<(), NoMemory>
-    ensures { OnOk result (files.new ≡ files.old ++ to_list (option_copied file.entry)) }
+fn push_db(alloc: Global, dbs: &mut Dbs, db: Option<&Db>) -> Result<(), NoMemory>
+    ensures { OnOk result (dbs.new ≡ dbs.old ++ to_list (option_copied db.entry)) }
 {
-    match file {
-        Some(file) => files.push(file.copy(alloc)?),
+    match db {
+        Some(db) => dbs.push(db.copy(alloc)?),
         None => Ok(()),
     }
 }
 
-fn files_named(alloc: Global, dbs: &[RawDb], names: &[Text]) -> Result<Names, NoMemory>
-    ensures { IfOk result (λ files. files ≡ filter_map (file_of dbs.now) names.now) }
+fn dbs_named(alloc: Global, dbs: &[RawDb], names: &[Text]) -> Result<Dbs, NoMemory>
+    ensures { IfOk result (λ found. found ≡ filter_map (found_db dbs.now) names.now) }
 {
-    let mut files = Names::new(alloc);
+    let mut found = Dbs::new(alloc);
     for name in names {
-        push_file(alloc, &mut files, file_named(dbs, name))?;
+        push_db(alloc, &mut found, found_db(dbs, name))?;
     }
-    Ok(files)
+    Ok(found)
 }
 
 /// The names of a watcher's dbs, each once.
@@ -167,12 +167,11 @@ fn db_names(alloc: Global, watcher: &RawWatcher) -> Result<Names, NoMemory>
     }
 }
 
-/// The file of each db of a watcher.
-fn files_of(alloc: Global, dbs: &[RawDb], watcher: &RawWatcher) -> Result<Names, NoMemory>
-    ensures { IfOk result (λ files. files ≡ files_of dbs.now watcher.now) }
+fn dbs_of(alloc: Global, dbs: &[RawDb], watcher: &RawWatcher) -> Result<Dbs, NoMemory>
+    ensures { IfOk result (λ found. found ≡ dbs_of dbs.now watcher.now) }
 {
     let names = db_names(alloc, watcher)?;
-    files_named(alloc, dbs, names.as_slice())
+    dbs_named(alloc, dbs, names.as_slice())
 }
 
 fn make_watcher(
@@ -188,7 +187,7 @@ fn make_watcher(
         kind: watcher.kind,
         dps: watched(alloc, dps, &watcher.dps)?,
         interval: watcher.interval,
-        files: files_of(alloc, dbs, watcher)?,
+        dbs: dbs_of(alloc, dbs, watcher)?,
     })
 }
 

@@ -6,8 +6,8 @@ ghost use Rattle.conf_shape.specs.Keys.{seen_default};
 ghost use Rattle.conf_shape.specs.Reads.{default_number};
 ghost use Rattle.gauge_conf.specs.Keys.{seen_row, top_keys, keys_of, row_at, default_of, words_of, left_out_of};
 
-use crate::forms::{Form, Part, Vocabulary};
-use conf_shape::{ConfCause, DefaultValue, Need};
+use crate::forms::{Form, Need, Part, Vocabulary};
+use conf_shape::{ConfCause, DefaultValue};
 
 /// A key that a map may have.
 #[derive(Clone, Copy)]
@@ -65,7 +65,16 @@ const WATCHER: &[Row] = &[
 
 const DB: &[Row] = &[
     row!("type", Form::Word(Vocabulary::DbTypes), Always),
-    row!("file", Form::FileName, Always),
+    row!("file", Form::FileName, UnlessPrometheus),
+    row!("prometheus_addr", Form::Words, Never),
+    row!(
+        "prometheus_port",
+        Form::Number {
+            low: 1,
+            high: 65_535
+        },
+        Never
+    ),
     row!(
         "compress",
         Form::Only {
@@ -98,8 +107,8 @@ pub(crate) fn words_of(vocabulary: Vocabulary) -> &'static [&'static str]
     ensures { map (λ word. word.now) result.now ≡ words_of vocabulary }
 {
     match vocabulary {
-        Vocabulary::WatcherTypes => &["port_state", "port_stats"],
-        Vocabulary::DbTypes => &["text"],
+        Vocabulary::WatcherTypes => &["port_state", "port_stats", "flow_table"],
+        Vocabulary::DbTypes => &["text", "prometheus"],
     }
 }
 
@@ -108,8 +117,8 @@ pub(crate) fn left_out_of(vocabulary: Vocabulary) -> &'static [&'static str]
     ensures { map (λ word. word.now) result.now ≡ left_out_of vocabulary }
 {
     match vocabulary {
-        Vocabulary::WatcherTypes => &["flow_table"],
-        Vocabulary::DbTypes => &["prometheus", "influx"],
+        Vocabulary::WatcherTypes => &[],
+        Vocabulary::DbTypes => &["influx"],
     }
 }
 

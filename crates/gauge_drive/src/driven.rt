@@ -1,6 +1,6 @@
 ghost use Rattle.std.specs.Prelude.{◌≡◌, IfOk};
 ghost use Rattle.gauge_poll.specs.Monitoring.{begun};
-ghost use Rattle.gauge_drive.specs.Gauge.{StandsFor, ended_lines};
+ghost use Rattle.gauge_drive.specs.Gauge.{StandsFor, joined};
 
 use fg_outside::Happening;
 use gauge_conf::GaugeConf;
@@ -15,14 +15,13 @@ pub struct DrivenGauge {
     gauge: Gauge,
 }
 
-/// The lines, each with its end.
-fn with_ends(alloc: Global, lines: &[Text]) -> Result<Bytes, NoMemory>
-    ensures { IfOk result (λ bytes. bytes ≡ ended_lines lines.now) }
+/// The lines and blocks, one behind the other.
+fn joined(alloc: Global, lines: &[Text]) -> Result<Bytes, NoMemory>
+    ensures { IfOk result (λ bytes. bytes ≡ joined lines.now) }
 {
     let mut bytes = Bytes::new(alloc);
     for line in lines {
         bytes.append(line.as_str().as_bytes())?;
-        bytes.push(b'\n')?;
     }
     Ok(bytes)
 }
@@ -45,7 +44,7 @@ impl Machine for DrivenGauge {
     fn turn(&mut self, alloc: Global, what: &Happening) -> Result<Taken, NoMemory> {
         let GaugeTurn { sayings, lines } = self.gauge.turn(what)?;
         let moment = self.gauge.moment();
-        let prints = with_ends(alloc, lines.as_slice())?;
+        let prints = joined(alloc, lines.as_slice())?;
         Ok(Taken {
             moment,
             sayings,

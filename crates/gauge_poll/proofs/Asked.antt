@@ -26,15 +26,19 @@ use Rattle.ctl_world.specs.Ends.{close, end_line, ended}
 use Rattle.ctl_world.specs.Frames.{front}
 use Rattle.ctl_world.specs.Saying.{say, say_by}
 use Rattle.ctl_world.specs.World.{World}
-use Rattle.ctl_life.specs.Life.{closing_for, echo, feed, has_frame, open_conn, read, replace, says, take_dp, tell_version, turn_away, unread}
+use Rattle.ctl_life.specs.Life.{closing_for, echo, feed, has_frame, open_conn, read, replace, take_dp, tell_version, turn_away, unread}
 use Rattle.ctl_life.specs.Silence.{look, look_each, look_on, show, stir}
 use Rattle.ctl_life.proofs.Numbered.{has_it}
 use Rattle.ctl_life.proofs.Openings.{with_fresh}
+use Rattle.conf_types.specs.declared.datapath.Dp.{Dp}
+use Rattle.gauge_conf.specs.declared.gauge.WatchKind.{WatchKind}
+use Rattle.gauge_conf.specs.declared.gauge.WatchKind.TheVariants.{PortState, PortStats, FlowTable}
 use Rattle.gauge_poll.specs.declared.poll.Poll.{Poll}
-use Rattle.gauge_poll.specs.Monitoring.{Monitor, anew, follow, hear_all, hear_frame, hear_frames, hear_front, hear_message, hear_next, hear_on, heard, introduce, looked, opened, turn, unfit, with_world}
-use Rattle.gauge_poll.specs.Polls.{Said, of_others, poll_by, poll_conn, poll_on}
+use Rattle.gauge_poll.specs.declared.telling.Telling.{Telling}
+use Rattle.gauge_poll.specs.Monitoring.{Monitor, anew, dp_on, follow, hear_all, hear_frame, hear_frames, hear_front, hear_message, hear_next, hear_on, heard, introduce, looked, opened, told_on, turn, unfit, with_world}
+use Rattle.gauge_poll.specs.Polls.{Said, of_others, poll_by, poll_conn, poll_on, request_for}
+use Rattle.gauge_poll.specs.Telling.{reads, told_by}
 use Rattle.gauge_poll.specs.Requests.{AreAsked, Request, asked_by, asked_in, found_polls, request_of, requests}
-use Rattle.gauge_poll.proofs.Keeping.{message}
 use Rattle.gauge_poll.proofs.Rounds.{due_kept, first_kept}
 
 -- ---- what else is said asks for no counters
@@ -95,26 +99,33 @@ look_each_same (number ∷ numbers) w = look_each_same numbers (look number w) �
 
 -- ---- a poll asks
 
-abbrev asking : (conn xid : ℕ) → Request
-asking conn xid = record { conn = conn; port = 0xffffffff; xid = xid }
+abbrev asking : WatchKind → (conn xid : ℕ) → Request
+asking kind conn xid = record { conn = conn; asks = request_for kind; xid = xid }
 
-one_more : (conn : ℕ) (c : Conn) (w : World) → conn_with w.conns conn ≡ Some c → requests (say conn message w).said ≡ requests w.said ++ asking conn (next_id c.session.last_xid) ∷ []
-one_more conn c w is =
-    ap (λ (o : Option Conn). requests (option_map_or (say_by with_said message w) o w).said) is
-    ∙ flat_map-append asked_in w.said (told.Message c.number message (next_id c.session.last_xid) ∷ [])
-    ∙ ap (λ n. requests w.said ++ asking n (next_id c.session.last_xid) ∷ []) (has_it conn w.conns c is)
+asks_one : (kind : WatchKind) (conn xid : ℕ) → asked_by (request_for kind) conn xid ++ [] ≡ asking kind conn xid ∷ []
+asks_one PortState conn xid = refl
+asks_one PortStats conn xid = refl
+asks_one FlowTable conn xid = refl
+
+one_more : (kind : WatchKind) (conn : ℕ) (c : Conn) (w : World) → conn_with w.conns conn ≡ Some c
+    → requests (say conn (request_for kind) w).said ≡ requests w.said ++ asking kind conn (next_id c.session.last_xid) ∷ []
+one_more kind conn c w is =
+    ap (λ (o : Option Conn). requests (option_map_or (say_by with_said (request_for kind) w) o w).said) is
+    ∙ flat_map-append asked_in w.said (told.Message c.number (request_for kind) (next_id c.session.last_xid) ∷ [])
+    ∙ ap (λ rs. requests w.said ++ rs) (asks_one kind c.number (next_id c.session.last_xid))
+    ∙ ap (λ n. requests w.said ++ asking kind n (next_id c.session.last_xid) ∷ []) (has_it conn w.conns c is)
 
 module _ (before : List Poll) where
-  conn_asked : (place conn : ℕ) (s : Said) → AreAsked before s → AreAsked before (poll_conn place conn s)
-  conn_asked place conn s are = by (conn_with s.world.conns conn) refl
+  conn_asked : (kind : WatchKind) (place conn : ℕ) (s : Said) → AreAsked before s → AreAsked before (poll_conn kind place conn s)
+  conn_asked kind place conn s are = by (conn_with s.world.conns conn) refl
     where
-      by : (o : Option Conn) → conn_with s.world.conns conn ≡ o → AreAsked before (option_map_or (poll_on place conn s) o s)
+      by : (o : Option Conn) → conn_with s.world.conns conn ≡ o → AreAsked before (option_map_or (poll_on kind place conn s) o s)
       by (Some c) is =
-          let p = poll_by place conn s c in
+          let p = poll_by kind place conn s c in
           record {
             more = are.more ++ p ∷ [];
             behind = ap (λ ps. ps ++ p ∷ []) are.behind ∙ append_assoc before are.more (p ∷ []);
-            asked = map-append request_of are.more (p ∷ []) ∙ ap (λ rs. rs ++ request_of p ∷ []) are.asked ∙ sym (one_more conn c s.world is);
+            asked = map-append request_of are.more (p ∷ []) ∙ ap (λ rs. rs ++ request_of p ∷ []) are.asked ∙ sym (one_more kind conn c s.world is);
           }
       by None is = are
 
@@ -143,11 +154,14 @@ module _ (before : List Poll) where
   abbrev Are : Monitor → Type 0
   Are k = AreAsked before k.said
 
+  told_asked : (told : Telling) (xid number : ℕ) (dp : Option Dp) (k : Monitor) → Are k → Are (told_on told xid number dp k)
+  told_asked told xid number dp k are = record { more = are.more; behind = are.behind; asked = are.asked }
+
   message_asked : (m : Message) (xid number : ℕ) (k : Monitor) → Are k → Are (hear_message m xid number k)
   message_asked m xid number k are = by (conn_with k.said.world.conns number)
     where
       by : (o : Option Conn) → Are (option_map_or (hear_on m xid number k) o k)
-      by (Some c) = follow_asked k (leads c.session.state m xid).1 m xid number (heard m xid number k.said) (world_asked k.said (heard m xid number k.said).world refl are)
+      by (Some c) = follow_asked k (leads c.session.state m xid).1 m xid number (heard m xid number (told_on (told_by m) xid number (dp_on k.said.world c) k).said) (world_asked (told_on (told_by m) xid number (dp_on k.said.world c) k).said (heard m xid number (told_on (told_by m) xid number (dp_on k.said.world c) k).said).world refl (told_asked (told_by m) xid number (dp_on k.said.world c) k are))
       by None = are
 
   frame_asked : (given : Option (Message × ℕ)) (number : ℕ) (k : Monitor) → Are k → Are (hear_frame given number k)
@@ -156,7 +170,7 @@ module _ (before : List Poll) where
 
   front_asked : (f : Front) (number : ℕ) (k : Monitor) → Are k → Are (hear_front f number k)
   front_asked Part number k are = are
-  front_asked (Frame frame) number k are = frame_asked (says frame) number k are
+  front_asked (Frame frame) number k are = frame_asked (reads frame) number k are
   front_asked Bad number k are = world_asked k.said (close BadFrame number k.said.world) (close_same BadFrame number k.said.world) are
 
   next_asked : (number : ℕ) (k : Monitor) → Are k → Are (hear_next number k)

@@ -17,12 +17,13 @@ use Rattle.ctl_world.specs.Saying.{say, say_by}
 use Rattle.ctl_world.specs.World.{World}
 use Rattle.ctl_life.specs.Silence.{look, look_each, look_on, show, stir}
 use Rattle.ctl_life.proofs.Openings.{found_open, open_is}
+use Rattle.gauge_conf.specs.declared.gauge.WatchKind.{WatchKind}
 use Rattle.gauge_conf.specs.declared.gauge.Watcher.{Watcher}
 use Rattle.gauge_poll.specs.declared.poll.Poll.{Poll}
 use Rattle.gauge_poll.specs.Due.{last_polled, looked_at}
 use Rattle.gauge_poll.specs.Monitoring.{Monitor, turn}
-use Rattle.gauge_poll.specs.Polls.{Said, is_due, is_for, is_polling, newest, poll_by, poll_conn, poll_dp, poll_dps, poll_due, poll_for, poll_if_due, poll_on, polls_dp, watches}
-use Rattle.gauge_poll.proofs.Keeping.{message, newest-more}
+use Rattle.gauge_poll.specs.Polls.{Said, is_due, is_for, is_polling, newest, poll_by, poll_conn, poll_dp, poll_dps, poll_due, poll_for, poll_if_due, poll_on, polls_dp, request_for, watches}
+use Rattle.gauge_poll.proofs.Keeping.{newest-more}
 use Rattle.gauge_poll.proofs.Rounds.{dp_kept, dps_kept, due_kept, for_kept}
 
 -- ---- the moment stays
@@ -34,11 +35,11 @@ say_moment number m w = by (conn_with w.conns number)
     by (Some c) = refl
     by None = refl
 
-conn_moment : (t : Moment) (place conn : ℕ) (s : Said) → s.world.moment ≡ t → (poll_conn place conn s).world.moment ≡ t
-conn_moment t place conn s is = by (conn_with s.world.conns conn)
+conn_moment : (t : Moment) (kind : WatchKind) (place conn : ℕ) (s : Said) → s.world.moment ≡ t → (poll_conn kind place conn s).world.moment ≡ t
+conn_moment t kind place conn s is = by (conn_with s.world.conns conn)
   where
-    by : (o : Option Conn) → (option_map_or (poll_on place conn s) o s).world.moment ≡ t
-    by (Some c) = say_moment conn message s.world ∙ is
+    by : (o : Option Conn) → (option_map_or (poll_on kind place conn s) o s).world.moment ≡ t
+    by (Some c) = say_moment conn (request_for kind) s.world ∙ is
     by None = is
 
 stir_moment : (due : Quiet) (number : ℕ) (w : World) → (stir due number w).moment ≡ w.moment
@@ -97,15 +98,15 @@ module _ (w : Watcher) (dp : DpId) (place n : ℕ) where
 
   -- ---- one poll more, of whichever watcher on whichever connection
 
-  module _ (q conn : ℕ) (s : Said) (c : Conn) where
+  module _ (kind : WatchKind) (q conn : ℕ) (s : Said) (c : Conn) where
     abbrev p : Poll
-    p = poll_by q conn s c
+    p = poll_by kind q conn s c
 
     abbrev after : Said
-    after = poll_on q conn s c
+    after = poll_on kind q conn s c
 
     same_moment : after.world.moment ≡ s.world.moment
-    same_moment = say_moment conn message s.world
+    same_moment = say_moment conn (request_for kind) s.world
 
     own_polled : is_for n place p ≡ true → Polled after
     own_polled own = ap (option_map moment_of) (newest-more n place s.polls p) ∙ ap (λ b. option_map moment_of (if b then Some p else newest n place s.polls)) own ∙ ap Some (sym same_moment)
@@ -133,36 +134,36 @@ module _ (w : Watcher) (dp : DpId) (place n : ℕ) where
         ]
 
     still_ready : Ready s → Ready after
-    still_ready ready = (say_on conn message dp s.world ∙ ready.0, elim ready.1 [ inl due ↦ still_due due | inr polled ↦ inr (still_polled polled) ])
+    still_ready ready = (say_on conn (request_for kind) dp s.world ∙ ready.0, elim ready.1 [ inl due ↦ still_due due | inr polled ↦ inr (still_polled polled) ])
 
-  conn_polled : (q conn : ℕ) (s : Said) → Polled s → Polled (poll_conn q conn s)
-  conn_polled q conn s polled = by (conn_with s.world.conns conn)
+  conn_polled : (kind : WatchKind) (q conn : ℕ) (s : Said) → Polled s → Polled (poll_conn kind q conn s)
+  conn_polled kind q conn s polled = by (conn_with s.world.conns conn)
     where
-      by : (o : Option Conn) → Polled (option_map_or (poll_on q conn s) o s)
-      by (Some c) = still_polled q conn s c polled
+      by : (o : Option Conn) → Polled (option_map_or (poll_on kind q conn s) o s)
+      by (Some c) = still_polled kind q conn s c polled
       by None = polled
 
-  conn_ready : (q conn : ℕ) (s : Said) → Ready s → Ready (poll_conn q conn s)
-  conn_ready q conn s ready = by (conn_with s.world.conns conn)
+  conn_ready : (kind : WatchKind) (q conn : ℕ) (s : Said) → Ready s → Ready (poll_conn kind q conn s)
+  conn_ready kind q conn s ready = by (conn_with s.world.conns conn)
     where
-      by : (o : Option Conn) → Ready (option_map_or (poll_on q conn s) o s)
-      by (Some c) = still_ready q conn s c ready
+      by : (o : Option Conn) → Ready (option_map_or (poll_on kind q conn s) o s)
+      by (Some c) = still_ready kind q conn s c ready
       by None = ready
 
   -- ---- its own poll
 
-  own_conn : (s : Said) → is_open s.world.conns n ≡ true → Polled (poll_conn place n s)
-  own_conn s there = by (conn_with s.world.conns n) refl
+  own_conn : (kind : WatchKind) (s : Said) → is_open s.world.conns n ≡ true → Polled (poll_conn kind place n s)
+  own_conn kind s there = by (conn_with s.world.conns n) refl
     where
-      by : (o : Option Conn) → conn_with s.world.conns n ≡ o → Polled (option_map_or (poll_on place n s) o s)
-      by (Some c) is = own_polled place n s c (ap (λ b. b && (place == place)) (eq-eqb n n refl) ∙ eq-eqb place place refl)
+      by : (o : Option Conn) → conn_with s.world.conns n ≡ o → Polled (option_map_or (poll_on kind place n s) o s)
+      by (Some c) is = own_polled kind place n s c (ap (λ b. b && (place == place)) (eq-eqb n n refl) ∙ eq-eqb place place refl)
       by None is = absurd (true≢false (sym there ∙ open_is s.world.conns n ∙ ap (λ (o : Option Conn). is_some o) is))
 
   own_dp : (s : Said) → Ready s → Polled (poll_dp w place dp s)
   own_dp s ready = by (conn_of s.world.conns dp) refl
     where
-      if_due : is_open s.world.conns n ≡ true → (b : Bool) → is_due w place n s ≡ b → Polled (if b then poll_conn place n s else s)
-      if_due there true is = own_conn s there
+      if_due : is_open s.world.conns n ≡ true → (b : Bool) → is_due w place n s ≡ b → Polled (if b then poll_conn w.kind place n s else s)
+      if_due there true is = own_conn w.kind s there
       if_due there false is = elim ready.1 [ inl due ↦ absurd (true≢false (sym due ∙ is)) | inr polled ↦ polled ]
 
       by : (o : Option Conn) → conn_of s.world.conns dp ≡ o → Polled (option_map_or (poll_if_due w place s) o s)
@@ -170,7 +171,7 @@ module _ (w : Watcher) (dp : DpId) (place n : ℕ) where
           let on : Some c.number ≡ Some n = ap (option_map number_of) (sym is) ∙ ready.0 in
           let same : c.number ≡ n = cc in
           let there : is_open s.world.conns n ≡ true = subst (λ k. is_open s.world.conns k ≡ true) same (found_open (is_of dp) s.world.conns c is) in
-          subst (λ k. Polled (if is_due w place k s then poll_conn place k s else s)) (sym same) (if_due there (is_due w place n s) refl)
+          subst (λ k. Polled (if is_due w place k s then poll_conn w.kind place k s else s)) (sym same) (if_due there (is_due w place n s) refl)
       by None is = let none : None ≡ Some n = ap (option_map number_of) (sym is) ∙ ready.0 in absurd (cc)
 
   own_dps : (dps : List DpId) (s : Said) → list_any (λ (d : DpId). d.0 == dp.0) dps ≡ true → Ready s → Polled (poll_dps w place dps s)

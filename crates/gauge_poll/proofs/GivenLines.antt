@@ -1,19 +1,20 @@
 -- Which lines are given of what happens.
-use Rattle.std.proofs.Common.{◌≡◌, ℕ, suc, ◌++◌, Bool, true, false, Option, Some, None, option_and_then, List, [], ◌∷◌, refl, ap, ◌∙◌, true≢false, if◌then◌else◌}
+use Rattle.std.proofs.Common.{◌≡◌, ℕ, suc, ◌++◌, Bool, true, false, Option, Some, None, option_and_then, List, [], ◌∷◌, refl, ap, true≢false, if◌then◌else◌}
 use Rattle.std.specs.Option.{option_map_or}
-use Rattle.net_base.specs.declared.numbers.Moment.{Moment}
 use Rattle.fg_outside.specs.declared.hub.EndCause.{EndCause}
 use Rattle.fg_outside.specs.declared.hub.Happening.TheVariants as happenings
 use Rattle.conf_types.specs.declared.datapath.Dp.{Dp}
 use Rattle.gauge_conf.specs.declared.gauge.Watcher.{Watcher}
 use Rattle.of13_codec.specs.declared.message.Message.{Message}
-use Rattle.of13_codec.specs.declared.message.Message.TheVariants as messages
 use Rattle.ctl_world.specs.declared.conns.Conn.{Conn}
 use Rattle.ctl_world.specs.Connections.{conn_with, is_open}
 use Rattle.ctl_world.specs.Ends.{ended}
 use Rattle.ctl_life.specs.Life.{closing_for, feed}
-use Rattle.gauge_poll.specs.declared.poll.Poll.{Poll}
-use Rattle.gauge_poll.specs.Lines.{is_counted, is_telling, lines_for, told_lines}
+use Rattle.gauge_poll.specs.declared.telling.Telling.{Telling}
+use Rattle.gauge_poll.specs.declared.telling.Telling.TheVariants.{Ports, Flows, State, Nothing}
+use Rattle.gauge_poll.specs.Lines.{told_lines}
+use Rattle.gauge_poll.specs.Polls.{Said}
+use Rattle.gauge_poll.specs.Telling.{is_telling, told_by}
 use Rattle.gauge_poll.specs.Monitoring.{Monitor, dp_on, hear_all, hear_message, hear_on, opened, turn, with_world}
 
 none_behind : {A : Type 0} (xs : List A) → xs ≡ xs ++ []
@@ -37,20 +38,16 @@ pub shut_none : (number : ℕ) (piece : List ℕ) (m : Monitor) → is_open m.sa
 shut_none number piece m shut = ap (λ b. (if b then hear_all number (with_world (feed number piece) (begin m)) else begin m).lines) shut
 
 pub message_lines : (msg : Message) (xid number : ℕ) (m : Monitor)
-    → (hear_message msg xid number m).lines ≡ m.lines ++ option_map_or (told_lines 0 m.watchers m.said.polls number m.said.world.moment msg xid) (option_and_then (dp_on m.said.world) (conn_with m.said.world.conns number)) []
+    → (hear_message msg xid number m).lines ≡ m.lines ++ option_map_or (told_lines 0 m.watchers m.said number (told_by msg) xid) (option_and_then (dp_on m.said.world) (conn_with m.said.world.conns number)) []
 message_lines msg xid number m = by (conn_with m.said.world.conns number)
   where
-    by : (o : Option Conn) → (option_map_or (hear_on msg xid number m) o m).lines ≡ m.lines ++ option_map_or (told_lines 0 m.watchers m.said.polls number m.said.world.moment msg xid) (option_and_then (dp_on m.said.world) o) []
+    by : (o : Option Conn) → (option_map_or (hear_on msg xid number m) o m).lines ≡ m.lines ++ option_map_or (told_lines 0 m.watchers m.said number (told_by msg) xid) (option_and_then (dp_on m.said.world) o) []
     by (Some c) = refl
     by None = none_behind m.lines
 
-one_none : (w : Watcher) (counted : Bool) (moment : Moment) (msg : Message) (d : Dp) → is_telling msg ≡ false → lines_for w counted moment msg d ≡ []
-one_none w counted moment (messages.PortStatsReply more stats) d none = absurd (true≢false none)
-one_none w counted moment (messages.PortStatus reason port) d none = absurd (true≢false none)
-one_none w counted moment msg d none = refl
-
-pub others_none : (place : ℕ) (ws : List Watcher) (polls : List Poll) (conn : ℕ) (moment : Moment) (msg : Message) (xid : ℕ) (d : Dp) → is_telling msg ≡ false → told_lines place ws polls conn moment msg xid d ≡ []
-others_none place [] polls conn moment msg xid d none = refl
-others_none place (w ∷ ws) polls conn moment msg xid d none =
-    ap (λ ls. ls ++ told_lines (suc place) ws polls conn moment msg xid d) (one_none w (is_counted conn place xid polls) moment msg d none)
-    ∙ others_none (suc place) ws polls conn moment msg xid d none
+pub others_none : (place : ℕ) (ws : List Watcher) (s : Said) (conn : ℕ) (told : Telling) (xid : ℕ) (d : Dp) → is_telling told ≡ false → told_lines place ws s conn told xid d ≡ []
+others_none place [] s conn told xid d none = refl
+others_none place (w ∷ ws) s conn (Ports more stats) xid d none = absurd (true≢false none)
+others_none place (w ∷ ws) s conn (Flows part) xid d none = absurd (true≢false none)
+others_none place (w ∷ ws) s conn (State reason port) xid d none = absurd (true≢false none)
+others_none place (w ∷ ws) s conn Nothing xid d none = others_none (suc place) ws s conn Nothing xid d none

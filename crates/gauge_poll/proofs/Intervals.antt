@@ -16,14 +16,15 @@ use Rattle.ctl_world.specs.declared.frames.Front.TheVariants.{Part, Frame, Bad}
 use Rattle.ctl_world.specs.Connections.{conn_of, conn_with, is_open}
 use Rattle.ctl_world.specs.Frames.{front}
 use Rattle.ctl_world.specs.Ends.{ended}
-use Rattle.ctl_life.specs.Life.{closing_for, feed, has_frame, read, replace, says, take_dp, unread}
+use Rattle.ctl_life.specs.Life.{closing_for, feed, has_frame, read, replace, take_dp, unread}
 use Rattle.ctl_life.specs.Silence.{look_each, show}
 use Rattle.gauge_conf.specs.declared.gauge.Watcher.{Watcher}
 use Rattle.gauge_conf.specs.declared.gauge.GaugeConf.{GaugeConf}
 use Rattle.gauge_poll.specs.declared.poll.Poll.{Poll}
 use Rattle.gauge_poll.specs.Apart.{AreApart}
-use Rattle.gauge_poll.specs.Monitoring.{Monitor, begun, behind, follow, hear_frame, hear_frames, hear_front, hear_message, hear_next, hear_on, heard, introduce, opened, pass_in, turn, unfit, with_world, work}
+use Rattle.gauge_poll.specs.Monitoring.{Monitor, begun, behind, dp_on, follow, hear_frame, hear_frames, hear_front, hear_message, hear_next, hear_on, heard, introduce, opened, pass_in, told_on, turn, unfit, with_world, work}
 use Rattle.gauge_poll.specs.Polls.{Said, is_due, is_polling, newest, of_others, poll_begun, poll_by, poll_conn, poll_dp, poll_dps, poll_due, poll_first, poll_for, poll_if_due, poll_on, polls_dp}
+use Rattle.gauge_poll.specs.Telling.{reads, told_by}
 use Rattle.gauge_poll.proofs.Monitors.{newest_others}
 
 -- ---- a list of polls, behind those before it
@@ -95,7 +96,7 @@ module _ (ws : List Watcher) where
   abbrev Right : Said → Type 0
   Right s = Follow ws [] s.polls
 
-  far_by : (w : Watcher) (place conn : ℕ) (s : Said) (c : Conn) → slice_get ws place ≡ Some w → is_due w place conn s ≡ true → FarFrom ws (newest conn place s.polls) (poll_by place conn s c)
+  far_by : (w : Watcher) (place conn : ℕ) (s : Said) (c : Conn) → slice_get ws place ≡ Some w → is_due w place conn s ≡ true → FarFrom ws (newest conn place s.polls) (poll_by w.kind place conn s c)
   far_by w place conn s c at due q v last there =
       let same_some : Some w ≡ Some v = sym at ∙ there in
       let same : w ≡ v = cc in
@@ -103,17 +104,17 @@ module _ (ws : List Watcher) where
       ap (λ (o : Option Poll). option_map_or (λ (p : Poll). nat_le (p.moment.0 + 1000 * w.interval) s.world.moment.0) o true) (sym last) ∙ due in
       subst (λ (x : Watcher). q.moment.0 + 1000 * x.interval ≤ s.world.moment.0) same (leb-true (q.moment.0 + 1000 * w.interval) s.world.moment.0 passed)
 
-  conn_right : (w : Watcher) (place conn : ℕ) (s : Said) → slice_get ws place ≡ Some w → is_due w place conn s ≡ true → Right s → Right (poll_conn place conn s)
+  conn_right : (w : Watcher) (place conn : ℕ) (s : Said) → slice_get ws place ≡ Some w → is_due w place conn s ≡ true → Right s → Right (poll_conn w.kind place conn s)
   conn_right w place conn s at due right = by (conn_with s.world.conns conn)
     where
-      by : (o : Option Conn) → Right (option_map_or (poll_on place conn s) o s)
-      by (Some c) = follow_more ws [] s.polls (poll_by place conn s c) (far_by w place conn s c at due) right
+      by : (o : Option Conn) → Right (option_map_or (poll_on w.kind place conn s) o s)
+      by (Some c) = follow_more ws [] s.polls (poll_by w.kind place conn s c) (far_by w place conn s c at due) right
       by None = right
 
   dp_right : (w : Watcher) (place : ℕ) (dp : DpId) (s : Said) → slice_get ws place ≡ Some w → Right s → Right (poll_dp w place dp s)
   dp_right w place dp s at right = by (conn_of s.world.conns dp)
     where
-      if_due : (c : Conn) (b : Bool) → is_due w place c.number s ≡ b → Right (if b then poll_conn place c.number s else s)
+      if_due : (c : Conn) (b : Bool) → is_due w place c.number s ≡ b → Right (if b then poll_conn w.kind place c.number s else s)
       if_due c true due = conn_right w place c.number s at due right
       if_due c false due = right
 
@@ -177,7 +178,7 @@ module _ (ws : List Watcher) where
   message_right m xid number k right = by (conn_with k.said.world.conns number)
     where
       by : (o : Option Conn) → AllRight (option_map_or (hear_on m xid number k) o k)
-      by (Some c) = (right.0, follow_right k.watchers (leads c.session.state m xid).1 m xid number (heard m xid number k.said) right.1)
+      by (Some c) = (right.0, follow_right k.watchers (leads c.session.state m xid).1 m xid number (heard m xid number (told_on (told_by m) xid number (dp_on k.said.world c) k).said) right.1)
       by None = right
 
   frame_right : (told : Option (Message × ℕ)) (number : ℕ) (k : Monitor) → AllRight k → AllRight (hear_frame told number k)
@@ -186,7 +187,7 @@ module _ (ws : List Watcher) where
 
   front_right : (f : Front) (number : ℕ) (k : Monitor) → AllRight k → AllRight (hear_front f number k)
   front_right Part number k right = right
-  front_right (Frame frame) number k right = frame_right (says frame) number k right
+  front_right (Frame frame) number k right = frame_right (reads frame) number k right
   front_right Bad number k right = right
 
   next_right : (number : ℕ) (k : Monitor) → AllRight k → AllRight (hear_next number k)

@@ -1,12 +1,10 @@
 -- What is kept goes on standing for what was said.
-use Rattle.std.proofs.Common.{◌≡◌, ℕ, ◌+◌, ◌<◌, ◌++◌, suc, Bool, true, false, Option, Some, None, List, [], ◌∷◌, length, get_or, drop, refl, sym, ap, subst, ◌∙◌, arith, if◌then◌else◌}
+use Rattle.std.proofs.Common.{◌≡◌, ℕ, ◌+◌, ◌<◌, ◌==◌, ◌&&◌, ◌++◌, suc, Bool, true, false, Option, Some, None, List, [], ◌∷◌, length, get_or, drop, refl, sym, ap, subst, ◌∙◌, arith, if◌then◌else◌}
 use Rattle.std.specs.List.{fold}
 use Rattle.std.specs.Option.{option_map, option_map_or}
 use Rattle.std.proofs.Math.Seq.{drop-cons}
 use Rattle.net_base.specs.declared.numbers.DpId.{DpId}
 use Rattle.net_base.specs.declared.numbers.Moment.{Moment}
-use Rattle.of13_codec.specs.declared.message.Message.{Message}
-use Rattle.of13_codec.specs.declared.message.Message.TheVariants.{PortStatsRequest}
 use Rattle.switch_session.specs.Connections.{next_id}
 use Rattle.ctl_world.specs.declared.conns.Conn.{Conn}
 use Rattle.ctl_world.specs.declared.said.Said.{Said as Told}
@@ -17,12 +15,15 @@ use Rattle.ctl_world.specs.World.{World}
 use Rattle.ctl_world.proofs.Places.{unchanged}
 use Rattle.ctl_world.proofs.Says.{said_on}
 use Rattle.ctl_life.proofs.Openings.{found_open}
+use Rattle.gauge_conf.specs.declared.gauge.WatchKind.{WatchKind}
 use Rattle.gauge_conf.specs.declared.gauge.Watcher.{Watcher}
 use Rattle.gauge_poll.specs.declared.known.Known.{Known}
 use Rattle.gauge_poll.specs.declared.newest.Newest.{Newest}
+use Rattle.gauge_poll.specs.declared.parts.Parts.{Parts}
+use Rattle.gauge_poll.specs.declared.parts.Waiting.{Waiting}
 use Rattle.gauge_poll.specs.declared.poll.Poll.{Poll}
-use Rattle.gauge_poll.specs.Newest.{at}
-use Rattle.gauge_poll.specs.Polls.{Said, is_due, later, newest, poll_by, poll_conn, poll_dp, poll_if_due, poll_on}
+use Rattle.gauge_poll.specs.Newest.{at, waits_of}
+use Rattle.gauge_poll.specs.Polls.{Said, is_due, later, newest, no_part, poll_by, poll_conn, poll_dp, poll_if_due, poll_on, request_for, with_at}
 use Rattle.gauge_poll.specs.StandsFor.{Keeps}
 use Rattle.gauge_poll.proofs.Opens.{Within, say_within}
 
@@ -32,6 +33,7 @@ pub kept_by : (f : World → World) → ((w : World) → Within (f w) w) → (k 
 kept_by f within k s after is keeps = record {
   world = is ∙ ap f keeps.world;
   polls = λ conn place there. keeps.polls conn place (within s.world conn there);
+  waits = λ conn place there. keeps.waits conn place (within s.world conn there);
 }
 
 -- ---- a poll more
@@ -43,50 +45,52 @@ fold-more f b (y ∷ ys) x = fold-more f (f b y) ys x
 pub newest-more : (conn place : ℕ) (polls : List Poll) (p : Poll) → newest conn place (polls ++ p ∷ []) ≡ later conn place (newest conn place polls) p
 newest-more conn place polls p = fold-more (later conn place) None polls p
 
-abbrev pub message : Message
-message = PortStatsRequest 0xffffffff
+abbrev pub poll_at : WatchKind → (conn place : ℕ) → Moment → (xid : ℕ) → Poll
+poll_at kind conn place moment xid = record { conn = conn; watcher = place; kind = kind; moment = moment; xid = xid }
 
-abbrev pub poll_at : (conn place : ℕ) → Moment → (xid : ℕ) → Poll
-poll_at conn place moment xid = record { conn = conn; watcher = place; moment = moment; xid = xid }
-
-module _ (place conn : ℕ) (k : Known) (s : Said) (keeps : Keeps k s) (conns : List Conn) (noted : conns ≡ change conn with_said k.world.conns) where
+module _ (kind : WatchKind) (place conn : ℕ) (k : Known) (s : Said) (keeps : Keeps k s) (conns : List Conn) (noted : conns ≡ change conn with_said k.world.conns) where
   found : (o : Option Conn) → conn_with k.world.conns conn ≡ o → conn_with s.world.conns conn ≡ o
   found o is = ap (λ (w : World). conn_with w.conns conn) (sym keeps.world) ∙ is
 
-  goes : (o : Option Conn) → conn_with k.world.conns conn ≡ o → option_map_or (poll_on place conn s) o s ≡ poll_conn place conn s
-  goes o is = ap (λ (p : Option Conn). option_map_or (poll_on place conn s) p s) (sym (found o is))
+  goes : (o : Option Conn) → conn_with k.world.conns conn ≡ o → option_map_or (poll_on kind place conn s) o s ≡ poll_conn kind place conn s
+  goes o is = ap (λ (p : Option Conn). option_map_or (poll_on kind place conn s) p s) (sym (found o is))
 
   -- the connection isn't open
-  pub none_polled : None ≡ option_map (λ (c : Conn). next_id c.session.last_xid) (conn_with k.world.conns conn) → Keeps (record k { world = record k.world { conns = conns } }) (poll_conn place conn s)
+  pub none_polled : None ≡ option_map (λ (c : Conn). next_id c.session.last_xid) (conn_with k.world.conns conn) → Keeps (record k { world = record k.world { conns = conns } }) (poll_conn kind place conn s)
   none_polled none = by (conn_with k.world.conns conn) refl
     where
-      by : (o : Option Conn) → conn_with k.world.conns conn ≡ o → Keeps (record k { world = record k.world { conns = conns } }) (poll_conn place conn s)
+      by : (o : Option Conn) → conn_with k.world.conns conn ≡ o → Keeps (record k { world = record k.world { conns = conns } }) (poll_conn kind place conn s)
       by None is =
           subst (Keeps (record k { world = record k.world { conns = conns } })) (goes None is) (record {
             world = ap (λ cs. record k.world { conns = cs }) (noted ∙ unchanged conn with_said k.world.conns is) ∙ keeps.world;
             polls = keeps.polls;
+            waits = keeps.waits;
           })
       by (Some c) is = let e = rw is at none in absurd (cc)
 
-  pub polled : (xid : ℕ) (more : List Told) (kept : Newest) → Some xid ≡ option_map (λ (c : Conn). next_id c.session.last_xid) (conn_with k.world.conns conn)
-      → more ≡ k.world.said ++ told.Message conn message xid ∷ []
-      → ((other q : ℕ) → at kept other q ≡ later other q (at k.newest other q) (poll_at conn place k.world.moment xid))
-      → Keeps (record { world = record k.world { conns = conns; said = more }; newest = kept }) (poll_conn place conn s)
-  polled xid more kept next pushed put = by (conn_with k.world.conns conn) refl
+  pub polled : (xid : ℕ) (more : List Told) (kept : Newest) (left : Parts) → Some xid ≡ option_map (λ (c : Conn). next_id c.session.last_xid) (conn_with k.world.conns conn)
+      → more ≡ k.world.said ++ told.Message conn (request_for kind) xid ∷ []
+      → ((other q : ℕ) → at kept other q ≡ later other q (at k.newest other q) (poll_at kind conn place k.world.moment xid))
+      → ((other q : ℕ) → waits_of left other q ≡ with_at conn place no_part (waits_of k.parts) other q)
+      → Keeps (record { world = record k.world { conns = conns; said = more }; newest = kept; parts = left }) (poll_conn kind place conn s)
+  polled xid more kept left next pushed put gone = by (conn_with k.world.conns conn) refl
     where
-      by : (o : Option Conn) → conn_with k.world.conns conn ≡ o → Keeps (record { world = record k.world { conns = conns; said = more }; newest = kept }) (poll_conn place conn s)
+      by : (o : Option Conn) → conn_with k.world.conns conn ≡ o → Keeps (record { world = record k.world { conns = conns; said = more }; newest = kept; parts = left }) (poll_conn kind place conn s)
       by None is = let e = rw is at next in absurd (cc)
       by (Some c) is =
           let e : Some xid ≡ Some (next_id c.session.last_xid) = rw is at next in
           let same : xid ≡ next_id c.session.last_xid = cc in
-          let poll : poll_at conn place k.world.moment xid ≡ poll_by place conn s c = λ i. poll_at conn place (keeps.world i).moment (same i) in
-          subst (Keeps (record { world = record k.world { conns = conns; said = more }; newest = kept })) (goes (Some c) is) (record {
-            world = said_on with_said conn message k.world conns noted xid more next pushed ∙ ap (say conn message) keeps.world;
+          let poll : poll_at kind conn place k.world.moment xid ≡ poll_by kind place conn s c = λ i. poll_at kind conn place (keeps.world i).moment (same i) in
+          subst (Keeps (record { world = record k.world { conns = conns; said = more }; newest = kept; parts = left })) (goes (Some c) is) (record {
+            world = said_on with_said conn (request_for kind) k.world conns noted xid more next pushed ∙ ap (say conn (request_for kind)) keeps.world;
             polls = λ other q there.
                 put other q
-                ∙ ap (λ o. later other q o (poll_at conn place k.world.moment xid)) (keeps.polls other q (say_within conn message s.world other there))
+                ∙ ap (λ o. later other q o (poll_at kind conn place k.world.moment xid)) (keeps.polls other q (say_within conn (request_for kind) s.world other there))
                 ∙ ap (later other q (newest other q s.polls)) poll
-                ∙ sym (newest-more other q s.polls (poll_by place conn s c));
+                ∙ sym (newest-more other q s.polls (poll_by kind place conn s c));
+            waits = λ other q there.
+                gone other q
+                ∙ ap (λ (w : Waiting). if (conn == other) && (place == q) then no_part else w) (keeps.waits other q (say_within conn (request_for kind) s.world other there));
           })
 
 -- ---- a datapath
@@ -105,10 +109,10 @@ module _ (w : Watcher) (place : ℕ) (dp : DpId) (k : Known) (s : Said) (keeps :
     pub is_there : is_open s.world.conns c.number ≡ true
     is_there = found_open (is_of dp) s.world.conns c (its (Some c) of)
 
-    goes_on : (b : Bool) → is_due w place c.number s ≡ b → (if b then poll_conn place c.number s else s) ≡ poll_dp w place dp s
-    goes_on b is = ap (λ (d : Bool). if d then poll_conn place c.number s else s) (sym is) ∙ leads_on (Some c) of
+    goes_on : (b : Bool) → is_due w place c.number s ≡ b → (if b then poll_conn w.kind place c.number s else s) ≡ poll_dp w place dp s
+    goes_on b is = ap (λ (d : Bool). if d then poll_conn w.kind place c.number s else s) (sym is) ∙ leads_on (Some c) of
 
-    pub polled_dp : is_due w place c.number s ≡ true → (after : Known) → Keeps after (poll_conn place c.number s) → Keeps after (poll_dp w place dp s)
+    pub polled_dp : is_due w place c.number s ≡ true → (after : Known) → Keeps after (poll_conn w.kind place c.number s) → Keeps after (poll_dp w place dp s)
     polled_dp due after kept = subst (Keeps after) (goes_on true due) kept
 
     pub passed_dp : is_due w place c.number s ≡ false → Keeps k (poll_dp w place dp s)

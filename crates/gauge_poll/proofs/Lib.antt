@@ -2,9 +2,11 @@ pub mod Opens
 pub mod Keeping
 pub mod Columns
 pub mod Monitors
+pub mod Gathering
 pub mod Intervals
 pub mod Rounds
 pub mod Asked
 pub mod DueComes
 pub mod GivenLines
+pub mod FewItems
 pub mod Turned

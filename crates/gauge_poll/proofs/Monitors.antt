@@ -1,5 +1,5 @@
 -- What a monitor keeps goes on standing for what happened: messages, frames, turns.
-use Rattle.std.proofs.Common.{◌≡◌, ℕ, suc, ◌+◌, ◌-◌, ◌<◌, ◌≤◌, ◌==◌, ◌&&◌, ◌++◌, not, Bool, true, false, cond, is_some, Option, Some, None, option_and_then, List, [], ◌∷◌, inl, inr, refl, sym, ap, subst, ◌∙◌, arith, true≢false, eq-eqb, if◌then◌else◌}
+use Rattle.std.proofs.Common.{◌≡◌, ℕ, suc, ◌+◌, ◌-◌, ◌<◌, ◌≤◌, ◌==◌, ◌&&◌, not, Bool, true, false, cond, is_some, Option, Some, None, option_and_then, List, [], ◌∷◌, inl, inr, refl, sym, ap, subst, ◌∙◌, arith, true≢false, eq-eqb, if◌then◌else◌}
 use Rattle.std.specs.List.{fold}
 use Rattle.std.specs.Option.{option_map_or}
 use Rattle.std.proofs.lemmas.Bool.{cases_Bool, eqb-true}
@@ -18,12 +18,13 @@ use Rattle.ctl_life.proofs.Openings.{fresh, open_is, put_open, with_fresh}
 use Rattle.gauge_poll.specs.declared.known.Kept.{Kept}
 use Rattle.gauge_poll.specs.declared.known.Known.{Known}
 use Rattle.gauge_poll.specs.declared.newest.Newest.{Newest}
+use Rattle.gauge_poll.specs.declared.parts.Parts.{Parts}
 use Rattle.gauge_poll.specs.declared.poll.Poll.{Poll}
-use Rattle.gauge_poll.specs.Lines.{told_lines}
-use Rattle.gauge_poll.specs.Monitoring.{Monitor, dp_on, follow, hear_front, hear_frames, hear_message, hear_next, hear_on, heard, opened, with_world}
-use Rattle.gauge_poll.specs.Newest.{at}
-use Rattle.gauge_poll.specs.Polls.{Said, later, newest, of_others}
+use Rattle.gauge_poll.specs.Monitoring.{Monitor, dp_on, follow, hear_front, hear_frames, hear_message, hear_next, hear_on, heard, opened, told_on, with_world}
+use Rattle.gauge_poll.specs.Newest.{at, waits_of}
+use Rattle.gauge_poll.specs.Polls.{Said, later, newest, no_part, of_others, without_conn}
 use Rattle.gauge_poll.specs.StandsFor.{Keeps, KeepsAll}
+use Rattle.gauge_poll.specs.Telling.{told_by}
 use Rattle.gauge_poll.proofs.Keeping.{kept_by}
 use Rattle.gauge_poll.proofs.Opens.{Within, changed, say_within}
 
@@ -44,35 +45,30 @@ feed_within number piece w n there = changed (with_fed piece w.moment) (fed_numb
 
 -- ---- one message
 
-module _ (msg : Message) (xid number : ℕ) (k : Kept) (m : Monitor) (all : KeepsAll k m) (there : is_open k.known.world.conns number ≡ true) where
-  module _
-      (lines : List (List ℕ))
-      (told : lines ≡ k.lines ++ option_map_or (told_lines 0 k.watchers m.said.polls number m.said.world.moment msg xid) (option_and_then (dp_on m.said.world) (conn_with m.said.world.conns number)) [])
-      (conns : List Conn)
-      (noted : conns ≡ change number (with_heard msg xid) k.known.world.conns)
-      (step : Step)
-      (taken : step ≡ option_map_or (λ (c : Conn). (leads c.session.state msg xid).1) (conn_with k.known.world.conns number) Nothing)
-      (after : Known)
-      (follows : (s : Said) → Keeps (record k.known { world = record k.known.world { conns = conns } }) s → Keeps after (follow k.watchers step msg xid number s)) where
-    pub message_kept : KeepsAll (record { watchers = k.watchers; known = after; lines = lines }) (hear_message msg xid number m)
-    message_kept = by (conn_with m.said.world.conns number) refl
-      where
-        same : (o : Option Conn) → conn_with m.said.world.conns number ≡ o → conn_with k.known.world.conns number ≡ o
-        same o is = ap (λ (w : World). conn_with w.conns number) all.said.world ∙ is
-
-        by : (o : Option Conn) → conn_with m.said.world.conns number ≡ o → KeepsAll (record { watchers = k.watchers; known = after; lines = lines }) (hear_message msg xid number m)
-        by None is = absurd (true≢false (sym there ∙ open_is k.known.world.conns number ∙ ap (λ (o : Option Conn). is_some o) (same None is)))
-        by (Some c) is =
-            let goes : hear_on msg xid number m c ≡ hear_message msg xid number m = ap (λ (o : Option Conn). option_map_or (hear_on msg xid number m) o m) (sym is) in
-            let steps : step ≡ (leads c.session.state msg xid).1 = taken ∙ ap (λ (o : Option Conn). option_map_or (λ (d : Conn). (leads d.session.state msg xid).1) o Nothing) (same (Some c) is) in
-            let before : Keeps (record k.known { world = record k.known.world { conns = conns } }) (heard msg xid number m.said) =
-            kept_by (λ w. record w { conns = change number (with_heard msg xid) w.conns }) (λ w n is_it. changed (with_heard msg xid) (λ d. refl) number w.conns n is_it) k.known m.said
-            (record k.known.world { conns = conns }) (ap (λ cs. record k.known.world { conns = cs }) noted) all.said in
-            subst (KeepsAll (record { watchers = k.watchers; known = after; lines = lines })) goes (record {
-              watchers = all.watchers;
-              said = subst (Keeps after) (λ i. follow (all.watchers i) (steps i) msg xid number (heard msg xid number m.said)) (follows (heard msg xid number m.said) before);
-              lines = told ∙ (λ i. all.lines i ++ option_map_or (told_lines 0 (all.watchers i) m.said.polls number m.said.world.moment msg xid) (option_and_then (dp_on m.said.world) (is i)) []);
-            })
+module _ (msg : Message) (xid number : ℕ) (m : Monitor) (mid : Kept) (there : is_open m.said.world.conns number ≡ true)
+    (told : KeepsAll mid (told_on (told_by msg) xid number (option_and_then (dp_on m.said.world) (conn_with m.said.world.conns number)) m))
+    (conns : List Conn) (noted : conns ≡ change number (with_heard msg xid) mid.known.world.conns) (step : Step)
+    (taken : step ≡ option_map_or (λ (c : Conn). (leads c.session.state msg xid).1) (conn_with mid.known.world.conns number) Nothing) (after : Known)
+    (follows : (s : Said) → Keeps (record mid.known { world = record mid.known.world { conns = conns } }) s → Keeps after (follow mid.watchers step msg xid number s)) where
+  pub message_kept : KeepsAll (record mid { known = after }) (hear_message msg xid number m)
+  message_kept = by (conn_with m.said.world.conns number) refl
+    where
+      by : (o : Option Conn) → conn_with m.said.world.conns number ≡ o → KeepsAll (record mid { known = after }) (hear_message msg xid number m)
+      by None is = absurd (true≢false (sym there ∙ open_is m.said.world.conns number ∙ ap (λ (o : Option Conn). is_some o) is))
+      by (Some c) is =
+          let t : Monitor = told_on (told_by msg) xid number (dp_on m.said.world c) m in
+          let all : KeepsAll mid t = subst (λ (o : Option Conn). KeepsAll mid (told_on (told_by msg) xid number (option_and_then (dp_on m.said.world) o) m)) is told in
+          let goes : hear_on msg xid number m c ≡ hear_message msg xid number m = ap (λ (o : Option Conn). option_map_or (hear_on msg xid number m) o m) (sym is) in
+          let on : conn_with mid.known.world.conns number ≡ Some c = ap (λ (w : World). conn_with w.conns number) all.said.world ∙ is in
+          let steps : step ≡ (leads c.session.state msg xid).1 = taken ∙ ap (λ (o : Option Conn). option_map_or (λ (d : Conn). (leads d.session.state msg xid).1) o Nothing) on in
+          let before : Keeps (record mid.known { world = record mid.known.world { conns = conns } }) (heard msg xid number t.said) =
+          kept_by (λ w. record w { conns = change number (with_heard msg xid) w.conns }) (λ w n is_it. changed (with_heard msg xid) (λ d. refl) number w.conns n is_it) mid.known t.said
+          (record mid.known.world { conns = conns }) (ap (λ cs. record mid.known.world { conns = cs }) noted) all.said in
+          subst (KeepsAll (record mid { known = after })) goes (record {
+            watchers = all.watchers;
+            said = subst (Keeps after) (λ i. follow (all.watchers i) (steps i) msg xid number (heard msg xid number t.said)) (follows (heard msg xid number t.said) before);
+            lines = all.lines;
+          })
 
 -- ---- frames
 
@@ -139,13 +135,14 @@ newest_own conn place (p ∷ ps) =
     ]
 
 module _ (conn : ℕ) (k : Kept) (m : Monitor) (all : KeepsAll k m) (after : World) (is : after ≡ open_conn conn k.known.world) (kept : Newest)
-    (gone : (other place : ℕ) → at kept other place ≡ (if conn == other then None else at k.known.newest other place)) where
+    (gone : (other place : ℕ) → at kept other place ≡ (if conn == other then None else at k.known.newest other place)) (left : Parts)
+    (emptied : (other place : ℕ) → waits_of left other place ≡ without_conn conn (waits_of k.known.parts) other place) where
   was_open : (other : ℕ) → (conn == other) ≡ false → is_open (open_conn conn m.said.world).conns other ≡ true → is_open m.said.world.conns other ≡ true
   was_open other apart there =
       sym (put_open (fresh conn m.said.world) other (λ same. true≢false (sym (eq-eqb conn other (sym same)) ∙ apart)) m.said.world.conns)
       ∙ say_within conn (messages.Hello 4 (Some 16)) (with_fresh conn m.said.world) other there
 
-  pub opened_kept : KeepsAll (record k { known = record { world = after; newest = kept } }) (opened conn m)
+  pub opened_kept : KeepsAll (record k { known = record { world = after; newest = kept; parts = left } }) (opened conn m)
   opened_kept = record {
     watchers = all.watchers;
     said = record {
@@ -164,14 +161,33 @@ module _ (conn : ℕ) (k : Kept) (m : Monitor) (all : KeepsAll k m) (after : Wor
                 ∙ all.said.polls other place (was_open other apart there)
                 ∙ sym (newest_others conn other place apart m.said.polls)
           ];
+      waits = λ other place there.
+          elim (cases_Bool (conn == other)) [
+            | inl own ↦
+                emptied other place
+                ∙ ap (λ b. if b then no_part else waits_of k.known.parts other place) own
+                ∙ sym (ap (λ b. if b then no_part else m.said.waits other place) own)
+            | inr apart ↦
+                emptied other place
+                ∙ ap (λ b. if b then no_part else waits_of k.known.parts other place) apart
+                ∙ all.said.waits other place (was_open other apart there)
+                ∙ sym (ap (λ b. if b then no_part else m.said.waits other place) apart)
+          ];
     };
     lines = all.lines;
   }
 
--- ---- polls are forgotten, but of open connections
+-- ---- polls are forgotten, but of open connections, and what waits of their replies
 
-pub forgot_kept : (k : Known) (s : Said) (kept : Newest) → ((conn place : ℕ) → is_open k.world.conns conn ≡ true → at kept conn place ≡ at k.newest conn place) → Keeps k s → Keeps (record k { newest = kept }) s
-forgot_kept k s kept same keeps = record {
-  world = keeps.world;
-  polls = λ conn place there. same conn place (ap (λ (w : World). is_open w.conns conn) keeps.world ∙ there) ∙ keeps.polls conn place there;
-}
+module _ (k : Known) (s : Said) (kept : Newest) (left : Parts)
+    (same : (conn place : ℕ) → is_open k.world.conns conn ≡ true → at kept conn place ≡ at k.newest conn place)
+    (same_parts : (conn place : ℕ) → is_open k.world.conns conn ≡ true → waits_of left conn place ≡ waits_of k.parts conn place) (keeps : Keeps k s) where
+  is_there : (conn : ℕ) → is_open s.world.conns conn ≡ true → is_open k.world.conns conn ≡ true
+  is_there conn there = ap (λ (w : World). is_open w.conns conn) keeps.world ∙ there
+
+  pub forgot_kept : Keeps (record k { newest = kept; parts = left }) s
+  forgot_kept = record {
+    world = keeps.world;
+    polls = λ conn place there. same conn place (is_there conn there) ∙ keeps.polls conn place there;
+    waits = λ conn place there. same_parts conn place (is_there conn there) ∙ keeps.waits conn place there;
+  }

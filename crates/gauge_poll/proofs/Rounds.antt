@@ -4,10 +4,11 @@ use Rattle.std.specs.Option.{option_map_or}
 use Rattle.net_base.specs.declared.numbers.DpId.{DpId}
 use Rattle.ctl_world.specs.declared.conns.Conn.{Conn}
 use Rattle.ctl_world.specs.Connections.{conn_of}
+use Rattle.gauge_conf.specs.declared.gauge.WatchKind.{WatchKind}
 use Rattle.gauge_conf.specs.declared.gauge.Watcher.{Watcher}
 use Rattle.gauge_poll.specs.Polls.{Said, is_due, is_polling, poll_begun, poll_conn, poll_dp, poll_dps, poll_due, poll_first, poll_for, poll_if_due, polls_dp}
 
-module _ (P : Said → Type 0) (each : (place conn : ℕ) (s : Said) → P s → P (poll_conn place conn s)) where
+module _ (P : Said → Type 0) (each : (kind : WatchKind) (place conn : ℕ) (s : Said) → P s → P (poll_conn kind place conn s)) where
   either : (b : Bool) (s t : Said) → P s → P t → P (if b then s else t)
   either true s t here there = here
   either false s t here there = there
@@ -16,7 +17,7 @@ module _ (P : Said → Type 0) (each : (place conn : ℕ) (s : Said) → P s →
   dp_kept w place dp s kept = by (conn_of s.world.conns dp)
     where
       by : (o : Option Conn) → P (option_map_or (poll_if_due w place s) o s)
-      by (Some c) = either (is_due w place c.number s) (poll_conn place c.number s) s (each place c.number s kept) kept
+      by (Some c) = either (is_due w place c.number s) (poll_conn w.kind place c.number s) s (each w.kind place c.number s kept) kept
       by None = kept
 
   pub dps_kept : (w : Watcher) (place : ℕ) (dps : List DpId) (s : Said) → P s → P (poll_dps w place dps s)

@@ -14,6 +14,7 @@ started g m stands said lines none empty = record {
   said = record {
     world = ap (λ s. record g.kept.known.world { said = s }) none ∙ ap (λ (w : World). record w { said = [] }) stands.said.world;
     polls = stands.said.polls;
+    waits = stands.said.waits;
   };
   lines = empty;
 }

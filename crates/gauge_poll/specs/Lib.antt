@@ -6,3 +6,4 @@ pub mod Monitoring
 pub mod Newest
 pub mod Requests
 pub mod StandsFor
+pub mod Telling

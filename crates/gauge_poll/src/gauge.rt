@@ -5,6 +5,7 @@ ghost use Rattle.gauge_poll.specs.StandsFor.{IsSpent, KeepsAll, StandsFor};
 
 use crate::known::{Kept, Known};
 use crate::newest::Newest;
+use crate::parts::Parts;
 use crate::turns::work_through;
 use ctl_life::{Sayings, make_sayings};
 use ctl_world::{Saids, World};
@@ -13,11 +14,11 @@ use gauge_conf::GaugeConf;
 use net_base::{Names, NoMemory};
 use std::alloc::{AllocError, Global};
 
-/// What a turn gives: what is said on connections, and the lines of what switches told.
+/// What a turn gives: what is said on connections, and the lines and blocks of what switches told.
 #[derive(Debug, Drop)]
 pub struct GaugeTurn {
     pub sayings: Sayings,
-    /// Six columns each, without the line's end.
+    /// Lines, six columns each, and blocks in Prometheus' text format, with the ends of their lines.
     pub lines: Names,
 }
 
@@ -37,18 +38,23 @@ impl Gauge {
         let GaugeConf { watchers, conf } = conf;
         let world = World::new(alloc, conf)?;
         let newest = Newest::new(alloc);
+        let parts = Parts::new(alloc);
         Ok(Gauge {
             alloc,
             kept: Kept {
                 watchers,
-                known: Known { world, newest },
+                known: Known {
+                    world,
+                    newest,
+                    parts,
+                },
                 lines: Names::new(alloc),
             },
             is_spent: false,
         })
     }
 
-    /// Takes in what happens, and gives what is said of it and the lines, each in order. After `NoMemory`
+    /// Takes in what happens, and gives what is said of it, and the lines and blocks, each in order. After `NoMemory`
     /// the Gauge is spent, and answers so from then on.
     pub fn turn(&mut self, what: &Happening) -> Result<GaugeTurn, NoMemory>
         ensures known { IfOk result (λ _. (m : Monitor) → StandsFor self.old m → StandsFor self.new (turn what.now m)) }

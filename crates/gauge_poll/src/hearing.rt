@@ -2,14 +2,16 @@
 
 ghost use Rattle.std.specs.Prelude.{◌≡◌, IfOk, OnOk};
 ghost use Rattle.ctl_world.specs.Frames.{front};
-ghost use Rattle.ctl_life.specs.Life.{has_frame, read, says, unread};
+ghost use Rattle.ctl_life.specs.Life.{has_frame, read, unread};
 ghost use Rattle.gauge_poll.specs.Monitoring.{Monitor, follow, hear_frame, hear_frames, hear_message, hear_next, with_world};
 ghost use Rattle.gauge_poll.specs.Polls.{Said};
 ghost use Rattle.gauge_poll.specs.StandsFor.{Keeps, KeepsAll};
+ghost use Rattle.gauge_poll.specs.Telling.{reads, told_by, understood};
 
 use crate::known::{Kept, Known};
-use crate::lines::tell;
+use crate::report::tell;
 use crate::setup::{introduce, unfit};
+use crate::telling::{Telling, read_telling};
 use ctl_life::{answer_echo, read_message, turn_away};
 use ctl_world::{Front, World};
 use gauge_conf::Watcher;
@@ -42,28 +44,22 @@ fn follow(
     }
 }
 
-/// A connection hears a message: the lines of it are given, and what follows from it is done.
+/// A connection hears a message: what it tells is written, and what follows from it is done.
 fn hear_message(
     alloc: Global,
     kept: &mut Kept,
     message: &Message,
+    told: &Telling,
     xid: u32,
     conn: u32,
 ) -> Result<(), NoMemory>
+    requires { told.now ≡ told_by message.now }
     ensures { OnOk result ((m : Monitor) → KeepsAll kept.old m → KeepsAll kept.new (hear_message message.now xid conn m)) }
 {
     if !kept.known.world.conns.is_open(conn) {
         return Ok(());
     }
-    tell(
-        alloc,
-        &mut kept.lines,
-        kept.watchers.as_slice(),
-        &kept.known,
-        conn,
-        message,
-        xid,
-    )?;
+    tell(alloc, kept, told, xid, conn)?;
     let step = kept.known.world.conns.hear(conn, message, xid)?;
     follow(
         alloc,
@@ -76,12 +72,28 @@ fn hear_message(
     )
 }
 
+/// A connection hears a message; one of which a flow entry is wrong closes it.
+fn hear_whole(
+    alloc: Global,
+    kept: &mut Kept,
+    message: &Message,
+    xid: u32,
+    conn: u32,
+) -> Result<(), NoMemory>
+    ensures { OnOk result ((m : Monitor) → KeepsAll kept.old m → KeepsAll kept.new (hear_frame (understood (message.now, xid)) conn m)) }
+{
+    match read_telling(alloc, message)? {
+        Some(told) => hear_message(alloc, kept, message, &told, xid, conn),
+        None => kept.known.world.close(alloc, Closing::BadFrame, conn),
+    }
+}
+
 /// A connection hears a frame; one that spells no message closes it.
 fn hear_frame(alloc: Global, kept: &mut Kept, frame: &[u8], conn: u32) -> Result<(), NoMemory>
-    ensures { OnOk result ((m : Monitor) → KeepsAll kept.old m → KeepsAll kept.new (hear_frame (says frame.now) conn m)) }
+    ensures { OnOk result ((m : Monitor) → KeepsAll kept.old m → KeepsAll kept.new (hear_frame (reads frame.now) conn m)) }
 {
     match read_message(alloc, frame)? {
-        Some((message, xid)) => hear_message(alloc, kept, &message, xid, conn),
+        Some((message, xid)) => hear_whole(alloc, kept, &message, xid, conn),
         None => kept.known.world.close(alloc, Closing::BadFrame, conn),
     }
 }

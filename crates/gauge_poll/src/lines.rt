@@ -1,24 +1,21 @@
 //! The lines that are given.
 
-ghost use Rattle.std.specs.Prelude.{◌≡◌, ◌++◌, ◌∷◌, [], ◌<◌, ◌&&◌, map, codes, true, None, Some, slice_get, if◌then◌else◌, option_and_then, IfOk, OnOk};
+ghost use Rattle.std.specs.Prelude.{◌≡◌, ◌++◌, ◌∷◌, [], ◌<◌, codes, Some, slice_get, IfOk, OnOk};
 ghost use Rattle.std.specs.Fmt.{decimal};
-ghost use Rattle.std.specs.Option.{option_copied, option_map_or};
-ghost use Rattle.conf_types.specs.Configuration.{port_with};
-ghost use Rattle.switch_session.specs.Told.{is_port_no};
-ghost use Rattle.ctl_world.specs.Connections.{conn_with, is_open};
-ghost use Rattle.gauge_poll.specs.Lines.{columns, counted_lines, counter_names, lines_for, lines_in, port_name, state_lines, state_of, stats_lines, tells_states, told_lines};
-ghost use Rattle.gauge_poll.specs.Monitoring.{dp_on};
-ghost use Rattle.gauge_poll.specs.Polls.{Said as Seen};
-ghost use Rattle.gauge_poll.specs.StandsFor.{Keeps};
+ghost use Rattle.std.specs.List.{flat_map};
+ghost use Rattle.prom_text.specs.Blocks.{counter_names, port_name};
+ghost use Rattle.gauge_poll.specs.Lines.{columns, counted_lines, flow_lines, flows_lines, line_to, lines_for, state_lines, state_of, stats_lines, tells_states};
 
-use crate::known::Known;
 use crate::polling::{is_polling, watches};
-use conf_types::{Dp, Port};
-use ctl_world::World;
-use gauge_conf::Watcher;
+use crate::report::Report;
+use crate::telling::Telling;
+use conf_types::Dp;
+use flow_stats::Flow;
+use gauge_conf::{Db, Watcher};
 use itoa::Buffer;
-use net_base::{Moment, Names, NoMemory, PortNo, Text, TryCopy};
-use of13_codec::{Message, PortDesc, PortStats};
+use net_base::{Moment, Names, NoMemory, Text, TryCopy};
+use of13_codec::{PortDesc, PortStats};
+use prom_text::{flow_name, port_name};
 use std::alloc::Global;
 use switch_session::is_up;
 
@@ -49,35 +46,15 @@ fn counter_name(at: usize) -> &'static str
     }
 }
 
-/// The configured interface with this number.
-fn port_of(dp: &Dp, number: u32) -> Option<&Port>
-    ensures { option_copied result ≡ (if is_port_no number then port_with dp.now.ports number else None) }
+/// The columns of the moment, the datapath, and the port or the flow entry.
+fn make_front(alloc: Global, moment: Moment, dp: &Dp, source: &Text) -> Result<Text, NoMemory>
+    ensures { IfOk result (λ made. made ≡ columns (decimal moment.0 ∷ dp.now.name ∷ source.now ∷ [])) }
 {
-    match PortNo::new(number) {
-        Some(no) => dp.port(no),
-        None => None,
-    }
-}
-
-fn port_name(alloc: Global, dp: &Dp, number: u32) -> Result<Text, NoMemory>
-    ensures { IfOk result (λ name. name ≡ port_name dp.now number) }
-{
-    match port_of(dp, number) {
-        Some(port) => port.name.copy(alloc),
-        None => Text::from_str(alloc, Buffer::new().format(number)),
-    }
-}
-
-/// The columns of the moment, the datapath and the port.
-fn make_front(alloc: Global, moment: Moment, dp: &Dp, number: u32) -> Result<Text, NoMemory>
-    ensures { IfOk result (λ made. made ≡ columns (decimal moment.0 ∷ dp.now.name ∷ port_name dp.now number ∷ [])) }
-{
-    let port = port_name(alloc, dp, number)?;
     let mut text = Text::from_str(alloc, Buffer::new().format(moment.0))?;
     text.append("\t")?;
     text.append(dp.name.as_str())?;
     text.append("\t")?;
-    text.append(port.as_str())?;
+    text.append(source.as_str())?;
     Ok(text)
 }
 
@@ -88,7 +65,7 @@ fn make_line(
     counter: &str,
     value: u64,
 ) -> Result<Text, NoMemory>
-    ensures { IfOk result (λ made. made ≡ columns (file.now ∷ front.now ∷ counter.now ∷ decimal value ∷ [])) }
+    ensures { IfOk result (λ made. made ≡ columns (file.now ∷ front.now ∷ counter.now ∷ decimal value ∷ []) ++ 10 ∷ []) }
 {
     let mut text = file.copy(alloc)?;
     text.append("\t")?;
@@ -97,10 +74,28 @@ fn make_line(
     text.append(counter)?;
     text.append("\t")?;
     text.append(Buffer::new().format(value))?;
+    text.append("\n")?;
     Ok(text)
 }
 
-/// Adds a line for each file of a watcher.
+/// Adds a line, where this is a text db.
+fn put_line(
+    alloc: Global,
+    lines: &mut Names,
+    db: &Db,
+    front: &Text,
+    counter: &str,
+    value: u64,
+) -> Result<(), NoMemory>
+    ensures { OnOk result (lines.new ≡ lines.old ++ line_to (front.now ∷ counter.now ∷ decimal value ∷ []) db.now) }
+{
+    match db {
+        Db::Text(file) => lines.push(make_line(alloc, file, front, counter, value)?),
+        Db::Prometheus => Ok(()),
+    }
+}
+
+/// Adds a line for each text db of a watcher.
 fn put_lines(
     alloc: Global,
     lines: &mut Names,
@@ -109,10 +104,10 @@ fn put_lines(
     counter: &str,
     value: u64,
 ) -> Result<(), NoMemory>
-    ensures { OnOk result (lines.new ≡ lines.old ++ map (λ file. columns (file ∷ front.now ∷ counter.now ∷ decimal value ∷ [])) watcher.now.files) }
+    ensures { OnOk result (lines.new ≡ lines.old ++ flat_map (line_to (front.now ∷ counter.now ∷ decimal value ∷ [])) watcher.now.dbs) }
 {
-    for file in watcher.files.as_slice() {
-        lines.push(make_line(alloc, file, front, counter, value)?)?;
+    for db in watcher.dbs.as_slice() {
+        put_line(alloc, lines, db, front, counter, value)?;
     }
     Ok(())
 }
@@ -126,9 +121,10 @@ fn put_counted_lines(
     dp: &Dp,
     port: &PortStats,
 ) -> Result<(), NoMemory>
-    ensures { OnOk result (lines.new ≡ lines.old ++ counted_lines watcher.now moment dp.now port.now.no counter_names port.now.counters) }
+    ensures { OnOk result (lines.new ≡ lines.old ++ counted_lines watcher.now moment dp.now (port_name dp.now port.now.no) counter_names port.now.counters) }
 {
-    let front = make_front(alloc, moment, dp, port.no)?;
+    let source = port_name(alloc, dp, port.no)?;
+    let front = make_front(alloc, moment, dp, &source)?;
     for at in 0..COUNTERS {
         let value = port.counters[at];
         put_lines(alloc, lines, watcher, &front, counter_name(at), value)?;
@@ -153,7 +149,41 @@ fn put_stats_lines(
     Ok(())
 }
 
-fn state_of(reason: u8, port: &PortDesc) -> u64
+/// Adds the lines of a flow entry: how many packets it took, and how many bytes.
+fn put_flow_lines(
+    alloc: Global,
+    lines: &mut Names,
+    watcher: &Watcher,
+    moment: Moment,
+    dp: &Dp,
+    flow: &Flow,
+) -> Result<(), NoMemory>
+    ensures { OnOk result (lines.new ≡ lines.old ++ flow_lines watcher.now moment dp.now flow.now) }
+{
+    let source = flow_name(alloc, flow)?;
+    let front = make_front(alloc, moment, dp, &source)?;
+    put_lines(alloc, lines, watcher, &front, "packets", flow.packets)?;
+    put_lines(alloc, lines, watcher, &front, "bytes", flow.bytes)
+}
+
+/// Adds the lines of all flow entries.
+fn put_flows_lines(
+    alloc: Global,
+    lines: &mut Names,
+    watcher: &Watcher,
+    moment: Moment,
+    dp: &Dp,
+    flows: &[Flow],
+) -> Result<(), NoMemory>
+    ensures { OnOk result (lines.new ≡ lines.old ++ flows_lines watcher.now moment dp.now flows.now) }
+{
+    for flow in flows {
+        put_flow_lines(alloc, lines, watcher, moment, dp, flow)?;
+    }
+    Ok(())
+}
+
+pub(crate) fn state_of(reason: u8, port: &PortDesc) -> u64
     ensures { result ≡ state_of reason port.now }
 {
     if reason != DELETED && is_up(port) {
@@ -163,7 +193,7 @@ fn state_of(reason: u8, port: &PortDesc) -> u64
     }
 }
 
-fn tells_states(dp: &Dp, watcher: &Watcher) -> bool
+pub(crate) fn tells_states(dp: &Dp, watcher: &Watcher) -> bool
     ensures { result ≡ tells_states dp.now watcher.now }
 {
     !is_polling(watcher.kind) && watches(watcher, dp.id)
@@ -184,67 +214,39 @@ fn put_state_lines(
     if !tells_states(dp, watcher) {
         return Ok(());
     }
-    let front = make_front(alloc, moment, dp, port.no)?;
+    let source = port_name(alloc, dp, port.no)?;
+    let front = make_front(alloc, moment, dp, &source)?;
     let state = state_of(reason, port);
     put_lines(alloc, lines, watcher, &front, "state", state)
 }
 
-/// Adds the lines of a watcher, to whose newest poll the message is a reply, or not.
-fn put_lines_for(
+/// Adds the lines of a watcher, to whose newest poll what is told is a reply, or not.
+pub(crate) fn put_lines_for(
     alloc: Global,
     lines: &mut Names,
     watcher: &Watcher,
     counted: bool,
-    message: &Message,
-    moment: Moment,
-    dp: &Dp,
+    report: &Report,
 ) -> Result<(), NoMemory>
-    ensures { OnOk result (lines.new ≡ lines.old ++ lines_for watcher.now counted moment message.now dp.now) }
+    ensures { OnOk result (lines.new ≡ lines.old ++ lines_for watcher.now counted report.now.moment report.now.told.now report.now.dp.now) }
 {
-    match message {
-        Message::PortStatsReply { ports, .. } => {
+    let (moment, dp) = (report.moment, report.dp);
+    match report.told {
+        Telling::Ports { stats, .. } => {
             if !counted {
                 return Ok(());
             }
-            put_stats_lines(alloc, lines, watcher, moment, dp, ports.as_slice())
+            put_stats_lines(alloc, lines, watcher, moment, dp, stats.as_slice())
         }
-        Message::PortStatus { reason, port } => {
+        Telling::Flows(part) => {
+            if !counted {
+                return Ok(());
+            }
+            put_flows_lines(alloc, lines, watcher, moment, dp, part.flows.as_slice())
+        }
+        Telling::State { reason, port } => {
             put_state_lines(alloc, lines, watcher, moment, dp, *reason, port)
         }
-        _ => Ok(()),
+        Telling::Nothing => Ok(()),
     }
-}
-
-/// The datapath of a connection, once it runs.
-fn dp_on(world: &World, conn: u32) -> Option<&Dp>
-    ensures { option_copied result ≡ option_and_then (dp_on world.now) (conn_with world.now.conns conn) }
-{
-    let found = world.conns.get(conn)?;
-    let dp = found.dp?;
-    world.conf.dp(dp)
-}
-
-/// Adds the lines of a message that comes on a connection, watcher by watcher.
-pub(crate) fn tell(
-    alloc: Global,
-    lines: &mut Names,
-    watchers: &[Watcher],
-    known: &Known,
-    conn: u32,
-    message: &Message,
-    xid: u32,
-) -> Result<(), NoMemory>
-    ensures { OnOk result ((s : Seen) → Keeps known.now s → is_open s.world.conns conn ≡ true
-        → lines.new ≡ lines.old ++ option_map_or (told_lines 0 watchers.now s.polls conn s.world.moment message.now xid) (option_and_then (dp_on s.world) (conn_with s.world.conns conn)) []) }
-{
-    let dp = match dp_on(&known.world, conn) {
-        Some(dp) => dp,
-        None => return Ok(()),
-    };
-    let moment = known.world.moment;
-    for (place, watcher) in watchers.iter().enumerate() {
-        let counted = known.newest.is_of(conn, place, xid);
-        put_lines_for(alloc, lines, watcher, counted, message, moment, dp)?;
-    }
-    Ok(())
 }

@@ -1,9 +1,11 @@
-ghost use Rattle.std.specs.Prelude.{◌≡◌, ◌==◌, ℕ, None, false, if◌then◌else◌, OnOk};
+ghost use Rattle.std.specs.Prelude.{◌≡◌, ◌==◌, ◌&&◌, ℕ, None, false, if◌then◌else◌, OnOk};
 ghost use Rattle.std.specs.Option.{option_map_or};
 ghost use Rattle.gauge_poll.specs.Newest.{at};
 ghost use Rattle.gauge_poll.specs.Polls.{later};
+ghost use Rattle.gauge_poll.specs.Telling.{answers};
 
 use crate::poll::Poll;
+use crate::telling::{Telling, answers};
 use net_base::NoMemory;
 use std::alloc::Global;
 use std::collections::BTreeMap;
@@ -35,12 +37,13 @@ impl Newest {
         polls.get(&place).copied()
     }
 
-    /// Whether the newest poll on a connection for the watcher at a place has this transaction id.
-    pub(crate) fn is_of(&self, conn: u32, place: usize, xid: u32) -> bool
-        ensures { result ≡ option_map_or (λ p. p.xid == xid) (at self.now conn place) false }
+    /// Whether the newest poll on a connection for the watcher at a place has this transaction id, and asked
+    /// for what is told.
+    pub(crate) fn is_of(&self, conn: u32, place: usize, told: &Telling, xid: u32) -> bool
+        ensures { result ≡ option_map_or (λ p. p.xid == xid && answers p.kind told.now) (at self.now conn place) false }
     {
         match self.get(conn, place) {
-            Some(poll) => poll.xid == xid,
+            Some(poll) => poll.xid == xid && answers(poll.kind, told),
             None => false,
         }
     }

@@ -1,13 +1,14 @@
 //! Polls of counters, and when they are due.
 
-ghost use Rattle.std.specs.Prelude.{◌≡◌, ◌+◌, ◌*◌, nat_le, true, OnOk};
+ghost use Rattle.std.specs.Prelude.{◌≡◌, ◌+◌, ◌*◌, nat_le, true, IfOk, OnOk};
 ghost use Rattle.ctl_world.specs.Connections.{is_open};
-ghost use Rattle.gauge_poll.specs.Polls.{Said as Seen, is_due, is_polling, poll_begun, poll_conn, poll_dp, poll_dps, poll_due, poll_first, poll_for, polls_dp, watches};
+ghost use Rattle.gauge_poll.specs.Polls.{Said as Seen, is_due, is_polling, poll_begun, poll_conn, poll_dp, poll_dps, poll_due, poll_first, poll_for, polls_dp, request_for, watches};
 ghost use Rattle.gauge_poll.specs.StandsFor.{Keeps};
 
 use crate::known::Known;
 use crate::poll::Poll;
 use ctl_world::Said;
+use flow_stats::flow_request;
 use gauge_conf::{WatchKind, Watcher};
 use net_base::{DpId, Moment, NoMemory};
 use of13_codec::Message;
@@ -30,7 +31,17 @@ pub(crate) fn is_polling(kind: WatchKind) -> bool
 {
     match kind {
         WatchKind::PortState => false,
-        WatchKind::PortStats => true,
+        WatchKind::PortStats | WatchKind::FlowTable => true,
+    }
+}
+
+/// The request for what a watcher of this kind counts.
+fn request_for(alloc: Global, kind: WatchKind) -> Result<Message, NoMemory>
+    ensures { IfOk result (λ request. request ≡ request_for kind) }
+{
+    match kind {
+        WatchKind::FlowTable => flow_request(alloc),
+        WatchKind::PortState | WatchKind::PortStats => Ok(Message::PortStatsRequest { port: ANY }),
     }
 }
 
@@ -53,24 +64,33 @@ fn is_due(known: &Known, watcher: &Watcher, place: usize, conn: u32) -> bool
     }
 }
 
-/// The counters of all ports are asked for on a connection, for the watcher at this place.
-fn poll_conn(alloc: Global, known: &mut Known, place: usize, conn: u32) -> Result<(), NoMemory>
-    ensures { OnOk result ((s : Seen) → Keeps known.old s → Keeps known.new (poll_conn place conn s)) }
+/// What a watcher of this kind counts is asked for on a connection, for the one at this place.
+fn poll_conn(
+    alloc: Global,
+    known: &mut Known,
+    kind: WatchKind,
+    place: usize,
+    conn: u32,
+) -> Result<(), NoMemory>
+    ensures { OnOk result ((s : Seen) → Keeps known.old s → Keeps known.new (poll_conn kind place conn s)) }
 {
+    let message = request_for(alloc, kind)?;
     let xid = match known.world.conns.next_xid(conn) {
         Some(xid) => xid,
         None => return Ok(()),
     };
-    let message = Message::PortStatsRequest { port: ANY };
     let said = Said::Message { conn, message, xid };
     known.world.said.push(said)?;
     let poll = Poll {
         conn,
         watcher: place,
+        kind,
         moment: known.world.moment,
         xid,
     };
-    known.newest.note(alloc, poll)
+    known.newest.note(alloc, poll)?;
+    known.parts.take(alloc, conn, place)?;
+    Ok(())
 }
 
 /// A datapath is polled on its connection, where it has one and that is due.
@@ -88,7 +108,7 @@ fn poll_dp(
         None => return Ok(()),
     };
     if is_due(known, watcher, place, conn) {
-        return poll_conn(alloc, known, place, conn);
+        return poll_conn(alloc, known, watcher.kind, place, conn);
     }
     Ok(())
 }

@@ -5,12 +5,13 @@ ghost use Rattle.fg_outside.specs.declared.hub.Happening.TheVariants.{Opened, He
 ghost use Rattle.ctl_world.specs.Connections.{is_open};
 ghost use Rattle.ctl_life.specs.Life.{feed};
 ghost use Rattle.gauge_poll.specs.Monitoring.{Monitor, work};
-ghost use Rattle.gauge_poll.specs.Newest.{at};
+ghost use Rattle.gauge_poll.specs.Newest.{at, waits_of};
 ghost use Rattle.gauge_poll.specs.StandsFor.{KeepsAll};
 
 use crate::hearing::hear_frames;
 use crate::known::Kept;
 use crate::newest::Newest;
+use crate::parts::Parts;
 use crate::polling::poll_due;
 use ctl_life::{closing_for, look_after, open};
 use ctl_world::{Conns, Said, World};
@@ -26,23 +27,26 @@ fn feed(world: &mut World, conn: u32, piece: &[u8]) -> Result<(), NoMemory>
     world.conns.feed(conn, piece, moment)
 }
 
-/// Forgets the polls on connections that were closed.
-fn forget_closed(newest: &mut Newest, conns: &Conns, said: &[Said])
-    ensures { (conn place : ℕ) → is_open conns.now conn ≡ true → at newest.new conn place ≡ at newest.old conn place }
+/// Forgets the polls on connections that were closed, and what waits of their replies.
+fn forget_closed(newest: &mut Newest, parts: &mut Parts, conns: &Conns, said: &[Said])
+    ensures polls { (conn place : ℕ) → is_open conns.now conn ≡ true → at newest.new conn place ≡ at newest.old conn place }
+    ensures waits { (conn place : ℕ) → is_open conns.now conn ≡ true → waits_of parts.new conn place ≡ waits_of parts.old conn place }
 {
     for one in said {
         if let Said::Closing { conn, .. } = one {
-            forget_shut(newest, conns, *conn);
+            forget_shut(newest, parts, conns, *conn);
         }
     }
 }
 
-/// Forgets the polls on a connection, unless it is open.
-fn forget_shut(newest: &mut Newest, conns: &Conns, conn: u32)
-    ensures { (other place : ℕ) → is_open conns.now other ≡ true → at newest.new other place ≡ at newest.old other place }
+/// Forgets the polls on a connection, and what waits of their replies, unless it is open.
+fn forget_shut(newest: &mut Newest, parts: &mut Parts, conns: &Conns, conn: u32)
+    ensures polls { (other place : ℕ) → is_open conns.now other ≡ true → at newest.new other place ≡ at newest.old other place }
+    ensures waits { (other place : ℕ) → is_open conns.now other ≡ true → waits_of parts.new other place ≡ waits_of parts.old other place }
 {
     if !conns.is_open(conn) {
         newest.forget(conn);
+        parts.forget(conn);
     }
 }
 
@@ -67,6 +71,7 @@ pub(crate) fn work_through(alloc: Global, kept: &mut Kept, what: &Happening) -> 
     let known = &mut kept.known;
     forget_closed(
         &mut known.newest,
+        &mut known.parts,
         &known.world.conns,
         known.world.said.as_slice(),
     );
@@ -80,6 +85,7 @@ fn opened(alloc: Global, kept: &mut Kept, conn: u32) -> Result<(), NoMemory>
         return Ok(());
     }
     kept.known.newest.forget(conn);
+    kept.known.parts.forget(conn);
     open(alloc, &mut kept.known.world, conn)
 }
 
@@ -101,7 +107,13 @@ fn closed(alloc: Global, kept: &mut Kept, conn: u32, cause: EndCause) -> Result<
         return Ok(());
     }
     kept.known.world.end(alloc, closing_for(cause), conn)?;
-    forget_shut(&mut kept.known.newest, &kept.known.world.conns, conn);
+    let known = &mut kept.known;
+    forget_shut(
+        &mut known.newest,
+        &mut known.parts,
+        &known.world.conns,
+        conn,
+    );
     Ok(())
 }
 

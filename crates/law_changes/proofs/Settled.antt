@@ -8,35 +8,19 @@ use Rattle.of13_codec.specs.declared.message.Message.TheVariants as messages
 use Rattle.plan_difference.specs.Difference.{difference}
 use Rattle.flow_messages.specs.Messages.{command_message}
 use Rattle.neighbour_resolve.specs.declared.neighbour.Due.{Due}
-use Rattle.neighbour_resolve.specs.declared.neighbour.Due.TheVariants.{Ask, Gone}
-use Rattle.neighbour_resolve.specs.Asks.{AskOn, asks, in_order}
+use Rattle.neighbour_resolve.specs.Asks.{asks, in_order}
 use Rattle.neighbour_resolve.specs.Due.{due_said}
-use Rattle.ctl_world.specs.declared.conns.Conn.{Conn}
 use Rattle.ctl_world.specs.Connections.{conn_of, with_sent}
-use Rattle.ctl_world.specs.Saying.{ask, packet_out, say}
+use Rattle.ctl_world.specs.Saying.{ask, say}
 use Rattle.ctl_world.specs.World.{World, running}
-use Rattle.ctl_settle.specs.Settling.{ask_all, ask_due, ask_each, ask_on, batch, batch_on, batches, note_sent, say_batch, say_due, say_each, settle, take_due, wanted}
+use Rattle.ctl_settle.specs.Settling.{ask_all, ask_due, batch, batch_on, batches, note_sent, say_batch, say_due, say_each, settle, take_due, wanted}
 use Rattle.law_names.specs.Names.{Names}
 use Rattle.law_names.specs.Dues.{due}
+use Rattle.ctl_settle.proofs.AskedNames.{ask_named}
 use Rattle.law_changes.specs.Settlings.{by_due, by_settling}
-use Rattle.law_names.proofs.Neighbours.{due_named}
-use Rattle.law_names.proofs.Stepped.{ask_quiet, join, kept_quiet, neighbours_named, nothing, of_either, quiet_option, say_quiet, then_quiet}
+use Rattle.law_names.proofs.Stepped.{ask_quiet, join, kept_quiet, nothing, of_either, quiet_option, say_quiet, then_quiet}
 
 -- ---- asks
-
-ask_on_quiet : (a : AskOn) (w : World) → Names w (ask_on a w) []
-ask_on_quiet a w = quiet_option w (λ (c : Conn). say c.number (packet_out a.out) w) (conn_of w.conns a.dp) (λ c. say_quiet c.number (packet_out a.out) w)
-
-ask_each_quiet : (more : List AskOn) (w : World) → Names w (ask_each more w) []
-ask_each_quiet [] w = nothing w
-ask_each_quiet (a ∷ more) w = join w (ask_on a w) (ask_each more (ask_on a w)) [] [] (ask_on_quiet a w) (ask_each_quiet more (ask_on a w))
-
-say_due_quiet : (d : Due) (w : World) → Names w (say_due d w) []
-say_due_quiet (Ask group vid ip) w = ask_each_quiet (asks w.conf (running w) group vid ip) w
-say_due_quiet (Gone group vid ip) w = nothing w
-
-take_named : (d : Due) (w : World) → due_said w.conf w.moment.0 w.neighbours.neighbours ≡ Some d → Names w (take_due w) (due d ∷ [])
-take_named d w is = neighbours_named w (take_due w).neighbours (due d ∷ []) (λ group vid ip other. due_named group vid ip w.conf w.moment.0 w.neighbours.neighbours d is other)
 
 asked_named : (most : ℕ) (w : World) → Names w (ask_due most w) (by_due most w)
 asked_named zero w = nothing w
@@ -47,7 +31,7 @@ asked_named (suc most) w = by (due_said w.conf w.moment.0 w.neighbours.neighbour
     by None is more = nothing w
     by (Some d) is more =
         let said : World = say_due d (take_due w) in
-        join w said (ask_due most said) (due d ∷ []) (by_due most said) (then_quiet w (take_due w) said (due d ∷ []) (take_named d w is) (say_due_quiet d (take_due w))) (more said)
+        join w said (ask_due most said) (due d ∷ []) (by_due most said) (ask_named d w is) (more said)
 
 -- ---- batches
 

@@ -33,7 +33,7 @@ use Rattle.law_hosts.proofs.Among.{IsAnew, learned_anew, moved_anew, refreshed_a
 use Rattle.law_hosts.proofs.Apart.{AreApart}
 use Rattle.law_hosts.proofs.Frames.{all_stand, bad_keeps, message_keeps}
 use Rattle.law_lines.proofs.Behind.{Behind, packet_led, step_led}
-use Rattle.law_hosts.proofs.PacketHosts.{hosts_told, packet_hosts}
+use Rattle.ctl_packets.proofs.PacketHosts.{hosts_told, packet_hosts}
 use Rattle.law_hosts.proofs.Standing.{Keeps, speaks}
 
 -- ---- a settling leaves the hosts, and who stands

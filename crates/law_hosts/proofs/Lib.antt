@@ -4,7 +4,6 @@ pub mod Frames
 pub mod Heard
 pub mod Kept
 pub mod Less
-pub mod PacketHosts
 pub mod Reloaded
 pub mod SameAt
 pub mod Standing

@@ -24,7 +24,7 @@ use Rattle.law_hosts.specs.Hosts.{KeepsTheStanding, KnowsByWhat, is_young, stand
 use Rattle.law_hosts.proofs.Apart.{AreApart}
 use Rattle.law_hosts.proofs.Frames.{all_stand}
 use Rattle.law_hosts.proofs.Heard.{same_standing, settle_hosts, settle_keeps}
-use Rattle.law_hosts.proofs.PacketHosts.{say_hosts}
+use Rattle.ctl_packets.proofs.PacketHosts.{say_hosts}
 use Rattle.law_hosts.proofs.Standing.{Keeps, close_keeps, ended_keeps, speaks, stands_same}
 
 filter_both : (p q : HostRec → Bool) (xs : List HostRec) → filter q (filter p xs) ≡ filter (λ x. p x && q x) xs

@@ -1,26 +1,20 @@
 -- Which hosts are known, step by step.
-use Rattle.std.specs.Prelude.{◌≡◌, ◌⊎◌, ◌↔◌, ℕ, ◌==◌, ◌&&◌, not, Bool, false, if◌then◌else◌, List, [], ◌∷◌, filter, Option, Some, None}
+pub use Rattle.ctl_packets.specs.Told.{told_at, told_by, told_in}
+use Rattle.std.specs.Prelude.{◌≡◌, ◌⊎◌, ◌↔◌, ℕ, ◌&&◌, not, Bool, false, if◌then◌else◌, List, [], ◌∷◌, filter, Option, Some, None}
 use Rattle.std.specs.Option.{option_and_then}
-use Rattle.net_base.specs.declared.numbers.DpId.{DpId}
 use Rattle.fg_outside.specs.declared.hub.Happening.{Happening}
 use Rattle.fg_outside.specs.declared.hub.Happening.TheVariants as happenings
 use Rattle.conf_types.specs.declared.state.HostRec.{HostRec}
-use Rattle.conf_types.specs.Links.{is_up}
-use Rattle.conf_types.specs.State.{is_running, is_to_forget}
+use Rattle.conf_types.specs.State.{is_to_forget}
 use Rattle.host_learn.specs.Learning.{is_heard, outcome}
-use Rattle.of_match.specs.InPort.{in_port}
 use Rattle.of13_codec.specs.declared.message.Message.{Message}
 use Rattle.of13_codec.specs.declared.message.Message.TheVariants as messages
 use Rattle.of13_codec.specs.declared.packet_in.PacketIn.{PacketIn}
-use Rattle.flow_messages.specs.declared.messages.TheConstants.{COOKIE}
-use Rattle.pkt_view.specs.Frame.{FrameParts, parts}
-use Rattle.neighbour_resolve.specs.Counted.{counted_vid}
 use Rattle.ctl_world.specs.declared.conns.Conn.{Conn}
 use Rattle.ctl_world.specs.Connections.{conn_with}
 use Rattle.ctl_world.specs.Ends.{stands}
 use Rattle.ctl_world.specs.World.{World, running, runs, ups}
 use Rattle.ctl_packets.specs.Changes.{is_change}
-use Rattle.ctl_packets.specs.Packets.{sources}
 use Rattle.law_lines.specs.Steps.{Heard, Turn, behind_heard, behind_turn}
 
 -- ---- sets of hosts
@@ -36,21 +30,7 @@ IsKnown w h = IsAmong h w.hosts.hosts
 abbrev pub stands_in : World → HostRec → Bool
 stands_in w h = stands (running w) (ups w) h
 
--- ---- the host that a PACKET_IN tells of
-
--- by a port that is up, with one tag, of a VLAN that the port is an edge member of: the source, at this moment
-abbrev pub told_at : DpId → World → (port : ℕ) → FrameParts → Option HostRec
-told_at dp w port frame =
-    option_and_then (λ vid. if is_up (ups w) dp port then Some (record { dp = dp; port = port; vid = vid; mac = frame.src; learned = w.moment }) else None)
-    (counted_vid w.conf dp port frame)
-
-abbrev pub told_by : PacketIn → DpId → World → (port : ℕ) → Option HostRec
-told_by m dp w port = option_and_then (told_at dp w port) (parts m.payload)
-
--- of a datapath that runs, from the table of sources, with the cookie of this controller
-abbrev pub told_in : PacketIn → DpId → World → Option HostRec
-told_in m dp w =
-    if m.cookie == COOKIE && is_running (running w) dp && m.table == sources then option_and_then (told_by m dp w) (in_port m.fields) else None
+-- ---- the host that a message tells of
 
 -- on a connection whose tables are wiped
 abbrev pub told_on : Message → World → Conn → Option HostRec

@@ -9,3 +9,4 @@ pub mod Neighbours
 pub mod Packets
 pub mod Places
 pub mod Stepped
+pub mod Strangers

@@ -1,6 +1,6 @@
 //! The laws of single steps. A function's contract is the law, and its body does nothing.
 
-ghost use Rattle.std.specs.Prelude.{ℕ, [], ◌∷◌, List};
+ghost use Rattle.std.specs.Prelude.{◌≡◌, ℕ, [], ◌∷◌, List};
 ghost use Rattle.net_base.specs.declared.address.Ip4.{Ip4};
 ghost use Rattle.net_base.specs.declared.address.Mac.{Mac};
 ghost use Rattle.net_base.specs.declared.numbers.DpId.{DpId};
@@ -9,13 +9,14 @@ ghost use Rattle.conf_types.specs.Valid.{IsValid};
 ghost use Rattle.of13_codec.specs.declared.message.Message.{Message};
 ghost use Rattle.of13_codec.specs.declared.packet_in.PacketIn.{PacketIn};
 ghost use Rattle.switch_session.specs.declared.closing.Closing.{Closing};
-ghost use Rattle.ctl_world.specs.Ends.{close, ended};
+ghost use Rattle.ctl_world.specs.Connections.{change, with_heard};
+ghost use Rattle.ctl_world.specs.Ends.{close, ended, forget_lost};
 ghost use Rattle.ctl_world.specs.Saying.{ask, say};
-ghost use Rattle.ctl_world.specs.World.{World};
+ghost use Rattle.ctl_world.specs.World.{IsSound, World};
 ghost use Rattle.ctl_life.specs.Life.{feed, open_conn, replace, take_dp};
 ghost use Rattle.ctl_packets.specs.Packets.{learn, packet_in, want};
 ghost use Rattle.conf_types.specs.declared.change.Change.TheVariants.{Host};
-ghost use Rattle.law_names.specs.Ends.{by_end, by_replace, by_take};
+ghost use Rattle.law_names.specs.Ends.{by_end, by_replace, by_take, dps_on};
 ghost use Rattle.law_names.specs.Names.{Names};
 ghost use Rattle.law_names.specs.Packets.{by_packet_in};
 
@@ -34,6 +35,14 @@ pub fn ends_are_named()
     ensures ended { (cause : Closing) (number : ℕ) (w : World) → IsValid w.conf → Names w (ended cause number w) (by_end number w) }
     ensures replaced { (dp : DpId) (w : World) → IsValid w.conf → Names w (replace dp w) (by_replace dp w) }
     ensures taken { (number : ℕ) (dp : DpId) (w : World) → IsValid w.conf → Names w (take_dp number dp w) (by_take number dp w) }
+{}
+
+/// A connection that is no datapath yet changes nothing that counts, whatever is heard on it and however it ends.
+pub fn strangers_change_nothing()
+    ensures closed { (cause : Closing) (number : ℕ) (w : World) → dps_on number w.conns ≡ [] → IsSound w → Names w (close cause number w) [] }
+    ensures ended { (cause : Closing) (number : ℕ) (w : World) → dps_on number w.conns ≡ [] → IsSound w → Names w (ended cause number w) [] }
+    ensures heard { (m : Message) (xid number : ℕ) (w : World) → dps_on number w.conns ≡ [] → IsSound w
+        → Names w (forget_lost (record w { conns = change number (with_heard m xid) w.conns })) [] }
 {}
 
 /// A packet names the host or the neighbour that it tells of, and a host that is heard is named by its key alone.

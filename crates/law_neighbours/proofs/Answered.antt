@@ -38,7 +38,7 @@ use Rattle.ctl_core.specs.Hearing.{begin, follow, hear_frame, hear_on, introduce
 use Rattle.ctl_core.proofs.Stays as stays
 use Rattle.ctl_core.proofs.Walk.{either, wants_by, with_any}
 use Rattle.law_lines.proofs.Behind.{Behind, packet_led, step_led}
-use Rattle.law_lines.proofs.Packets.{glean_kept}
+use Rattle.ctl_packets.proofs.Keeping.{glean_kept}
 use Rattle.law_neighbours.specs.Outs.{Out, answers, answers_at, answers_by, answers_in, answers_on, outs, sends}
 use Rattle.law_neighbours.proofs.Outs.{asked_outs, no_outs, one_outs, said_outs, sent_outs}
 

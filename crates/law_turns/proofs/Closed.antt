@@ -30,14 +30,15 @@ use Rattle.ctl_world.specs.Ends.{close, end_line, ended}
 use Rattle.ctl_world.specs.Frames.{front}
 use Rattle.ctl_world.specs.Saying.{say, say_by}
 use Rattle.ctl_world.specs.World.{World}
-use Rattle.ctl_life.specs.Life.{closing_for, echo, feed, has_frame, open_conn, read, replace, says, take_dp, tell_version, turn_away, unread}
+use Rattle.ctl_life.specs.Life.{closing_for, echo, feed, has_frame, open_conn, read, replace, take_dp, tell_version, turn_away, unread}
 use Rattle.ctl_life.specs.Silence.{closes, falls_silent, is_silent, look, look_each, look_on, show, stir}
 use Rattle.ctl_life.proofs.FallsSilent.{closes_silent}
 use Rattle.ctl_life.proofs.Numbered.{has_it}
 use Rattle.ctl_life.proofs.Openings.{with_fresh}
-use Rattle.gauge_poll.specs.Monitoring.{Monitor, anew, follow, hear_all, hear_frame, hear_frames, hear_front, hear_message, hear_next, hear_on, heard, introduce, looked, opened, turn, unfit, with_world}
-use Rattle.gauge_poll.specs.Polls.{Said, poll_conn, poll_on}
-use Rattle.gauge_poll.proofs.Keeping.{message}
+use Rattle.gauge_conf.specs.declared.gauge.WatchKind.{WatchKind}
+use Rattle.gauge_poll.specs.Monitoring.{Monitor, anew, dp_on, follow, hear_all, hear_frame, hear_frames, hear_front, hear_message, hear_next, hear_on, heard, introduce, looked, opened, told_on, turn, unfit, with_world}
+use Rattle.gauge_poll.specs.Polls.{Said, poll_conn, poll_on, request_for}
+use Rattle.gauge_poll.specs.Telling.{reads, told_by}
 use Rattle.gauge_poll.proofs.Rounds.{due_kept, first_kept}
 use Rattle.law_turns.specs.Closings.{Closed, causes, closed_in, closings, for_awaited, for_bytes, for_features, for_frame, for_frames, for_front, for_heard, for_message, for_next, for_silence, one}
 
@@ -99,11 +100,11 @@ replace_adds dp w = by (conn_of w.conns dp)
 abbrev Has : List Closed → Said → Type 0
 Has all s = closings s.world.said ≡ all
 
-poll_has : (all : List Closed) (place conn : ℕ) (s : Said) → Has all s → Has all (poll_conn place conn s)
-poll_has all place conn s has = by (conn_with s.world.conns conn)
+poll_has : (all : List Closed) (kind : WatchKind) (place conn : ℕ) (s : Said) → Has all s → Has all (poll_conn kind place conn s)
+poll_has all kind place conn s has = by (conn_with s.world.conns conn)
   where
-    by : (o : Option Conn) → Has all (option_map_or (poll_on place conn s) o s)
-    by (Some c) = say_same conn message s.world ∙ has
+    by : (o : Option Conn) → Has all (option_map_or (poll_on kind place conn s) o s)
+    by (Some c) = say_same conn (request_for kind) s.world ∙ has
     by None = has
 
 -- ---- a step of a connection
@@ -205,7 +206,7 @@ message_adds m xid number k = by (conn_with k.said.world.conns number)
     by : (o : Option Conn) → closings (world_of (option_map_or (hear_on m xid number k) o k)).said
         ≡ closings k.said.world.said ++ option_map_or (λ (c : Conn). for_message (heard m xid number k.said).world c.session.state.stage m number) o []
     by (Some c) =
-        follow_adds k (leads c.session.state m xid).1 m xid number (heard m xid number k.said)
+        follow_adds k (leads c.session.state m xid).1 m xid number (heard m xid number (told_on (told_by m) xid number (dp_on k.said.world c) k).said)
         ∙ ap (λ cs. closings k.said.world.said ++ cs) (message_closes (heard m xid number k.said).world number c.session.state m xid)
     by None = sym (append-nil (closings k.said.world.said))
 
@@ -215,7 +216,7 @@ frame_adds None number k = close_adds BadFrame number k.said.world
 
 front_adds : (f : Front) (number : ℕ) (k : Monitor) → Adds (world_of (hear_front f number k)) (world_of k) (for_front f number k)
 front_adds Part number k = sym (append-nil (closings k.said.world.said))
-front_adds (Frame frame) number k = frame_adds (says frame) number k
+front_adds (Frame frame) number k = frame_adds (reads frame) number k
 front_adds Bad number k = close_adds BadFrame number k.said.world
 
 next_adds : (number : ℕ) (k : Monitor) → Adds (world_of (hear_next number k)) (world_of k) (for_next number k)

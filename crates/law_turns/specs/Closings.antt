@@ -20,9 +20,10 @@ use Rattle.ctl_world.specs.declared.said.Said.TheVariants as said
 use Rattle.ctl_world.specs.Connections.{conn_of, conn_with, is_open}
 use Rattle.ctl_world.specs.Frames.{front}
 use Rattle.ctl_world.specs.World.{World}
-use Rattle.ctl_life.specs.Life.{feed, has_frame, read, says, unread}
+use Rattle.ctl_life.specs.Life.{feed, has_frame, read, unread}
 use Rattle.ctl_life.specs.Silence.{falls_silent, look, show}
 use Rattle.gauge_poll.specs.Monitoring.{Monitor, anew, hear_next, heard, unfit, with_world}
+use Rattle.gauge_poll.specs.Telling.{reads}
 
 -- a connection that is closed
 pub record Closed : Type 0 where
@@ -65,7 +66,7 @@ for_message w stage m number = for_heard w stage m number
 
 -- ---- a frame
 
--- one that spells no message; or what its message leads to, once it was heard
+-- one that spells no message, or one of which a flow entry is wrong; or what its message leads to, once it was heard
 abbrev pub for_frame : Option (Message × ℕ) → (number : ℕ) → Monitor → List Closed
 for_frame (Some told) number k =
     option_map_or (λ (c : Conn). for_message (heard told.0 told.1 number k.said).world c.session.state.stage told.0 number) (conn_with k.said.world.conns number) []
@@ -74,7 +75,7 @@ for_frame None number k = one number BadFrame
 -- a header that tells less than its own length (7.1)
 abbrev pub for_front : Front → (number : ℕ) → Monitor → List Closed
 for_front Part number k = []
-for_front (Frame frame) number k = for_frame (says frame) number k
+for_front (Frame frame) number k = for_frame (reads frame) number k
 for_front Bad number k = one number BadFrame
 
 -- what stands at the front, which is taken

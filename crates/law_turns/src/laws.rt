@@ -29,9 +29,9 @@ pub fn reloads_change_nothing_of_a_gauge()
 {}
 
 /// What a Gauge closes in a turn are just the connections that the happening gives cause to close, in order, each for its cause: with
-/// bytes of an open connection that one, for a header or a frame that spells no message, a HELLO that doesn't speak OpenFlow 1.3, an
-/// ERROR, or features of a datapath that isn't configured or of an auxiliary connection, and the older one of its datapath; with a
-/// moment those on which no byte came for 60 seconds.
+/// bytes of an open connection that one, for a header or a frame that spells no message, flow statistics in which an entry is wrong, a
+/// HELLO that doesn't speak OpenFlow 1.3, an ERROR, or features of a datapath that isn't configured or of an auxiliary connection, and
+/// the older one of its datapath; with a moment those on which no byte came for 60 seconds.
 pub fn each_closing_of_a_gauge_has_its_cause()
     ensures { (what : Happening) (m : Monitor) → closings (turn what m).said.world.said ≡ causes what m }
 {}

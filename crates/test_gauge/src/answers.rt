@@ -1,5 +1,5 @@
 use conf_gather::LoadRefused;
-use gauge_conf::{GaugeConf, WatchKind, Watcher};
+use gauge_conf::{Db, GaugeConf, WatchKind, Watcher};
 use net_base::NoMemory;
 use std::alloc::AllocError;
 
@@ -7,6 +7,15 @@ fn word_of(kind: WatchKind) -> &'static str {
     match kind {
         WatchKind::PortState => "port_state",
         WatchKind::PortStats => "port_stats",
+        WatchKind::FlowTable => "flow_table",
+    }
+}
+
+/// The file of a db, or that it takes blocks.
+fn db_word(db: &Db) -> &str {
+    match db {
+        Db::Text(file) => file.as_str(),
+        Db::Prometheus => "<prometheus>",
     }
 }
 
@@ -17,8 +26,8 @@ fn write_watcher(out: &mut String, watcher: &Watcher) -> Result<(), NoMemory> {
         write!(out, " {}", dp.0)?;
     }
     write!(out, " every {} in", watcher.interval)?;
-    for file in watcher.files.as_slice() {
-        write!(out, " {}", file.as_str())?;
+    for db in watcher.dbs.as_slice() {
+        write!(out, " {}", db_word(db))?;
     }
     out.push_str("]")
 }

@@ -1,36 +1,64 @@
-use Rattle.std.proofs.Common.{◌≡◌, refl, subst, sym, ap, ◌∙◌}
+use Rattle.std.proofs.Common.{◌≡◌, ◌<◌, [], Some, None, refl, subst, sym, ap, ◌∙◌, arith, if◌then◌else◌}
 use Rattle.ctl_world.specs.World.{IsSound, World}
+use Rattle.ctl_life.specs.Silence.{show}
+use Rattle.ctl_settle.specs.Plans.{Fit}
 use Rattle.ctl_settle.specs.Rest.{AreInOrder}
 use Rattle.ctl_settle.specs.Settling.{settle}
+use Rattle.ctl_settle.specs.Touched.{AllFollow}
+use Rattle.ctl_settle.proofs.Following.{named_follow}
+use Rattle.ctl_core.specs.declared.known.Known.{Known}
+use Rattle.ctl_core.specs.Known.{HasSettled}
+use Rattle.ctl_core.proofs.Telling.{at_moment_follow, quiet_before}
+use Rattle.ctl_core.specs.Turning.{turned}
 use Rattle.ctl_core.specs.Turns.{age, pass}
 use Rattle.ctl_core.proofs.Rests.{moment_passes, moment_rests, moment_until, none_ages}
 use Rattle.ctl_core.proofs.turns.passed.Goals as goal
 
+pub until_at-known-requires : goal.until_at-known-requires
+until_at-known-requires g c = record { bound = c.requires.until; rests = c.requires.rests }
+
 pub returns-then-known : goal.returns-then-known
 returns-then-known g c =
-    let k = c.args.known.now in
+    let k : Known = record c.args.known.now { until = c.until_at-known.result } in
+    let settled : HasSettled k = record {
+      sound = c.requires.sound;
+      in_order = c.requires.in_order;
+      held = c.requires.held;
+      follow = c.requires.follow;
+      rests = c.until_at-known.ensures.rests;
+      until = c.until_at-known.ensures.bound;
+    } in
     let v : World = c.look_after.new.world in
     let rest = c.alike_worlds_rest_alike.ensures in
     let same = c.what_rests_settles_as_it_is.ensures in
     let alike = c.in_ok-closed.ensures.alike c.if-not-closed.true in
     let passed : v ≡ pass c.args.moment k.world =
-    sym (none_ages rest.rest rest.none_over rest.until same k c.requires c.args.moment v alike c.if-known.true) ∙ ap age c.in_ok-closed.ensures.looked in
+    sym (none_ages rest.rest rest.none_over rest.until same k settled c.args.moment v alike c.if-known.true) ∙ ap age c.in_ok-closed.ensures.looked in
     record {
-      done = moment_passes rest.rest rest.none_over rest.until same k c.requires c.args.moment v alike c.if-known.true ∙ ap (λ x. settle (age x)) c.in_ok-closed.ensures.looked;
+      done = moment_passes rest.rest rest.none_over rest.until same k settled c.args.moment v alike c.if-known.true ∙ ap (λ x. settle (age x)) c.in_ok-closed.ensures.looked;
       settled = record {
         sound = subst IsSound (sym passed) (c.a_moment_leaves_it_sound.ensures c.args.moment k.world c.a_configuration_is_valid.ensures c.requires.sound);
         in_order = subst AreInOrder (sym passed) (c.what_happens_keeps_connections_in_order.ensures.passed c.args.moment k.world c.requires.in_order);
-        rests = moment_rests rest.rest rest.none_over rest.until same k c.requires c.args.moment v alike;
-        until = moment_until rest.rest rest.none_over rest.until same k c.requires c.args.moment v alike c.if-known.true;
+        follow = named_follow k.world v [] (quiet_before c.args.moment k.world v alike (let less : v.moment.0 < k.until = c.if-known.true in omega (arith, less, settled.until.least))) k.plans c.requires.follow;
+        held = c.alike_worlds_have_the_same_plans.ensures v (show c.args.moment k.world) k.plans alike (record { fit = c.requires.held.fit; there = c.requires.held.there; shut = c.requires.held.shut });
+        rests = moment_rests rest.rest rest.none_over rest.until same k settled c.args.moment v alike;
+        until = moment_until rest.rest rest.none_over rest.until same k settled c.args.moment v alike c.if-known.true;
       };
       left_out = λ _ _. refl;
     }
 
 pub settle_anew-requires : goal.settle_anew-requires
 settle_anew-requires g c =
-    let w = c.args.known.now.world in
+    let k = c.args.known.now in
+    let w = k.world in
+    let v : World = c.look_after.new.world in
     let aged = c.age.ensures ∙ ap age c.in_ok-closed.ensures.looked in
     record {
       sound = subst IsSound (sym aged) (c.a_moment_leaves_it_sound.ensures c.args.moment w c.a_configuration_is_valid.ensures c.requires.sound);
       in_order = subst AreInOrder (sym aged) (c.what_happens_keeps_connections_in_order.ensures.passed c.args.moment w c.requires.in_order);
+      fit = subst (λ (u : World). Fit u.conns k.plans) (sym aged) (c.what_happens_keeps_the_plans.ensures.passed c.args.moment w k.plans c.requires.held.fit);
+      follow = subst (λ may. AllFollow c.age.new.world may k.plans) (sym c.in_ok-touched.ensures)
+          (subst (λ (u : World). AllFollow u (if c.in_ok-closed.closed then None else Some (turned w.moment.0 v)) k.plans) (sym c.age.ensures)
+          (at_moment_follow c.args.moment w v c.in_ok-closed.closed c.in_ok-closed.ensures.alike k.plans c.requires.follow));
+      bounds = tt;
     }

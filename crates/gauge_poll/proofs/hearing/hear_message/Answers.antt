@@ -1,4 +1,4 @@
-use Rattle.std.proofs.Common.{◌≡◌, true, false, None, Option, List, [], ◌++◌, sym, ap, subst, ◌∙◌}
+use Rattle.std.proofs.Common.{◌≡◌, true, false, None, Option, List, sym, ap, subst, ◌∙◌}
 use Rattle.std.specs.Option.{option_and_then, option_map_or}
 use Rattle.std.proofs.lemmas.Result.{on_ok_weaker}
 use Rattle.ctl_world.specs.declared.conns.Conn.{Conn}
@@ -6,8 +6,8 @@ use Rattle.ctl_world.specs.Connections.{conn_with, is_open}
 use Rattle.ctl_world.specs.World.{World}
 use Rattle.ctl_life.proofs.Numbered.{shut_none}
 use Rattle.gauge_conf.specs.declared.gauge.Watcher.{Watcher}
-use Rattle.gauge_poll.specs.Lines.{told_lines}
-use Rattle.gauge_poll.specs.Monitoring.{dp_on, follow, hear_on}
+use Rattle.gauge_poll.specs.declared.telling.Telling.{Telling}
+use Rattle.gauge_poll.specs.Monitoring.{dp_on, follow, hear_on, told_on}
 use Rattle.gauge_poll.specs.StandsFor.{Keeps, KeepsAll}
 use Rattle.gauge_poll.proofs.Monitors.{message_kept}
 use Rattle.gauge_poll.proofs.hearing.hear_message.Goals as goal
@@ -21,10 +21,14 @@ returns-then-not-is_open c = λ m all.
 
 pub returns : goal.returns
 returns c =
-    let k = c.args.kept.now in
-    let there : is_open k.known.world.conns c.args.conn ≡ true = sym c.if-not-is_open.ensures in
+    let number = c.args.conn in
+    let xid = c.args.xid in
+    let mid = c.tell.new.kept in
+    let there : is_open c.args.kept.now.known.world.conns number ≡ true = sym c.if-not-is_open.ensures in
     on_ok_weaker c.follow.result
-    (λ follows m all. message_kept c.args.message.now c.args.xid c.args.conn k m all there c.tell.new.lines (c.in_ok-tell.ensures m.said all.said (ap (λ (w : World). is_open w.conns c.args.conn) (sym all.said.world) ∙ there)
-    ∙ ap (λ (ws : List Watcher). k.lines ++ option_map_or (told_lines 0 ws m.said.polls c.args.conn m.said.world.moment c.args.message.now c.args.xid) (option_and_then (dp_on m.said.world) (conn_with m.said.world.conns c.args.conn)) []) c.as_slice.ensures)
-    c.hear.new.self c.in_ok-step.ensures.noted c.in_ok-step.step c.in_ok-step.ensures.step c.follow.new.known (λ s keeps. subst (λ (ws : List Watcher). Keeps c.follow.new.known (follow ws c.in_ok-step.step c.args.message.now c.args.xid c.args.conn s)) c.as_slice-2.ensures (follows s keeps)))
+    (λ follows m all.
+    message_kept c.args.message.now xid number m mid (ap (λ (w : World). is_open w.conns number) (sym all.said.world) ∙ there)
+    (subst (λ (told : Telling). KeepsAll mid (told_on told xid number (option_and_then (dp_on m.said.world) (conn_with m.said.world.conns number)) m)) c.requires (c.in_ok-tell.ensures m all there))
+    c.hear.new.self c.in_ok-step.ensures.noted c.in_ok-step.step c.in_ok-step.ensures.step c.follow.new.known
+    (λ s keeps. subst (λ (ws : List Watcher). Keeps c.follow.new.known (follow ws c.in_ok-step.step c.args.message.now xid number s)) c.as_slice.ensures (follows s keeps)))
     c.follow.ensures

@@ -24,10 +24,10 @@ returns c = λ m all.
     let left : Known = record k.known { world = c.end.new.self } in
     let is = c.in_ok-end.ensures ∙ ap (λ x. ended x number k.known.world) c.closing_for.ensures in
     let gone = all_by (ended cause number) (ended_within cause number) k m c.end.new.self is all in
-    subst (λ (b : Bool). KeepsAll (record k { known = record left { newest = c.forget_shut.new.newest } }) (if b then with_world (ended cause number) m else m))
+    subst (λ (b : Bool). KeepsAll (record k { known = record left { newest = c.forget_shut.new.newest; parts = c.forget_shut.new.parts } }) (if b then with_world (ended cause number) m else m))
     (c.if-not-is_open.ensures ∙ ap (λ (w : World). is_open w.conns number) all.said.world)
     (record {
       watchers = gone.watchers;
-      said = forgot_kept left _ c.forget_shut.new.newest c.forget_shut.ensures gone.said;
+      said = forgot_kept left _ c.forget_shut.new.newest c.forget_shut.new.parts c.forget_shut.ensures.polls c.forget_shut.ensures.waits gone.said;
       lines = gone.lines;
     })

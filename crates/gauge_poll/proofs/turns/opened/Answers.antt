@@ -14,8 +14,8 @@ returns-then-is_open c = λ m all.
 
 pub returns : goal.returns
 returns c =
-    let after : Kept = record { watchers = c.args.kept.now.watchers; known = record { world = c.open.new.world; newest = c.forget.new.self }; lines = c.args.kept.now.lines } in
+    let after : Kept = record { watchers = c.args.kept.now.watchers; known = record { world = c.open.new.world; newest = c.forget.new.self; parts = c.forget-2.new.self }; lines = c.args.kept.now.lines } in
     on_ok_weaker c.open.result
     (λ is m all. subst (λ (b : Bool). KeepsAll after (if b then m else opened c.args.conn m)) (sym c.if-is_open.false ∙ c.is_open.ensures ∙ ap (λ (w : World). is_open w.conns c.args.conn) all.said.world)
-    (opened_kept c.args.conn c.args.kept.now m all c.open.new.world is c.forget.new.self c.forget.ensures))
+    (opened_kept c.args.conn c.args.kept.now m all c.open.new.world is c.forget.new.self c.forget.ensures c.forget-2.new.self c.forget-2.ensures))
     c.open.ensures

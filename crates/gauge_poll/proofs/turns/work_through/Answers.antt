@@ -6,6 +6,6 @@ returns c = λ m all.
     let worked = c.in_ok-work.ensures m all in
     record {
       watchers = worked.watchers;
-      said = forgot_kept c.work.new.kept.known _ c.forget_closed.new.newest c.forget_closed.ensures worked.said;
+      said = forgot_kept c.work.new.kept.known _ c.forget_closed.new.newest c.forget_closed.new.parts c.forget_closed.ensures.polls c.forget_closed.ensures.waits worked.said;
       lines = worked.lines;
     }

@@ -5,5 +5,5 @@ pub returns : goal.returns
 returns c = record {
   unspent = refl;
   watchers = refl;
-  said = record { world = c.in_ok-world.ensures; polls = λ conn place there. c.new-newest.ensures conn place };
+  said = record { world = c.in_ok-world.ensures; polls = λ conn place there. c.new-newest.ensures conn place; waits = λ conn place there. c.new-parts.ensures conn place };
 }

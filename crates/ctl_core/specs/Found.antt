@@ -1,0 +1,125 @@
+-- What may differ behind a frame, as the code tells it.
+use Rattle.std.specs.Prelude.{ℕ, ◌==◌, min, Bool, true, false, not, is_some, if◌then◌else◌, Option, Some, None, List, [], ◌∷◌}
+use Rattle.std.specs.Option.{option_map_or}
+use Rattle.net_base.specs.declared.numbers.DpId.{DpId}
+use Rattle.conf_types.specs.declared.change.Change.TheVariants as change
+use Rattle.conf_types.specs.Configuration.{Configuration}
+use Rattle.conf_types.specs.Groups.{group_of}
+use Rattle.of_match.specs.InPort.{in_port}
+use Rattle.of13_codec.specs.declared.packet_in.PacketIn.{PacketIn}
+use Rattle.pkt_view.specs.Frame.{FrameParts, parts}
+use Rattle.neighbour_resolve.specs.Counted.{counted_vid}
+use Rattle.neighbour_resolve.specs.Hearing.{heard_sender}
+use Rattle.switch_session.specs.declared.state.Step.{Step}
+use Rattle.switch_session.specs.declared.state.Step.TheVariants as steps
+use Rattle.ctl_world.specs.declared.conns.Conn.{Conn}
+use Rattle.ctl_world.specs.Alike.{IsAlike}
+use Rattle.ctl_world.specs.Connections.{conn_with}
+use Rattle.ctl_world.specs.World.{World}
+use Rattle.ctl_packets.specs.Packets.{gateways, routes, sources}
+use Rattle.ctl_settle.specs.Rest.{AreBounded, host_until}
+use Rattle.ctl_settle.specs.Touched.{MayDiffer}
+use Rattle.law_names.specs.Differing.{host}
+use Rattle.law_names.specs.Names.{Names}
+use Rattle.ctl_core.specs.declared.ends.Ends.{Ends}
+use Rattle.ctl_core.specs.declared.ends.Ends.TheVariants as ends
+use Rattle.ctl_core.specs.declared.found.Found.{Found}
+use Rattle.ctl_core.specs.declared.found.Found.TheVariants.{Nothing, Due, Heard, One, Any}
+
+-- a settling looks at it
+abbrev pub is_touched : Found → Bool
+is_touched Nothing = false
+is_touched Due = true
+is_touched (Heard h) = true
+is_touched (One change) = true
+is_touched Any = true
+
+abbrev pub may_differ : Configuration → Found → MayDiffer
+may_differ conf Nothing = Some []
+may_differ conf Due = Some []
+may_differ conf (Heard h) = Some (host conf h ∷ [])
+may_differ conf (One change) = Some (change ∷ [])
+may_differ conf Any = None
+
+-- at least there may be something to say
+abbrev pub or_due : Found → Found
+or_due Nothing = Due
+or_due Due = Due
+or_due (Heard h) = Heard h
+or_due (One change) = One change
+or_due Any = Any
+
+-- ---- when the hosts' times end
+
+abbrev pub ends_of : Found → Ends
+ends_of Nothing = ends.Later
+ends_of Due = ends.Later
+ends_of (Heard h) = ends.But h
+ends_of (One change) = ends.Later
+ends_of Any = ends.Any
+
+-- against a moment before which none ended: none does now, or one that was heard alone, or any may
+abbrev pub Bounds : Ends → (until : ℕ) → World → Type 0
+Bounds ends.Later until w = AreBounded until w
+Bounds (ends.But h) until w = AreBounded (min until (host_until w.conf w.moment.0 h)) w
+Bounds ends.Any until w = Unit {0}
+
+-- whatever moment none of the hosts ended before, behind a step
+abbrev pub Leaves : World → World → Ends → Type 0
+Leaves w v e = (until : ℕ) → AreBounded until w → Bounds e until v
+
+-- ---- connections that are no datapath yet
+
+abbrev pub is_stranger : List Conn → (number : ℕ) → Bool
+is_stranger conns number = option_map_or (λ c. not (is_some c.dp)) (conn_with conns number) false
+
+-- with the end of one nothing differs
+abbrev pub by_end : List Conn → (number : ℕ) → Found
+by_end conns number = if is_stranger conns number then Due else Any
+
+-- nor with a step of one, but for what follows from it
+abbrev pub behind_step : Option DpId → Found → Found
+behind_step None found = or_due found
+behind_step (Some dp) found = Any
+
+-- ---- packets
+
+-- the host that is heard, or the neighbour; where one is looked for, there may be something to say
+abbrev pub by_table : (table : ℕ) → DpId → (port vid : ℕ) → FrameParts → World → Found
+by_table table dp port vid frame w =
+    if table == sources then Heard (record { dp = dp; port = port; vid = vid; mac = frame.src; learned = w.moment })
+    else if table == routes then Due
+    else if table == gateways then option_map_or (λ s. One (change.Neighbour (group_of w.conf dp) vid s.ip)) (heard_sender w.conf vid frame) Due
+    else Due
+
+abbrev pub by_parts : PacketIn → DpId → World → (port : ℕ) → FrameParts → Found
+by_parts m dp w port frame = option_map_or (λ vid. by_table m.table dp port vid frame w) (counted_vid w.conf dp port frame) Due
+
+abbrev pub by_port : PacketIn → DpId → World → (port : ℕ) → Found
+by_port m dp w port = option_map_or (by_parts m dp w port) (parts m.payload) Due
+
+abbrev pub by_packet : PacketIn → DpId → World → Found
+by_packet m dp w = option_map_or (by_port m dp w) (in_port m.fields) Due
+
+-- ---- what is told
+
+-- all that differs is told, and when the hosts' times end; behind nothing a settling finds the same
+abbrev pub Tells : World → World → Found → Type 0
+Tells w v Nothing = IsAlike v w
+Tells w v Due = Names w v [] × Leaves w v ends.Later
+Tells w v (Heard h) = Names w v (host w.conf h ∷ []) × Leaves w v (ends.But h)
+Tells w v (One change) = Names w v (change ∷ []) × Leaves w v ends.Later
+Tells w v Any = Unit {0}
+
+-- the reply to a barrier came
+abbrev pub is_settled : Step → Bool
+is_settled steps.Nothing = false
+is_settled steps.AskFeatures = false
+is_settled (steps.Features dp n_tables auxiliary) = false
+is_settled steps.PortsKnown = false
+is_settled steps.Wiped = false
+is_settled steps.Settled = true
+is_settled (steps.PortChanged port) = false
+is_settled steps.Packet = false
+is_settled steps.Echo = false
+is_settled (steps.Close cause) = false

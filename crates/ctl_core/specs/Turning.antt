@@ -1,0 +1,15 @@
+-- The hosts that turn stale or fresh between two moments, or are to be forgotten then.
+use Rattle.std.specs.Prelude.{ℕ, ◌||◌, Bool, List, map, filter}
+use Rattle.conf_types.specs.declared.state.HostRec.{HostRec}
+use Rattle.conf_types.specs.Configuration.{Configuration}
+use Rattle.conf_types.specs.State.{is_fresh, is_to_forget}
+use Rattle.ctl_world.specs.World.{World}
+use Rattle.conf_types.specs.declared.change.Change.{Change}
+use Rattle.law_units.specs.Reached.{is_other}
+use Rattle.law_names.specs.Differing.{host}
+
+abbrev pub turns : Configuration → (before moment : ℕ) → HostRec → Bool
+turns conf before moment h = is_other (is_fresh conf before h) (is_fresh conf moment h) || is_to_forget conf moment h
+
+abbrev pub turned : (before : ℕ) → World → List Change
+turned before w = map (host w.conf) (filter (turns w.conf before w.moment.0) w.hosts.hosts)

@@ -1,0 +1,227 @@
+//! The plans that are kept of the datapaths of connections.
+
+ghost use Rattle.std.specs.Prelude.{◌≡◌, ◌<◌, [], Some, filter, is_some, length, map, position, IfSome, OnOk};
+ghost use Rattle.std.specs.List.{AllByRecursion, find};
+ghost use Rattle.std.specs.Option.{option_copied, option_map};
+ghost use Rattle.conf_types.specs.State.{IsValidState};
+ghost use Rattle.packet_way.specs.Present.{state_of};
+ghost use Rattle.ctl_world.specs.World.{IsSound};
+ghost use Rattle.ctl_settle.specs.Touched.{AllFollow, Follows};
+ghost use Rattle.ctl_settle.specs.Plans.{brought, is_for, plan_for, renewed, runs_on, with_plan, with_plans};
+
+use crate::touched::Touched;
+use conf_types::{Conf, Tally};
+use ctl_world::{Conns, World};
+use net_base::{DpId, NoMemory};
+use of_match::Tables;
+use packet_way::Now;
+use std::alloc::Global;
+use std::marker::Model;
+use switch_session::Stage;
+use warm_plan::Warm;
+
+/// The plan of a connection's datapath.
+#[derive(Drop)]
+pub struct Held {
+    pub conn: u32,
+    pub plan: Warm,
+}
+
+/// The plans that are kept, each for the connection of its datapath. Contracts see the list.
+#[derive(Drop)]
+pub struct Plans {
+    pub(crate) held: Vec<Held>,
+}
+
+impl Model for Plans {
+    ghost use Rattle.std.specs.Prelude.{List};
+    ghost use Rattle.ctl_settle.specs.declared.plans.Held.{Held};
+
+    ghost Value = { List Held };
+
+    ghost view = { λ it. it.held.items };
+}
+
+/// The plan that is kept for a connection.
+fn find_plan(held: &[Held], number: u32) -> Option<&Held>
+    ensures { option_copied result ≡ find (is_for number) held.now }
+{
+    held.iter().find(|one| one.conn == number)
+}
+
+fn has_plan(held: &[Held], number: u32) -> bool
+    ensures { result ≡ is_some (plan_for held.now number) }
+{
+    find_plan(held, number).is_some()
+}
+
+/// Where the plan of a connection stands.
+pub(crate) fn place(held: &[Held], number: u32) -> Option<usize>
+    ensures place { result ≡ position (is_for number) held.now }
+    ensures within { IfSome result (λ at. at < length held.now) }
+{
+    held.iter().position(|one| one.conn == number)
+}
+
+impl Plans {
+    /// None.
+    pub fn new(alloc: Global) -> Plans
+        ensures { result ≡ [] }
+    {
+        Plans {
+            held: Vec::new(alloc),
+        }
+    }
+
+    /// The entries that the switch of a connection holds once it has done all that was said; `None` exactly
+    /// where no plan is kept for it.
+    pub fn sent(&self, number: u32) -> Option<&Tables>
+        ensures { option_copied result ≡ option_map (λ p. p.sent) (plan_for self.now number) }
+    {
+        match find_plan(self.held.as_slice(), number) {
+            Some(held) => Some(held.plan.sent()),
+            None => None,
+        }
+    }
+}
+
+fn is_at_work(conns: &Conns, number: u32) -> bool
+    ensures { result ≡ runs_on conns.now number }
+{
+    match conns.get(number) {
+        Some(conn) => matches!(conn.session.stage(), Stage::Running),
+        None => false,
+    }
+}
+
+/// Drops the plans of connections that don't run.
+fn drop_idle(held: &mut Vec<Held>, conns: &Conns)
+    ensures { held.new.items ≡ filter (λ h. runs_on conns.now h.conn) held.old.items }
+{
+    held.retain(|one| is_at_work(conns, one.conn));
+}
+
+/// A plan wants the cold start of what is known. Where it is named what may differ, only what that reaches is made
+/// again.
+fn renew<T: Tally>(
+    held: &mut Held,
+    alloc: Global,
+    conf: &Conf,
+    now: &Now,
+    touched: &Touched,
+    units: &mut T,
+) -> Result<(), NoMemory>
+    requires state { IsValidState conf.now (state_of now.now) }
+    requires follows { Follows conf.now (state_of now.now) touched.now held.old.plan }
+    ensures { OnOk result (held.new ≡ renewed conf.now (state_of now.now) held.old) }
+{
+    if touched.is_any() {
+        return held.plan.reload(alloc, conf, now, units);
+    }
+    held.plan.event(alloc, conf, now, touched.list(), units)
+}
+
+fn renew_each<T: Tally>(
+    held: &mut [Held],
+    alloc: Global,
+    conf: &Conf,
+    now: &Now,
+    touched: &Touched,
+    units: &mut T,
+) -> Result<(), NoMemory>
+    requires state { IsValidState conf.now (state_of now.now) }
+    requires follow { AllByRecursion (λ h. Follows conf.now (state_of now.now) touched.now h.plan) held.old }
+    ensures { OnOk result (held.new ≡ map (renewed conf.now (state_of now.now)) held.old) }
+{
+    for one in held.iter_mut() {
+        renew(one, alloc, conf, now, touched, units)?;
+    }
+    Ok(())
+}
+
+/// All plans that are kept want the cold start of what is known.
+fn renew_all<T: Tally>(
+    held: &mut Vec<Held>,
+    alloc: Global,
+    conf: &Conf,
+    now: &Now,
+    touched: &Touched,
+    units: &mut T,
+) -> Result<(), NoMemory>
+    requires state { IsValidState conf.now (state_of now.now) }
+    requires follow { AllByRecursion (λ h. Follows conf.now (state_of now.now) touched.now h.plan) held.old.items }
+    ensures { OnOk result (held.new.items ≡ map (renewed conf.now (state_of now.now)) held.old.items) }
+{
+    renew_each(held.as_mut_slice(), alloc, conf, now, touched, units)
+}
+
+/// Makes the plan of a datapath, where none is kept for its connection.
+fn open_plan<T: Tally>(
+    held: &mut Vec<Held>,
+    alloc: Global,
+    world: &World,
+    now: &Now,
+    dp: DpId,
+    units: &mut T,
+) -> Result<(), NoMemory>
+    requires { IsValidState world.now.conf (state_of now.now) }
+    ensures { OnOk result (held.new.items ≡ with_plan world.now.conf (state_of now.now) world.now.conns dp held.old.items) }
+{
+    let Some(conn) = world.conns.of(dp) else {
+        return Ok(());
+    };
+    if has_plan(held.as_slice(), conn.number) {
+        return Ok(());
+    }
+    let plan = Warm::open(alloc, &world.conf, now, dp, units)?;
+    held.push(Held {
+        conn: conn.number,
+        plan,
+    })?;
+    Ok(())
+}
+
+fn open_plans<T: Tally>(
+    held: &mut Vec<Held>,
+    alloc: Global,
+    world: &World,
+    now: &Now,
+    dps: &[DpId],
+    units: &mut T,
+) -> Result<(), NoMemory>
+    requires { IsValidState world.now.conf (state_of now.now) }
+    ensures { OnOk result (held.new.items ≡ with_plans world.now.conf (state_of now.now) world.now.conns dps.now held.old.items) }
+{
+    for dp in dps {
+        open_plan(held, alloc, world, now, *dp, units)?;
+    }
+    Ok(())
+}
+
+/// Brings the plans up to what is known, from which they differ in what was touched at most: each datapath that runs
+/// has one, which wants its cold start.
+pub(crate) fn bring<T: Tally>(
+    plans: &mut Plans,
+    alloc: Global,
+    world: &World,
+    touched: &Touched,
+    units: &mut T,
+) -> Result<(), NoMemory>
+    requires sound { IsSound world.now }
+    requires follow { AllFollow world.now touched.now plans.old }
+    ensures { OnOk result (plans.new ≡ brought world.now plans.old) }
+{
+    let running = world.running(alloc)?;
+    let ups = world.ups(alloc)?;
+    let now = world.now(&running, &ups);
+    drop_idle(&mut plans.held, &world.conns);
+    renew_all(&mut plans.held, alloc, &world.conf, &now, touched, units)?;
+    open_plans(
+        &mut plans.held,
+        alloc,
+        world,
+        &now,
+        running.as_slice(),
+        units,
+    )
+}
