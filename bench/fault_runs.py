@@ -291,7 +291,7 @@ class Program:
         gauge = Gauge(DPS, WATCHERS)
         for words in self.story(recording):
             said, lines = gauge.turn(words)
-            self.out.write("".join(line + "\n" for line in lines).encode())
+            self.out.write("".join(lines).encode())
             self.err.write(lines_of(said))
         return 0
 
@@ -314,7 +314,7 @@ class Program:
                 hub.say(conn, rest[0])
             elif what == "close":
                 hub.close(conn)
-        self.out.write("".join(line + "\n" for line in lines).encode())
+        self.out.write("".join(lines).encode())
         self.err.write(lines_of(said))
 
     def serve(self, name, events, hub):

@@ -6,7 +6,7 @@ The answers are worked out by the model of gauge_cases.py, with none of the prog
 import struct
 import sys
 
-from gauge_cases import HELLO, Gauge, features, stats, status, upto
+from gauge_cases import HELLO, PROM, Gauge, escaped, features, flow, flows, stats, status, upto
 
 FAUCET = ("{vlans: {office: {vid: 100}}, dps: {sw1: {dp_id: 0x1, hardware: \"Open vSwitch\", interfaces: "
           "{1: {name: host1, native_vlan: office}, 2: {name: host2, native_vlan: office}}}}}")
@@ -16,10 +16,12 @@ GAUGE = ("{faucet_configs: [f.yaml], watchers: {ports: {type: port_state, all_dp
 DPS = {1: ("sw1", {1: "host1", 2: "host2"})}
 WATCHERS = [{"name": "ports", "type": "port_state", "dps": [1], "files": ["s.log"], "interval": 30},
             {"name": "stats", "type": "port_stats", "dps": [1], "files": ["p.log", "q.log"], "interval": 10}]
-
-
-def escaped(text):
-    return text.replace("\\", "\\\\").replace("\t", "\\t").replace("\n", "\\n")
+FLOWS = ("{faucet_configs: [f.yaml], watchers: {entries: {type: flow_table, all_dps: true, dbs: [m, f], interval: 10}, ports: {type: port_state, "
+         "dps: [sw1], db: m}, stats: {type: port_stats, dps: [sw1], db: m}}, dbs: {f: {type: text, file: f.log}, m: {type: prometheus, "
+         "prometheus_addr: localhost, prometheus_port: 9303}}}")
+FLOW_WATCHERS = [{"name": "entries", "type": "flow_table", "dps": [1], "files": [PROM, "f.log"], "interval": 10},
+                 {"name": "ports", "type": "port_state", "dps": [1], "files": [PROM], "interval": 30},
+                 {"name": "stats", "type": "port_stats", "dps": [1], "files": [PROM], "interval": 30}]
 
 
 class Runs:
@@ -57,12 +59,12 @@ class Runs:
                 story.append(["end", str(conn)])
         return story
 
-    def told(self, story):
+    def told(self, story, watchers=WATCHERS):
         """Standard output, lines on standard error, and what the hub was told, turn by turn."""
-        gauge, out, err, hub = Gauge(DPS, WATCHERS), "", "", []
+        gauge, out, err, hub = Gauge(DPS, watchers), "", "", []
         for words in story:
             said, lines = gauge.turn(words)
-            out += "".join(line + "\n" for line in lines)
+            out += "".join(lines)
             hub.append(" hub gave a turn")
             for one in said:
                 what, rest = one.split(" ", 1)
@@ -74,11 +76,11 @@ class Runs:
                     hub.append("  closed " + rest.split(" ")[0])
         return out, err, hub
 
-    def hub(self, turns, words, code, last="", events=None):
+    def hub(self, turns, words, code, last="", events=None, watchers=WATCHERS):
         names = {"open": "opened", "bytes": "heard", "end": "closed", "moment": "moment"}
         self.put("hub " + " ".join(":".join([names.get(t[0], t[0]), *t[1:]]) for t in turns))
         story = [t for t in turns if t[0] != "fail"][:events]
-        out, err, hub = self.told(story)
+        out, err, hub = self.told(story, watchers)
         self.put(f"run {words}", f" => {code}", *self.written(out, err + last), *hub)
 
 
@@ -94,6 +96,14 @@ def runs():
     r.records("r.rec", told)
     out, err, _ = r.told(r.story(told))
     r.put("run gauge g.yaml r.rec", " => 0", *r.written(out, err))
+    r.put("# flow tables, and blocks for Prometheus")
+    r.put(f"file flow.yaml {FLOWS}")
+    entries = begun + [(10000, 2, 1, flows(5, [flow(0, 1, 5, 320)], True)), (10000, 2, 1, status(2, 1, 0, 1)), (10000, 2, 1, stats(4, [(1, upto(1))])),
+                       (10001, 2, 1, flows(5, [flow(7, 10, 6, 330, bytes.fromhex("8000000400000001"))])), (10002, 2, 1, flows(5, [flow(0, 1, 5, 320)[:-1]]))]
+    r.records("flow.rec", entries)
+    out, err, _ = r.told(r.story(entries), FLOW_WATCHERS)
+    r.put("run gauge flow.yaml flow.rec", " => 0", *r.written(out, err))
+    out, err, _ = r.told(r.story(told))
     r.put("# a record that is refused behind these, a recording that isn't there, and files that fail")
     r.records("cut.rec", told, b"\0")
     r.put("run gauge g.yaml cut.rec", " => 5", *r.written(out, err + f"recording: record {len(told) + 1}: Cut\n"))
@@ -103,8 +113,8 @@ def runs():
     r.refused("gauge far.yaml r.rec", 3, "nofile.yaml: read fault\n")
     r.put("file both.yaml {faucet_configs: [f.yaml], watchers: {w: {type: port_stats, dps: [sw1], db: p, dbs: [p]}}, dbs: {p: {type: text, file: p.log}}}")
     r.refused("gauge both.yaml r.rec", 2, "both.yaml: watchers.w: Conflict 2\n")
-    r.put("file flow.yaml {faucet_configs: [f.yaml], watchers: {w: {type: flow_table, dps: [sw1], db: p}}, dbs: {p: {type: text, file: p.log}}}")
-    r.refused("gauge flow.yaml r.rec", 2, "flow.yaml: watchers.w.type: LeftOut\n")
+    r.put("file influx.yaml {faucet_configs: [f.yaml], watchers: {w: {type: flow_table, dps: [sw1], db: p}}, dbs: {p: {type: influx, file: p.log}}}")
+    r.refused("gauge influx.yaml r.rec", 2, "influx.yaml: dbs.p.type: LeftOut\n")
     r.put("file other.yaml {faucet_configs: [f.yaml], watchers: {w: {type: port_stats, dps: [sw9], db: p}}, dbs: {p: {type: text, file: p.log}}}")
     r.refused("gauge other.yaml r.rec", 2, "other.yaml: watchers.w.dps.0: Unresolved\n")
     r.put("file bad.yaml {faucet_configs: [tab.yaml], watchers: {}, dbs: {}}")
@@ -132,6 +142,9 @@ def runs():
             ["bytes", "1", (status(1, 2) + stats(4, [(9, [2 ** 64 - 1] * 12)])).hex()], ["end", "1"]]
     r.hub(live, "gauge-serve g.yaml --events 9", 0)
     r.hub(live, "gauge-serve g.yaml --events=5", 7, "events spent\n", 5)
+    r.hub(live[:2] + [["bytes", "1", flows(3, [flow(0, 1, 5, 320)]).hex()], ["bytes", "1", status(2, 2, 1).hex()], ["moment", "10000"],
+                      ["bytes", "1", (flows(3, []) + flows(5, []) + stats(4, [(2, upto(7))])).hex()], ["bytes", "1", flows(9, [b"\0"]).hex()]],
+          "gauge-serve flow.yaml --events 9", 0, watchers=FLOW_WATCHERS)
     r.hub(live[:2] + [["fail", "3"]], "gauge-serve g.yaml --events 9", 6, "hub fault\n")
     r.hub([["open", "1"], ["bytes", "1", (HELLO + features(7)).hex()]], "gauge-serve --events 2 g.yaml", 7, "events spent\n", 2)
     r.put("poller fails")

@@ -289,6 +289,47 @@ believe_is_fresh() {
   "$tools/believe"
 }
 
+# The newest block of each datapath and kind, lines of text dbs passed over; and nothing of what is too old.
+textfile_keeps_the_newest_blocks() {
+  cat >stream <<'END'
+f.log	10000	sw1	0:1:00010004	packets	5
+# TYPE of_flow_packets counter
+of_flow_packets{dp_id="1",dp_name="sw1",table="0",priority="1",match="00010004"} 5
+# TYPE of_flow_bytes counter
+of_flow_bytes{dp_id="1",dp_name="sw1",table="0",priority="1",match="00010004"} 320
+
+# TYPE of_port_state gauge
+of_port_state{dp_id="10",dp_name="sw10",port="2",port_name="a\"b"} 0
+
+# TYPE of_port_state gauge
+of_port_state{dp_id="2",dp_name="sw2",port="1",port_name="host1"} 1
+
+# TYPE of_flow_packets counter
+of_flow_packets{dp_id="1",dp_name="sw1",table="0",priority="1",match="00010004"} 7
+# TYPE of_flow_bytes counter
+of_flow_bytes{dp_id="1",dp_name="sw1",table="0",priority="1",match="00010004"} 448
+
+# TYPE of_port_state gauge
+of_port_state{dp_id="2",dp_name="sw2",port="1",port_name="host1"} 0
+END
+  "$tools/textfile" out.prom <stream
+  cat >wanted <<'END'
+# HELP of_flow_bytes Bytes of these packets.
+# TYPE of_flow_bytes counter
+of_flow_bytes{dp_id="1",dp_name="sw1",table="0",priority="1",match="00010004"} 448
+# HELP of_flow_packets Packets that the flow entry was applied to.
+# TYPE of_flow_packets counter
+of_flow_packets{dp_id="1",dp_name="sw1",table="0",priority="1",match="00010004"} 7
+# HELP of_port_state 1 where the port is up, 0 where it is down or was deleted.
+# TYPE of_port_state gauge
+of_port_state{dp_id="2",dp_name="sw2",port="1",port_name="host1"} 1
+of_port_state{dp_id="10",dp_name="sw10",port="2",port_name="a\"b"} 0
+END
+  same wanted out.prom
+  { cat stream; sleep 5; } | "$tools/textfile" --interval 1 old.prom
+  [ -f old.prom ] && [ ! -s old.prom ]
+}
+
 try said_reads_a_recording
 try said_reads_what_replay_wrote program
 try said_speaks_as_ovs_ofctl program ovs-ofctl
@@ -302,6 +343,7 @@ try why_has_a_place_for_each_entry program python3-yaml
 try why_goes_as_open_vswitch program python3-yaml ovs-vswitchd root
 try preflight_holds_on_open_vswitch ovs-vswitchd root
 try preflight_sees_what_does_not_hold
+try textfile_keeps_the_newest_blocks
 try topology_draws_each_example program dot
 try from_faucet_writes_what_is_accepted program python3-yaml
 try from_faucet_keeps_what_is_accepted program python3-yaml
