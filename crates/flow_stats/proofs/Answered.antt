@@ -1,5 +1,5 @@
 -- What reading a part gives is what its bytes spell, or what is wrong with them.
-use Rattle.std.proofs.Common.{◌≡◌, ℕ, zero, suc, ◌+◌, ◌%◌, ◌≤◌, Bool, true, false, cond, eqb, ltb, not, ◌||◌, List, [], ◌∷◌, ◌++◌, length, take, drop, Option, Some, None, Result, Ok, Err, refl, sym, ap, ◌∙◌, subst, arith, inl, inr, ◌⊎◌, append_assoc}
+use Rattle.std.proofs.Common.{◌≡◌, ◌↔◌, ◌<◌, get_or, ℕ, zero, suc, ◌+◌, ◌%◌, ◌≤◌, Bool, true, false, cond, eqb, ltb, not, ◌||◌, List, [], ◌∷◌, ◌++◌, length, take, drop, Option, Some, None, Result, Ok, Err, refl, sym, ap, ◌∙◌, subst, arith, inl, inr, ◌⊎◌, append_assoc}
 use Rattle.std.proofs.lemmas.Bool.{ltb-false, ltb-true, eqb-true, eqb-false, cases_lt}
 use Rattle.std.proofs.lemmas.List.{length-append, length-drop, length-take-le, take-append-drop, append-nil, nil_from_length}
 use Rattle.of_wire.specs.declared.fault.PartCause.{PartCause}
@@ -198,3 +198,33 @@ is_read body (Ok (Some other)) part told s = inl (ap (λ p. Ok (Some p)) (one_pa
 is_read body (Ok None) part told s = absurd (no_part part body told s)
 is_read body (Err (At fault)) part told s = absurd (part_or_fault part body fault s told)
 is_read body (Err Memory) part told s = inr refl
+
+-- ---- reading, as a function
+
+by_part : (body : List ℕ) (r : Result (Option FlowPart) PartFault) (part : FlowPart) → TellsPart body r → SpellsPart part body → r ≡ Ok (Some part)
+by_part body (Ok (Some other)) part told s = ap (λ p. Ok (Some p)) (one_part other part body told s)
+by_part body (Ok None) part told s = absurd (no_part part body told s)
+by_part body (Err fault) part told s = absurd (part_or_fault part body fault s told)
+
+by_other : (body : List ℕ) (r : Result (Option FlowPart) PartFault) → TellsPart body r → IsOtherPart body → r ≡ Ok None
+by_other body (Ok (Some part)) told is = absurd (no_part part body is told)
+by_other body (Ok None) told is = refl
+by_other body (Err fault) told is = absurd (no_fault body fault is told)
+
+by_first : (body : List ℕ) (r : Result (Option FlowPart) PartFault) (fault : PartFault) → TellsPart body r → FaultInPart body fault → r ≡ Err fault
+by_first body (Ok (Some part)) fault told f = absurd (part_or_fault part body fault told f)
+by_first body (Ok None) fault told f = absurd (no_fault body fault told f)
+by_first body (Err other) fault told f = ap (λ g. Err g) (fault_once body other fault told f)
+
+module _ (body : List ℕ) (small : (i : ℕ) → get_or body i 0 < 256) where
+  told : TellsPart body (part_at body)
+  told = part_told body (record { small = small })
+
+  pub reads_part : (part : FlowPart) → (part_at body ≡ Ok (Some part)) ↔ SpellsPart part body
+  reads_part part = ((λ e. subst (TellsPart body) e told), (λ s. by_part body (part_at body) part told s))
+
+  pub reads_other : (part_at body ≡ Ok None) ↔ IsOtherPart body
+  reads_other = ((λ e. subst (TellsPart body) e told), (λ is. by_other body (part_at body) told is))
+
+  pub reads_fault : (fault : PartFault) → (part_at body ≡ Err fault) ↔ FaultInPart body fault
+  reads_fault fault = ((λ e. subst (TellsPart body) e told), (λ f. by_first body (part_at body) fault told f))
