@@ -33,10 +33,9 @@ use Rattle.ctl_packets.proofs.Keeping.{packet_in_kept}
 use Rattle.ctl_packets.proofs.PacketHosts.{hosts_told, packet_hosts}
 use Rattle.ctl_settle.specs.Rest.{AreBounded, host_until}
 use Rattle.ctl_settle.proofs.Until.{less_bounded, same_bounded}
-use Rattle.law_names.specs.Differing.{host}
-use Rattle.law_names.specs.Names.{Names}
-use Rattle.law_names.specs.Packets as names
-use Rattle.law_names.proofs.Packets.{packet_named}
+use Rattle.ctl_settle.specs.Names.{Names, host}
+use Rattle.ctl_settle.specs.Names as names
+use Rattle.ctl_settle.proofs.Names.{packet_named}
 use Rattle.law_runs.specs.Members.{all_joined}
 use Rattle.ctl_core.specs.declared.ends.Ends.{Ends}
 use Rattle.ctl_core.specs.declared.ends.Ends.TheVariants as ends

@@ -9,6 +9,7 @@ pub mod ReloadSteps
 pub mod Rests
 pub mod SaidTables
 pub mod Settled
+pub mod Settlings
 pub mod SoundFrames
 pub mod SoundGateways
 pub mod SoundReloads

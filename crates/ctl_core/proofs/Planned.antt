@@ -8,7 +8,7 @@ use Rattle.of13_codec.specs.declared.message.Message.{Message}
 use Rattle.of13_codec.specs.declared.message.Message.TheVariants as messages
 use Rattle.of13_codec.specs.declared.ports.PortDesc.{PortDesc}
 use Rattle.flow_messages.specs.Messages.{delete_all}
-use Rattle.warm_plan.specs.Kept.{Kept}
+use Rattle.ctl_settle.specs.Plans.{Kept}
 use Rattle.switch_session.specs.declared.closing.Closing.{Closing}
 use Rattle.switch_session.specs.declared.closing.Closing.TheVariants.{WrongVersion}
 use Rattle.switch_session.specs.declared.ports.PortTold.{PortTold}
@@ -28,7 +28,7 @@ use Rattle.ctl_world.specs.Ends.{close, ended, forget_lost}
 use Rattle.ctl_world.specs.Saying.{ask, packet_out, say, say_by}
 use Rattle.ctl_world.specs.World.{World}
 use Rattle.ctl_life.specs.Life.{echo, open_conn, replace, take_dp, turn_away}
-use Rattle.ctl_life.proofs.Numbered.{changed_own, put_other, put_own, shut_none, without_other, without_own}
+use Rattle.ctl_world.proofs.Numbered.{changed_own, put_other, put_own, shut_none, without_other, without_own}
 use Rattle.ctl_settle.specs.declared.plans.Held.{Held}
 use Rattle.ctl_settle.specs.Plans.{AreHeld, Fit, Fits, has_run, plan_for}
 use Rattle.ctl_settle.proofs.Fitting.{fit_at, fit_changed, fit_one}

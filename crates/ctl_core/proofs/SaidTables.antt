@@ -5,7 +5,7 @@ use Rattle.std.specs.Option.{option_map}
 use Rattle.net_base.specs.declared.numbers.DpId.{DpId}
 use Rattle.conf_types.specs.declared.datapath.Dp.{Dp}
 use Rattle.conf_types.specs.State.{is_running}
-use Rattle.warm_plan.specs.Kept.{Kept}
+use Rattle.ctl_settle.specs.Plans.{Kept}
 use Rattle.ctl_world.specs.declared.conns.Conn.{Conn}
 use Rattle.ctl_world.specs.Connections.{conn_of}
 use Rattle.ctl_world.specs.World.{World, is_at_work, running_of}

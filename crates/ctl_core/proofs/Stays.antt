@@ -6,7 +6,7 @@ use Rattle.ctl_world.specs.declared.conns.Conn.{Conn}
 use Rattle.ctl_world.specs.Connections.{change, conn_with, with_heard}
 use Rattle.ctl_world.specs.Ends.{forget_lost}
 use Rattle.ctl_world.specs.World.{World}
-use Rattle.ctl_life.proofs.Numbered.{change_kept}
+use Rattle.ctl_world.proofs.Numbered.{change_kept}
 
 heard_same : (m : Message) (xid : ℕ) (c : Conn) → (leads c.session.state m xid).0 ≡ c.session.state → with_heard m xid c ≡ c
 heard_same m xid c same = λ i. record c { session = record c.session { state = same i } }

@@ -27,7 +27,7 @@ use Rattle.ctl_world.specs.Ends.{forget_lost}
 use Rattle.ctl_world.specs.World.{IsSound, World, now}
 use Rattle.ctl_world.proofs.Faces.{alike_through}
 use Rattle.ctl_life.specs.Silence.{show}
-use Rattle.ctl_life.proofs.Numbered.{change_same}
+use Rattle.ctl_world.proofs.Numbered.{change_same}
 use Rattle.ctl_settle.specs.declared.plans.Held.{Held}
 use Rattle.ctl_settle.specs.Rest.{AreBounded, AreInOrder, rests_until}
 use Rattle.ctl_settle.specs.Touched.{AllFollow}
@@ -36,14 +36,8 @@ use Rattle.ctl_settle.proofs.Until.{fresh_before, same_bounded}
 use Rattle.law_runs.specs.Members.{tail_of}
 use Rattle.conf_types.specs.declared.change.Change.{Change}
 use Rattle.conf_types.specs.declared.change.Change.TheVariants as changes
-use Rattle.law_units.specs.Reached.{is_other}
-use Rattle.law_names.specs.Differing.{host}
-use Rattle.law_names.specs.Ends.{dps_on}
-use Rattle.law_names.specs.Names.{Names}
-use Rattle.law_names.proofs.Hosts.{gone_named, turned_named}
-use Rattle.law_names.proofs.Joined.{more_named}
-use Rattle.law_names.proofs.Stepped.{join, kept_quiet, say_quiet, then_quiet}
-use Rattle.law_names.proofs.Strangers.{IsSame, no_dp_on}
+use Rattle.ctl_settle.specs.Names.{Names, dps_on, host, is_other}
+use Rattle.ctl_settle.proofs.Names.{IsSame, gone_named, join, kept_quiet, more_named, no_dp_on, say_quiet, then_quiet, turned_named}
 use Rattle.ctl_core.specs.declared.found.Found.{Found}
 use Rattle.ctl_core.specs.declared.ends.Ends.{Ends}
 use Rattle.ctl_core.specs.declared.ends.Ends.TheVariants as ends

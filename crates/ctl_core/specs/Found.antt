@@ -19,8 +19,7 @@ use Rattle.ctl_world.specs.World.{World}
 use Rattle.ctl_packets.specs.Packets.{gateways, routes, sources}
 use Rattle.ctl_settle.specs.Rest.{AreBounded, host_until}
 use Rattle.ctl_settle.specs.Touched.{MayDiffer}
-use Rattle.law_names.specs.Differing.{host}
-use Rattle.law_names.specs.Names.{Names}
+use Rattle.ctl_settle.specs.Names.{Names, host}
 use Rattle.ctl_core.specs.declared.ends.Ends.{Ends}
 use Rattle.ctl_core.specs.declared.ends.Ends.TheVariants as ends
 use Rattle.ctl_core.specs.declared.found.Found.{Found}

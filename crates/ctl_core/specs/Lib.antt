@@ -2,6 +2,7 @@ pub mod Hearing
 pub mod Found
 pub mod Known
 pub mod Reloading
+pub mod Settlings
 pub mod Story
 pub mod Turning
 pub mod Turns

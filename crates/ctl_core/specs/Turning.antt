@@ -5,8 +5,7 @@ use Rattle.conf_types.specs.Configuration.{Configuration}
 use Rattle.conf_types.specs.State.{is_fresh, is_to_forget}
 use Rattle.ctl_world.specs.World.{World}
 use Rattle.conf_types.specs.declared.change.Change.{Change}
-use Rattle.law_units.specs.Reached.{is_other}
-use Rattle.law_names.specs.Differing.{host}
+use Rattle.ctl_settle.specs.Names.{host, is_other}
 
 abbrev pub turns : Configuration → (before moment : ℕ) → HostRec → Bool
 turns conf before moment h = is_other (is_fresh conf before h) (is_fresh conf moment h) || is_to_forget conf moment h

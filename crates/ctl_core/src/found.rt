@@ -10,7 +10,7 @@ ghost use Rattle.ctl_core.specs.declared.found.Found.TheVariants.{Due, One};
 ghost use Rattle.ctl_core.specs.Found.{behind_step, by_end, by_packet, by_port, by_table, ends_of, is_stranger, is_touched, may_differ, or_due};
 
 use crate::ends::Ends;
-use conf_types::{Conf, HostRec};
+use conf_types::{Change, Conf, HostRec};
 use ctl_settle::Touched;
 use ctl_world::{Conns, World};
 use neighbour_resolve::{counted_vid, heard_sender};
@@ -20,7 +20,6 @@ use of13_codec::PacketIn;
 use pkt_view::{FrameView, view};
 use plan_base::Table;
 use std::alloc::Global;
-use warm_plan::Change;
 
 /// What a settling finds behind a frame.
 #[derive(Clone, Copy, Debug)]

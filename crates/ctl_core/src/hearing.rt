@@ -27,13 +27,14 @@ use crate::setup::{introduce, unfit, wipe};
 use conf_types::{Conf, Tally};
 use ctl_life::{answer_echo, read_message, turn_away};
 use ctl_packets::packet_in;
-use ctl_settle::laws::{alike_worlds_have_the_same_plans, alike_worlds_rest_alike};
+use ctl_settle::laws::{
+    alike_worlds_have_the_same_plans, alike_worlds_rest_alike, strangers_change_nothing,
+};
 use ctl_world::laws::{
     a_sound_world_has_lost_nothing, alike_worlds_run_alike, forgetting_what_is_lost_makes_it_sound,
     such_changes_leave_it_sound, what_is_said_is_alike,
 };
 use ctl_world::{Front, World};
-use law_names::steps::strangers_change_nothing;
 use net_base::{DpId, NoMemory};
 use of13_codec::{Message, PacketIn};
 use std::alloc::Global;

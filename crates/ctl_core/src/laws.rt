@@ -20,8 +20,10 @@ ghost use Rattle.ctl_core.specs.Reloading.{accepted, reload};
 ghost use Rattle.ctl_core.specs.Turns.{pass, turn};
 
 use conf_check::laws::an_accepted_configuration_is_valid;
-use ctl_settle::laws::{
-    a_settling_leaves_nothing_waiting, alike_worlds_rest_alike, what_rests_settles_as_it_is,
+pub use ctl_settle::laws::{
+    a_batch_leads_to_the_cold_start, a_batch_leaves_the_state, a_settling_leaves_it_at_rest,
+    a_settling_leaves_nothing_waiting, alike_worlds_rest_alike, asks_leave_the_state,
+    what_rests_settles_as_it_is,
 };
 
 /// Whatever a frame says, what was learned stays valid.

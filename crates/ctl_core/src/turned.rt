@@ -3,12 +3,11 @@
 ghost use Rattle.std.specs.Prelude.{◌≡◌, Some, IfOk};
 ghost use Rattle.ctl_core.specs.Turning.{turned, turns};
 
-use conf_types::{Conf, HostRec};
+use conf_types::{Change, Conf, HostRec};
 use ctl_settle::Touched;
 use ctl_world::World;
 use net_base::{Moment, NoMemory};
 use std::alloc::Global;
-use warm_plan::Change;
 
 /// Whether a host is fresh at one of two moments alone, or is to be forgotten at the later one.
 fn turns(conf: &Conf, before: Moment, moment: Moment, host: &HostRec) -> bool

@@ -23,7 +23,8 @@ use crate::turned::turned;
 use conf_types::Tally;
 use ctl_life::{closing_for, look_after, open};
 use ctl_settle::laws::{
-    alike_worlds_have_the_same_plans, alike_worlds_rest_alike, what_rests_settles_as_it_is,
+    alike_worlds_have_the_same_plans, alike_worlds_rest_alike, strangers_change_nothing,
+    what_rests_settles_as_it_is,
 };
 use ctl_settle::{Touched, rests_until};
 use ctl_world::World;
@@ -31,7 +32,6 @@ use ctl_world::laws::{
     alike_worlds_run_alike, forgetting_what_is_lost_makes_it_sound, what_is_said_is_alike,
 };
 use fg_outside::{EndCause, Happening};
-use law_names::steps::strangers_change_nothing;
 use net_base::{Moment, NoMemory};
 use std::alloc::Global;
 

@@ -13,7 +13,7 @@ use Rattle.ctl_world.specs.Connections.{change, conn_with, is_open, with_looked,
 use Rattle.ctl_world.specs.Saying.{say, say_by}
 use Rattle.ctl_world.specs.World.{World}
 use Rattle.ctl_life.specs.Silence.{closes, falls_silent, is_silent, look, look_on, stir}
-use Rattle.ctl_life.proofs.Numbered.{shut_none, with_seen}
+use Rattle.ctl_world.proofs.Numbered.{shut_none, with_seen}
 
 -- ---- a connection is closed after 60 seconds, whether an echo was asked for or not
 

@@ -7,7 +7,7 @@ use Rattle.ctl_world.specs.declared.conns.Conn.{Conn}
 use Rattle.ctl_world.specs.Connections.{change, conn_with, is_open, with_looked}
 use Rattle.ctl_world.specs.World.{World}
 use Rattle.ctl_life.specs.Silence.{look, look_on, stir}
-use Rattle.ctl_life.proofs.Numbered.{has_it, shut_none}
+use Rattle.ctl_world.proofs.Numbered.{has_it, shut_none}
 use Rattle.ctl_life.proofs.Openings.{open_is}
 
 pub look_not : (number : ℕ) (w : World) → is_open w.conns number ≡ false → look number w ≡ w

@@ -12,7 +12,7 @@ use Rattle.ctl_world.specs.Frames.{front}
 use Rattle.ctl_world.specs.Saying.{say_by}
 use Rattle.ctl_world.specs.World.{World}
 use Rattle.ctl_life.specs.Life.{unread, open_conn}
-use Rattle.ctl_life.proofs.Numbered.{put_other, put_own, shut_none, without_other, without_own}
+use Rattle.ctl_world.proofs.Numbered.{put_other, put_own, shut_none, without_other, without_own}
 
 pub open_is : (conns : List Conn) (n : ℕ) → is_open conns n ≡ is_some (conn_with conns n)
 open_is [] n = refl

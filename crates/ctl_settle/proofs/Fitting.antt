@@ -15,7 +15,7 @@ use Rattle.switch_session.specs.declared.state.Stage.TheVariants.{Greeting, Feat
 use Rattle.ctl_world.specs.declared.conns.Conn.{Conn}
 use Rattle.ctl_world.specs.Connections.{change, conn_of, conn_with, is_of}
 use Rattle.ctl_world.specs.World.{World, is_at_work, now, running, running_of, runs}
-use Rattle.ctl_life.proofs.Numbered.{changed_other, changed_own, is_its, unlike}
+use Rattle.ctl_world.proofs.Numbered.{changed_other, changed_own, is_its, unlike}
 use Rattle.ctl_settle.specs.declared.plans.Held.{Held}
 use Rattle.ctl_settle.specs.Plans.{AreBrought, Fit, Fits, IsPlanOf, brought, has_run, is_for, opened, plan_for, renewed, runs_on, with_plan, with_plan_on, with_plans}
 use Rattle.ctl_settle.proofs.Batches.{AreByNumber, found_all}

@@ -6,6 +6,7 @@ pub mod DueOnce
 pub mod Fitting
 pub mod Following
 pub mod Learned
+pub mod Names
 pub mod PlanPlaces
 pub mod Placing
 pub mod SamePlans

@@ -7,7 +7,7 @@ use Rattle.conf_types.specs.Configuration.{Configuration}
 use Rattle.conf_types.specs.State.{State}
 use Rattle.cold_start.specs.Cold.{cold_at}
 use Rattle.warm_plan.specs.Kept.{Kept}
-use Rattle.ctl_life.proofs.Numbered.{apart}
+use Rattle.ctl_world.proofs.Numbered.{apart}
 use Rattle.ctl_settle.specs.declared.plans.Held.{Held}
 use Rattle.ctl_settle.specs.Plans.{is_for, plan_for, renewed, taken, took}
 

@@ -22,7 +22,7 @@ use Rattle.ctl_world.specs.declared.conns.Conn.{Conn}
 use Rattle.ctl_world.specs.Connections.{change, conn_of, conn_with, with_said}
 use Rattle.ctl_world.specs.Saying.{packet_out, say}
 use Rattle.ctl_world.specs.World.{World, now, running}
-use Rattle.ctl_life.proofs.Numbered.{changed_other, changed_own, unlike}
+use Rattle.ctl_world.proofs.Numbered.{changed_other, changed_own, unlike}
 use Rattle.ctl_settle.specs.declared.plans.Held.{Held}
 use Rattle.ctl_settle.specs.Plans.{AreBrought, AreCurrent, AreFresh, Fit, Fits, IsPlanOf, IsReady, has_run, is_for, plan_for, taken, taken_on, took, with_batch}
 use Rattle.ctl_settle.specs.Rest.{AreInOrder}

@@ -1,3 +1,4 @@
+pub mod Names
 pub mod Settling
 pub mod Rest
 pub mod Plans

@@ -6,7 +6,7 @@ use Rattle.net_base.specs.declared.numbers.DpId.{DpId}
 use Rattle.conf_types.specs.Configuration.{Configuration}
 use Rattle.conf_types.specs.State.{State, is_running}
 use Rattle.cold_start.specs.Cold.{cold_at}
-use Rattle.warm_plan.specs.Kept.{Kept}
+pub use Rattle.warm_plan.specs.Kept.{Kept}
 use Rattle.switch_session.specs.declared.state.Stage.{Stage}
 use Rattle.switch_session.specs.declared.state.Stage.TheVariants.{Greeting, Features, Ports, Wiping, Running, Shut}
 use Rattle.ctl_world.specs.declared.conns.Conn.{Conn}

@@ -23,6 +23,7 @@ ghost use Rattle.ctl_settle.specs.Settling.{ask_all, batch, settle, wanted};
 
 use cold_start::laws::a_cold_start_is_the_plan_in_key_order;
 use ctl_world::laws::{such_changes_leave_it_sound, what_is_said_leaves_it_sound};
+pub use law_names::steps::strangers_change_nothing;
 use neighbour_resolve::laws::{
     a_settling_ends, datapaths_are_asked_in_order, what_is_left_is_valid,
 };

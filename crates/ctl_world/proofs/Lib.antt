@@ -2,6 +2,7 @@ pub mod Faces
 pub mod Fronts
 pub mod Leaving
 pub mod Lost
+pub mod Numbered
 pub mod Places
 pub mod Says
 pub mod SoundChanges

@@ -28,7 +28,7 @@ use Rattle.ctl_world.specs.Saying.{say, say_by}
 use Rattle.ctl_world.specs.World.{World}
 use Rattle.ctl_life.specs.Life.{closing_for, echo, feed, has_frame, open_conn, read, replace, take_dp, tell_version, turn_away, unread}
 use Rattle.ctl_life.specs.Silence.{look, look_each, look_on, show, stir}
-use Rattle.ctl_life.proofs.Numbered.{has_it}
+use Rattle.ctl_world.proofs.Numbered.{has_it}
 use Rattle.ctl_life.proofs.Openings.{with_fresh}
 use Rattle.conf_types.specs.declared.datapath.Dp.{Dp}
 use Rattle.gauge_conf.specs.declared.gauge.WatchKind.{WatchKind}

@@ -1,1 +1,4 @@
+pub mod Bytes
+pub mod Described
 pub mod Fronts
+pub mod Spelled

@@ -1,1 +1,3 @@
+pub mod Answered
 pub mod Answers
+pub mod Whole

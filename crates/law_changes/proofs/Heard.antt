@@ -29,7 +29,7 @@ use Rattle.ctl_world.specs.Frames.{front, with_read}
 use Rattle.ctl_world.specs.Saying.{ask, say}
 use Rattle.ctl_world.specs.World.{World, running}
 use Rattle.ctl_life.specs.Life.{echo, feed, has_frame, read, replace, says, take_dp, tell_version, turn_away, unread}
-use Rattle.ctl_settle.specs.Settling.{settle}
+use Rattle.ctl_core.specs.Settlings.{settle}
 use Rattle.ctl_core.specs.Hearing.{begin, follow, hear_frame, hear_frames, hear_front, hear_next, hear_on, introduce, packet, unfit, want_gateways, want_in, want_routes, wipe}
 use Rattle.law_names.specs.Ends.{by_change, by_end, by_replace, by_take}
 use Rattle.law_changes.specs.Frames.{by_frame, by_frames, by_front, by_introduce, by_message_on, by_next, by_packet, by_piece, by_step}

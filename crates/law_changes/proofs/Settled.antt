@@ -13,10 +13,10 @@ use Rattle.neighbour_resolve.specs.Due.{due_said}
 use Rattle.ctl_world.specs.Connections.{conn_of, with_sent}
 use Rattle.ctl_world.specs.Saying.{ask, say}
 use Rattle.ctl_world.specs.World.{World, running}
-use Rattle.ctl_settle.specs.Settling.{ask_all, ask_due, batch, batch_on, batches, note_sent, say_batch, say_due, say_each, settle, take_due, wanted}
+use Rattle.ctl_core.specs.Settlings.{ask_all, ask_due, batch, batch_on, batches, note_sent, say_batch, say_due, say_each, settle, take_due, wanted}
 use Rattle.law_names.specs.Names.{Names}
 use Rattle.law_names.specs.Dues.{due}
-use Rattle.ctl_settle.proofs.AskedNames.{ask_named}
+use Rattle.ctl_core.proofs.Settlings.{ask_named}
 use Rattle.law_changes.specs.Settlings.{by_due, by_settling}
 use Rattle.law_names.proofs.Stepped.{ask_quiet, join, kept_quiet, nothing, of_either, quiet_option, say_quiet, then_quiet}
 

@@ -19,9 +19,10 @@ use Rattle.ctl_world.specs.Ends.{ended}
 use Rattle.ctl_world.specs.World.{World, now}
 use Rattle.ctl_life.specs.Life.{closing_for, open_conn}
 use Rattle.ctl_life.specs.Silence.{look, look_each, look_on, show, stir}
-use Rattle.ctl_settle.specs.Settling.{settle}
+use Rattle.ctl_core.specs.Settlings.{settle}
 use Rattle.ctl_core.specs.Reloading.{accepted, reload}
 use Rattle.ctl_core.specs.Turns.{age, hear, pass, turn, work}
+use Rattle.ctl_core.proofs.Telling.{show_names}
 use Rattle.conf_types.specs.declared.change.Change.{Change}
 use Rattle.conf_types.specs.declared.change.Change.TheVariants as change
 use Rattle.law_changes.specs.Clock.{by_age, by_clock, by_look, by_look_on, by_looks, by_moment, by_passing, by_stir}
@@ -32,22 +33,14 @@ use Rattle.law_names.specs.Names.{Names}
 use Rattle.law_changes.specs.Settlings.{by_settling}
 use Rattle.law_changes.specs.Turns.{touched}
 use Rattle.law_changes.proofs.Heard.{piece_named}
-use Rattle.law_names.proofs.Hosts.{gone_named, turned_named}
+use Rattle.law_names.proofs.Hosts.{gone_named}
 use Rattle.law_changes.proofs.Settled.{settle_named}
 use Rattle.law_names.proofs.Stepped.{added_quiet, close_named, ended_named, join, kept_quiet, nothing, of_option, of_two, open_quiet, say_quiet, still}
 
 -- ---- the clock
 
 show_named : (moment : ℕ) (w : World) → Names w (show moment w) (by_moment moment w)
-show_named moment w = record {
-  conf = refl;
-  named = record {
-    hosts = λ group vid mac other. turned_named w.conf group vid mac (now w) (now (show moment w)) w.hosts.hosts other;
-    ports = λ dp port other. absurd (other refl);
-    dps = λ dp other. absurd (other refl);
-    neighbours = λ group vid ip other. absurd (other refl);
-  };
-}
+show_named = show_names
 
 stir_named : (q : Quiet) (number : ℕ) (w : World) → IsValid w.conf → Names w (stir q number w) (by_stir q number w)
 stir_named quiet.Well number w valid = nothing w

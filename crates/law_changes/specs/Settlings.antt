@@ -3,7 +3,7 @@ use Rattle.std.specs.Prelude.{ℕ, zero, suc, List, [], ◌∷◌, length}
 use Rattle.std.specs.Option.{option_map_or}
 use Rattle.neighbour_resolve.specs.Due.{due_said}
 use Rattle.ctl_world.specs.World.{World}
-use Rattle.ctl_settle.specs.Settling.{say_due, take_due}
+use Rattle.ctl_core.specs.Settlings.{say_due, take_due}
 use Rattle.conf_types.specs.declared.change.Change.{Change}
 use Rattle.law_names.specs.Dues.{due}
 

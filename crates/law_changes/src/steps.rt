@@ -9,7 +9,7 @@ ghost use Rattle.conf_types.specs.Groups.{group_of};
 ghost use Rattle.of13_codec.specs.declared.message.Message.{Message};
 ghost use Rattle.ctl_world.specs.World.{World};
 ghost use Rattle.ctl_packets.specs.Packets.{learn};
-ghost use Rattle.ctl_settle.specs.Settling.{ask_all, settle};
+ghost use Rattle.ctl_core.specs.Settlings.{ask_all, settle};
 ghost use Rattle.ctl_core.specs.Hearing.{hear_frame};
 ghost use Rattle.ctl_core.specs.Turns.{pass};
 ghost use Rattle.law_names.specs.Names.{Names};

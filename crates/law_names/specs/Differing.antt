@@ -12,7 +12,7 @@ use Rattle.conf_types.specs.State.{State, is_running}
 use Rattle.conf_types.specs.Changes.{mac_of_neighbour, Standing, standing_of}
 use Rattle.conf_types.specs.declared.change.Change.{Change}
 use Rattle.conf_types.specs.declared.change.Change.TheVariants as change
-use Rattle.law_units.specs.Reached.{is_other}
+pub use Rattle.law_units.specs.Reached.{is_other}
 
 -- ---- the change that names a host, or a neighbour
 

@@ -7,7 +7,7 @@ use Rattle.net_base.specs.declared.numbers.DpId.{DpId}
 use Rattle.ctl_world.specs.declared.conns.Conn.{Conn}
 use Rattle.ctl_world.specs.Connections.{change, conn_of, has_number, is_of, without}
 use Rattle.ctl_world.proofs.Places.{unchanged}
-use Rattle.ctl_life.proofs.Numbered.{without_own}
+use Rattle.ctl_world.proofs.Numbered.{without_own}
 
 -- ---- two changes
 

@@ -9,7 +9,7 @@ use Rattle.ctl_world.specs.Frames.{behind_frame, front, is_frame, with_read}
 use Rattle.ctl_world.specs.World.{World}
 use Rattle.ctl_life.specs.Life.{has_frame, read, unread}
 use Rattle.ctl_core.specs.Hearing.{hear_frames, hear_front, hear_next}
-use Rattle.ctl_life.proofs.Numbered.{change_kept, changed_own}
+use Rattle.ctl_world.proofs.Numbered.{change_kept, changed_own}
 use Rattle.law_recordings.proofs.Touches.{Touch, touch, touched}
 use Rattle.law_recordings.proofs.Hears.{front_keeps}
 use Rattle.law_recordings.proofs.Fronts.{IsBad, IsWhole, bad, bad_front, fronts, part, whole, whole_front, whole_shorter}

@@ -11,11 +11,11 @@ use Rattle.ctl_world.specs.Ends.{end_line, forget_lost}
 use Rattle.ctl_world.specs.Frames.{behind_frame, front, with_read}
 use Rattle.ctl_world.specs.Saying.{add_said}
 use Rattle.ctl_world.specs.World.{World}
-use Rattle.ctl_settle.specs.Settling.{settle}
+use Rattle.ctl_core.specs.Settlings.{settle}
 use Rattle.ctl_life.specs.Life.{read, unread}
 use Rattle.ctl_core.specs.Hearing.{hear_frames, hear_front, hear_next}
 use Rattle.ctl_core.specs.Turns.{hear_all}
-use Rattle.ctl_life.proofs.Numbered.{change_same}
+use Rattle.ctl_world.proofs.Numbered.{change_same}
 use Rattle.law_recordings.proofs.Changes.{change_twice, without_changed}
 use Rattle.law_recordings.proofs.Touches.{Touch, touch, touched}
 use Rattle.law_recordings.proofs.Hears.{front_keeps}

@@ -19,7 +19,7 @@ use Rattle.ctl_world.specs.Connections.{change, conn_of, conn_with, with_dp, wit
 use Rattle.ctl_world.specs.Ends.{close, forget_lost}
 use Rattle.ctl_world.specs.Saying.{ask, repeat, say}
 use Rattle.ctl_world.specs.World.{World, running}
-use Rattle.ctl_settle.specs.Settling.{settle}
+use Rattle.ctl_core.specs.Settlings.{settle}
 use Rattle.ctl_life.specs.Life.{echo, replace, says, take_dp, turn_away}
 use Rattle.ctl_core.specs.Hearing.{begin, follow, hear_frame, hear_front, hear_message, hear_on, introduce, packet, unfit, want_gateways, want_in, wipe}
 use Rattle.law_recordings.proofs.Touches.{Keeps, Touch, any, ask_keeps, both, changed, close_keeps, either, forget_keeps, found_of, found_with, itself, over, repeat_keeps, running_kept, say_keeps, touched}

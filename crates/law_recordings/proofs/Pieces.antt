@@ -17,7 +17,7 @@ use Rattle.ctl_life.specs.Life.{has_frame, read, unread, feed}
 use Rattle.ctl_core.specs.Hearing.{hear_frames, hear_front, hear_next}
 use Rattle.ctl_core.specs.Story.{behind, said_by_turn}
 use Rattle.ctl_core.specs.Turns.{hear, hear_all, turn, work}
-use Rattle.ctl_life.proofs.Numbered.{change_id, change_same, shut_none}
+use Rattle.ctl_world.proofs.Numbered.{change_id, change_same, shut_none}
 use Rattle.law_recordings.specs.Pieces.{in_a_row, known_only}
 use Rattle.law_recordings.proofs.Changes.{change_twice}
 use Rattle.law_recordings.proofs.Touches.{Touch, touched}

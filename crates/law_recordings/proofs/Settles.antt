@@ -15,7 +15,7 @@ use Rattle.ctl_world.specs.declared.conns.Conn.{Conn}
 use Rattle.ctl_world.specs.Connections.{conn_of, with_sent}
 use Rattle.ctl_world.specs.Saying.{ask, packet_out, say}
 use Rattle.ctl_world.specs.World.{World, running}
-use Rattle.ctl_settle.specs.Settling.{ask_all, ask_due, ask_each, ask_on, batch, batch_on, batches, note_sent, say_batch, say_due, say_each, settle, settle_batches, take_due, wanted}
+use Rattle.ctl_core.specs.Settlings.{ask_all, ask_due, ask_each, ask_on, batch, batch_on, batches, note_sent, say_batch, say_due, say_each, settle, settle_batches, take_due, wanted}
 use Rattle.law_recordings.proofs.Touches.{Goes, Keeps, Touch, any, ask_keeps, both, changed, either, found_of, itself, over, running_kept, say_keeps, touched, wanted_kept}
 
 module _ (t : Touch) where

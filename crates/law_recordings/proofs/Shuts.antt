@@ -16,7 +16,7 @@ use Rattle.switch_session.specs.Connections.{next_id}
 use Rattle.ctl_life.specs.Life.{has_frame, read, says, unread, feed}
 use Rattle.ctl_core.specs.Hearing.{hear_frame, hear_frames, hear_front, hear_next}
 use Rattle.ctl_core.specs.Turns.{hear, turn}
-use Rattle.ctl_life.proofs.Numbered.{unlike}
+use Rattle.ctl_world.proofs.Numbered.{unlike}
 use Rattle.ctl_life.proofs.Openings.{change_open, without_open, without_shut}
 use Rattle.law_stories.proofs.Singly.{Steps, feed_stays, heard_stays, read_stays, settle_stays}
 use Rattle.law_recordings.specs.Pieces.{known_only}

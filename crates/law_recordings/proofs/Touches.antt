@@ -18,8 +18,8 @@ use Rattle.ctl_world.specs.Connections.{change, conn_of, conn_with, with_asked, 
 use Rattle.ctl_world.specs.Ends.{close, drop_conn, end_line, forget_lost, is_reached, stands}
 use Rattle.ctl_world.specs.Saying.{add_said, ask, repeat, say, say_by}
 use Rattle.ctl_world.specs.World.{World, is_at_work, now, runs, running, ups, ups_by, ups_on}
-use Rattle.ctl_settle.specs.Settling.{wanted}
-use Rattle.ctl_life.proofs.Numbered.{with_seen}
+use Rattle.ctl_core.specs.Settlings.{wanted}
+use Rattle.ctl_world.proofs.Numbered.{with_seen}
 use Rattle.law_recordings.proofs.Changes.{change_both, of_seen, without_any}
 
 -- a change of one connection, and what was said before

@@ -20,8 +20,8 @@ use Rattle.ctl_world.specs.Connections.{conn_of, conn_with, with_sent}
 use Rattle.ctl_world.specs.Saying.{ask, say}
 use Rattle.ctl_world.specs.TablesSaid.{said_more, tables_said}
 use Rattle.ctl_world.specs.World.{World}
-use Rattle.ctl_settle.specs.Settling.{batch, batch_on, say_batch, say_each, wanted}
-use Rattle.ctl_settle.proofs.Batches.{AreByNumber}
+use Rattle.ctl_core.specs.Settlings.{batch, batch_on, say_batch, say_each, wanted}
+use Rattle.ctl_core.proofs.Settlings.{AreByNumber}
 use Rattle.law_stories.proofs.Fits.{EndsIn, Told}
 use Rattle.ctl_core.proofs.Numbered.{of_with}
 use Rattle.law_stories.proofs.Ways.{At, Holds, OnConn, Way, ask_to, changed_to, say_to}

@@ -32,7 +32,7 @@ use Rattle.ctl_world.specs.declared.said.Said.{Said}
 use Rattle.ctl_world.specs.Connections.{conn_of, conn_with, has_number, with_sent}
 use Rattle.ctl_world.specs.Saying.{ask, packet_out, say}
 use Rattle.ctl_world.specs.World.{World, first, is_at_work, now, running}
-use Rattle.ctl_settle.specs.Settling.{ask_all, ask_due, ask_each, ask_on, batch, batch_on, batches, say_batch, say_due, say_each, settle, take_due, wanted}
+use Rattle.ctl_core.specs.Settlings.{ask_all, ask_due, ask_each, ask_on, batch, batch_on, batches, say_batch, say_due, say_each, settle, take_due, wanted}
 use Rattle.ctl_life.specs.Life.{read, says, unread}
 use Rattle.ctl_core.specs.Reloading.{accepted}
 use Rattle.law_stories.specs.Grounds.{Grounds}

@@ -16,7 +16,7 @@ use Rattle.law_entries.specs.Short.{IsShort}
 use Rattle.law_entries.proofs.ShortPlan.{plan_short}
 use Rattle.cold_start.specs.Cold.{cold}
 use Rattle.ctl_world.specs.World.{World, now}
-use Rattle.ctl_settle.specs.Settling.{wanted}
+use Rattle.ctl_core.specs.Settlings.{wanted}
 use Rattle.law_stories.proofs.Fits.{IsLow}
 use Rattle.law_stories.proofs.Leading.{low_added}
 

@@ -18,7 +18,7 @@ use Rattle.ctl_world.specs.Frames.{with_read}
 use Rattle.ctl_world.specs.Saying.{packet_out, repeat, say}
 use Rattle.ctl_world.specs.TablesSaid.{tables_said}
 use Rattle.ctl_world.specs.World.{World}
-use Rattle.ctl_settle.specs.Settling.{ask_all}
+use Rattle.ctl_core.specs.Settlings.{ask_all}
 use Rattle.ctl_life.specs.Life.{echo, read, replace, take_dp, tell_version, feed}
 use Rattle.ctl_core.specs.Hearing.{begin, packet}
 use Rattle.ctl_core.specs.Reloading.{reload}

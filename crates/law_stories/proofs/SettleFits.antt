@@ -21,12 +21,12 @@ use Rattle.ctl_world.specs.declared.said.Said.{Said}
 use Rattle.ctl_world.specs.Connections.{conn_of, conn_with, is_of}
 use Rattle.ctl_world.specs.TablesSaid.{tables_said}
 use Rattle.ctl_world.specs.World.{World, running}
-use Rattle.ctl_settle.specs.Settling.{ask_all, batch, batches, settle, wanted}
-use Rattle.ctl_settle.proofs.Batches.{found_all}
+use Rattle.ctl_core.specs.Settlings.{ask_all, batch, batches, settle, wanted}
+use Rattle.ctl_core.proofs.Settlings.{found_all}
 use Rattle.law_stories.proofs.Batching.{AreOf, batch_to}
 use Rattle.law_stories.proofs.Fits.{EndsIn, Fits, FitsEach, IsLow, IsNoting, Told}
 use Rattle.law_stories.proofs.Leading.{leads_on, low_difference}
-use Rattle.ctl_life.proofs.Numbered.{is_its, one_of}
+use Rattle.ctl_world.proofs.Numbered.{is_its, one_of}
 use Rattle.ctl_core.proofs.Numbered.{of_with}
 use Rattle.law_stories.proofs.PlainSteps.{asks_stays}
 use Rattle.law_stories.proofs.Settles.{asks_alike, batch_batched, batched_running, batched_wanted, batches_batched, number_of, running_stage, settled_alike}

@@ -20,10 +20,9 @@ use Rattle.ctl_world.specs.declared.conns.Conn.{Conn}
 use Rattle.ctl_world.specs.Connections.{conn_of, with_said}
 use Rattle.ctl_world.specs.Saying.{packet_out, say}
 use Rattle.ctl_world.specs.World.{World, is_at_work, now, running, runs}
-use Rattle.ctl_settle.specs.Settling.{ask_all, ask_due, ask_each, ask_on, batch, batch_on, batches, say_batch, say_due, settle, take_due, wanted}
-use Rattle.ctl_settle.proofs.Batches.{AreByNumber, IsQuiet, IsSaid, IsStep, said_case, said_quiet, say_step, step_conf, step_keys, step_none, step_now, step_numbers, step_other, step_own}
-use Rattle.ctl_settle.proofs.Waiting.{wanted_order}
-use Rattle.ctl_life.proofs.Numbered.{unlike}
+use Rattle.ctl_core.specs.Settlings.{ask_all, ask_due, ask_each, ask_on, batch, batch_on, batches, say_batch, say_due, settle, take_due, wanted}
+use Rattle.ctl_core.proofs.Settlings.{AreByNumber, IsQuiet, IsSaid, IsStep, said_case, said_quiet, say_step, step_conf, step_keys, step_none, step_now, step_numbers, step_other, step_own, wanted_order}
+use Rattle.ctl_world.proofs.Numbered.{unlike}
 use Rattle.ctl_core.proofs.Ordered.{AreOrdered}
 
 -- ---- what runs

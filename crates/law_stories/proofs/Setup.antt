@@ -27,7 +27,7 @@ use Rattle.ctl_world.specs.World.{World}
 use Rattle.ctl_life.specs.Life.{replace, take_dp, tell_version, turn_away, open_conn}
 use Rattle.ctl_core.specs.Hearing.{follow, hear_frame, hear_on, introduce, unfit, wipe}
 use Rattle.law_stories.proofs.Fits.{After, Fits, FitsEach, IsAt, IsBare, IsWiping, Told, heard_fits}
-use Rattle.ctl_life.proofs.Numbered.{shut_none, unlike}
+use Rattle.ctl_world.proofs.Numbered.{shut_none, unlike}
 use Rattle.law_stories.proofs.PlainSteps.{begin_stays, close_stays, close_to, echo_stays, packet_stays, replace_stays, said_stays, take_stays, version_stays}
 use Rattle.law_stories.proofs.Ways.{At, Holds, IsPlain, OnConn, Way, ask_to, changed_to, come_to, plain_more, say_to}
 

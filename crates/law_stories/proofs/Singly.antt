@@ -21,12 +21,12 @@ use Rattle.ctl_world.specs.Frames.{front, with_read}
 use Rattle.ctl_world.specs.Saying.{ask, packet_out, say, say_by}
 use Rattle.ctl_world.specs.TablesSaid.{is_hello}
 use Rattle.ctl_world.specs.World.{World}
-use Rattle.ctl_settle.specs.Settling.{settle}
+use Rattle.ctl_core.specs.Settlings.{settle}
 use Rattle.ctl_life.specs.Life.{read, unread, feed}
 use Rattle.ctl_core.specs.Hearing.{hear_frame, packet}
 use Rattle.ctl_core.specs.Reloading.{reload}
 use Rattle.ctl_core.specs.Turns.{pass}
-use Rattle.ctl_life.proofs.Numbered.{has_it}
+use Rattle.ctl_world.proofs.Numbered.{has_it}
 use Rattle.ctl_life.proofs.Openings.{change_open, front_open}
 use Rattle.ctl_core.proofs.PacketSteps.{packet_kept}
 use Rattle.ctl_core.proofs.Walk as walks

@@ -24,7 +24,7 @@ use Rattle.ctl_core.specs.Reloading.{accepted}
 use Rattle.ctl_core.specs.Story.{behind}
 use Rattle.law_stories.specs.Sayable.{CountUp, IdsCount, ids_more, ids_said, is_answer}
 use Rattle.law_stories.specs.Settlings.{said_in}
-use Rattle.ctl_life.proofs.Numbered.{apart, changed_other, changed_own, put_other, unlike, without_other, without_own}
+use Rattle.ctl_world.proofs.Numbered.{apart, changed_other, changed_own, put_other, unlike, without_other, without_own}
 use Rattle.ctl_life.proofs.Openings.{fresh, fresh_is, opens_by}
 use Rattle.law_stories.proofs.Singly.{IsCounting, IsOwn, IsStill, Steps, feed_stays, heard_stays, pass_stays, read_stays, reload_stays, settle_stays}
 use Rattle.law_stories.proofs.StoryTold.{Any}

@@ -18,13 +18,13 @@ use Rattle.ctl_world.specs.Connections.{change, conn_with, is_open, put, with_sa
 use Rattle.ctl_world.specs.Ends.{closing_text, end_line, ended}
 use Rattle.ctl_world.specs.Frames.{front}
 use Rattle.ctl_world.specs.World.{World}
-use Rattle.ctl_settle.specs.Settling.{settle}
+use Rattle.ctl_core.specs.Settlings.{settle}
 use Rattle.ctl_life.specs.Life.{has_frame, read, says, unread, closing_for, feed, open_conn}
 use Rattle.ctl_core.specs.Hearing.{hear_frame, hear_frames, hear_front, hear_next}
 use Rattle.ctl_core.specs.Reloading.{accepted, reload}
 use Rattle.ctl_core.specs.Turns.{hear, pass, turn, work}
 use Rattle.law_stories.specs.Sayable.{IsOnOpen, SaysOnOpen, opens_in}
-use Rattle.ctl_life.proofs.Numbered.{unlike}
+use Rattle.ctl_world.proofs.Numbered.{unlike}
 use Rattle.ctl_life.proofs.Openings.{change_open, fresh, fresh_is, open_is, opens_by, put_open, put_opens, without_open, without_shut}
 use Rattle.law_stories.proofs.Singly.{Steps, feed_stays, heard_stays, pass_stays, read_stays, reload_stays, settle_stays}
 

@@ -3,8 +3,8 @@ use Rattle.std.proofs.Common.{◌≡◌, ℕ, List, Ok}
 use Rattle.conf_types.specs.Configuration.{Configuration}
 use Rattle.ctl_world.specs.Ends.{ended}
 use Rattle.ctl_world.specs.World.{World}
-use Rattle.ctl_settle.specs.Settling.{settle}
-use Rattle.ctl_settle.proofs.Batches.{AreByNumber, AreInKeyOrder}
+use Rattle.ctl_core.specs.Settlings.{settle}
+use Rattle.ctl_core.proofs.Settlings.{AreByNumber, AreInKeyOrder}
 use Rattle.ctl_core.specs.Hearing.{hear_frame}
 use Rattle.ctl_core.specs.Reloading.{accepted, reload}
 use Rattle.ctl_life.specs.Life.{open_conn}

@@ -21,7 +21,7 @@ use Rattle.ctl_world.specs.declared.said.Said.{Said}
 use Rattle.ctl_world.specs.Connections.{conn_of}
 use Rattle.ctl_world.specs.TablesSaid.{tables_said}
 use Rattle.ctl_world.specs.World.{World, first, has_ports, running}
-use Rattle.ctl_settle.specs.Settling.{settle, wanted}
+use Rattle.ctl_core.specs.Settlings.{settle, wanted}
 use Rattle.ctl_core.specs.Story.{behind}
 use Rattle.law_stories.specs.Grounds.{Grounds}
 use Rattle.law_stories.specs.Right.{HasColdTables, HasOneBatch, HoldsColdStart, IsNoted, LeadsTo, NothingWaits, SaysTheLeast}

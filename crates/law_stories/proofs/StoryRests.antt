@@ -9,8 +9,7 @@ use Rattle.ctl_world.specs.Connections.{change, with_fed}
 use Rattle.ctl_world.specs.Ends.{ended}
 use Rattle.ctl_world.specs.Frames.{with_read}
 use Rattle.ctl_world.specs.World.{World, first}
-use Rattle.ctl_settle.specs.Rest.{AreInOrder, IsAtRest}
-use Rattle.ctl_settle.specs.Settling.{settle}
+use Rattle.ctl_core.specs.Settlings.{AreInOrder, IsAtRest, settle}
 use Rattle.ctl_life.specs.Life.{read, feed, open_conn}
 use Rattle.ctl_core.specs.Hearing.{hear_frame}
 use Rattle.ctl_core.specs.Reloading.{accepted, reload}

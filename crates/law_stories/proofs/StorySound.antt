@@ -13,7 +13,7 @@ use Rattle.neighbour_resolve.specs.Asks.{in_order}
 use Rattle.ctl_world.specs.Ends.{ended}
 use Rattle.ctl_world.specs.World.{IsSound, World, first, running}
 use Rattle.ctl_world.proofs.SoundEnds.{ended_sound}
-use Rattle.ctl_settle.specs.Settling.{ask_all, batch, batches, settle}
+use Rattle.ctl_core.specs.Settlings.{ask_all, batch, batches, settle}
 use Rattle.ctl_core.specs.Hearing.{hear_frame}
 use Rattle.ctl_core.specs.Reloading.{accepted, of_text, of_tree, reload}
 use Rattle.ctl_core.specs.Story.{behind}

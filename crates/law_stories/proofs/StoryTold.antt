@@ -11,7 +11,7 @@ use Rattle.ctl_world.specs.Connections.{conn_with}
 use Rattle.ctl_world.specs.TablesSaid.{tables_said}
 use Rattle.ctl_world.specs.World.{World, first}
 use Rattle.ctl_world.proofs.SoundEnds.{ended_sound}
-use Rattle.ctl_settle.specs.Settling.{settle}
+use Rattle.ctl_core.specs.Settlings.{settle}
 use Rattle.ctl_life.specs.Life.{read, says}
 use Rattle.ctl_core.specs.Hearing.{hear_frame}
 use Rattle.ctl_core.specs.Reloading.{accepted}

@@ -14,7 +14,7 @@ use Rattle.ctl_world.specs.Connections.{is_open}
 use Rattle.ctl_world.specs.Ends.{ended}
 use Rattle.ctl_world.specs.Frames.{front}
 use Rattle.ctl_world.specs.World.{World}
-use Rattle.ctl_settle.specs.Settling.{settle}
+use Rattle.ctl_core.specs.Settlings.{settle}
 use Rattle.ctl_life.specs.Life.{has_frame, read, says, unread, closing_for, feed, open_conn}
 use Rattle.ctl_core.specs.Hearing.{hear_frame, hear_frames, hear_front, hear_next}
 use Rattle.ctl_core.specs.Reloading.{accepted, reload}

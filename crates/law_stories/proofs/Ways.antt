@@ -16,7 +16,7 @@ use Rattle.ctl_world.specs.Connections.{change, conn_with, put, with_asked, with
 use Rattle.ctl_world.specs.Saying.{ask, say, say_by}
 use Rattle.ctl_world.specs.TablesSaid.{is_hello, is_of_tables, said_more, tables_said}
 use Rattle.ctl_world.specs.World.{World}
-use Rattle.ctl_life.proofs.Numbered.{apart, changed_other, changed_own, has_it, put_other, put_own, unlike, without_other, without_own}
+use Rattle.ctl_world.proofs.Numbered.{apart, changed_other, changed_own, has_it, put_other, put_own, unlike, without_other, without_own}
 
 -- of the connection with a number: its stage, what it awaits, what was noted as sent, and what was said of the tables on it
 abbrev pub Way : Type 1

@@ -17,8 +17,7 @@ use Rattle.plan_difference.specs.Difference.{difference}
 use Rattle.neighbour_resolve.specs.Asks.{in_order}
 use Rattle.ctl_world.specs.declared.conns.Conn.{Conn}
 use Rattle.ctl_world.specs.World.{IsSound, World, first}
-use Rattle.ctl_settle.specs.Rest.{AreInOrder, IsAtRest}
-use Rattle.ctl_settle.specs.Settling.{ask_all, batch, settle, wanted}
+use Rattle.ctl_core.specs.Settlings.{AreInOrder, IsAtRest, ask_all, batch, settle, wanted}
 
 abbrev pub StandByNumber : World → Type 0
 StandByNumber w = EachBefore (λ (a b : Conn). a.number < b.number) w.conns

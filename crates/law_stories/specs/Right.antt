@@ -23,7 +23,7 @@ use Rattle.ctl_world.specs.declared.said.Said.{Said}
 use Rattle.ctl_world.specs.Connections.{conn_of, conn_with}
 use Rattle.ctl_world.specs.TablesSaid.{tables_said}
 use Rattle.ctl_world.specs.World.{IsSound, World, first, has_ports, now, running}
-use Rattle.ctl_settle.specs.Settling.{wanted}
+use Rattle.ctl_core.specs.Settlings.{wanted}
 use Rattle.ctl_core.specs.Story.{behind}
 use Rattle.law_stories.specs.Sayable.{IdsCount, SaysOnOpen}
 use Rattle.law_stories.specs.Settlings.{Settling, known_behind, said_before, said_behind, said_in, settlings}

@@ -13,17 +13,16 @@ ghost use Rattle.conf_types.specs.Valid.{IsValid};
 ghost use Rattle.ctl_world.specs.declared.conns.Conn.{Conn};
 ghost use Rattle.ctl_world.specs.Connections.{conn_of};
 ghost use Rattle.ctl_world.specs.World.{IsSound, first, running};
-ghost use Rattle.ctl_settle.specs.Rest.{IsAtRest};
-ghost use Rattle.ctl_settle.specs.Settling.{wanted};
+ghost use Rattle.ctl_core.specs.Settlings.{IsAtRest, wanted};
 ghost use Rattle.ctl_core.specs.Story.{behind};
 ghost use Rattle.law_stories.specs.Grounds.{Grounds};
 
 use cold_start::laws::a_cold_start_is_the_plan_in_key_order;
 use conf_check::laws::an_accepted_configuration_is_valid;
-use ctl_core::laws::what_happens_keeps_connections_in_order;
-use ctl_settle::laws::{
+use ctl_core::laws::{
     a_batch_leads_to_the_cold_start, a_batch_leaves_the_state, a_settling_leaves_it_at_rest,
     a_settling_leaves_nothing_waiting, alike_worlds_rest_alike, asks_leave_the_state,
+    what_happens_keeps_connections_in_order,
 };
 use ctl_world::laws::{what_is_known_first_is_sound, what_is_said_is_alike};
 use neighbour_resolve::laws::datapaths_are_asked_in_order;

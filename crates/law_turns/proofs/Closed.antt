@@ -33,7 +33,7 @@ use Rattle.ctl_world.specs.World.{World}
 use Rattle.ctl_life.specs.Life.{closing_for, echo, feed, has_frame, open_conn, read, replace, take_dp, tell_version, turn_away, unread}
 use Rattle.ctl_life.specs.Silence.{closes, falls_silent, is_silent, look, look_each, look_on, show, stir}
 use Rattle.ctl_life.proofs.FallsSilent.{closes_silent}
-use Rattle.ctl_life.proofs.Numbered.{has_it}
+use Rattle.ctl_world.proofs.Numbered.{has_it}
 use Rattle.ctl_life.proofs.Openings.{with_fresh}
 use Rattle.gauge_conf.specs.declared.gauge.WatchKind.{WatchKind}
 use Rattle.gauge_poll.specs.Monitoring.{Monitor, anew, dp_on, follow, hear_all, hear_frame, hear_frames, hear_front, hear_message, hear_next, hear_on, heard, introduce, looked, opened, told_on, turn, unfit, with_world}

@@ -6,7 +6,7 @@ use Rattle.fg_outside.specs.declared.hub.Happening.TheVariants as happenings
 use Rattle.conf_types.specs.Configuration.{Configuration}
 use Rattle.ctl_world.specs.declared.said.Said.TheVariants.{Line}
 use Rattle.ctl_world.specs.World.{World, first}
-use Rattle.ctl_settle.specs.Rest.{IsAtRest}
+use Rattle.ctl_core.specs.Settlings.{IsAtRest}
 use Rattle.ctl_core.specs.Reloading.{accepted}
 use Rattle.ctl_core.specs.Story.{behind}
 use Rattle.ctl_core.specs.Turns.{turn, work}

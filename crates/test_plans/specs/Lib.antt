@@ -1,2 +1,1 @@
-pub mod Learned
 pub mod Named

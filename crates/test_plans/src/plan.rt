@@ -5,7 +5,6 @@ ghost use Rattle.conf_types.specs.State.{IsValidState};
 ghost use Rattle.packet_way.specs.Present.{state_of};
 
 use crate::named::all_named;
-use crate::units::Units;
 use cold_start::cold;
 use conf_types::Conf;
 use net_base::{DpId, NoMemory};
@@ -13,11 +12,9 @@ use of_match::{Entry, Tables};
 use packet_way::Now;
 use state_check::is_valid;
 use std::alloc::Global;
+use test_states::{NO_STATE, Units};
 use test_words::{put_command, put_entry};
 use warm_plan::Warm;
-
-/// The answer where a state isn't valid for its configuration.
-pub const NO_STATE: &str = "no valid state";
 
 /// Whether an entry is one of the table that is asked for, or none is named.
 fn is_asked(entry: &Entry, table: Option<u64>) -> bool {

@@ -58,6 +58,12 @@ module _ (conf : Configuration) (d : Dp) (old new : State) (changes : List Chang
       of : (u : PlanUnit) → Contains us u → (reached_by conf d effects u ≡ true) × Contains (units_of conf new d) u
       of u c = listed_reached conf new d effects u (((once.same u).0) c)
 
+  -- by lists that are the same
+  pub reached_again : (effects listed : List Effect) → effects ≡ map (effect_of conf d stood new.hosts) changes → listed ≡ effects → (made us : List PlanUnit) → us ≡ made
+      → AreOnce made (all_units_by conf d new.hosts listed) → AreReached conf old new d changes us
+  reached_again effects listed are same made us is once =
+      are_reached effects are us (subst (λ (es : List Effect). AreOnce us (all_units_by conf d new.hosts es)) same (subst (λ (ws : List PlanUnit). AreOnce ws (all_units_by conf d new.hosts listed)) (sym is) once))
+
   pub are_taken_out : (effects : List Effect) → effects ≡ map (effect_of conf d stood new.hosts) changes → AreNamed conf old new changes → (again : List PlanUnit) → AreReached conf old new d changes again
       → AreTakenOut conf old new d changes (named_units effects ++ again)
   are_taken_out effects are named again into =
@@ -73,6 +79,11 @@ module _ (conf : Configuration) (d : Dp) (old new : State) (changes : List Chang
       fewer =
           no_longer made (filter (is_reached conf old new d changes) (units_of conf new d)) are.once
           (λ u c. in_filtered (is_reached conf old new d changes) (units_of conf new d) u (of_all (Contains (units_of conf new d)) made are.listed u c) (of_all (λ w. is_reached conf old new d changes w ≡ true) made are.reached u c))
+
+  pub counted_listed : (effects listed : List Effect) → effects ≡ map (effect_of conf d stood new.hosts) changes → listed ≡ effects → (made us : List PlanUnit) → us ≡ made
+      → AreOnce made (all_units_by conf d new.hosts listed) → (id : DpId) → dp_with conf.dps id ≡ Some d → (before after : ℕ)
+      → RisesAtMost (3 * length us) before after → RisesAtMost (3 * length (reached_at conf old new id changes)) before after
+  counted_listed effects listed are same made us is once id at before after most = counted_again id at us (reached_again effects listed are same made us is once) before after most
 
 -- ---- made again
 

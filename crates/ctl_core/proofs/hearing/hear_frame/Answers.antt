@@ -1,7 +1,7 @@
 use Rattle.std.proofs.Common.{sym, subst}
 use Rattle.switch_session.specs.declared.closing.Closing.TheVariants.{BadFrame}
 use Rattle.ctl_world.specs.World.{World}
-use Rattle.law_names.proofs.Strangers.{stranger_closed_same}
+use Rattle.ctl_settle.proofs.Names.{stranger_closed_same}
 use Rattle.ctl_core.specs.Found.{Tells}
 use Rattle.ctl_core.proofs.Telling.{IsQuiet, end_tells, same_leaves}
 use Rattle.ctl_core.proofs.hearing.hear_frame.Goals as goal

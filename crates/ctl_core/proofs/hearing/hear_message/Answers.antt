@@ -12,7 +12,7 @@ use Rattle.ctl_world.specs.Ends.{forget_lost}
 use Rattle.switch_session.specs.Staying.{leaves}
 use Rattle.ctl_world.specs.World.{World}
 use Rattle.ctl_world.proofs.Faces.{alike_same}
-use Rattle.law_names.proofs.Strangers.{no_dp_on, stranger_heard_same}
+use Rattle.ctl_settle.proofs.Names.{no_dp_on, stranger_heard_same}
 use Rattle.ctl_core.specs.Changes.{step_changes}
 use Rattle.ctl_core.specs.Found.{Tells, is_settled, is_touched}
 use Rattle.ctl_core.specs.Hearing.{follow}
@@ -52,21 +52,20 @@ returns-then-stays c =
 -- the reply to a barrier came
 pub returns-then-is_settled : goal.returns-then-is_settled
 returns-then-is_settled c =
-    let m = c.args.message.now in
-    let xid = c.args.xid in
-    let number = c.args.conn in
     let w : World = c.args.world.now in
     let d : Conn = c.in-Some.found.now in
-    let at : conn_with w.conns number ≡ Some d = sym c.get.ensures ∙ ap option_copied c.in-Some.is in
-    let step = step_there m xid w.conns number d c.in_ok-step.step at c.in_ok-step.ensures.step in
-    let settled : is_settled (leads d.session.state m xid).1 ≡ true = sym (c.is_settled.ensures ∙ ap is_settled step) ∙ c.if-is_settled.true in
+    let m = c.args.message.now in
+    let xid = c.args.xid in
+    let at : conn_with w.conns c.args.conn ≡ Some d = sym c.get.ensures ∙ ap option_copied c.in-Some.is in
+    let settled : is_settled (leads d.session.state m xid).1 ≡ true =
+    sym (c.is_settled.ensures ∙ ap is_settled (step_there m xid w.conns c.args.conn d c.in_ok-step.step at c.in_ok-step.ensures.step)) ∙ c.if-is_settled.true in
     let other_state : leaves d.session.state m xid ≡ false = (rw at at (sym c.stays-stays.ensures.exact)) ∙ c.if-stays.false in
-    let heard : World = record w { conns = change number (with_heard m xid) w.conns } in
+    let heard : World = record w { conns = change c.args.conn (with_heard m xid) w.conns } in
     let left : record w { conns = c.hear.new.self } ≡ heard = ap (λ cs. record w { conns = cs }) c.in_ok-step.ensures.noted in
-    let lost : forget_lost heard ≡ heard = replied_lost m xid number w d at settled c.such_changes_leave_it_sound.ensures.change c.a_sound_world_has_lost_nothing.ensures c.requires.sound in
+    let lost : forget_lost heard ≡ heard = replied_lost m xid c.args.conn w d at settled c.such_changes_leave_it_sound.ensures.change c.a_sound_world_has_lost_nothing.ensures c.requires.sound in
     record {
-      heard = rw at (left ∙ sym (follow_settled (leads d.session.state m xid).1 m xid number d.dp (forget_lost heard) settled ∙ lost));
-      tells = subst (IsQuiet w) (sym left) (replied_quiet m xid number w d at settled, λ until all. all);
+      heard = rw at (left ∙ sym (follow_settled (leads d.session.state m xid).1 m xid c.args.conn d.dp (forget_lost heard) settled ∙ lost));
+      tells = subst (IsQuiet w) (sym left) (replied_quiet m xid c.args.conn w d at settled, λ until all. all);
       told = rw at (rw other_state refl);
     }
 

@@ -1,6 +1,6 @@
 use Rattle.std.proofs.Common.{◌≡◌, ◌++◌, Some, filter, map}
 use Rattle.std.specs.Option.{option_map}
-use Rattle.law_names.specs.Differing.{host}
+use Rattle.ctl_settle.specs.Names.{host}
 use Rattle.ctl_core.specs.Turning.{turned, turns}
 use Rattle.ctl_core.proofs.turned.turned.Given as goal
 

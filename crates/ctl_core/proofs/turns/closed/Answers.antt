@@ -3,8 +3,8 @@ use Rattle.ctl_world.specs.World.{IsSound, World}
 use Rattle.ctl_settle.specs.Plans.{Fit}
 use Rattle.ctl_settle.specs.Touched.{AllFollow}
 use Rattle.ctl_settle.proofs.Until.{are_bounded}
-use Rattle.law_names.specs.Ends.{dps_on}
-use Rattle.law_names.proofs.Strangers.{stranger_ended_same}
+use Rattle.ctl_settle.specs.Names.{dps_on}
+use Rattle.ctl_settle.proofs.Names.{stranger_ended_same}
 use Rattle.ctl_core.specs.Found.{Bounds, by_end, ends_of, may_differ}
 use Rattle.ctl_core.proofs.Telling.{IsQuiet, end_tells, same_leaves, tells_bounds, tells_follow}
 use Rattle.ctl_settle.specs.Rest.{AreInOrder}

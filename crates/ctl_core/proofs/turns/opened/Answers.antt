@@ -4,7 +4,7 @@ use Rattle.ctl_life.specs.Life.{open_conn}
 use Rattle.ctl_settle.specs.Plans.{Fit}
 use Rattle.ctl_settle.specs.Touched.{AllFollow}
 use Rattle.ctl_settle.proofs.Following.{named_follow}
-use Rattle.law_names.proofs.Stepped.{open_quiet}
+use Rattle.ctl_settle.proofs.Names.{open_quiet}
 use Rattle.ctl_settle.specs.Rest.{AreBounded, AreInOrder}
 use Rattle.ctl_settle.proofs.Until.{are_bounded}
 use Rattle.ctl_core.proofs.Settled.{open_bounded}

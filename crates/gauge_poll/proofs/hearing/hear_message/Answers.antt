@@ -4,7 +4,7 @@ use Rattle.std.proofs.lemmas.Result.{on_ok_weaker}
 use Rattle.ctl_world.specs.declared.conns.Conn.{Conn}
 use Rattle.ctl_world.specs.Connections.{conn_with, is_open}
 use Rattle.ctl_world.specs.World.{World}
-use Rattle.ctl_life.proofs.Numbered.{shut_none}
+use Rattle.ctl_world.proofs.Numbered.{shut_none}
 use Rattle.gauge_conf.specs.declared.gauge.Watcher.{Watcher}
 use Rattle.gauge_poll.specs.declared.telling.Telling.{Telling}
 use Rattle.gauge_poll.specs.Monitoring.{dp_on, follow, hear_on, told_on}

@@ -3,7 +3,7 @@ use Rattle.fg_outside.specs.declared.hub.Happening.{Happening}
 use Rattle.conf_types.specs.Configuration.{Configuration}
 use Rattle.ctl_world.specs.Ends.{ended}
 use Rattle.ctl_world.specs.World.{first}
-use Rattle.ctl_settle.specs.Rest.{AreInOrder}
+use Rattle.ctl_core.specs.Settlings.{AreInOrder}
 use Rattle.ctl_core.specs.Hearing.{hear_frame}
 use Rattle.ctl_core.specs.Reloading.{accepted, reload}
 use Rattle.ctl_core.specs.Story.{behind}

@@ -1,5 +1,0 @@
-use Rattle.law_batches.proofs.Pieces.{turns_of_bytes}
-use Rattle.law_batches.proofs.bytes.a_recording_tells_of_bytes.Goals as goal
-
-pub returns : goal.returns
-returns c = turns_of_bytes

@@ -1,5 +1,0 @@
-use Rattle.law_batches.proofs.Behind.{story_behind}
-use Rattle.law_batches.proofs.each_settling_leaves_it_right.Goals as goal
-
-pub returns : goal.returns
-returns c = story_behind c.what_the_laws_rest_on.ensures

@@ -1,2 +1,0 @@
-pub mod Speaking
-pub mod Replaying

@@ -1,5 +1,0 @@
-use Rattle.law_flights.proofs.Replaying.{broken_story}
-use Rattle.law_flights.proofs.a_broken_recording_tells_what_happened_first.Goals as goal
-
-pub returns : goal.returns
-returns c = broken_story

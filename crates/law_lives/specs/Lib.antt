@@ -1,0 +1,16 @@
+pub mod Batches
+pub mod Behind
+pub mod Causes
+pub mod Frames
+pub mod Hosts
+pub mod Known
+pub mod Lines
+pub mod Lives
+pub mod Outs
+pub mod Reloads
+pub mod Same
+pub mod Sessions
+pub mod Since
+pub mod Steps
+pub mod Told
+pub mod Tries

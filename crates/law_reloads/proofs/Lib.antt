@@ -1,4 +1,0 @@
-pub mod Kept
-pub mod Reloaded
-pub mod Strays
-pub mod Timely
