@@ -16,10 +16,13 @@ import subprocess
 import sys
 import time
 
+from gauge_cases import HELLO, features, field, flow, flows, stats, status, upto
+
 PROGRAM, EXAMPLES, FOLDER = sys.argv[1:4]
 COUNT, SEED = int(sys.argv[4]), int(sys.argv[5])
 CONFIGURATION = f"{EXAMPLES}/quick-start/faucet.yaml"
 RECORDING = f"{EXAMPLES}/quick-start/switch.rec"
+GAUGES = f"{EXAMPLES}/monitoring/gauge.yaml", f"{EXAMPLES}/gauge/gauge.yaml"
 PORT = 7655
 MOST_MEMORY = 64 * 1024  # KB
 
@@ -112,8 +115,20 @@ def runs(kind, sources, words_of, statuses, chance):
     return holds
 
 
+def read(name):
+    with open(name, "rb") as file:
+        return file.read()
+
+
 def files(pattern):
-    return [open(name, "rb").read() for name in sorted(glob.glob(pattern, recursive=True))]
+    return [read(name) for name in sorted(glob.glob(pattern, recursive=True))]
+
+
+def write(name, data):
+    """The path of a new file in the folder."""
+    with open(f"{FOLDER}/{name}", "wb") as file:
+        file.write(data)
+    return f"{FOLDER}/{name}"
 
 
 # ---- streams
@@ -128,6 +143,48 @@ def spoken(recording):
             said += rest[17:17 + length]
         rest = rest[17 + length:]
     return said
+
+
+# ---- what Gauge hears
+
+WATCHED = """vlans: {office: {vid: 100}}
+dps: {sw1: {dp_id: 0x1, hardware: "Open vSwitch", interfaces: {1: {name: host1, native_vlan: office}, 2: {name: host2, native_vlan: office}}}}
+"""
+GAUGE = """faucet_configs: [faucet.yaml]
+watchers:
+    links: {type: port_state, all_dps: true, dbs: [text, metrics]}
+    ports: {type: port_stats, all_dps: true, dbs: [text, metrics], interval: 10}
+    entries: {type: flow_table, all_dps: true, dbs: [text, metrics], interval: 10}
+dbs: {text: {type: text, file: told.log}, metrics: {type: prometheus, prometheus_port: 9303}}
+"""
+# matches of each length that a field of flow statistics may have
+MATCHES = b"", field(0, b"\0\0\0\1"), field(3, b"\1\2\3\4\5\6"), field(5, b"\x08\0") + field(11, b"\x0a\0\0\0", b"\xff\0\0\0"), field(6, b"\x10\x64")
+
+
+def replies(polls):
+    """A switch that Gauge watches: what it says first, and its answers to so many polls, each in parts."""
+    yield HELLO + features(1)
+    for poll in range(polls):
+        entries = [flow(number % 9, 100 + number, number, 64 * number, MATCHES[number % len(MATCHES)]) for number in range(30)]
+        for kind in range(2):
+            xid = 3 + 2 * poll + kind
+            yield stats(xid, [(number, upto(poll)) for number in (1, 2)])
+            yield flows(xid, entries[:17], True)
+            yield flows(xid, entries[17:])
+        yield status(2, 1 + poll % 2, 0, poll % 2)
+
+
+def record(moment, kind, conn, piece=b""):
+    return struct.pack("!QBII", moment, kind, conn, len(piece)) + piece
+
+
+def watched(polls):
+    """The same as a recording: the clock goes on by an interval behind each poll's answers."""
+    told = list(replies(polls))
+    records = [record(0, 1, 1), record(0, 2, 1, told[0])]
+    for number, piece in enumerate(told[1:]):
+        records.append(record(1000 + 10_000 * (number // 7) + number, 2, 1, piece))
+    return b"".join(records)
 
 
 def connect():
@@ -168,8 +225,8 @@ def send(stream, chance):
             return True
 
 
-def streams(chance):
-    words = [PROGRAM, "serve", CONFIGURATION, "--events", "1000000000", "--listen", f"127.0.0.1:{PORT}"]
+def streams(command, file, stream, chance):
+    words = [PROGRAM, command, file, "--events", "1000000000", "--listen", f"127.0.0.1:{PORT}"]
     server = subprocess.Popen(words, stdout=subprocess.DEVNULL, stderr=open(f"{FOLDER}/said", "w"))
 
     def end():
@@ -189,23 +246,23 @@ def streams(chance):
     switch.sendall(struct.pack("!BBHI", 4, 0, 8, 1))
     if not is_answered(switch):
         return False
-    stream = spoken(open(RECORDING, "rb").read())
     ended = slow = 0
     for number in range(COUNT):
         ended += send(mutated(chance, stream), chance)
         if number % 100 == 0:
             start = time.time()
             if not is_answered(switch):
-                print(f"stream {number}: the switch isn't answered")
+                print(f"{command}: stream {number}: the switch isn't answered")
                 return False
             slow = max(slow, time.time() - start)
     if server.poll() is not None:
-        print(f"serve ended with status {server.returncode}")
+        print(f"{command} ended with status {server.returncode}")
         return False
     answered = is_answered(switch)
     status = open(f"/proc/{server.pid}/status").read()
     memory = int(status.split("VmHWM:")[1].split()[0])
-    print(f"streams: {COUNT}, of which serve ended {ended}; slowest answer to the switch {1000 * slow:.1f} ms, at most {memory} KB")
+    end()
+    print(f"streams: {COUNT}, of which {command} ended {ended}; slowest answer to the switch {1000 * slow:.1f} ms, at most {memory} KB")
     return answered and memory <= MOST_MEMORY
 
 
@@ -213,10 +270,15 @@ def main():
     resource.setrlimit(resource.RLIMIT_CORE, (0, 0))
     chance = random.Random(SEED)
     print(f"seed {SEED}, {COUNT} of each")
+    gauge, told = write("gauge.yaml", GAUGE.encode()), write("watched.rec", watched(3))
+    write("faucet.yaml", WATCHED.encode())
     holds = [
         runs("file", files(f"{EXAMPLES}/**/*.yaml"), lambda name: ["check", name], (0, 2, 3), chance),
         runs("recording", files(f"{EXAMPLES}/**/*.rec"), lambda name: ["replay", CONFIGURATION, name], (0, 5), chance),
-        streams(chance),
+        streams("serve", CONFIGURATION, spoken(read(RECORDING)), chance),
+        runs("gauge file", [GAUGE.encode(), *map(read, GAUGES)], lambda name: ["gauge", name, told], (0, 2, 3), chance),
+        runs("gauge recording", [read(told), *files(f"{EXAMPLES}/gauge/*.rec")], lambda name: ["gauge", gauge, name], (0, 5), chance),
+        streams("gauge-serve", gauge, b"".join(replies(3)), chance),
     ]
     return 0 if all(holds) else 1
 

@@ -1,7 +1,8 @@
 #!/usr/bin/env bash
 # Runs `faucet` on what is made of real files, recordings and streams by chance: bits turned, bytes cut, repeated, moved and
 # lengthened. `check` reads COUNT files, `replay` COUNT recordings, and `serve`, at 127.0.0.1:7655, hears COUNT streams beside a
-# switch that stays, which this script plays. Prints how many runs ended in which way, their times and their memory. Status 1
+# switch that stays, which this script plays; `gauge` reads COUNT files of its own and COUNT recordings of replies with counters of
+# ports and of flow entries, and `gauge-serve` hears COUNT streams of them. Prints how many runs ended in which way, their times and their memory. Status 1
 # where a run ended otherwise than docs/reference/commands.md says, took more than ten times the median of its kind and a second, or
 # more than 64 MB; where `serve` ended, or left its switch unanswered. It ends what it started, by its process id. Needs python3.
 # Usage: bench/hostile.sh [COUNT [SEED [PROGRAM]]]    COUNT is 2000 and SEED 1 else; PROGRAM is another one than bin/faucet

@@ -1,5 +1,5 @@
 #!/usr/bin/env bash
-# Changes states by chance, 1,000 times in all, on small configurations: behind each change the plan that is kept
+# Changes states by chance, 10,000 times in all, on small configurations: behind each change the plan that is kept
 # (`Warm`) has the same entries as one that is compiled whole, the same commands are taken, and no more is compiled
 # than three units of work for each unit that the changes reach. A program of this script's own: that of
 # `test_plans` with bench/plans.patch. It is proved before it runs, which takes more than twelve minutes of

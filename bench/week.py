@@ -2,7 +2,6 @@
 
 week.py PROGRAM FOLDER DAYS    FOLDER is an empty folder for files
 """
-import atexit
 import filecmp
 import os
 import random
@@ -13,7 +12,8 @@ import sys
 import time
 
 from one_vlan import message, port_status
-from switches import ECHO_REPLY, ECHO_REQUEST, FLOW_MOD, Switch, heard, planned
+from replayed import HEARD as SAYS, MOMENT, Replay
+from switches import ECHO_REPLY, heard, planned
 
 PROGRAM, FOLDER, DAYS = sys.argv[1], sys.argv[2], float(sys.argv[3])
 CONFIGURATION, RECORDING, HEARD = f"{FOLDER}/faucet.yaml", f"{FOLDER}/week.rec", f"{FOLDER}/heard"
@@ -31,102 +31,20 @@ def write_configuration():
             file.write(f"  s{dp}: {{dp_id: {dp},{stack} interfaces: {{{edges}, {ends}}}}}\n")
 
 
-class Replay:
-    """A replay that reads the recording while it is made."""
-
-    def __init__(self):
-        os.mkfifo(f"{FOLDER}/told")
-        self.process = subprocess.Popen([PROGRAM, "replay", CONFIGURATION, f"{FOLDER}/told"], stdout=subprocess.PIPE, bufsize=0)
-        atexit.register(self.end)
-        self.pipe, self.kept, self.came, self.records = self.opened(), open(RECORDING, "wb"), b"", 0
-        self.heard = open(HEARD, "wb")
-        self.switches = {dp: Switch(dp, [*EDGES, 8, 9]) for dp in DPS}
-        self.fence, self.said, self.now = 0, 0, 0
-
-    def opened(self):
-        """The pipe, once the program reads it."""
-        while self.process.poll() is None:
-            try:
-                number = os.open(f"{FOLDER}/told", os.O_WRONLY | os.O_NONBLOCK)
-                os.set_blocking(number, True)
-                return open(number, "wb", buffering=0)
-            except OSError:
-                time.sleep(0.05)
-        sys.exit("the replay ended")
-
-    def tell(self, kind, conn=0, body=b""):
-        record = struct.pack(">QBII", self.now, kind, conn, len(body)) + body
-        self.pipe.write(record)
-        self.kept.write(record)
-        self.records += 1
-
-    def take(self, conn, body):
-        """Lets a switch answer a message."""
-        if body[1] == FLOW_MOD:
-            self.said += 1
-        answer = self.switches[conn].take(body)
-        if answer:
-            self.tell(2, conn, answer)
-        return bool(answer)
-
-    def settle(self):
-        """Hears all that was said up to here, and answers, until nothing is left to be answered: behind an echo on the last connection,
-        nothing that belongs to an earlier record is still to come."""
-        answered = True
-        while answered:
-            answered, self.fence = False, self.fence + 1
-            mark = self.fence.to_bytes(8, "big")
-            self.tell(2, DPS[-1], message(ECHO_REQUEST, mark))
-            while mark not in self.switches[DPS[-1]].echoes:
-                answered = self.hear() or answered
-            self.switches[DPS[-1]].echoes.clear()
-
-    def hear(self):
-        piece = self.process.stdout.read(1 << 16)
-        if not piece:
-            sys.exit("the replay ended")
-        self.heard.write(piece)
-        self.came += piece
-        answered, at = False, 0
-        while len(self.came) - at >= 17:
-            _, kind, conn, length = struct.unpack(">QBII", self.came[at:at + 17])
-            if len(self.came) - at < 17 + length:
-                break
-            if kind != 130:
-                sys.exit(f"at {self.now} ms connection {conn} was closed")
-            answered = self.take(conn, self.came[at + 17:at + 17 + length]) or answered
-            at += 17 + length
-        self.came = self.came[at:]
-        return answered
-
-    def finish(self):
-        """The status, when the recording ends here."""
-        self.pipe.close()
-        self.kept.close()
-        self.heard.write(self.process.stdout.read())
-        self.heard.close()
-        return self.process.wait()
-
-    def end(self):
-        if self.process.poll() is None:
-            self.process.kill()
-            self.process.wait()
-
-
 def live(replay, seconds, chance):
     """A moment each second, and what happens between."""
     for second in range(1, seconds + 1):
         replay.now += 1000
-        replay.tell(5)
+        replay.tell(MOMENT)
         if second % 15 == 0:
             for dp in DPS:
-                replay.tell(2, dp, message(ECHO_REPLY))
+                replay.tell(SAYS, dp, message(ECHO_REPLY))
         if chance and second % 10 == 0:
             number = chance.randrange(HOSTS)
-            replay.tell(2, chance.choice(DPS), heard(chance.choice(EDGES), number))
+            replay.tell(SAYS, chance.choice(DPS), heard(chance.choice(EDGES), number))
         if chance and second % 600 in (300, 330):
             turn = second // 600
-            replay.tell(2, 1 + turn % 3, port_status(1 + turn % len(EDGES), int(second % 600 == 300)))
+            replay.tell(SAYS, 1 + turn % 3, port_status(1 + turn % len(EDGES), int(second % 600 == 300)))
         if second % 10 == 0:
             replay.settle()
 
@@ -163,16 +81,12 @@ def front(bytes_of_it):
 
 def main():
     write_configuration()
-    start, replay = time.time(), Replay()
-    for dp in DPS:
-        replay.tell(1, dp)
-        replay.tell(2, dp, replay.switches[dp].greeting())
-    while any(switch.barriers < 2 for switch in replay.switches.values()):
-        replay.hear()
+    start, replay = time.time(), Replay(PROGRAM, CONFIGURATION, FOLDER, {dp: [*EDGES, 8, 9] for dp in DPS}, RECORDING, HEARD)
+    replay.begin()
     live(replay, SECONDS, random.Random(1))
     for dp in DPS:
         for port in EDGES:
-            replay.tell(2, dp, port_status(port))
+            replay.tell(SAYS, dp, port_status(port))
     live(replay, 400, None)
     held = sum(switch.tables == planned(PROGRAM, CONFIGURATION, f"s{dp}") for dp, switch in replay.switches.items())
     status, size = replay.finish(), os.path.getsize(RECORDING)
