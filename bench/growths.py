@@ -82,6 +82,14 @@ def way(kind, whole, code, told):
     return "own" if code != 0 else "OTHERWISE"
 
 
+def differing(whole, told):
+    """The first line that is another one, as it was to be and as it was, and how many there are of both."""
+    texts = whole.split("\n"), told.split("\n")
+    place = next((it for it, pair in enumerate(zip(*texts)) if pair[0] != pair[1]), min(map(len, texts)))
+    ends = [repr(text[place][:400]) if place < len(text) else "nothing" for text in texts]
+    return f"line {place + 1} of {len(texts[0])} is {ends[1]}, and was to be {ends[0]}; there are {len(texts[1])}"
+
+
 def main():
     wrong = False
     for kind, lines in STORIES.items():
@@ -94,7 +102,7 @@ def main():
             ways[it] += 1
             if it == "OTHERWISE":
                 wrong = True
-                print(f"{kind}: allocation {number}: {told[:2000]}")
+                print(f"{kind}: allocation {number}: {differing(whole, told)}")
         print(f"{kind}: {count} allocations:", ", ".join(f"{n} {it}" for it, n in ways.most_common()), flush=True)
     return wrong
 
