@@ -53,29 +53,29 @@ pub record IsWhole (conf : Configuration) (story : List Happening) : Type 0 wher
   pub numbers : EachBefore (λ a b. a.number < b.number) (behind (first conf) story).conns
   pub keys : AllByRecursion (λ c. IsInKeyOrder c.sent) (behind (first conf) story).conns
   pub rests : IsAtRest (behind (first conf) story)
-  -- law_batches: the same at the end of each settling; exactly the batches that are due, and else the wipe alone
+  -- law_lives::batches: the same at the end of each settling; exactly the batches that are due, and else the wipe alone
   pub settled : AllByRecursion IsRightBehind (settlings (first conf) story)
   pub batches : AllByRecursion SaysExactly (settlings (first conf) story)
   pub wipes : OnlyWipesBetween [] (settlings (first conf) story) (said_in (first conf) story)
-  -- law_sessions: connection by connection, by what came and was said
+  -- law_lives::sessions: connection by connection, by what came and was said
   pub lives : HasItsLives conf story
-  -- law_lines: what is known by what happened; lines; causes of closings
+  -- law_lives::lines: what is known by what happened; lines; causes of closings
   pub configuration : (behind (first conf) story).conf ≡ conf_by conf story
   pub moment : (behind (first conf) story).moment.0 ≡ moment_by story
   pub opened : (number : ℕ) → is_open (behind (first conf) story).conns number ≡ open_by number (as_told (first conf) story)
   pub refuses : RefusesAlone conf story
   pub lines : HaveTheirLines [] (as_told (first conf) story)
   pub causes : HaveTheirCauses [] (as_told (first conf) story)
-  -- law_spans: of which frame what is said is said, and from where it counts
+  -- law_lives::spans: of which frame what is said is said, and from where it counts
   pub by_frames : AllByRecursion SpeaksByItsFrames (turns (first conf) story)
   pub since : (number : ℕ) → tables_said number (said_in (first conf) story) ≡ tables_since number (as_told (first conf) story)
-  -- law_hosts: which hosts are known, frame by frame, turn by turn, and over reloads
+  -- law_lives::hosts: which hosts are known, frame by frame, turn by turn, and over reloads
   pub heard_hosts : AllByRecursion KnowsTheHeard (frames (first conf) story)
   pub hosts : AllByRecursion KnowsItsHosts (turns (first conf) story)
   pub kept_hosts : AllByRecursion KeepsItsHosts (turns (first conf) story)
-  -- law_reloads: over a reload of the same configuration all hosts stay
+  -- law_lives::reloads: over a reload of the same configuration all hosts stay
   pub same_hosts : AllByRecursion KeepsAllHosts (turns (first conf) story)
-  -- law_neighbours: what is asked and answered, once, and nothing else
+  -- law_lives::neighbours: what is asked and answered, once, and nothing else
   pub asks : AllByRecursion AsksTheDue (settlings (first conf) story)
   pub answers : AllByRecursion AnswersTheHeard (frames (first conf) story)
 
