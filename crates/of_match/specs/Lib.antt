@@ -1,3 +1,4 @@
+pub mod MatchOrder
 pub mod KeyOrder
 pub mod InPort
 pub mod KeyLaws

@@ -2,7 +2,6 @@ ghost use Rattle.std.specs.Prelude.{◌≡◌, IfOk};
 
 use crate::action::Instrs;
 use crate::matching::Match;
-use crate::order::compare_matches;
 use net_base::{Items, NoMemory, TryCopy};
 use std::alloc::Global;
 use std::cmp::Ordering;
@@ -80,9 +79,7 @@ impl Ord for Key {
     fn cmp(&self, other: &Key) -> Ordering {
         match self.table.cmp(&other.table) {
             Ordering::Equal => match self.priority.cmp(&other.priority) {
-                Ordering::Equal => {
-                    compare_matches(self.fields.as_slice(), other.fields.as_slice())
-                }
+                Ordering::Equal => self.fields.compare(&other.fields),
                 unequal => unequal,
             },
             unequal => unequal,

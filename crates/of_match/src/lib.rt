@@ -19,7 +19,7 @@ pub use entry::{Command, Commands, Entries, Entry, Key};
 pub use hit::{hits, value_of};
 pub use ingress::in_port;
 pub use matching::Match;
-pub use order::{compare_matches, is_masked};
+pub use order::is_masked;
 pub use packet::{Acted, L4, Packet, Sent, Sents, Tag, Tags, Upper};
 pub use perform::act;
 pub use pipeline::run;

@@ -1,23 +1,36 @@
 ghost use Rattle.std.specs.Prelude.{◌≡◌, IfOk};
+ghost use Rattle.of_match.specs.MatchOrder.{match_cmp};
 
+use crate::order::{compare_each, match_len};
 use net_base::{Field, Fields, NoMemory, TryCopy};
 use std::alloc::Global;
+use std::cmp::Ordering;
 use std::marker::Model;
 use std::rc::Rc;
+
+// Fields, with how many bytes they take as a match, which each comparison asks for first.
+#[derive(Debug, Drop)]
+struct Measured {
+    fields: Fields,
+    len: u128,
+}
 
 /// The fields of a match, which contracts see. All its copies share them, so that a copy takes no memory.
 #[derive(Debug, Drop)]
 pub struct Match {
-    fields: Rc<Fields>,
+    shared: Rc<Measured>,
 }
 
 impl Model for Match {
-    ghost use Rattle.std.specs.Prelude.{List};
+    ghost use Rattle.std.specs.Prelude.{◌≡◌, List};
     ghost use Rattle.net_base.specs.declared.field.Field.{Field};
+    ghost use Rattle.of_match.specs.MatchOrder.{match_len};
 
     ghost Value = { List Field };
 
-    ghost view = { λ m. m.fields.value };
+    ghost view = { λ m. m.shared.value.fields };
+
+    ghost invariant = { λ m. m.shared.value.len ≡ match_len m.shared.value.fields };
 }
 
 impl Match {
@@ -25,8 +38,9 @@ impl Match {
     pub fn new(alloc: Global, fields: Fields) -> Result<Match, NoMemory>
         ensures { IfOk result (λ made. made ≡ fields) }
     {
-        let fields = Rc::new(alloc, fields)?;
-        Ok(Match { fields })
+        let len = match_len(fields.as_slice());
+        let shared = Rc::new(alloc, Measured { fields, len })?;
+        Ok(Match { shared })
     }
 
     /// The match of the fields of a slice.
@@ -41,13 +55,24 @@ impl Match {
     pub fn as_slice(&self) -> &[Field]
         ensures { result.now ≡ self.now }
     {
-        self.fields.as_ref().as_slice()
+        self.shared.as_ref().fields.as_slice()
+    }
+
+    /// Two matches in the order of flow entries of one table and priority: by their length on the
+    /// wire, and then field by field.
+    pub fn compare(&self, other: &Match) -> Ordering
+        ensures { result ≡ match_cmp self.now other.now }
+    {
+        match self.shared.as_ref().len.cmp(&other.shared.as_ref().len) {
+            Ordering::Equal => compare_each(self.as_slice(), other.as_slice()),
+            unequal => unequal,
+        }
     }
 }
 
 impl TryCopy for Match {
     fn copy(&self, _alloc: Global) -> Result<Match, NoMemory> {
-        let fields = self.fields.clone()?;
-        Ok(Match { fields })
+        let shared = self.shared.clone()?;
+        Ok(Match { shared })
     }
 }

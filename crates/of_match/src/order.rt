@@ -1,6 +1,6 @@
 ghost use Rattle.std.specs.Prelude.{◌≡◌, ◌≤◌};
 ghost use Rattle.std.specs.Cmp.Lexicographic.{slice_cmp};
-ghost use Rattle.of_match.specs.KeyOrder.{is_masked, field_len, match_len, field_cmp, match_cmp};
+ghost use Rattle.of_match.specs.MatchOrder.{is_masked, field_len, match_len, field_cmp};
 
 use net_base::Field;
 use std::cmp::Ordering;
@@ -25,9 +25,9 @@ fn field_len(field: &Field) -> usize
     }
 }
 
-/// How many bytes a match takes on the wire, its type and length among them, without its padding
-/// (OpenFlow 1.3, 7.2.3.1).
-pub fn match_len(fields: &[Field]) -> u128
+// How many bytes a match takes on the wire, its type and length among them, without its padding
+// (OpenFlow 1.3, 7.2.3.1).
+pub(crate) fn match_len(fields: &[Field]) -> u128
     ensures { result ≡ match_len fields.now }
 {
     let mut total: u128 = 4;
@@ -41,15 +41,17 @@ pub fn match_len(fields: &[Field]) -> u128
 fn compare_field(a: &Field, b: &Field) -> Ordering
     ensures { result ≡ field_cmp a.now b.now }
 {
-    a.id.number()
-        .cmp(&b.id.number())
-        .then(is_masked(a).cmp(&is_masked(b)))
-        .then(a.value.cmp(&b.value))
-        .then(a.mask.cmp(&b.mask))
+    match a.id.number().cmp(&b.id.number()) {
+        Ordering::Equal => is_masked(a)
+            .cmp(&is_masked(b))
+            .then(a.value.cmp(&b.value))
+            .then(a.mask.cmp(&b.mask)),
+        unequal => unequal,
+    }
 }
 
 // Field by field; where one ends before the other, it is first.
-fn compare_each(a: &[Field], b: &[Field]) -> Ordering
+pub(crate) fn compare_each(a: &[Field], b: &[Field]) -> Ordering
     ensures { result ≡ slice_cmp field_cmp a.now b.now }
 {
     match a {
@@ -63,12 +65,4 @@ fn compare_each(a: &[Field], b: &[Field]) -> Ordering
             },
         },
     }
-}
-
-/// Two matches in the order of flow entries of one table and priority: by their length on the
-/// wire, and then field by field.
-pub fn compare_matches(a: &[Field], b: &[Field]) -> Ordering
-    ensures { result ≡ match_cmp a.now b.now }
-{
-    match_len(a).cmp(&match_len(b)).then(compare_each(a, b))
 }
