@@ -26,7 +26,7 @@ _faucet() {
   if [[ ${COMP_WORDS[0]##*/} == faucet_recorded ]]; then
     command=recorded
   elif [[ $COMP_CWORD -eq 1 ]]; then
-    mapfile -t COMPREPLY < <(compgen -W "check plan replay serve gauge gauge-serve" -- "$word")
+    mapfile -t COMPREPLY < <(compgen -W "check plan replay serve gauge gauge-serve bench" -- "$word")
     return
   fi
   case $command in

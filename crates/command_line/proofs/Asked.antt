@@ -24,7 +24,7 @@ use Rattle.command_line.specs.declared.parts.CommandOption.{CommandOption}
 use Rattle.command_line.specs.declared.parts.Parts.{Parts}
 use Rattle.command_line.specs.declared.recorded.RecordedServe.{RecordedServe}
 use Rattle.command_line.specs.declared.values.Listen.{Listen}
-use Rattle.command_line.specs.Asked.{StandOnce, AreWritten, StandsBehind, StandsOrIs, Spells, SpellsListen, SaysEvents, SaysReload, SaysListen, SayHowToServe, AskFor, Check, Plan, Replay, Serve, Gauge, GaugeServe, AskToRecord}
+use Rattle.command_line.specs.Asked.{StandOnce, AreWritten, StandsBehind, StandsOrIs, Spells, SpellsListen, SaysEvents, SaysReload, SaysListen, SayHowToServe, AskFor, Check, Plan, Replay, Serve, Gauge, GaugeServe, Bench, AskToRecord}
 use Rattle.command_line.specs.Meaning.{command_of, options_of, are_taken, one_of, two_of, events_of, listen_or, serve_options, job_of, meaning}
 use Rattle.command_line.specs.Parts.{parts_of}
 use Rattle.command_line.specs.Recorded.{recorded_options, are_recorded_options, recorded_serve, recorded_meaning}
@@ -299,6 +299,14 @@ asks_gauge_serve words job e =
     subst (AskFor (codes "gauge-serve" ∷ words)) (same_Some _ _ listen.2)
     (GaugeServe words config.0 parts.0.options events.0 listen.0 written (events_said parts.0.options events.0 events.1) (listen_said (codes "127.0.0.1:6654") parts.0.options listen.0 listen.1))
 
+asks_bench : (words : List (List ℕ)) (job : Job) → asked_of commands.Bench words ≡ Some job → AskFor (codes "bench" ∷ words) job
+asks_bench words job e =
+    let parts = parts_from words (are_taken commands.Bench) (job_of commands.Bench) job e in
+    let text = bound (one_of parts.0.plain) (λ word. option_map jobs.Bench (number_in 1 10000 word)) job parts.3 in
+    let hosts = mapped jobs.Bench (number_in 1 10000 text.0) job text.2 in
+    let written = subst (λ plain. Written words plain []) (one_word parts.0.plain text.0 text.1) (without_options words parts.0 parts.1 parts.2) in
+    subst (AskFor (codes "bench" ∷ words)) hosts.2 (Bench words text.0 hosts.0 written (spelled 1 10000 text.0 hosts.0 (omega arith) hosts.1))
+
 -- one word of a table, or one of the rest
 first_or : (word name : List ℕ) (command : Command) (rest : Option Command) (found : Command) → cond (bytes_eq word name) (Some command) rest ≡ Some found
     → ((word ≡ name) × (command ≡ found)) ⊎ (rest ≡ Some found)
@@ -326,9 +334,12 @@ asks_by word command e = elim (first_or word (codes "check") commands.Check _ co
         | inl is ↦ here word (codes "serve") commands.Serve command asks_serve is
         | inr e ↦ elim (first_or word (codes "gauge") commands.Gauge _ command e) [
           | inl is ↦ here word (codes "gauge") commands.Gauge command asks_gauge is
-          | inr e ↦ elim (first_or word (codes "gauge-serve") commands.GaugeServe None command e) [
+          | inr e ↦ elim (first_or word (codes "gauge-serve") commands.GaugeServe _ command e) [
             | inl is ↦ here word (codes "gauge-serve") commands.GaugeServe command asks_gauge_serve is
-            | inr e ↦ absurd (none-some command e)
+            | inr e ↦ elim (first_or word (codes "bench") commands.Bench None command e) [
+              | inl is ↦ here word (codes "bench") commands.Bench command asks_bench is
+              | inr e ↦ absurd (none-some command e)
+            ]
           ]
         ]
       ]
@@ -372,6 +383,11 @@ meant_gauge_serve words config options events listen is says_events says_listen 
     let parts = with_parts (options_of commands.GaugeServe) words (config ∷ []) options is in
     rw (parts.0, parts.1, events_read options events is.once says_events, listen_read (codes "127.0.0.1:6654") options listen is.once says_listen) refl
 
+meant_bench : (words : List (List ℕ)) (text : List ℕ) (hosts : ℕ) → Written words (text ∷ []) [] → Spells 1 10000 text hosts
+    → asked_of commands.Bench words ≡ Some (jobs.Bench hosts)
+meant_bench words text hosts is spells =
+    meant_plain commands.Bench words (text ∷ []) refl is ∙ ap (option_map jobs.Bench) (read 1 10000 text hosts (omega arith) (omega arith) spells)
+
 pub meant : (words : List (List ℕ)) (job : Job) → AskFor words job → meaning words ≡ Some job
 unfolding meaning
 meant w j (Check words files some is) = meant_check words files some is
@@ -380,6 +396,7 @@ meant w j (Replay words config recording is) = meant_plain commands.Replay words
 meant w j (Serve words config options said is how) = meant_serve words config options said is how
 meant w j (Gauge words config recording is) = meant_plain commands.Gauge words (config ∷ recording ∷ []) refl is
 meant w j (GaugeServe words config options events listen is says_events says_listen) = meant_gauge_serve words config options events listen is says_events says_listen
+meant w j (Bench words text hosts is spells) = meant_bench words text hosts is spells
 
 -- ---- a recorded controller
 

@@ -81,6 +81,8 @@ pub data AskFor : List (List ℕ) → Job → Type 0 where
   GaugeServe : (words : List (List ℕ)) (config : List ℕ) (options : List CommandOption) (events : ℕ) (listen : Listen)
       → AreWritten (codes "events" ∷ codes "listen" ∷ []) words (config ∷ []) options → SaysEvents options events → SaysListen (codes "127.0.0.1:6654") options listen
       → AskFor (codes "gauge-serve" ∷ words) (jobs.GaugeServe config events listen)
+  -- `bench N`, N from 1 to 10,000
+  Bench : (words : List (List ℕ)) (text : List ℕ) (hosts : ℕ) → Written words (text ∷ []) [] → Spells 1 10000 text hosts → AskFor (codes "bench" ∷ words) (jobs.Bench hosts)
 
 -- words of `faucet_recorded`, `CONFIG --record FILE` with the options of `serve`, and what they ask for
 pub record AskToRecord (words : List (List ℕ)) (asked : RecordedServe) : Type 0 where

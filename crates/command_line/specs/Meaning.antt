@@ -24,6 +24,7 @@ command_of word =
     else if bytes_eq word (codes "serve") then Some commands.Serve
     else if bytes_eq word (codes "gauge") then Some commands.Gauge
     else if bytes_eq word (codes "gauge-serve") then Some commands.GaugeServe
+    else if bytes_eq word (codes "bench") then Some commands.Bench
     else None
 
 -- the options that a command takes
@@ -34,6 +35,7 @@ options_of commands.Replay = []
 options_of commands.Serve = codes "events" ∷ codes "reload-ms" ∷ codes "listen" ∷ []
 options_of commands.Gauge = []
 options_of commands.GaugeServe = codes "events" ∷ codes "listen" ∷ []
+options_of commands.Bench = []
 
 -- each of these options is one that the command takes
 abbrev pub are_taken : Command → List CommandOption → Bool
@@ -64,9 +66,13 @@ serve_options options = do
   listen ← listen_or (codes "127.0.0.1:6653") options
   Some (record { events = events; reload_ms = reload_ms; listen = listen })
 
+-- `bench N`: how many hosts there are
+abbrev pub bench_of : List (List ℕ) → Option Job
+bench_of words = one_of words >>= λ word. option_map jobs.Bench (number_in 1 10000 word)
+
 -- what a command asks for: `check FILE..`, one file or more; `plan CONFIG DP`; `replay CONFIG RECORDING`;
 -- `serve CONFIG --events N`, with what options it has beside; `gauge GAUGE_CONFIG RECORDING`;
--- `gauge-serve GAUGE_CONFIG --events N`, which without the other option listens at port 6654 of this host alone
+-- `gauge-serve GAUGE_CONFIG --events N`, which without the other option listens at port 6654 of this host alone; `bench N`
 abbrev pub job_of : Command → Parts → Option Job
 job_of commands.Check parts = elim parts.plain [ [] ↦ None | file ∷ files ↦ Some (jobs.Check (file ∷ files)) ]
 job_of commands.Plan parts = option_map (λ two. jobs.Plan two.0 two.1) (two_of parts.plain)
@@ -81,6 +87,7 @@ job_of commands.GaugeServe parts = do
   events ← events_of parts.options
   listen ← listen_or (codes "127.0.0.1:6654") parts.options
   Some (jobs.GaugeServe config events listen)
+job_of commands.Bench parts = bench_of parts.plain
 
 -- the first word is the command
 unfoldable pub meaning : List (List ℕ) → Option Job

@@ -1,7 +1,7 @@
 ghost use Rattle.std.specs.Prelude.{◌≡◌, List, ℕ, map, IfOk};
 ghost use Rattle.std.specs.List.{list_any};
 ghost use Rattle.std.specs.Str.{bytes_eq};
-ghost use Rattle.command_line.specs.Meaning.{command_of, options_of, are_taken, one_of, two_of, events_of, listen_or, serve_options, job_of, meaning};
+ghost use Rattle.command_line.specs.Meaning.{command_of, options_of, are_taken, one_of, two_of, events_of, listen_or, serve_options, bench_of, job_of, meaning};
 
 use crate::parts::{CommandOption, Parts, part_words};
 use crate::values::{Listen, listen_of, number_in, value_of, value_or};
@@ -16,6 +16,7 @@ enum Command {
     Serve,
     Gauge,
     GaugeServe,
+    Bench,
 }
 
 /// What the program is asked to do.
@@ -52,6 +53,8 @@ pub enum Job {
         events: u64,
         listen: Listen,
     },
+    /// To run a controller on a story in which so many hosts come, and to measure what it says.
+    Bench(u32),
 }
 
 /// The options of `serve`.
@@ -77,6 +80,8 @@ fn command_of(word: &str) -> Option<Command>
         Some(Command::Gauge)
     } else if word == "gauge-serve" {
         Some(Command::GaugeServe)
+    } else if word == "bench" {
+        Some(Command::Bench)
     } else {
         None
     }
@@ -87,7 +92,7 @@ fn options_of(command: Command) -> &'static [&'static str]
     ensures { map (λ name. name.now) result.now ≡ options_of command }
 {
     match command {
-        Command::Check | Command::Plan | Command::Replay | Command::Gauge => &[],
+        Command::Check | Command::Plan | Command::Replay | Command::Gauge | Command::Bench => &[],
         Command::Serve => &["events", "reload-ms", "listen"],
         Command::GaugeServe => &["events", "listen"],
     }
@@ -200,6 +205,19 @@ fn gauge_serve_job(alloc: Global, parts: &Parts) -> Result<Option<Job>, NoMemory
     }))
 }
 
+/// What `bench` asks for.
+fn bench_job(plain: &[Text]) -> Option<Job>
+    ensures { result ≡ bench_of plain.now }
+{
+    match plain {
+        [only] => {
+            let hosts = number_in(only.as_str(), 1, 10_000)?;
+            Some(Job::Bench(hosts as u32))
+        }
+        _ => None,
+    }
+}
+
 fn job_of(alloc: Global, command: Command, parts: Parts) -> Result<Option<Job>, NoMemory>
     ensures { IfOk result (λ job. job ≡ job_of command parts) }
 {
@@ -226,6 +244,7 @@ fn job_of(alloc: Global, command: Command, parts: Parts) -> Result<Option<Job>, 
             Ok(Some(Job::Gauge { config, recording }))
         }
         Command::GaugeServe => gauge_serve_job(alloc, &parts),
+        Command::Bench => Ok(bench_job(parts.plain.as_slice())),
     }
 }
 

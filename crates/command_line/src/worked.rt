@@ -110,6 +110,21 @@ pub fn words_behind_gauge_serve()
     ensures two_files { meaning (codes "gauge-serve" ∷ codes "a" ∷ codes "b" ∷ codes "--events=3" ∷ []) ≡ None }
 {}
 
+/// `bench N`: one number from 1 to 10,000, and no option.
+#[tactic(auto, unfolding(crate::specs::Meaning::meaning, crate::specs::Parts::parts_of, crate::specs::Parts::parted))]
+pub fn words_behind_bench()
+    ensures least { meaning (codes "bench" ∷ codes "1" ∷ []) ≡ Some (jobs.Bench 1) }
+    ensures most { meaning (codes "bench" ∷ codes "10000" ∷ []) ≡ Some (jobs.Bench 10000) }
+    ensures none { meaning (codes "bench" ∷ []) ≡ None }
+    ensures no_host { meaning (codes "bench" ∷ codes "0" ∷ []) ≡ None }
+    ensures too_many { meaning (codes "bench" ∷ codes "10001" ∷ []) ≡ None }
+    ensures zero_in_front { meaning (codes "bench" ∷ codes "03" ∷ []) ≡ None }
+    ensures sign { meaning (codes "bench" ∷ codes "+3" ∷ []) ≡ None }
+    ensures no_number { meaning (codes "bench" ∷ codes "three" ∷ []) ≡ None }
+    ensures further { meaning (codes "bench" ∷ codes "3" ∷ codes "3" ∷ []) ≡ None }
+    ensures option { meaning (codes "bench" ∷ codes "3" ∷ codes "--events=3" ∷ []) ≡ None }
+{}
+
 /// Options stand anywhere, in either spelling.
 #[tactic(auto, unfolding(crate::specs::Parts::parts_of, crate::specs::Parts::parted))]
 pub fn options_among_words()

@@ -1,3 +1,4 @@
+pub mod BenchLemmas
 pub mod CheckLemmas
 pub mod EndLemmas
 pub mod ReadLemmas

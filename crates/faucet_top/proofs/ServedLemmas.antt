@@ -12,12 +12,13 @@ use Rattle.conf_gather.specs.declared.refused.LoadRefused.{LoadRefused}
 use Rattle.conf_gather.specs.Gathered.{Held}
 use Rattle.conf_load.specs.Loaded.{loaded}
 use Rattle.command_line.specs.declared.meaning.Job.{Job}
-use Rattle.command_line.specs.declared.meaning.Job.TheVariants.{Check, Gauge, GaugeServe, Plan, Replay, Serve}
+use Rattle.command_line.specs.declared.meaning.Job.TheVariants.{Bench, Check, Gauge, GaugeServe, Plan, Replay, Serve}
 use Rattle.command_line.specs.declared.values.Listen.{Listen}
 use Rattle.watch_hub.specs.Look.{text_of}
 use Rattle.opening_batch.specs.Opened.{Opens}
 use Rattle.opening_batch.specs.Opening.{opening_of}
 use Rattle.law_stories.specs.Right.{IsRight}
+use Rattle.bench_story.specs.Setup.{configuration}
 use Rattle.gauge_conf.specs.declared.gauge.GaugeConf.{GaugeConf}
 use Rattle.gauge_load.specs.Loaded.{gauge_of}
 use Rattle.gauge_poll.specs.Monitoring.{Monitor, lines_of as gauge_lines}
@@ -32,7 +33,7 @@ use Rattle.ctl_drive.specs.Driving.{lines_of}
 use Rattle.ctl_serve.specs.Served.{Ended, Served}
 use Rattle.faucet_top.specs.Answer.{Answer, GaugeLoad, Load, out_of_memory, refusal}
 use Rattle.faucet_top.specs.Ends.{status_served}
-use Rattle.faucet_top.specs.Given.{AreAccepted, BreaksOff, Delivers, Gives, IsLoadedStatus, IsOpened, IsReplayed, IsServeStatus, IsStatusOf, IsWatched, Loads, StatusFor}
+use Rattle.faucet_top.specs.Given.{AreAccepted, BreaksOff, Delivers, Gives, IsLoadedStatus, IsMeasured, IsOpened, IsReplayed, IsServeStatus, IsStatusOf, IsWatched, Loads, StatusFor}
 use Rattle.faucet_top.specs.Any.{GivesAny}
 use Rattle.faucet_top.specs.Serving.{IsItsEnd, IsLocal, IsServed, RepliesServe, ServesUntil, UnservedAnswer, served_answer}
 use Rattle.faucet_top.specs.Watching.{IsHubWatched}
@@ -237,6 +238,7 @@ module _ {H F : Type 0} (may : H → HubStep → H → Type 0) (contents : F →
   either (Some (Plan config dp)) gives = inl ((λ c events reload_ms listen is. absurd cc, λ c events listen is. absurd cc), gives)
   either (Some (Replay config recording)) gives = inl ((λ c events reload_ms listen is. absurd cc, λ c events listen is. absurd cc), gives)
   either (Some (Gauge config recording)) gives = inl ((λ c events reload_ms listen is. absurd cc, λ c events listen is. absurd cc), gives)
+  either (Some (Bench hosts)) gives = inl ((λ c events reload_ms listen is. absurd cc, λ c events listen is. absurd cc), gives)
   either (Some (Serve config events reload_ms listen)) gives = inr (inl (config, events, reload_ms, listen, refl, gives))
   either (Some (GaugeServe config events listen)) gives = inr (inr (config, events, listen, refl, gives))
 
@@ -246,6 +248,7 @@ module _ {H F : Type 0} (may : H → HubStep → H → Type 0) (contents : F →
   local_any (Some (Plan config dp)) local gives = gives
   local_any (Some (Replay config recording)) local gives = gives
   local_any (Some (Gauge config recording)) local gives = gives
+  local_any (Some (Bench hosts)) local gives = gives
   local_any (Some (Serve config events reload_ms listen)) local gives = absurd (local.0 config events reload_ms listen refl)
   local_any (Some (GaugeServe config events listen)) local gives = absurd (local.1 config events listen refl)
 
@@ -256,6 +259,7 @@ module _ {H F : Type 0} (may : H → HubStep → H → Type 0) (contents : F →
   any_memory (Some (Plan config dp)) delivers hub files = (out_of_memory, inr refl, delivers)
   any_memory (Some (Replay config recording)) delivers hub files = (out_of_memory, inr refl, delivers)
   any_memory (Some (Gauge config recording)) delivers hub files = (out_of_memory, inr refl, delivers)
+  any_memory (Some (Bench hosts)) delivers hub files = (out_of_memory, inr refl, delivers)
   any_memory (Some (Serve config events reload_ms listen)) delivers hub files = inl (out_of_memory, inl refl, delivers, hub, files)
   any_memory (Some (GaugeServe config events listen)) delivers hub files = (out_of_memory, inl (inl refl, hub), delivers)
 
@@ -356,6 +360,11 @@ module _ {H F : Type 0} (may : H → HubStep → H → Type 0) (contents : F →
         → (config dp : List ℕ) (held : Contents) → job ≡ Some (Plan config dp) → contents files0 ≡ Some held → status ≡ 0 → IsOpened config dp (held 0) o0 o1
     opened valid opens config dp held is told_so s =
         by.opened job (contents files0) absence fault refused status o0 o1 e0 e1 m0 m1 n0 n1 (ours_where (λ c events reload_ms listen other. absurd cc, λ c events listen other. absurd cc)) valid opens config dp held is told_so s
+
+    pub story_measured : ((conf : Configuration) (story : List Happening) → IsValid conf → IsRight conf story) → IsValid configuration
+        → (hosts : ℕ) → job ≡ Some (Bench hosts) → status ≡ 0 → IsMeasured hosts o0 o1
+    story_measured right valid hosts is s =
+        by.story_measured job (contents files0) absence fault refused status o0 o1 e0 e1 m0 m1 n0 n1 (ours_where (λ c events reload_ms listen other. absurd cc, λ c events listen other. absurd cc)) right valid hosts is s
 
     module _ (valid : (held : Held) (name : List ℕ) (conf : Configuration) → loaded held name ≡ Ok conf → IsValid conf)
         (right : (conf : Configuration) (story : List Happening) → IsValid conf → IsRight conf story) where

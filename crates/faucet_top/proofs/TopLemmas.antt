@@ -13,10 +13,12 @@ use Rattle.conf_gather.specs.declared.refused.LoadRefused.TheVariants.{Read, Yam
 use Rattle.conf_gather.specs.Gathered.{Held}
 use Rattle.conf_load.specs.Loaded.{loaded}
 use Rattle.command_line.specs.declared.meaning.Job.{Job}
-use Rattle.command_line.specs.declared.meaning.Job.TheVariants.{Check, Gauge, GaugeServe, Plan, Replay, Serve}
+use Rattle.command_line.specs.declared.meaning.Job.TheVariants.{Bench, Check, Gauge, GaugeServe, Plan, Replay, Serve}
 use Rattle.opening_batch.specs.Opened.{Opens}
 use Rattle.opening_batch.specs.Opening.{opening_of}
 use Rattle.law_stories.specs.Right.{IsRight}
+use Rattle.bench_story.specs.Measured.{measured}
+use Rattle.bench_story.specs.Setup.{configuration}
 use Rattle.gauge_poll.specs.Monitoring.{Monitor, lines_of as gauge_lines}
 use Rattle.recording.specs.declared.refused.RecordRefused.{RecordRefused}
 use Rattle.hub_drive.specs.declared.sayings.Outlet.TheVariants as outlets
@@ -24,9 +26,9 @@ use Rattle.hub_drive.specs.Driving.{out_of}
 use Rattle.gauge_drive.specs.Gauge.{joined, monitor}
 use Rattle.faucet_top.specs.declared.deliver.Status.{Status}
 use Rattle.faucet_top.specs.declared.deliver.Status.TheVariants as statuses
-use Rattle.faucet_top.specs.Answer.{Answer, Load, usage, out_of_memory, refusal, behind_bytes, json_line, check_step, check_answer, planned, plan_answer, job_answer}
+use Rattle.faucet_top.specs.Answer.{Answer, Load, bench_answer, usage, out_of_memory, refusal, behind_bytes, json_line, check_step, check_answer, planned, plan_answer, job_answer}
 use Rattle.faucet_top.specs.Ends.{Ends}
-use Rattle.faucet_top.specs.Given.{Loads, RepliesJob, Replies, AnswersSoFar, Delivers, Gives, Checks, StatusFor, IsStatusOf, AreAccepted, IsOpened, IsReplayed, IsWatched}
+use Rattle.faucet_top.specs.Given.{Loads, RepliesJob, Replies, AnswersSoFar, Delivers, Gives, Checks, StatusFor, IsStatusOf, AreAccepted, IsMeasured, IsOpened, IsReplayed, IsWatched}
 use Rattle.faucet_top.specs.Status.{number_of_status}
 use Rattle.faucet_top.proofs.CheckLemmas.{line_delivered}
 use Rattle.faucet_top.proofs.RefusalLemmas.{IsInner, refusal_inner, refusal_undone, refusal_unread}
@@ -83,6 +85,9 @@ module _ (contents : Option Contents) (absence fault : Type 0) (refused : List �
       let inner = gauge_inner contents absence fault config recording reply.0 a reply.2 in
       (λ s. absurd (inner.0 s), inner.1, inner.2)
   job_inner (Some (GaugeServe config events listen)) a reply = absurd reply
+  job_inner (Some (Bench hosts)) a is =
+      let at = ap (λ (b : Answer). b.status) is in
+      (λ s. absurd (omega (arith, at, s)), λ s. omega (arith, at, s), λ s. omega (arith, at, s))
 
   job_unread : (job : Option Job) (a : Answer) → RepliesJob job contents absence fault refused a → a.status ≡ 3 → absence ⊎ fault
   job_unread None a is s = let at = ap (λ (b : Answer). b.status) is in absurd (omega (arith, at, s))
@@ -92,6 +97,7 @@ module _ (contents : Option Contents) (absence fault : Type 0) (refused : List �
   job_unread (Some (Serve config events reload_ms listen)) a reply s = absurd reply
   job_unread (Some (Gauge config recording)) a reply s = gauge_unread contents absence fault refused config recording reply.0 a reply.1 reply.2 s
   job_unread (Some (GaugeServe config events listen)) a reply s = absurd reply
+  job_unread (Some (Bench hosts)) a is s = let at = ap (λ (b : Answer). b.status) is in absurd (omega (arith, at, s))
 
 -- ---- what is replied, where the files are told
 
@@ -158,6 +164,7 @@ module _ (held : Contents) (absence fault : Type 0) (refused : List ℕ) where
   job_told (Some (Serve config events reload_ms listen)) a whole is reply = absurd reply
   job_told (Some (Gauge config recording)) a whole is reply = absurd cc
   job_told (Some (GaugeServe config events listen)) a whole is reply = absurd reply
+  job_told (Some (Bench hosts)) a whole is reply = is_whole a (bench_answer (measured hosts)) whole is (inl reply)
 
   pub told_replied : (job : Option Job) (a whole : Answer) → job_answer job given ≡ Some whole → Replies job (Some held) absence fault refused a → AnswersSoFar a whole fault
   told_replied job a whole is (inl reply) = job_told job a whole is reply
@@ -176,6 +183,7 @@ module _ (held : Contents) (absence fault : Type 0) (refused : List ℕ) where
   job_status (Some (Serve config events reload_ms listen)) a reply = absurd reply
   job_status (Some (Gauge config recording)) a reply = gauge_told held absence fault refused config recording a reply.0 reply.1 reply.2
   job_status (Some (GaugeServe config events listen)) a reply = absurd reply
+  job_status (Some (Bench hosts)) a is = inl (ap (λ (b : Answer). b.status) is)
 
   reply_status : (job : Option Job) (a : Answer) → Replies job (Some held) absence fault refused a → StatusFor a.status (IsStatusOf job (held 0)) fault
   reply_status job a (inl reply) = job_status job a reply
@@ -346,6 +354,16 @@ module _ (job : Option Job) (contents : Option Contents) (absence fault : Type 0
         let five = at 5 s (λ e. omega (arith, e)) in
         let reply = job_reply held told 5 five.0 (λ e. omega arith) (Some (Gauge config recording)) is in
         gauge_refused held absence fault refused config recording o0 o1 e0 e1 gives.0 five.1 five.2 lines_are reply.0 reply.1 reply.2 five.0
+
+  pub story_measured : ((conf : Configuration) (story : List Happening) → IsValid conf → IsRight conf story) → IsValid configuration
+      → (hosts : ℕ) → job ≡ Some (Bench hosts) → status ≡ 0 → IsMeasured hosts o0 o1
+  story_measured right valid hosts is s =
+      let done = at 0 s (λ e. omega (arith, e)) in
+      elim gives.1 [
+        | inl reply ↦ let same : gives.0 ≡ bench_answer (measured hosts) = subst (λ (j : Option Job). RepliesJob j contents absence fault refused gives.0) is reply in
+            record { written = done.1 ∙ ap (λ (b : Answer). appended o0 b.out) same; right = λ front is_front. right configuration front valid }
+        | inr out ↦ let eight = memory_status out in absurd (omega (arith, eight, done.0))
+      ]
 
 -- ---- the reply that was given
 

@@ -9,8 +9,10 @@ use Rattle.conf_gather.specs.declared.refused.LoadRefused.TheVariants.{Read, Yam
 use Rattle.conf_json.specs.Text.{json_text}
 use Rattle.gauge_conf.specs.declared.gauge.GaugeConf.{GaugeConf}
 use Rattle.command_line.specs.declared.meaning.Job.{Job}
-use Rattle.command_line.specs.declared.meaning.Job.TheVariants.{Check, Gauge, GaugeServe, Plan, Replay, Serve}
+use Rattle.command_line.specs.declared.meaning.Job.TheVariants.{Bench, Check, Gauge, GaugeServe, Plan, Replay, Serve}
 use Rattle.opening_batch.specs.Opening.{opening_of}
+use Rattle.bench_story.specs.declared.measuring.Measured.{Measured}
+use Rattle.bench_story.specs.Measured.{measured}
 use Rattle.recording.specs.Kinds.{cause_name}
 use Rattle.hub_drive.specs.declared.drive.Drove.{Drove}
 use Rattle.hub_drive.specs.declared.drive.Drove.TheVariants as drove
@@ -116,6 +118,16 @@ served_line drove.Spent = line (codes "events spent" ∷ [])
 served_line drove.WriteFault = []
 served_line drove.Memory = out_of_memory.err
 
+-- ---- `bench`
+
+-- the line of what was measured
+abbrev pub bench_line : Measured → List ℕ
+bench_line m =
+    line (codes "hosts " ∷ decimal m.hosts ∷ codes " batches " ∷ decimal m.batches ∷ codes " commands " ∷ decimal m.commands ∷ codes " sum " ∷ decimal m.sum ∷ [])
+
+abbrev pub bench_answer : Measured → Answer
+bench_answer m = record { out = bench_line m; err = []; status = 0 }
+
 -- ---- the words
 
 -- the answer to a job, where files give these configurations; those to the commands that take in what happens are said by relations
@@ -128,3 +140,4 @@ job_answer (Some (Replay config recording)) load = None
 job_answer (Some (Serve config events reload_ms listen)) load = None
 job_answer (Some (Gauge config recording)) load = None
 job_answer (Some (GaugeServe config events listen)) load = None
+job_answer (Some (Bench hosts)) load = Some (bench_answer (measured hosts))

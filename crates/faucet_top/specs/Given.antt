@@ -14,12 +14,15 @@ use Rattle.conf_load.specs.Loaded.{loaded}
 use Rattle.gauge_conf.specs.declared.gauge.GaugeConf.{GaugeConf}
 use Rattle.gauge_load.specs.Loaded.{gauge_of}
 use Rattle.command_line.specs.declared.meaning.Job.{Job}
-use Rattle.command_line.specs.declared.meaning.Job.TheVariants.{Check, Gauge, GaugeServe, Plan, Replay, Serve}
+use Rattle.command_line.specs.declared.meaning.Job.TheVariants.{Bench, Check, Gauge, GaugeServe, Plan, Replay, Serve}
 use Rattle.opening_batch.specs.Opened.{Opens}
 use Rattle.recording.specs.declared.refused.RecordRefused.{RecordRefused}
 use Rattle.recording.specs.Written.{written_records}
 use Rattle.ctl_world.specs.World.{first}
 use Rattle.law_stories.specs.Right.{IsRight}
+use Rattle.bench_story.specs.Measured.{measured}
+use Rattle.bench_story.specs.Setup.{configuration}
+use Rattle.bench_story.specs.Story.{story as story_of}
 use Rattle.gauge_poll.specs.Monitoring.{begun, lines_of as gauge_lines}
 use Rattle.hub_drive.specs.declared.sayings.Outlet.{Outlet}
 use Rattle.hub_drive.specs.declared.sayings.Outlet.TheVariants as outlets
@@ -33,7 +36,7 @@ use Rattle.gauge_drive.specs.Gauge.{joined, monitor}
 use Rattle.hub_drive.specs.declared.replay.Replayed.{Replayed}
 use Rattle.hub_drive.specs.declared.replay.Replayed.TheVariants as replayed
 use Rattle.faucet_top.specs.declared.deliver.Status.{Status}
-use Rattle.faucet_top.specs.Answer.{Answer, GaugeLoad, Load, usage, out_of_memory, refusal, json_line, check_step, check_answer, last_line, planned, plan_answer, unread as unread_answer}
+use Rattle.faucet_top.specs.Answer.{Answer, GaugeLoad, Load, usage, out_of_memory, refusal, json_line, check_step, check_answer, bench_answer, bench_line, last_line, planned, plan_answer, unread as unread_answer}
 use Rattle.faucet_top.specs.Ends.{status_after}
 use Rattle.faucet_top.specs.Status.{number_of_status}
 
@@ -91,6 +94,7 @@ RepliesJob (Some (Replay config recording)) contents absence fault refused a = (
 RepliesJob (Some (Serve config events reload_ms listen)) contents absence fault refused a = ⊥
 RepliesJob (Some (Gauge config recording)) contents absence fault refused a = (made : GaugeLoad) × GaugeLoads contents absence fault refused config made × RepliesGauge contents absence fault config recording made a
 RepliesJob (Some (GaugeServe config events listen)) contents absence fault refused a = ⊥
+RepliesJob (Some (Bench hosts)) contents absence fault refused a = a ≡ bench_answer (measured hosts)
 
 -- the same, or that memory ran out before the job was known or begun
 abbrev pub Replies : Option Job → Option Contents → (absence fault : Type 0) → (refused : List ℕ) → Answer → Type 0
@@ -126,6 +130,12 @@ Gives job contents absence fault refused status out_old out_new err_old err_new 
 abbrev pub GivesRun : {S : Type 0} → Workings S → Outlet → Option Contents → (absence fault : Type 0) → (recording : List ℕ) → S → (status : ℕ) → (out_old out_new err_old err_new : Option (List ℕ)) → (out_faults_old out_faults_new err_faults_old err_faults_new : ℕ) → Type 0
 GivesRun works outlet contents absence fault recording w status out_old out_new err_old err_new out_faults_old out_faults_new err_faults_old err_faults_new =
     (a : Answer) × (RepliesRun works outlet contents absence fault recording w a ⊎ (a ≡ out_of_memory))
+    × Delivers a status out_old out_new err_old err_new out_faults_old out_faults_new err_faults_old err_faults_new
+
+-- the reply to `bench` was delivered, or that memory ran out
+abbrev pub GivesBench : (hosts status : ℕ) → (out_old out_new err_old err_new : Option (List ℕ)) → (out_faults_old out_faults_new err_faults_old err_faults_new : ℕ) → Type 0
+GivesBench hosts status out_old out_new err_old err_new out_faults_old out_faults_new err_faults_old err_faults_new =
+    (a : Answer) × ((a ≡ bench_answer (measured hosts)) ⊎ (a ≡ out_of_memory))
     × Delivers a status out_old out_new err_old err_new out_faults_old out_faults_new err_faults_old err_faults_new
 
 -- files of these names were loaded in order, and the answer delivered
@@ -180,6 +190,7 @@ IsStatusOf (Some (Replay config recording)) held n = IsLoadedStatus config (load
 IsStatusOf (Some (Serve config events reload_ms listen)) held n = IsLoadedStatus config (loaded held config) (λ conf. IsServeStatus) n
 IsStatusOf (Some (Gauge config recording)) held n = IsLoadedStatus config (gauge_of held config) (λ conf. IsRunStatus monitor (begun conf) (held recording)) n
 IsStatusOf (Some (GaugeServe config events listen)) held n = IsLoadedStatus config (gauge_of held config) (λ conf. IsServeStatus) n
+IsStatusOf (Some (Bench hosts)) held n = n ≡ 0
 
 -- a status is that of the answer; or a write failed, memory ran out, or a read failed
 abbrev pub StatusFor : (status : ℕ) → (IsAnswered : ℕ → Type 0) → (fault : Type 0) → Type 0
@@ -227,3 +238,9 @@ pub record IsWatched (config recording : List ℕ) (refused : Option RecordRefus
   pub conf : GaugeConf
   pub accepted : gauge_of held config ≡ Ok conf
   pub run : IsRun monitor (begun conf) (λ story. joined (gauge_lines (begun conf) story)) recording refused held out_old out_new err_old err_new
+
+-- The line of what is measured of the story in which so many hosts come was written; and all is right of each front of that story, which
+-- happens to the controller of a configuration of its own.
+pub record IsMeasured (hosts : ℕ) (before after : Option (List ℕ)) : Type 0 where
+  pub written : after ≡ appended before (bench_line (measured hosts))
+  pub right : (front : List Happening) → IsFront front (story_of hosts) → IsRight configuration front

@@ -3,11 +3,12 @@ ghost use Rattle.std.specs.Fmt.{decimal};
 ghost use Rattle.fg_outside.specs.Wrote.{line_of};
 ghost use Rattle.conf_gather.specs.declared.refused.LoadRefused.TheVariants.{Yaml, Conf};
 ghost use Rattle.hub_drive.specs.declared.replay.Replayed.TheVariants.{Read};
-ghost use Rattle.faucet_top.specs.Answer.{last_line, refusal, usage, out_of_memory, line, plan_answer, served_line};
+ghost use Rattle.faucet_top.specs.Answer.{bench_line, last_line, refusal, usage, out_of_memory, line, plan_answer, served_line};
 ghost use Rattle.faucet_top.specs.Given.{Delivers};
 ghost use Rattle.faucet_top.specs.Status.{number_of_status};
 ghost use Rattle.faucet_top.specs.Ends.{Ends, refused_status, status_after, status_served};
 
+use bench_story::Measured;
 use conf_causes::limit_name;
 use conf_gather::LoadRefused;
 use conf_shape::{ConfCause, ConfFault};
@@ -220,6 +221,49 @@ pub fn deliver_served<E: Sink>(err: &mut E, drove: Drove) -> Status
         Drove::WriteFault => Status::WriteFault,
         Drove::Memory => deliver_out_of_memory(err),
     }
+}
+
+/// Writes the line of what was measured, of its numbers.
+fn deliver_numbers<O: Sink>(
+    out: &mut O,
+    hosts: &str,
+    batches: &str,
+    commands: &str,
+    sum: &str,
+) -> Status
+    ensures ends { Ends Status.Done (line (codes "hosts " ∷ hosts.now ∷ codes " batches " ∷ batches.now ∷ codes " commands " ∷ commands.now ∷ codes " sum " ∷ sum.now ∷ []))
+        (O.wrote out.old) (O.wrote out.new) (O.faults out.old) (O.faults out.new) result }
+    ensures faults { O.faults out.old ≤ O.faults out.new }
+{
+    let pieces = [
+        "hosts ",
+        hosts,
+        " batches ",
+        batches,
+        " commands ",
+        commands,
+        " sum ",
+        sum,
+    ];
+    end_with_line(out, &pieces, Status::Done)
+}
+
+/// Writes the line of what was measured.
+pub fn deliver_measured<O: Sink>(out: &mut O, measured: Measured) -> Status
+    ensures ends { Ends Status.Done (bench_line measured) (O.wrote out.old) (O.wrote out.new) (O.faults out.old) (O.faults out.new) result }
+    ensures faults { O.faults out.old ≤ O.faults out.new }
+{
+    let mut hosts = Buffer::new();
+    let mut batches = Buffer::new();
+    let mut commands = Buffer::new();
+    let mut sum = Buffer::new();
+    deliver_numbers(
+        out,
+        hosts.format(measured.hosts),
+        batches.format(measured.batches),
+        commands.format(measured.commands),
+        sum.format(measured.sum),
+    )
 }
 
 /// Writes a batch, or says why there is none.

@@ -4,14 +4,14 @@ ghost use Rattle.fg_outside.specs.Contents.{Contents};
 ghost use Rattle.fg_outside.specs.Wrote.{appended, AppendsFront};
 ghost use Rattle.conf_types.specs.Configuration.{Configuration};
 ghost use Rattle.conf_load.specs.Loaded.{loaded};
-ghost use Rattle.command_line.specs.declared.meaning.Job.TheVariants.{Check, Gauge, GaugeServe, Plan, Replay, Serve};
+ghost use Rattle.command_line.specs.declared.meaning.Job.TheVariants.{Bench, Check, Gauge, GaugeServe, Plan, Replay, Serve};
 ghost use Rattle.command_line.specs.declared.values.Listen.{Listen};
 ghost use Rattle.command_line.specs.Meaning.{meaning};
 ghost use Rattle.faucet_top.specs.Answer.{out_of_memory};
 ghost use Rattle.gauge_conf.specs.declared.gauge.GaugeConf.{GaugeConf};
 ghost use Rattle.gauge_load.specs.Loaded.{gauge_of};
 ghost use Rattle.faucet_top.specs.Any.{GivesAny};
-ghost use Rattle.faucet_top.specs.Given.{AreAccepted, Gives, IsOpened, IsReplayed, IsStatus, IsStatusOf, IsWatched, NamesUnread, ReadsRecording, StatusFor};
+ghost use Rattle.faucet_top.specs.Given.{AreAccepted, Gives, IsMeasured, IsOpened, IsReplayed, IsStatus, IsStatusOf, IsWatched, NamesUnread, ReadsRecording, StatusFor};
 ghost use Rattle.recording.specs.declared.refused.RecordRefused.{RecordRefused};
 ghost use Rattle.hub_drive.specs.declared.drive.Drove.{Drove};
 ghost use Rattle.faucet_top.specs.Ends.{status_served};
@@ -19,6 +19,7 @@ ghost use Rattle.faucet_top.specs.Serving.{IsItsEnd, IsLocal, IsServed, LooksOnc
 ghost use Rattle.faucet_top.specs.Watching.{IsHubWatched};
 ghost use Rattle.faucet_top.specs.Status.{number_of_status};
 
+use crate::bench::measure_story;
 use crate::check::check_files;
 use crate::deliver::{Status, deliver_out_of_memory, deliver_plan, deliver_refusal, deliver_usage};
 use crate::gauge::watch_switches;
@@ -26,6 +27,7 @@ use crate::plan::make_plan;
 use crate::replay::run_recording;
 use crate::serve::{Pace, serve_switches};
 use crate::units::Units;
+use bench_story::laws::the_configuration_is_valid;
 use command_line::{Job, read_words};
 use conf_load::laws::a_loaded_configuration_is_valid;
 use conf_load::load;
@@ -86,6 +88,10 @@ fn do_job<F: Files, O: Sink, E: Sink>(
             }
             Err(why) => (deliver_refusal(err, config.as_str(), &why), files),
         },
+        Job::Bench(hosts) => {
+            let status = measure_story(alloc, *hosts, out, err);
+            (status, files)
+        }
         Job::Serve { .. } => unreachable!(),
         Job::GaugeServe { .. } => unreachable!(),
     }
@@ -131,6 +137,7 @@ pub fn local<F: Files, O: Sink, E: Sink>(
         → result.0 ≡ 0 → IsWatched config recording None (held 0) (O.wrote out.old) (O.wrote out.new) (E.wrote err.old) (E.wrote err.new) }
     ensures watched_to { (config recording : List ℕ) (held : Contents) → job.now ≡ Gauge config recording → F.contents files ≡ Some held
         → result.0 ≡ 5 → (refused : RecordRefused) × IsWatched config recording (Some refused) (held 0) (O.wrote out.old) (O.wrote out.new) (E.wrote err.old) (E.wrote err.new) }
+    ensures measured { (hosts : ℕ) → job.now ≡ Bench hosts → result.0 ≡ 0 → IsMeasured hosts (O.wrote out.old) (O.wrote out.new) }
 
     // The files are handed back.
     ensures contents { F.contents result.1 ≡ F.contents files }
@@ -143,6 +150,7 @@ pub fn local<F: Files, O: Sink, E: Sink>(
     an_opening_batch_opens_the_datapath();
     whatever_happens_is_right();
     what_is_printed_are_the_lines();
+    the_configuration_is_valid();
     let (status, files) = do_job(alloc, job, files, out, err);
     (status.number(), files)
 }
@@ -243,11 +251,13 @@ fn answer_words<F: Files, H: Hub, O: Sink, E: Sink>(
 /// --listen A:P` runs the controller of CONFIG on the hub, for at most N happenings, looks every M milliseconds at
 /// CONFIG and what it includes, and writes the controller's lines on `err`. `gauge GAUGE_CONFIG RECORDING` runs the Gauge
 /// of GAUGE_CONFIG on what the recording tells, and writes on `out` the lines of what switches told; `gauge-serve
-/// GAUGE_CONFIG --events N --listen A:P` runs it on the hub, for at most N happenings. Any other words have no meaning. A
-/// refusal is one line on `err`. Statuses: 0 done, so of `serve` and `gauge-serve` where the hub said so; 1 the words
-/// have no meaning; 2 a configuration was read and is refused, or DP isn't one of its datapaths; 3 a file isn't there,
-/// or a read failed, of these two before the hub was asked; 4 a write failed; 5 a record of the recording is refused; 6
-/// the hub failed; 7 N turns were taken, for `replay` and `gauge` 2^64 - 1; 8 out of memory.
+/// GAUGE_CONFIG --events N --listen A:P` runs it on the hub, for at most N happenings. `bench N` runs a controller on a
+/// story in which N hosts come, and writes on `out` a line of what it says of it: how many hosts it knows, the batches
+/// and commands that they led to, and the sum of all bytes that were said. Any other words have no meaning. A refusal is
+/// one line on `err`. Statuses: 0 done, so of `serve` and `gauge-serve` where the hub said so; 1 the words have no
+/// meaning; 2 a configuration was read and is refused, or DP isn't one of its datapaths; 3 a file isn't there, or a read
+/// failed, of these two before the hub was asked; 4 a write failed; 5 a record of the recording is refused; 6 the hub
+/// failed; 7 N turns were taken, for `replay` and `gauge` 2^64 - 1; 8 out of memory.
 pub fn faucet<F: Files, H: Hub, O: Sink, E: Sink>(
     alloc: Global,
     words: &Names,
@@ -343,6 +353,10 @@ pub fn faucet<F: Files, H: Hub, O: Sink, E: Sink>(
         → (Rose (O.faults out.old) (O.faults out.new) → ⊥) → (Rose (E.faults err.old) (E.faults err.new) → ⊥)
         → (result.0 ≡ 0) ⊎ ((result.0 ≡ 7) ⊎ (result.0 ≡ 8)) }
 
+    // `bench`: at status 0 what stands on `out` is the line of what is measured of its story, and all that is right, of each front of
+    // that story.
+    ensures measured { (hosts : ℕ) → meaning words.now ≡ Some (Bench hosts) → result.0 ≡ 0 → IsMeasured hosts (O.wrote out.old) (O.wrote out.new) }
+
     // Files and hub are handed back; but for `serve`, the files hold what they held, and but for `serve` and `gauge-serve`, nothing
     // was said to the hub.
     ensures contents { LooksOnce (meaning words.now) → F.contents result.1 ≡ F.contents files }
@@ -357,6 +371,7 @@ pub fn faucet<F: Files, H: Hub, O: Sink, E: Sink>(
     an_opening_batch_opens_the_datapath();
     whatever_happens_is_right();
     what_is_printed_are_the_lines();
+    the_configuration_is_valid();
     answer_words(alloc, words, files, hub, out, err)
 }
 

@@ -1,11 +1,13 @@
 use crate::repeats::write_repeated;
+use hex::FromHexError;
 use net_base::{Bytes, NoMemory};
-use std::alloc::Global;
+use std::alloc::{AllocError, Global};
 
 /// Adds the bytes of a word of hexadecimal digits; of a word that is none nothing.
 fn put_word(alloc: Global, bytes: &mut Bytes, word: &str) -> Result<(), NoMemory> {
     match hex::decode(alloc, word) {
         Ok(piece) => bytes.append(piece.as_slice()),
+        Err(FromHexError::OutOfMemory) => Err(AllocError),
         Err(_) => Ok(()),
     }
 }

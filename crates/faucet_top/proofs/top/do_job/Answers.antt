@@ -1,7 +1,7 @@
 use Rattle.std.proofs.Common.{◌≡◌, ◌⊎◌, ℕ, inl, inr, List, Some, ap, ◌∙◌, arith}
 use Rattle.std.proofs.lemmas.Grind.{common_steps}
 use Rattle.command_line.specs.declared.meaning.Job.{Job}
-use Rattle.command_line.specs.declared.meaning.Job.TheVariants.{Check, Gauge, Plan, Replay}
+use Rattle.command_line.specs.declared.meaning.Job.TheVariants.{Bench, Check, Gauge, Plan, Replay}
 use Rattle.conf_gather.specs.declared.refused.LoadRefused.TheVariants.{Read}
 use Rattle.conf_load.specs.Loaded.{loaded}
 use Rattle.gauge_load.specs.Loaded.{gauge_of}
@@ -77,6 +77,10 @@ pub returns-in-Err-load_gauge-clause-no_read_fault : goal.returns-in-Err-load_ga
 returns-in-Err-load_gauge-clause-no_read_fault g c = λ unread written below.
     c.in-Err-load_gauge.ensures.files.no_fault (λ file is. no_read_refused _ _ _ _ _ c.deliver_refusal-in-Err-load_gauge.result unread written c.in-Err-load_gauge.why c.deliver_refusal-in-Err-load_gauge.ensures.ends file (refused_by c.in-Err-load_gauge.why (Read file) is))
 
+pub returns-in-Bench-clause-gives : goal.returns-in-Bench-clause-gives
+returns-in-Bench-clause-gives g c =
+    rw c.in-Bench.is c.measure_story-status.ensures.gives
+
 pub unreachable-requires : goal.unreachable-requires
 unreachable-requires g c = c.requires.0 c.in-Serve.config c.in-Serve.events c.in-Serve.reload_ms c.in-Serve.listen (ap (λ (j : Job). Some j) c.in-Serve.is)
 
@@ -88,6 +92,12 @@ not_checked is = elim is [ inl one ↦ absurd (cc) | inr other ↦ absurd (cc) ]
 
 not_planned : {name dp : List ℕ} {config recording : List ℕ} → (Some (Plan name dp) ≡ Some (Replay config recording)) ⊎ (Some (Plan name dp) ≡ Some (Gauge config recording)) → ⊥
 not_planned is = elim is [ inl one ↦ absurd (cc) | inr other ↦ absurd (cc) ]
+
+not_measured : {hosts : ℕ} {config recording : List ℕ} → (Some (Bench hosts) ≡ Some (Replay config recording)) ⊎ (Some (Bench hosts) ≡ Some (Gauge config recording)) → ⊥
+not_measured is = elim is [ inl one ↦ absurd (cc) | inr other ↦ absurd (cc) ]
+
+pub returns-in-Bench-clause-named : goal.returns-in-Bench-clause-named
+returns-in-Bench-clause-named g c = λ reads. absurd (not_measured (rw c.in-Bench.is at reads.2))
 
 pub returns-in-Check-clause-named : goal.returns-in-Check-clause-named
 returns-in-Check-clause-named g c = λ reads.

@@ -56,3 +56,6 @@ pub returns-clause-gauge_completes : goal.returns-clause-gauge_completes
 returns-clause-gauge_completes g c = λ config events listen held conf is told_so accepted no_read no_hub no_out no_err.
     by.gauge_completes g.H.Hub.may g.F.Files.contents g.F.Files.faults _ _ _ (meaning c.args.words.now) c.args.hub _ c.args.files _ _ _ _ _ _ _ _ _ _ c.answer_words.ensures.gives
     (λ six. no_hub (c.answer_words.ensures.hub_fault six)) no_read no_out no_err config events listen held conf is told_so accepted
+
+pub returns-clause-measured : goal.returns-clause-measured
+returns-clause-measured g c = by.story_measured g.H.Hub.may g.F.Files.contents g.F.Files.faults _ _ _ (meaning c.args.words.now) c.args.hub _ c.args.files _ _ _ _ _ _ _ _ _ _ c.answer_words.ensures.gives c.whatever_happens_is_right.ensures c.the_configuration_is_valid.ensures

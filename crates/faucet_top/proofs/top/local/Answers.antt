@@ -51,3 +51,6 @@ returns-clause-watched g c = λ config recording held is. by.watched (Some c.arg
 
 pub returns-clause-watched_to : goal.returns-clause-watched_to
 returns-clause-watched_to g c = λ config recording held is. by.watched_to (Some c.args.job.now) _ _ _ _ c.number.result _ _ _ _ _ _ _ _ (rw (← c.number.ensures) at c.do_job-status.ensures.gives) c.what_is_printed_are_the_lines.ensures.recorded config recording held (ap (λ (j : Job). Some j) is)
+
+pub returns-clause-measured : goal.returns-clause-measured
+returns-clause-measured g c = λ hosts is. by.story_measured (Some c.args.job.now) _ _ _ _ c.number.result _ _ _ _ _ _ _ _ (rw (← c.number.ensures) at c.do_job-status.ensures.gives) c.whatever_happens_is_right.ensures c.the_configuration_is_valid.ensures hosts (ap (λ (j : Job). Some j) is)
