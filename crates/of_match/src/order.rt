@@ -37,10 +37,13 @@ pub(crate) fn match_len(fields: &[Field]) -> u128
     total
 }
 
-// Two fields by number, mask flag, value and mask.
+// Two fields by number, mask flag, value and mask. Most are of one kind and differ in the value alone.
 fn compare_field(a: &Field, b: &Field) -> Ordering
     ensures { result ≡ field_cmp a.now b.now }
 {
+    if a.id == b.id && a.mask == b.mask {
+        return a.value.cmp(&b.value);
+    }
     match a.id.number().cmp(&b.id.number()) {
         Ordering::Equal => is_masked(a)
             .cmp(&is_masked(b))
