@@ -1,11 +1,12 @@
 #!/usr/bin/env bash
 # Runs `faucet` on what is made of real files, recordings and streams by chance: bits turned, bytes cut, repeated, moved and
-# lengthened. `check` reads COUNT files, `replay` COUNT recordings, and `serve`, at 127.0.0.1:7655, hears COUNT streams beside a
+# lengthened. `check` reads COUNT files, `replay` COUNT recordings, and `serve`, at 127.0.0.1:7655 (or PORT), hears COUNT streams beside a
 # switch that stays, which this script plays; `gauge` reads COUNT files of its own and COUNT recordings of replies with counters of
 # ports and of flow entries, and `gauge-serve` hears COUNT streams of them. Prints how many runs ended in which way, their times and their memory. Status 1
 # where a run ended otherwise than docs/reference/commands.md says, took more than ten times the median of its kind and a second, or
 # more than 64 MB; where `serve` ended, or left its switch unanswered. It ends what it started, by its process id. Needs python3.
-# Usage: bench/hostile.sh [COUNT [SEED [PROGRAM]]]    COUNT is 2000 and SEED 1 else; PROGRAM is another one than bin/faucet
+# Usage: [ONLY="KIND.."] [PORT=N] bench/hostile.sh [COUNT [SEED [PROGRAM]]]    COUNT is 2000 and SEED 1 else; PROGRAM is another one
+# than bin/faucet; a KIND is file, recording, serve, gauge-file, gauge-recording or gauge-serve
 set -eu
 top=$(cd "$(dirname "$0")/.." && pwd)
 work=$(mktemp -d)
@@ -15,4 +16,4 @@ if [ $# -lt 3 ]; then
   "$top/bin/faucet" check "$top/examples/quick-start/faucet.yaml" >/dev/null
 fi
 grep -m 1 'model name' /proc/cpuinfo | sed 's/^.*: /processor: /'
-timeout 3600 python3 "$top/bench/hostile.py" "$program" "$top/examples" "$work" "${1:-2000}" "${2:-1}"
+timeout 10800 python3 "$top/bench/hostile.py" "$program" "$top/examples" "$work" "${1:-2000}" "${2:-1}"

@@ -5,6 +5,7 @@ use Rattle.conf_types.specs.declared.datapath.Dp.{Dp}
 use Rattle.conf_types.specs.declared.datapath.Port.{Port}
 use Rattle.conf_types.specs.declared.vlan.Vlan.{Vlan}
 use Rattle.conf_types.specs.Configuration.{Configuration}
+use Rattle.conf_types.specs.Worked as worked
 
 -- it is named by its number
 abbrev pub vlan : Vlan
@@ -22,23 +23,7 @@ vlan = record {
 
 -- so is an interface
 abbrev pub interface : ℕ → Port
-interface number = record {
-  no = number;
-  name = decimal number;
-  description = decimal number;
-  enabled = true;
-  native = Some 100;
-  tagged = [];
-  acls = [];
-  output_only = false;
-  hairpin = false;
-  unicast_flood = true;
-  permanent_learn = false;
-  opstatus_reconf = true;
-  max_hosts = 16384;
-  mirror = [];
-  stack = None;
-}
+interface number = record (worked.edge number (Some 100) []) { name = decimal number; description = decimal number; max_hosts = 16384 }
 
 -- the first so many
 unfoldable pub interfaces : ℕ → List Port
@@ -47,20 +32,7 @@ interfaces (suc n) = interfaces n ++ interface (suc n) ∷ []
 
 -- all else is as where a file says nothing of it
 abbrev pub datapath : Dp
-datapath = record {
-  id = record { 0 = 1 };
-  name = codes "bench";
-  description = codes "bench";
-  hardware = codes "Open vSwitch";
-  timeout = 300;
-  arp_timeout = 30;
-  stack_priority = None;
-  drop_spoofed = true;
-  drop_broadcast = true;
-  drop_bpdu = true;
-  drop_lldp = true;
-  ports = interfaces 48;
-}
+datapath = record (worked.datapath 1 None (interfaces 48)) { name = codes "bench"; description = codes "bench"; hardware = codes "Open vSwitch" }
 
 unfoldable pub configuration : Configuration
 configuration = record { dps = datapath ∷ []; vlans = vlan ∷ []; acls = []; routers = [] }
