@@ -1,8 +1,8 @@
 -- The first neighbour that is due, by its place.
-use Rattle.std.proofs.Common.{◌≡◌, ℕ, zero, suc, ◌<◌, ◌≤◌, Bool, true, false, cond, Some, None, List, [], ◌∷◌, length, get_or, set, find, remove, nat_lt, is_some, if◌then◌else◌, refl, inl, inr, sym, ap, ◌∙◌, arith, subst}
-use Rattle.std.specs.List.{position, position_or_len}
+use Rattle.std.proofs.Common.{◌≡◌, ℕ, zero, suc, ◌<◌, ◌≤◌, ◌||◌, Bool, true, false, cond, Some, None, List, [], ◌∷◌, length, get_or, set, find, remove, take, nat_lt, is_some, if◌then◌else◌, refl, inl, inr, sym, ap, ◌∙◌, arith, subst}
+use Rattle.std.specs.List.{list_any, position, position_or_len}
 use Rattle.std.specs.Option.{option_map, option_map_or}
-use Rattle.std.proofs.lemmas.Bool.{cases_Bool, ltb-false}
+use Rattle.std.proofs.lemmas.Bool.{cases_Bool, ltb-false, ltb-true}
 use Rattle.std.proofs.lemmas.List.Sums.{fails_before_first, passes_at_first}
 use Rattle.conf_types.specs.declared.state.NeighRec.{NeighRec}
 use Rattle.conf_types.specs.Configuration.{Configuration}
@@ -56,6 +56,61 @@ module _ (test : NeighRec → Bool) where
   none_found : (ns : List NeighRec) → AllFail ns → find test ns ≡ None
   none_found [] fail = refl
   none_found (x ∷ ns) fail = ap (λ b. cond b (Some x) (find test ns)) (fail 0 x (omega arith)) ∙ none_found ns (λ k d lt. fail (suc k) d (omega arith))
+
+-- ---- by going on from where none before is
+
+neither : (a b : Bool) → (a || b) ≡ false → (a ≡ false) × (b ≡ false)
+neither false b e = (refl, e)
+neither true b e = absurd (cc)
+
+both_ways : (b : Bool) → b ≡ true → b ≡ false → ⊥
+both_ways b passes fails = let e : true ≡ false = sym passes ∙ fails in cc
+
+module _ (test : NeighRec → Bool) where
+  fails_in : (ns : List NeighRec) (i k : ℕ) (d : NeighRec) → list_any test (take i ns) ≡ false → k < i → k < length ns → test (get_or ns k d) ≡ false
+  fails_in [] i k d none lt within = absurd (omega arith)
+  fails_in (x ∷ ns) zero k d none lt within = absurd (omega arith)
+  fails_in (x ∷ ns) (suc i) zero d none lt within = (neither (test x) (list_any test (take i ns)) none).0
+  fails_in (x ∷ ns) (suc i) (suc k) d none lt within = fails_in ns i k d (neither (test x) (list_any test (take i ns)) none).1 (omega arith) (omega arith)
+
+  -- the one at the place, where none before it passes
+  place_is : (ns : List NeighRec) (i q : ℕ) (d : NeighRec) → q ≡ position_or_len test ns → q < length ns → list_any test (take i ns) ≡ false → i < length ns → test (get_or ns i d) ≡ true → i ≡ q
+  place_is ns i q d is inside none lt here =
+      elim (cases_Bool (nat_lt q i)) [
+        | inl below ↦ absurd (both_ways (test (get_or ns q d)) (subst (λ j. test (get_or ns j d) ≡ true) (sym is) (passes_at_first test ns d (subst (λ j. j < length ns) is inside))) (fails_in ns i q d none (ltb-true q i below) inside))
+        | inr not_below ↦
+            elim (cases_Bool (nat_lt i q)) [
+              | inl above ↦ absurd (both_ways (test (get_or ns i d)) here (fails_before_first test ns i d (subst (λ j. i < j) is (ltb-true i q above))))
+              | inr not_above ↦ omega (arith, ltb-false q i not_below, ltb-false i q not_above)
+            ]
+      ]
+
+  pub found_first : (ns : List NeighRec) (i : ℕ) (d : NeighRec) → list_any test (take i ns) ≡ false → i < length ns → test (get_or ns i d) ≡ true → Some i ≡ position test ns
+  found_first ns i d none lt here =
+      elim (cases_Bool (nat_lt (position_or_len test ns) (length ns))) [
+        | inl inside ↦
+            ap (λ j. Some j) (place_is ns i (position_or_len test ns) d refl (ltb-true (position_or_len test ns) (length ns) inside) none lt here)
+            ∙ sym (ap (λ b. cond b (Some (position_or_len test ns)) None) inside)
+        | inr past ↦ absurd (both_ways (test (get_or ns i d)) here (fails_before_first test ns i d (omega (arith, lt, ltb-false (position_or_len test ns) (length ns) past))))
+      ]
+
+  -- none in the list
+  pub none_first : (ns : List NeighRec) (i : ℕ) → length ns ≤ i → list_any test (take i ns) ≡ false → None ≡ position test ns
+  none_first [] i past none = refl
+  none_first (x ∷ ns) i past none =
+      elim (cases_Bool (nat_lt (position_or_len test (x ∷ ns)) (length (x ∷ ns)))) [
+        | inl inside ↦
+            let at = position_or_len test (x ∷ ns) in
+            let lt = ltb-true at (length (x ∷ ns)) inside in
+            absurd (both_ways (test (get_or (x ∷ ns) at x)) (passes_at_first test (x ∷ ns) x lt) (fails_in (x ∷ ns) i at x none (omega (arith, lt, past)) lt))
+        | inr out ↦ sym (ap (λ b. cond b (Some (position_or_len test (x ∷ ns))) None) out)
+      ]
+
+-- taking one out leaves those before it
+pub take-remove : (ns : List NeighRec) (i : ℕ) → i < length ns → take i (remove ns i) ≡ take i ns
+take-remove [] i lt = absurd (omega arith)
+take-remove (x ∷ ns) zero lt = refl
+take-remove (x ∷ ns) (suc i) lt = ap (λ rest. x ∷ rest) (take-remove ns i (omega arith))
 
 -- ---- what is left
 

@@ -5,6 +5,7 @@ pub mod Due
 pub mod Hearing
 pub mod Kept
 pub mod Parts
+pub mod Passed
 pub mod Regroup
 pub mod Runs
 pub mod Table

@@ -9,6 +9,7 @@ mod hearing;
 mod kept;
 pub mod laws;
 mod neighbour;
+mod passed;
 mod table;
 
 pub use answers::{Reply, answer};

@@ -1,12 +1,15 @@
-ghost use Rattle.std.specs.Prelude.{◌≡◌, ◌≤◌, ◌<◌, true, false, [], length, position, IfOk, IfSome, vec_capacity};
+ghost use Rattle.std.specs.Prelude.{◌≡◌, ◌≤◌, ◌<◌, Some, true, false, [], length, position, take, IfOk, IfSome, vec_capacity};
+ghost use Rattle.std.specs.List.{list_any};
 ghost use Rattle.conf_types.specs.Lists.{EachBefore};
 ghost use Rattle.conf_types.specs.State.{IsSameNeighbour};
 ghost use Rattle.neighbour_resolve.specs.Due.{after_due, is_due, due_said};
 ghost use Rattle.neighbour_resolve.specs.Kept.{kept};
+ghost use Rattle.neighbour_resolve.specs.Passed.{AreWaiting};
 ghost use Rattle.neighbour_resolve.specs.Table.{after_told, outcome, gives_way, is_known, neighbours_after, off_group, replaced, resolved, stays, unresolved};
 
 use crate::kept::kept_neighbours;
 use crate::neighbour::{Due, Want, is_due, is_same, next};
+use crate::passed::Passed;
 use conf_types::{Conf, NeighRec};
 use net_base::{DpId, Ip4, Mac, Moment, NoMemory, Vid};
 use std::alloc::Global;
@@ -19,17 +22,19 @@ pub struct Neighbours {
     alloc: Global,
     limit: u32,
     neighbours: Vec<NeighRec>,
+    passed: Passed,
 }
 
 impl Model for Neighbours {
     ghost use Rattle.std.specs.Prelude.{◌≤◌, vec_capacity};
+    ghost use Rattle.neighbour_resolve.specs.Passed.{AreWaiting};
     ghost use Rattle.neighbour_resolve.specs.Table.{Table, IsTable};
 
     ghost Value = { Table };
 
     ghost view = { λ t. record { limit = t.limit; neighbours = t.neighbours.items } };
 
-    ghost invariant = { λ t. IsTable (record { limit = t.limit; neighbours = t.neighbours.items }) × (t.limit ≤ vec_capacity t.neighbours) };
+    ghost invariant = { λ t. IsTable (record { limit = t.limit; neighbours = t.neighbours.items }) × (t.limit ≤ vec_capacity t.neighbours) × AreWaiting t.passed t.neighbours.items };
 }
 
 pub(crate) fn is_known(neighbours: &[NeighRec], told: &NeighRec) -> bool
@@ -75,42 +80,68 @@ fn tell(neighbours: &mut Vec<NeighRec>, limit: u32, told: NeighRec, leave_resolv
     }
 }
 
-/// Where the first neighbour stands that is due.
-fn due_place(neighbours: &[NeighRec], now: Moment) -> Option<usize>
+/// Where the first neighbour stands that is due. None of the first `from` is.
+fn due_place(neighbours: &[NeighRec], from: usize, now: Moment) -> Option<usize>
+    requires { list_any (is_due now.0) (take from neighbours.now) ≡ false }
     ensures place { result ≡ position (is_due now.0) neighbours.now }
     ensures within { IfSome result (λ at. at < length neighbours.now) }
+    ensures before { IfSome result (λ at. list_any (is_due now.0) (take at neighbours.now) ≡ false) }
 {
-    neighbours
-        .iter()
-        .position(|neighbour| is_due(now, neighbour))
+    for at in from..neighbours.len() {
+        if is_due(now, &neighbours[at]) {
+            return Some(at);
+        }
+    }
+    None
 }
 
-/// Changes the first neighbour that is due, or takes it out.
-fn take_due(neighbours: &mut Vec<NeighRec>, conf: &Conf, now: Moment) -> Option<Due>
-    ensures said { result ≡ due_said conf.now now.0 neighbours.old.items }
+/// Changes the first neighbour that is due, which stands at the place, or takes it out.
+fn take_at(neighbours: &mut Vec<NeighRec>, at: usize, conf: &Conf, now: Moment) -> Due
+    requires place { Some at ≡ position (is_due now.0) neighbours.old.items }
+    requires within { at < length neighbours.old.items }
+    ensures said { Some result ≡ due_said conf.now now.0 neighbours.old.items }
     ensures list { neighbours.new.items ≡ after_due conf.now now.0 neighbours.old.items }
+    ensures before { take at neighbours.new.items ≡ take at neighbours.old.items }
     ensures capacity { vec_capacity neighbours.new ≡ vec_capacity neighbours.old }
 {
-    let at = due_place(neighbours.as_slice(), now)?;
     let due = neighbours[at];
     match next(conf, now, &due) {
         Some(next) => {
             neighbours[at] = next;
-            Some(Due::Ask {
+            Due::Ask {
                 group: due.group,
                 vid: due.vid,
                 ip: due.ip,
-            })
+            }
         }
         None => {
             neighbours.remove(at);
-            Some(Due::Gone {
+            Due::Gone {
                 group: due.group,
                 vid: due.vid,
                 ip: due.ip,
-            })
+            }
         }
     }
+}
+
+/// Changes the first neighbour that is due, or takes it out.
+fn take_due(
+    neighbours: &mut Vec<NeighRec>,
+    passed: &mut Passed,
+    conf: &Conf,
+    now: Moment,
+) -> Option<Due>
+    requires { AreWaiting passed.old neighbours.old.items }
+    ensures said { result ≡ due_said conf.now now.0 neighbours.old.items }
+    ensures list { neighbours.new.items ≡ after_due conf.now now.0 neighbours.old.items }
+    ensures passed { AreWaiting passed.new neighbours.new.items }
+    ensures capacity { vec_capacity neighbours.new ≡ vec_capacity neighbours.old }
+{
+    let at = due_place(neighbours.as_slice(), passed.count(now), now)?;
+    let due = take_at(neighbours, at, conf, now);
+    *passed = Passed::until(now, at);
+    Some(due)
 }
 
 fn leave_group(neighbours: &mut Vec<NeighRec>, group: DpId)
@@ -129,6 +160,7 @@ impl Neighbours {
             alloc,
             limit,
             neighbours: Vec::with_capacity(alloc, limit as usize)?,
+            passed: Passed::none(),
         })
     }
 
@@ -155,6 +187,7 @@ impl Neighbours {
             tries: 0,
             due: now,
         };
+        self.passed = Passed::none();
         tell(&mut self.neighbours, self.limit, told, true)
     }
 
@@ -180,6 +213,7 @@ impl Neighbours {
             tries: 0,
             due: Moment(now.0.saturating_add(u64::from(timeout))),
         };
+        self.passed = Passed::none();
         tell(&mut self.neighbours, self.limit, told, false)
     }
 
@@ -192,13 +226,14 @@ impl Neighbours {
         ensures said { result ≡ due_said conf.now now.0 self.old.neighbours }
         ensures list { self.new ≡ record self.old { neighbours = after_due conf.now now.0 self.old.neighbours } }
     {
-        take_due(&mut self.neighbours, conf, now)
+        take_due(&mut self.neighbours, &mut self.passed, conf, now)
     }
 
     /// Takes out the neighbours of the group with this number.
     pub fn forget_group(&mut self, group: DpId)
         ensures { self.new ≡ record self.old { neighbours = off_group group self.old.neighbours } }
     {
+        self.passed = Passed::none();
         leave_group(&mut self.neighbours, group);
     }
 
@@ -217,6 +252,7 @@ impl Neighbours {
             alloc: self.alloc,
             limit: self.limit,
             neighbours,
+            passed: Passed::none(),
         })
     }
 }

@@ -15,4 +15,5 @@ invariant_of-result c =
     c.in_ok-extend_from_slice.ensures.items ∙ ap (λ front. front ++ c.as_slice-2.result.now) c.in_ok-neighbours.ensures.items ∙ c.as_slice-2.ensures.value ∙ c.in_ok-kept.ensures ∙ ap (kept_neighbours conf running) c.as_slice.ensures.value in (
       subst (λ (list : List NeighRec). IsTable (record { limit = limit; neighbours = list })) (sym made) (kept_table conf running limit ns c.self.invariant.0.within),
       omega (arith, c.in_ok-neighbours.ensures.exact, c.in_ok-extend_from_slice.ensures.capacity),
+      c.none.ensures c.extend_from_slice.new.self.items,
     )
