@@ -2,7 +2,9 @@ pub mod Faces
 pub mod Fronts
 pub mod Leaving
 pub mod Lost
+pub mod Noted
 pub mod Numbered
+pub mod Ordered
 pub mod Places
 pub mod Says
 pub mod SoundChanges
@@ -10,3 +12,4 @@ pub mod SoundEnds
 pub mod SoundKept
 pub mod SoundPlaces
 pub mod Steps
+pub mod Told

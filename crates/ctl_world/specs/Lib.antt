@@ -1,8 +1,10 @@
 pub mod Connections
 pub mod Ends
+pub mod Firsts
 pub mod Frames
 pub mod Lost
 pub mod Saying
 pub mod TablesSaid
+pub mod UpPorts
 pub mod World
 pub mod Alike

@@ -1,4 +1,5 @@
 ghost use Rattle.std.specs.Prelude.{◌≡◌, ◌≤◌, ◌<◌, true, [], Some, length, position, nat_lt, IfOk, IfSome, IsTrue, OnOk, OnErr};
+ghost use Rattle.std.specs.List.{AllByRecursion};
 ghost use Rattle.std.specs.Option.{option_copied, option_map, option_map_or};
 ghost use Rattle.switch_session.specs.declared.quiet.Quiet.TheVariants.{Well};
 ghost use Rattle.switch_session.specs.declared.state.Step.TheVariants.{Nothing};
@@ -6,7 +7,9 @@ ghost use Rattle.switch_session.specs.Connections.{due_at, next_id};
 ghost use Rattle.switch_session.specs.Stages.{leads};
 ghost use Rattle.switch_session.specs.Staying.{leaves};
 ghost use Rattle.ctl_world.specs.Connections.{change, conn_of, conn_with, has_number, is_of, is_open, put, upper_bound, with_asked, with_dp, with_fed, with_heard, with_looked, with_said, with_sent, without};
+ghost use Rattle.ctl_world.specs.Firsts.{AreFrom, AreInOrder, is_begun, lower_bound};
 
+use crate::firsts::{Firsts, first_number, leave, note, note_any};
 use crate::sent::Sent;
 use net_base::{DpId, Moment, NoMemory};
 use of13_codec::Message;
@@ -29,22 +32,50 @@ pub struct Conn {
 #[derive(Drop)]
 pub struct Conns {
     pub(crate) conns: Vec<Conn>,
+    firsts: Option<Firsts>,
 }
 
 impl Model for Conns {
     ghost use Rattle.std.specs.Prelude.{List};
     ghost use Rattle.ctl_world.specs.declared.conns.Conn.{Conn};
+    ghost use Rattle.ctl_world.specs.Firsts.{AreKept};
 
     ghost Value = { List Conn };
 
     ghost view = { λ it. it.conns.items };
+
+    ghost invariant = { λ it. AreKept it.conns.items it.firsts };
+}
+
+/// How many connections stand before the first one that has no smaller number.
+fn lower_bound(conns: &[Conn], number: u32) -> usize
+    requires { AreInOrder conns.now }
+    ensures within { result ≤ length conns.now }
+    ensures bound { result ≡ lower_bound number conns.now }
+{
+    conns.partition_point(|conn| conn.number < number)
+}
+
+/// Where a connection goes by its number: the place of the first that has a greater one, and of none the end.
+fn upper_bound(conns: &[Conn], number: u32) -> usize
+    requires { AreInOrder conns.now }
+    ensures within { result ≤ length conns.now }
+    ensures bound { result ≡ upper_bound number conns.now }
+{
+    conns.partition_point(|conn| conn.number <= number)
 }
 
 pub(crate) fn place(conns: &[Conn], number: u32) -> Option<usize>
+    requires { AreInOrder conns.now }
     ensures place { result ≡ position (has_number number) conns.now }
     ensures within { IfSome result (λ at. at < length conns.now) }
 {
-    conns.iter().position(|conn| conn.number == number)
+    let at = lower_bound(conns, number);
+    if at < conns.len() && conns[at].number == number {
+        Some(at)
+    } else {
+        None
+    }
 }
 
 fn is_of(conn: &Conn, dp: DpId) -> bool
@@ -56,6 +87,34 @@ fn is_of(conn: &Conn, dp: DpId) -> bool
     }
 }
 
+fn first_of(conns: &[Conn], dp: DpId) -> Option<&Conn>
+    ensures { option_copied result ≡ conn_of conns.now dp }
+{
+    conns.iter().find(|conn| is_of(conn, dp))
+}
+
+/// The connection of a datapath, whose connections have no smaller numbers than this one.
+fn first_from(conns: &[Conn], dp: DpId, number: u32) -> Option<&Conn>
+    requires order { AreInOrder conns.now }
+    requires from { AreFrom dp number conns.now }
+    ensures { option_copied result ≡ conn_of conns.now dp }
+{
+    let at = lower_bound(conns, number);
+    first_of(&conns[at..], dp)
+}
+
+/// Finds anew from which number on the connections of a datapath stand.
+fn begin_anew(firsts: &mut Option<Firsts>, conns: &[Conn], dp: DpId)
+    requires order { AreInOrder conns.now }
+    requires begun { AllByRecursion (λ c. is_begun firsts.old c ≡ true) conns.now }
+    ensures { AllByRecursion (λ c. is_begun firsts.new c ≡ true) conns.now }
+{
+    leave(firsts, dp);
+    if let Some(conn) = first_of(conns, dp) {
+        note(firsts, dp, conn.number);
+    }
+}
+
 impl Conns {
     /// None.
     pub fn new(alloc: Global) -> Conns
@@ -63,6 +122,7 @@ impl Conns {
     {
         Conns {
             conns: Vec::new(alloc),
+            firsts: Some(Firsts::new(alloc)),
         }
     }
 
@@ -77,41 +137,31 @@ impl Conns {
     pub fn is_open(&self, number: u32) -> bool
         ensures { result ≡ is_open self.now number }
     {
-        self.conns
-            .as_slice()
-            .iter()
-            .any(|conn| conn.number == number)
+        match self.get(number) {
+            Some(_) => true,
+            None => false,
+        }
     }
 
     /// The connection with this number; `None` exactly where it isn't open.
     pub fn get(&self, number: u32) -> Option<&Conn>
         ensures { option_copied result ≡ conn_with self.now number }
     {
-        self.conns
-            .as_slice()
-            .iter()
-            .find(|conn| conn.number == number)
+        match place(self.conns.as_slice(), number) {
+            Some(at) => Some(&self.conns[at]),
+            None => None,
+        }
     }
 
     /// The connection of a datapath; `None` exactly where it has none.
     pub fn of(&self, dp: DpId) -> Option<&Conn>
         ensures { option_copied result ≡ conn_of self.now dp }
     {
-        self.conns.as_slice().iter().find(|conn| is_of(conn, dp))
-    }
-}
-
-/// Where a connection goes by its number: the place of the first that has a greater one, and of none the end.
-fn upper_bound(conns: &[Conn], number: u32) -> usize
-    ensures within { result ≤ length conns.now }
-    ensures bound { result ≡ upper_bound number conns.now }
-{
-    for (at, conn) in conns.iter().enumerate() {
-        if number < conn.number {
-            return at;
+        match first_number(&self.firsts, dp) {
+            Some(number) => first_from(self.conns.as_slice(), dp, number),
+            None => None,
         }
     }
-    conns.len()
 }
 
 fn remove_from(conns: &mut Vec<Conn>, number: u32)
@@ -127,8 +177,11 @@ impl Conns {
         ensures ok { OnOk result (self.new ≡ put conn self.old) }
         ensures err { OnErr result (self.new ≡ self.old) }
     {
-        let at = upper_bound(self.conns.as_slice(), conn.number);
+        let number = conn.number;
+        let dp = conn.dp;
+        let at = upper_bound(self.conns.as_slice(), number);
         self.conns.insert(at, conn)?;
+        note_any(&mut self.firsts, dp, number);
         Ok(())
     }
 
@@ -136,7 +189,14 @@ impl Conns {
     pub fn remove(&mut self, number: u32)
         ensures { self.new ≡ without number self.old }
     {
+        let Some(at) = place(self.conns.as_slice(), number) else {
+            return;
+        };
+        let dp = self.conns[at].dp;
         remove_from(&mut self.conns, number);
+        if let Some(dp) = dp {
+            begin_anew(&mut self.firsts, self.conns.as_slice(), dp);
+        }
     }
 
     /// The transaction id of the next message on a connection; `None` exactly where it isn't open.
@@ -209,7 +269,10 @@ impl Conns {
         ensures { self.new ≡ change number (with_dp dp) self.old }
     {
         if let Some(at) = place(self.conns.as_slice(), number) {
-            self.conns[at].dp = Some(dp);
+            let conn = &mut self.conns[at];
+            conn.dp = Some(dp);
+            let number = conn.number;
+            note(&mut self.firsts, dp, number);
         }
     }
 

@@ -4,12 +4,14 @@
 
 mod conns;
 mod ends;
+mod firsts;
 mod frames;
 pub mod laws;
 mod now;
 mod said;
 mod saying;
 mod sent;
+mod up_ports;
 mod world;
 
 pub use conns::{Conn, Conns};

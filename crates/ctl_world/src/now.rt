@@ -1,12 +1,14 @@
 //! Which datapaths run and which interfaces are up, by what the connections told.
 
-ghost use Rattle.std.specs.Prelude.{◌≡◌, ◌==◌, ◌&&◌, ◌++◌, map, filter, IfOk, OnOk};
-ghost use Rattle.std.specs.List.{flat_map, list_any};
+ghost use Rattle.std.specs.Prelude.{◌≡◌, ◌++◌, map, filter, IfOk, OnOk};
+ghost use Rattle.std.specs.List.{flat_map};
 ghost use Rattle.conf_types.specs.State.{IsValidState};
 ghost use Rattle.packet_way.specs.Present.{state_of};
 ghost use Rattle.ctl_world.specs.World.{has_ports, is_at_work, is_up_by, now, runs, running, running_of, ups, ups_by, ups_on};
+ghost use Rattle.ctl_world.specs.UpPorts.{is_up_among};
 
 use crate::conns::{Conn, Conns};
+use crate::up_ports::UpPorts;
 use crate::world::World;
 use conf_types::{Conf, Dp, DpIds, Port, UpRec, UpRecs};
 use net_base::{DpId, NoMemory};
@@ -46,32 +48,32 @@ fn running_of(alloc: Global, conf: &Conf, conns: &Conns) -> Result<Vec<DpId>, No
         .collect(alloc)
 }
 
-fn is_told_up(told: &[PortTold], port: &Port) -> bool
-    ensures { result ≡ list_any (λ t. t.no == port.now.no && t.up) told.now }
+fn is_up_among(up: &UpPorts, port: &Port) -> bool
+    ensures { result ≡ is_up_among up.now port.now }
 {
-    let no = port.no.get();
-    told.iter().any(|told| told.no.get() == no && told.up)
+    up.has(port.no) || !port.opstatus_reconf
 }
 
-fn is_up_by(told: &[PortTold], port: &Port) -> bool
-    ensures { result ≡ is_up_by told.now port.now }
-{
-    is_told_up(told, port) || !port.opstatus_reconf
-}
-
-fn told_ups(alloc: Global, dp: &Dp, told: &[PortTold]) -> Result<Vec<UpRec>, NoMemory>
-    ensures { IfOk result (λ ups. ups.items ≡ map (λ p. record { dp = dp.now.id; port = p.no }) (filter (is_up_by told.now) dp.now.ports)) }
+fn ups_among(alloc: Global, dp: &Dp, up: &UpPorts) -> Result<Vec<UpRec>, NoMemory>
+    ensures { IfOk result (λ ups. ups.items ≡ map (λ p. record { dp = dp.now.id; port = p.no }) (filter (is_up_among up.now) dp.now.ports)) }
 {
     let id = dp.id;
     dp.ports
         .as_slice()
         .iter()
-        .filter(|port| is_up_by(told, port))
+        .filter(|port| is_up_among(up, port))
         .map(|port| UpRec {
             dp: id,
             port: port.no,
         })
         .collect(alloc)
+}
+
+fn told_ups(alloc: Global, dp: &Dp, told: &[PortTold]) -> Result<Vec<UpRec>, NoMemory>
+    ensures { IfOk result (λ ups. ups.items ≡ map (λ p. record { dp = dp.now.id; port = p.no }) (filter (is_up_by told.now) dp.now.ports)) }
+{
+    let up = UpPorts::of(alloc, told)?;
+    ups_among(alloc, dp, &up)
 }
 
 fn push_ups(ups: &mut UpRecs, alloc: Global, dp: &Dp, conn: &Conn) -> Result<(), NoMemory>
@@ -110,7 +112,7 @@ impl World {
         ensures { IfOk result (λ ids. ids ≡ running self.now) }
     {
         let ids = running_of(alloc, &self.conf, &self.conns)?;
-        DpIds::from_slice(alloc, ids.as_slice())
+        Ok(DpIds::from(ids))
     }
 
     /// The interfaces that are up, in the order of the configuration.

@@ -3,8 +3,12 @@ use Rattle.std.specs.Option.{option_map}
 use Rattle.switch_session.specs.Connections.{next_id}
 use Rattle.ctl_world.specs.declared.conns.Conn.{Conn}
 use Rattle.ctl_world.specs.Connections.{with_asked}
+use Rattle.ctl_world.proofs.Ordered.{set_kept}
 use Rattle.ctl_world.proofs.Places.{is_there, none_set, none_there, set_there}
 use Rattle.ctl_world.proofs.conns.Conns.ask_xid.Goals as goal
+
+pub invariant_of-self : goal.invariant_of-self
+invariant_of-self c = set_kept _ _ _ _ _ (ap (λ (d : Conn). d.number) c.index_mut-conn.ensures.value) (ap (λ (d : Conn). d.dp) c.index_mut-conn.ensures.value) c.self.invariant
 
 pub returns-in_err-at-clause-xid : goal.returns-in_err-at-clause-xid
 returns-in_err-at-clause-xid c = c.from_residual.ensures ∙ sym (ap (option_map (λ (d : Conn). next_id d.session.last_xid)) (none_there _ _ _ _ c.as_slice.ensures.value c.self.view_is c.in_err-at.ensures.place))

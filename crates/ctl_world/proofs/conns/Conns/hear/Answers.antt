@@ -5,8 +5,12 @@ use Rattle.switch_session.specs.declared.state.Step.TheVariants.{Nothing}
 use Rattle.switch_session.specs.Stages.{leads}
 use Rattle.ctl_world.specs.declared.conns.Conn.{Conn}
 use Rattle.ctl_world.specs.Connections.{with_heard}
+use Rattle.ctl_world.proofs.Ordered.{set_kept}
 use Rattle.ctl_world.proofs.Places.{is_there, none_set, none_there, set_there}
 use Rattle.ctl_world.proofs.conns.Conns.hear.Goals as goal
+
+pub invariant_of-self : goal.invariant_of-self
+invariant_of-self c = set_kept _ _ _ _ _ (ap (λ (d : Conn). d.number) c.index_mut.ensures.value) (ap (λ (d : Conn). d.dp) c.index_mut.ensures.value) c.self.invariant
 
 pub returns-in_default-clause-step : goal.returns-in_default-clause-step
 returns-in_default-clause-step c = sym (ap (λ o. option_map_or (λ (d : Conn). (leads d.session.state c.args.message.now c.args.xid).1) o Nothing) (none_there _ _ _ _ c.as_slice.ensures.value c.self.view_is c.in_default.ensures.place))

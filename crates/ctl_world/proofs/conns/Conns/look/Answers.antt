@@ -4,8 +4,12 @@ use Rattle.switch_session.specs.declared.quiet.Quiet.TheVariants.{Well}
 use Rattle.switch_session.specs.Connections.{due_at}
 use Rattle.ctl_world.specs.declared.conns.Conn.{Conn}
 use Rattle.ctl_world.specs.Connections.{with_looked}
+use Rattle.ctl_world.proofs.Ordered.{set_kept}
 use Rattle.ctl_world.proofs.Places.{is_there, none_set, none_there, set_there}
 use Rattle.ctl_world.proofs.conns.Conns.look.Goals as goal
+
+pub invariant_of-self : goal.invariant_of-self
+invariant_of-self c = set_kept _ _ _ _ _ (ap (λ (d : Conn). d.number) c.index_mut.ensures.value) (ap (λ (d : Conn). d.dp) c.index_mut.ensures.value) c.self.invariant
 
 pub returns-in-Some-clause-due : goal.returns-in-Some-clause-due
 returns-in-Some-clause-due c = c.quiet.ensures.due ∙ sym (ap (λ o. option_map_or (λ (d : Conn). due_at d.session c.args.now) o Well) (is_there _ _ _ _ c.as_slice.ensures.value c.self.view_is _ _ c.in-Some.ensures.place c.in-Some.ensures.within c.index_mut.ensures.value))

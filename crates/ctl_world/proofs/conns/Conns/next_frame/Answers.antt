@@ -3,8 +3,12 @@ use Rattle.std.specs.Option.{option_map_or}
 use Rattle.std.proofs.lemmas.Result.{IfOk-weaker, on_ok_weaker}
 use Rattle.ctl_world.specs.declared.conns.Conn.{Conn}
 use Rattle.ctl_world.specs.Frames.{front, with_read}
+use Rattle.ctl_world.proofs.Ordered.{set_kept}
 use Rattle.ctl_world.proofs.Places.{is_there, none_set, none_there, set_there}
 use Rattle.ctl_world.proofs.conns.Conns.next_frame.Goals as goal
+
+pub invariant_of-self : goal.invariant_of-self
+invariant_of-self c = set_kept _ _ _ _ _ (ap (λ (d : Conn). d.number) c.index_mut.ensures.value) (ap (λ (d : Conn). d.dp) c.index_mut.ensures.value) c.self.invariant
 
 pub returns-in-None-clause-front : goal.returns-in-None-clause-front
 returns-in-None-clause-front c = sym (ap (λ o. front (option_map_or (λ (d : Conn). d.session.unread) o [])) (none_there _ _ _ _ c.as_slice.ensures.value c.self.view_is c.in-None.ensures.place))

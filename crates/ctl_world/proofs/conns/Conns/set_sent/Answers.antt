@@ -1,6 +1,12 @@
+use Rattle.std.proofs.Common.{ap}
+use Rattle.ctl_world.specs.declared.conns.Conn.{Conn}
 use Rattle.ctl_world.specs.Connections.{with_sent}
+use Rattle.ctl_world.proofs.Ordered.{set_kept}
 use Rattle.ctl_world.proofs.Places.{none_set, set_there}
 use Rattle.ctl_world.proofs.conns.Conns.set_sent.Goals as goal
+
+pub invariant_of-self : goal.invariant_of-self
+invariant_of-self c = set_kept _ _ _ _ _ (ap (λ (d : Conn). d.number) c.index_mut.ensures.value) (ap (λ (d : Conn). d.dp) c.index_mut.ensures.value) c.self.invariant
 
 pub returns-in-Some : goal.returns-in-Some
 returns-in-Some c = set_there _ _ _ _ c.as_slice.ensures.value c.self.view_is _ _ c.in-Some.ensures.place c.in-Some.ensures.within c.index_mut.ensures.value (with_sent c.args.sent)
