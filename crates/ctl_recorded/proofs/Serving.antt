@@ -1,5 +1,6 @@
 -- What serving came to of which a recording was written.
 use Rattle.std.proofs.Common.{◌≡◌, ◌≤◌, ℕ, inl, inr, Bool, true, false, List, [], ◌∷◌, ◌++◌, length, take, Option, refl, sym, ap, subst, ◌∙◌, arith, true≢false}
+use Rattle.std.specs.List.{AllByRecursion}
 use Rattle.fg_outside.specs.declared.hub.Happening.{Happening}
 use Rattle.fg_outside.specs.declared.hub.Turn.TheVariants as turns
 use Rattle.fg_outside.specs.Contents.{Contents}
@@ -19,7 +20,7 @@ use Rattle.hub_drive.specs.declared.drive.Drove.{Drove}
 use Rattle.hub_drive.specs.declared.drive.Drove.TheVariants as drove
 use Rattle.hub_drive.specs.declared.sayings.Outlet.TheVariants.{Hub}
 use Rattle.ctl_drive.specs.Driving.{deeds_of}
-use Rattle.hub_drive.specs.Driven.{Tells}
+use Rattle.hub_drive.specs.Driven.{CameAsBytes, Tells}
 use Rattle.ctl_drive.specs.Driven.{AnswersAll, AnswersFront, Drives}
 use Rattle.ctl_serve.specs.Served.{Served, ServedPart, last_call}
 use Rattle.ctl_serve.proofs.Serving.{IsRunning, TellsWatched, TellsWatchedPart, front_then, front_whole, served, served_part}
@@ -79,10 +80,10 @@ module _ {H F S : Type 0} (may : H → HubStep → H → Type 0) (contents : F �
         ]
 
     -- the watch was served
-    served_by : (hs : List Happening) (mid : Recorded) → Tells R from (deeds_of Hub (first conf) hs) mid → (n : ℕ) → take n (hs ++ waiting_in (watch_in mid)) ≡ hs → (end : Drove) (last : Watch H F) → Leads may (hub_in (watch_in mid)) (last_call end) (hub_in last)
+    served_by : (hs : List Happening) (mid : Recorded) → Tells R from (deeds_of Hub (first conf) hs) mid → AllByRecursion CameAsBytes hs → (n : ℕ) → take n (hs ++ waiting_in (watch_in mid)) ≡ hs → (end : Drove) (last : Watch H F) → Leads may (hub_in (watch_in mid)) (last_call end) (hub_in last)
         → files_in last ≡ files_in (watch_in mid) → Served may contents faults name text every n (first conf) hs end (hub_in (watch_in from)) (hub_in last) (files_in (watch_in from)) (files_in last)
-    served_by hs mid told n front end last leads same =
-        served may contents faults absences running watched_story (watch_in from) name text every begun (first conf) hs (watch_in mid) (tells_beneath W hub_faults wrote sink_faults from mid (deeds_of Hub (first conf) hs) told) n front end last leads same
+    served_by hs mid told bytes n front end last leads same =
+        served may contents faults absences running watched_story (watch_in from) name text every begun (first conf) hs (watch_in mid) (tells_beneath W hub_faults wrote sink_faults from mid (deeds_of Hub (first conf) hs) told) bytes n front end last leads same
 
     -- ---- the recording broke off
 
@@ -94,7 +95,7 @@ module _ {H F S : Type 0} (may : H → HubStep → H → Type 0) (contents : F �
     before_none hs mid all same = record {
       hub_then = hub_in (watch_in mid);
       files_then = files_in (watch_in mid);
-      served = served_by hs mid all.told (length hs) (front_then (length hs) hs (waiting_in (watch_in mid)) refl) drove.Spent (watch_in mid) start refl;
+      served = served_by hs mid all.told all.bytes (length hs) (front_then (length hs) hs (waiting_in (watch_in mid)) refl) drove.Spent (watch_in mid) start refl;
       lost = [];
       few = omega arith;
       gave = gave_none (watch_in mid) same;
@@ -108,7 +109,7 @@ module _ {H F S : Type 0} (may : H → HubStep → H → Type 0) (contents : F �
           | inl tells ↦ record {
             hub_then = hub_in (watch_in mid);
             files_then = files_in (watch_in mid);
-            served = served_by hs mid all.told (length hs) (front_then (length hs) hs (waiting_in (watch_in mid)) refl) drove.Spent (watch_in mid) start refl;
+            served = served_by hs mid all.told all.bytes (length hs) (front_then (length hs) hs (waiting_in (watch_in mid)) refl) drove.Spent (watch_in mid) start refl;
             lost = [];
             few = omega arith;
             gave = record { steps = []; leads = subst (λ (l : H). Leads may (hub_in (watch_in mid)) [] l) (sym (ap hub_in tells.after)) start; is = refl };
@@ -117,7 +118,7 @@ module _ {H F S : Type 0} (may : H → HubStep → H → Type 0) (contents : F �
           | inr passes ↦ record {
             hub_then = hub_in (watch_in mid);
             files_then = files_in (watch_in mid);
-            served = served_by hs mid all.told (length hs) (front_then (length hs) hs (waiting_in (watch_in mid)) refl) drove.Spent (watch_in mid) start refl;
+            served = served_by hs mid all.told all.bytes (length hs) (front_then (length hs) hs (waiting_in (watch_in mid)) refl) drove.Spent (watch_in mid) start refl;
             lost = it ∷ [];
             few = omega arith;
             gave = record { steps = turned (turns.Happened it) ∷ []; leads = next [] (hub_in (watch_in mid)) (turned (turns.Happened it)) (hub_in (watch_in to)) start passes.hub; is = refl };
@@ -136,7 +137,7 @@ module _ {H F S : Type 0} (may : H → HubStep → H → Type 0) (contents : F �
         record {
           happened = hs;
           ended = few;
-          served = served_by hs mid all.told most (idle_here hs (watch_in mid) last_watch.does.none_waited (omega (arith, few)))
+          served = served_by hs mid all.told all.bytes most (idle_here hs (watch_in mid) last_watch.does.none_waited (omega (arith, few)))
               drove.Done (watch_in to) (next [] (hub_in (watch_in mid)) (turned turns.Done) (hub_in (watch_in to)) start last_watch.does.hub) (ap (λ (x : Watch H F). files_in x) last_watch.does.went);
           recorded = recording_of W wrote from to (story (all.told.steps ++ turned turns.Done ∷ [])) (are_recorded from to (all.told.steps ++ turned turns.Done ∷ []) recording_begun (last_way hs mid all (turned turns.Done) last)) conf hs
               (quiet_deeds all.told.steps (turned turns.Done) refl ∙ all.told.deeds) is_whole;
@@ -150,7 +151,7 @@ module _ {H F S : Type 0} (may : H → HubStep → H → Type 0) (contents : F �
         record {
           happened = hs;
           ended = few;
-          served = served_by hs mid all.told most (idle_here hs (watch_in mid) last_watch.does.none_waited (omega (arith, few)))
+          served = served_by hs mid all.told all.bytes most (idle_here hs (watch_in mid) last_watch.does.none_waited (omega (arith, few)))
               drove.HubFault (watch_in to) (next [] (hub_in (watch_in mid)) (turned turns.Failed) (hub_in (watch_in to)) start last_watch.does.hub) (ap (λ (x : Watch H F). files_in x) last_watch.does.went);
           recorded = recording_of W wrote from to (story (all.told.steps ++ turned turns.Failed ∷ [])) (are_recorded from to (all.told.steps ++ turned turns.Failed ∷ []) recording_begun (last_way hs mid all (turned turns.Failed) last)) conf hs
               (quiet_deeds all.told.steps (turned turns.Failed) refl ∙ all.told.deeds) is_whole;
@@ -161,7 +162,7 @@ module _ {H F S : Type 0} (may : H → HubStep → H → Type 0) (contents : F �
     all_taken is_whole (hs, is, all) = record {
       happened = hs;
       ended = is;
-      served = served_by hs to all.told most (front_then most hs (waiting_in (watch_in to)) is) drove.Spent (watch_in to) start refl;
+      served = served_by hs to all.told all.bytes most (front_then most hs (waiting_in (watch_in to)) is) drove.Spent (watch_in to) start refl;
       recorded = recording_of W wrote from to (story all.told.steps) (are_recorded from to all.told.steps recording_begun all.told.leads) conf hs all.told.deeds is_whole;
       said = all.err;
     }
@@ -170,7 +171,7 @@ module _ {H F S : Type 0} (may : H → HubStep → H → Type 0) (contents : F �
     unwritten (hs, few, front, told) = record {
       happened = hs;
       ended = few;
-      served = served_by hs to told (length hs) (front_then (length hs) hs (waiting_in (watch_in to)) refl) drove.WriteFault (watch_in to) start refl;
+      served = served_by hs to told front.bytes (length hs) (front_then (length hs) hs (waiting_in (watch_in to)) refl) drove.WriteFault (watch_in to) start refl;
       recorded = recording_so_far W wrote from to (story told.steps) (are_recorded from to told.steps recording_begun told.leads) conf hs told.deeds;
       said = front.err;
     }
@@ -181,7 +182,7 @@ module _ {H F S : Type 0} (may : H → HubStep → H → Type 0) (contents : F �
         part_beneath may contents faults absences hub_faults wrote sink_faults from front.told.steps to (deeds_of Hub (first conf) hs) hs front.told.leads front.told.front front.told.went_on front.happened
         in
         let answers : AnswersFront W Hub (first conf) hs (watch_in from) went.until out_old out_new err_old err_new =
-        record { told = went.told; happened = went.happened; out = front.out; err = front.err; but_last = front.but_last }
+        record { told = went.told; happened = went.happened; out = front.out; err = front.err; but_last = front.but_last; bytes = front.bytes }
         in
         let part : ServedPart may contents faults name text every (first conf) hs (hub_in (watch_in from)) (hub_in went.until) (files_in (watch_in from)) (files_in went.until) =
         served_part may contents faults absences watched_part (watch_in from) name text every begun (first conf) hs went.until out_old out_new err_old err_new answers

@@ -23,7 +23,7 @@ use Rattle.hub_drive.specs.declared.drive.Drove.{Drove}
 use Rattle.hub_drive.specs.declared.drive.Drove.TheVariants as drove
 use Rattle.hub_drive.specs.declared.sayings.Outlet.TheVariants.{Hub}
 use Rattle.ctl_drive.specs.Driving.{deeds_of}
-use Rattle.hub_drive.specs.Driven.{Tells, goes_on}
+use Rattle.hub_drive.specs.Driven.{CameAsBytes, Tells, goes_on}
 use Rattle.ctl_drive.specs.Driven.{AnswersFront, Drives}
 use Rattle.hub_drive.proofs.Deeds.{whole_happened}
 use Rattle.ctl_drive.specs.Controller.{controller}
@@ -82,10 +82,10 @@ module _ {H F : Type 0} (may : H → HubStep → H → Type 0) (contents : F →
 
   module _ (running : IsRunning) (watched_story : TellsWatched) (from : Watch H F) (name text : List ℕ) (every : ℕ) (begun : IsBegun from name text every) (w : World) where
     -- what all that happened came to, and then a last call of the hub that leaves the files
-    pub served : (hs : List Happening) (mid : Watch H F) → Tells Step from (deeds_of Hub w hs) mid → (n : ℕ) → take n (hs ++ waiting_in mid) ≡ hs
+    pub served : (hs : List Happening) (mid : Watch H F) → Tells Step from (deeds_of Hub w hs) mid → AllByRecursion CameAsBytes hs → (n : ℕ) → take n (hs ++ waiting_in mid) ≡ hs
         → (end : Drove) (to : Watch H F) → Leads may (hub_in mid) (last_call end) (hub_in to) → files_in to ≡ files_in mid
         → Served may contents faults name text every n w hs end (hub_in from) (hub_in to) (files_in from) (files_in to)
-    served hs mid tells n front end to ends same =
+    served hs mid tells bytes n front end to ends same =
         let pair = watched_story goes_on from mid tells.steps begun.waits (running from mid tells.steps begun.running (all_answered tells.steps tells.went_on) tells.leads) tells.went_on tells.leads in
         let told : WatchedStory may contents faults from (story tells.steps) mid = pair.0 in
         let hub_happened : List Happening = happenings told.hub_events in
@@ -105,6 +105,7 @@ module _ {H F : Type 0} (may : H → HubStep → H → Type 0) (contents : F →
               sym front
               ∙ ap (λ (l : List Happening). take n l) all
               ∙ ap (λ (l : List Happening). take n (watched l told.texts text every)) same_happened;
+          bytes = bytes;
           events = story tells.steps;
           put_in = subst (λ (l : List Event). PutsIn l (story tells.steps)) (sym told.hub.is) told.put_in;
           told = tells.deeds;
@@ -148,6 +149,7 @@ module _ {H F : Type 0} (may : H → HubStep → H → Type 0) (contents : F →
               ∙ ap (λ (l : List Event). told.hub_events ++ l) part.hub.is;
           texts = told.texts;
           watches = sym (front_then (length hs) hs (waiting_in until) refl) ∙ ap (λ (l : List Happening). take (length hs) l) all;
+          bytes = front.bytes;
           events = story calls;
           put_in = told.put_in;
           all = front.happened;
@@ -185,27 +187,27 @@ module _ {H F : Type 0} (may : H → HubStep → H → Type 0) (contents : F →
     serves drove.Done (hs, mid, few, all, last) = (
       hs,
       few,
-      served running watched_story from name text every begun (first conf) hs mid all.told most (idle hs mid last.does.none_waited (omega (arith, few)))
+      served running watched_story from name text every begun (first conf) hs mid all.told all.bytes most (idle hs mid last.does.none_waited (omega (arith, few)))
           drove.Done to (next [] (hub_in mid) (turned turns.Done) (hub_in to) start last.does.hub) (ap (λ (x : Watch H F). files_in x) last.does.went),
       all.err,
     )
     serves drove.HubFault (hs, mid, few, all, last) = (
       hs,
       few,
-      served running watched_story from name text every begun (first conf) hs mid all.told most (idle hs mid last.does.none_waited (omega (arith, few)))
+      served running watched_story from name text every begun (first conf) hs mid all.told all.bytes most (idle hs mid last.does.none_waited (omega (arith, few)))
           drove.HubFault to (next [] (hub_in mid) (turned turns.Failed) (hub_in to) start last.does.hub) (ap (λ (x : Watch H F). files_in x) last.does.went),
       all.err,
     )
     serves drove.Spent (hs, is, all) = (
       hs,
       is,
-      served running watched_story from name text every begun (first conf) hs to all.told most (front_then most hs (waiting_in to) is) drove.Spent to start refl,
+      served running watched_story from name text every begun (first conf) hs to all.told all.bytes most (front_then most hs (waiting_in to) is) drove.Spent to start refl,
       all.err,
     )
     serves drove.WriteFault (hs, few, front, told) = (
       hs,
       few,
-      served running watched_story from name text every begun (first conf) hs to told (length hs) (front_then (length hs) hs (waiting_in to) refl) drove.WriteFault to start refl,
+      served running watched_story from name text every begun (first conf) hs to told front.bytes (length hs) (front_then (length hs) hs (waiting_in to) refl) drove.WriteFault to start refl,
       front.err,
     )
     serves drove.Memory (hs, few, front) = (hs, few, served_part watched_part from name text every begun (first conf) hs to out_old out_new err_old err_new front, front.err)

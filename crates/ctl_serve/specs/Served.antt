@@ -16,7 +16,7 @@ use Rattle.hub_drive.specs.declared.drive.Drove.TheVariants.{Done, HubFault, Spe
 use Rattle.hub_drive.specs.declared.sayings.Outlet.TheVariants.{Hub}
 use Rattle.hub_drive.specs.Driving.{IsFront, deeds}
 use Rattle.ctl_drive.specs.Driving.{deeds_of, lines_of}
-use Rattle.hub_drive.specs.Driven.{goes_on}
+use Rattle.hub_drive.specs.Driven.{CameAsBytes, goes_on}
 
 -- the last call of a hub that ends so: a turn in which it says that it is done, or fails; else none
 abbrev pub last_call : Drove → List HubStep
@@ -38,6 +38,8 @@ pub record Served {H F : Type 0} (may : H → HubStep → H → Type 0) (content
   -- text differs from the last; the looks found these texts
   pub texts : List (Option (List ℕ))
   pub watches : happened ≡ take most (watched (happenings (story steps)) texts text every)
+  -- what came in it on connections is bytes
+  pub bytes : AllByRecursion CameAsBytes happened
   -- with such reloads put in between, the hub gave and was told what happened with all that is said of it, in this order
   pub events : List Event
   pub put_in : PutsIn (story steps) events
@@ -64,6 +66,8 @@ pub record ServedPart {H F : Type 0} (may : H → HubStep → H → Type 0) (con
   -- differs from the last; the looks found these texts
   pub texts : List (Option (List ℕ))
   pub watches : happened ≡ take (length happened) (watched (happenings taken_in) texts text every)
+  -- what came in it on connections is bytes
+  pub bytes : AllByRecursion CameAsBytes happened
   -- with such reloads put in between, this is all that happened, and a front of it with all that is said of it, in this order
   pub events : List Event
   pub put_in : PutsIn taken_in events

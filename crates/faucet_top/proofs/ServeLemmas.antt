@@ -96,6 +96,7 @@ module _ {H F : Type 0} (may : H → HubStep → H → Type 0) (contents : F →
     leads = s.leads;
     texts = s.texts;
     watches = s.watches;
+    bytes = s.bytes;
     events = s.events;
     put_in = s.put_in;
     told = s.told;
@@ -115,6 +116,7 @@ module _ {H F : Type 0} (may : H → HubStep → H → Type 0) (contents : F →
     gave = s.gave;
     texts = s.texts;
     watches = s.watches;
+    bytes = s.bytes;
     events = s.events;
     put_in = s.put_in;
     all = s.all;

@@ -1,4 +1,5 @@
 pub mod Answering
+pub mod Came
 pub mod Deeds
 pub mod Pieces
 pub mod Replaying

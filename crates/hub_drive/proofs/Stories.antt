@@ -19,7 +19,8 @@ use Rattle.hub_drive.specs.declared.drive.Drove.{Drove}
 use Rattle.hub_drive.specs.declared.drive.Drove.TheVariants as drove
 use Rattle.hub_drive.specs.declared.turn.Stopped.{Stopped}
 use Rattle.hub_drive.specs.declared.turn.Stopped.TheVariants as stopped
-use Rattle.hub_drive.specs.Driven.{Answers, AnswersPart, AnswersAll, AnswersFront, Drives, Tells, WholeButLast, drove_by, goes_on}
+use Rattle.hub_drive.specs.Driven.{Answers, AnswersPart, AnswersAll, AnswersFront, CameAsBytes, Drives, Tells, WholeButLast, drove_by, goes_on}
+use Rattle.hub_drive.proofs.Came.{came-push}
 use Rattle.hub_drive.proofs.Deeds.{happened_in, happened-append, happened-deeds, happenings_are, none_happened_before, whole_happened}
 use Rattle.hub_drive.proofs.Pieces.{flat_map-flat_map}
 use Rattle.hub_drive.proofs.Telling.{all_but_last, Tells-none, Tells-one, Tells-same, Tells-then, TellsPart-none, TellsPart-same, TellsPart-second, deeds-story}
@@ -163,6 +164,7 @@ module _ {S : Type 0} (m : Workings S) where
       told = Tells-none may hub;
       out = sym (appended-same out (out_of m outlet w []) [] (out-none outlet w) ∙ appended-nil out);
       err = sym (appended-nil err);
+      bytes = tt;
     }
 
     -- the hub was told of one turn more
@@ -175,8 +177,8 @@ module _ {S : Type 0} (m : Workings S) where
         (Tells-then may two three four (gave h ∷ []) said (Tells-one may two (turned (Happened h)) three gives refl) told))
 
     -- one turn more
-    pub AnswersAll-push : (w : S) (hs : List Happening) (h : Happening) (one two three four : H) (out_one out_two out_three err_one err_two err_three : Option (List ℕ)) → AnswersAll m may outlet w hs one two out_one out_two err_one err_two → may two (turned (Happened h)) three → Answers m may outlet h (behind m w hs) three four out_two out_three err_two err_three → AnswersAll m may outlet w (hs ++ h ∷ []) one four out_one out_three err_one err_three
-    AnswersAll-push w hs h one two three four out_one out_two out_three err_one err_two err_three all gives answers =
+    pub AnswersAll-push : (w : S) (hs : List Happening) (h : Happening) (one two three four : H) (out_one out_two out_three err_one err_two err_three : Option (List ℕ)) → AnswersAll m may outlet w hs one two out_one out_two err_one err_two → may two (turned (Happened h)) three → CameAsBytes h → Answers m may outlet h (behind m w hs) three four out_two out_three err_two err_three → AnswersAll m may outlet w (hs ++ h ∷ []) one four out_one out_three err_one err_three
+    AnswersAll-push w hs h one two three four out_one out_two out_three err_one err_two err_three all gives came answers =
         let v : S = behind m w hs in
         record {
           told = told-push w hs h one two three four all.told gives answers.told;
@@ -190,11 +192,12 @@ module _ {S : Type 0} (m : Workings S) where
               ∙ ap (λ (o : Option (List ℕ)). appended o (turn_lines m h v)) all.err
               ∙ appended-append err_one (lines_of m w hs) (turn_lines m h v)
               ∙ appended-same err_one (lines_of m w hs ++ turn_lines m h v) (lines_of m w (hs ++ h ∷ [])) (sym (lines-push w hs h));
+          bytes = came-push hs h all.bytes came;
         }
 
     -- a part of one turn more
-    pub AnswersFront-push : (w : S) (hs : List Happening) (h : Happening) (one two three four : H) (out_one out_two out_three err_one err_two err_three : Option (List ℕ)) → AnswersAll m may outlet w hs one two out_one out_two err_one err_two → may two (turned (Happened h)) three → AnswersPart m may outlet h (behind m w hs) three four out_two out_three err_two err_three → AnswersFront m may outlet w (hs ++ h ∷ []) one four out_one out_three err_one err_three
-    AnswersFront-push w hs h one two three four out_one out_two out_three err_one err_two err_three all gives part =
+    pub AnswersFront-push : (w : S) (hs : List Happening) (h : Happening) (one two three four : H) (out_one out_two out_three err_one err_two err_three : Option (List ℕ)) → AnswersAll m may outlet w hs one two out_one out_two err_one err_two → may two (turned (Happened h)) three → CameAsBytes h → AnswersPart m may outlet h (behind m w hs) three four out_two out_three err_two err_three → AnswersFront m may outlet w (hs ++ h ∷ []) one four out_one out_three err_one err_three
+    AnswersFront-push w hs h one two three four out_one out_two out_three err_one err_two err_three all gives came part =
         let v : S = behind m w hs in
         let said : List Deed = flat_map (deeds_by outlet) (sayings_of m h v) in
         let before : List Deed = deeds_of m outlet w hs in
@@ -222,6 +225,7 @@ module _ {S : Type 0} (m : Workings S) where
               front-same err_one err_three (lines_of m w hs ++ turn_lines m h v) (lines_of m w (hs ++ h ∷ [])) (sym (lines-push w hs h))
               (AppendsFront-second err_one err_two err_three (lines_of m w hs) (turn_lines m h v) all.err part.err);
           but_last = begun_last outlet w hs h out_one out_two out_three err_one err_two err_three all.out all.err part.out part.err;
+          bytes = came-push hs h all.bytes came;
         }
 
     -- all, and a turn that gave nothing
@@ -240,6 +244,7 @@ module _ {S : Type 0} (m : Workings S) where
           out = front-whole out_one out_two (out_of m outlet w hs) all.out;
           err = front-whole err_one err_two (lines_of m w hs) all.err;
           but_last = none_begun outlet w hs out_one out_two err_one err_two all.out all.err;
+          bytes = all.bytes;
         }
 
     -- a machine for which there was no memory
@@ -253,6 +258,7 @@ module _ {S : Type 0} (m : Workings S) where
         out = AppendsFront-none out (out_of m outlet w []);
         err = AppendsFront-none err [];
         but_last = none_begun outlet w [] out out err err (sym (appended-same out (out_of m outlet w []) [] (out-none outlet w) ∙ appended-nil out)) (sym (appended-nil err));
+        bytes = tt;
       },
     )
 

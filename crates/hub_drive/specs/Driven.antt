@@ -2,6 +2,7 @@
 use Rattle.std.specs.Prelude.{◌≡◌, ℕ, ◌-◌, ◌<◌, ◌≤◌, Bool, true, false, List, ◌++◌, length, take, Option}
 use Rattle.std.specs.List.{AllByRecursion, flat_map}
 use Rattle.fg_outside.specs.declared.hub.Happening.{Happening}
+use Rattle.fg_outside.specs.declared.hub.Happening.TheVariants as happenings
 use Rattle.fg_outside.specs.declared.hub.Turn.TheVariants as turns
 use Rattle.fg_outside.specs.declared.hub.Said.TheVariants as answers
 use Rattle.fg_outside.specs.HubStep.{HubStep, Leads, closed, happenings, said, story, turned}
@@ -68,12 +69,18 @@ pub record AnswersPart {S H : Type 0} (m : Workings S) (may : H → HubStep → 
 
 -- ---- a story
 
+-- what came on a connection is bytes
+abbrev pub CameAsBytes : Happening → Type 0
+CameAsBytes (happenings.Heard conn piece) = AllByRecursion (λ byte. byte < 256) piece
+CameAsBytes other = Unit {0}
+
 -- all that happened is answered whole
 pub record AnswersAll {S H : Type 0} (m : Workings S) (may : H → HubStep → H → Type 0) (outlet : Outlet) (w : S) (hs : List Happening)
     (hub_old hub_new : H) (out_old out_new err_old err_new : Option (List ℕ)) : Type 0 where
   pub told : Tells may hub_old (deeds_of m outlet w hs) hub_new
   pub out : out_new ≡ appended out_old (out_of m outlet w hs)
   pub err : err_new ≡ appended err_old (lines_of m w hs)
+  pub bytes : AllByRecursion CameAsBytes hs
 
 -- what stands on the streams is the whole answer to all that happened but the last, and a front of the answer to that
 pub record WholeButLast {S : Type 0} (m : Workings S) (outlet : Outlet) (w : S) (hs : List Happening) (out_old out_new err_old err_new : Option (List ℕ)) : Type 0 where
@@ -92,6 +99,7 @@ pub record AnswersFront {S H : Type 0} (m : Workings S) (may : H → HubStep →
   pub out : AppendsFront out_old out_new (out_of m outlet w hs)
   pub err : AppendsFront err_old err_new (lines_of m w hs)
   pub but_last : WholeButLast m outlet w hs out_old out_new err_old err_new
+  pub bytes : AllByRecursion CameAsBytes hs
 
 -- by how driving ended
 abbrev pub Drives : {S H : Type 0} → Workings S → (H → HubStep → H → Type 0) → Outlet → (most : ℕ) → S → (hub_old hub_new : H) → (out_old out_new err_old err_new : Option (List ℕ)) → Drove → Type 0

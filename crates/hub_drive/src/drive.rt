@@ -2,6 +2,7 @@ ghost use Rattle.std.specs.Prelude.{◌≡◌, ◌≢◌, ◌≤◌, ◌⊎◌, 
 ghost use Rattle.fg_outside.specs.Counts.{Rose};
 ghost use Rattle.hub_drive.specs.Driven.{Drives, Goes, drove_by};
 
+use crate::laws::a_happening_is_of_bytes;
 use crate::machine::Machine;
 use crate::sayings::Outlet;
 use crate::turn::{Stopped, take_turn};
@@ -47,7 +48,7 @@ pub fn drive<M: Machine + Drop, H: Hub, O: Sink, E: Sink>(
     err: &mut E,
 ) -> Drove
     // What happened is a story: all of it is answered whole where nothing failed, and a front of that answer is
-    // given where a write failed or memory ran out.
+    // given where a write failed or memory ran out. All that came in it on connections is bytes.
     ensures drove { (w : M.runs.State) → IfOk machine (λ made. M.runs.stands made w) → Drives M.runs.works H.may outlet most w hub.old hub.new
         (O.wrote out.old) (O.wrote out.new) (E.wrote err.old) (E.wrote err.new) result }
 
@@ -68,6 +69,7 @@ pub fn drive<M: Machine + Drop, H: Hub, O: Sink, E: Sink>(
     for _ in 0..most {
         match hub.turn() {
             Turn::Happened(what) => {
+                a_happening_is_of_bytes(&what);
                 if let Err(stopped) = take_turn(alloc, &mut machine, &what, outlet, hub, out, err) {
                     return stopped.drove();
                 }

@@ -1,4 +1,4 @@
--- What a recording of bytes tells is bytes, to its end, up to a record that is refused, and as far as it was read.
+-- What a recording of bytes tells is bytes, to its end, up to a record that is refused, and as far as it was read; so is what came at a hub.
 use Rattle.std.proofs.Common.{◌≡◌, ◌<◌, ℕ, ◌||◌, true, false, nat_lt, Option, Some, None, List, [], ◌∷◌, ◌++◌, refl, sym, ap, ◌∙◌, subst, append_assoc, if◌then◌else◌}
 use Rattle.std.specs.List.{AllByRecursion}
 use Rattle.fg_outside.specs.declared.hub.Happening.{Happening}
@@ -10,6 +10,7 @@ use Rattle.recording.specs.Kinds.{is_moment}
 use Rattle.recording.specs.Recording.{AllFollow, AllSpell, Place, Records, after, first_place}
 use Rattle.recording.specs.Script.{IsStoryOf, IsStorySoFar, clock_of, listed}
 use Rattle.recording.specs.Turns.{Closing, clock, told_by, turns}
+use Rattle.hub_drive.specs.Driven.{CameAsBytes}
 use Rattle.law_stories.specs.Right.{IsOfBytes}
 
 pub all_first : {A : Type 0} (P : A → Type 0) (xs ys : List A) → AllByRecursion P (xs ++ ys) → AllByRecursion P xs
@@ -68,3 +69,16 @@ module _ (tells : (bytes : List ℕ) (records : List Record) (closes : List Clos
       (front_told bytes found.0 (found.1 ++ is.rest) is.records closes small (is.parts ∙ ap (λ (all : List ℕ). all ++ is.rest) found.2 ∙ append_assoc found.0 found.1 is.rest) found.3
       (first_follow is.records (listed is.waits) first_place is.follow))
       (waiting_plain told.moment is.waits))
+
+-- ---- what came at a hub
+
+came_bytes : (h : Happening) → CameAsBytes h → IsOfBytes h
+came_bytes (happenings.Opened number) came = tt
+came_bytes (happenings.Heard number piece) came = came
+came_bytes (happenings.Closed number cause) came = tt
+came_bytes (happenings.Moment moment) came = tt
+came_bytes (happenings.Reload text) came = tt
+
+pub all_came : (story : List Happening) → AllByRecursion CameAsBytes story → AllByRecursion IsOfBytes story
+all_came [] all = tt
+all_came (h ∷ hs) all = (came_bytes h all.0, all_came hs all.1)

@@ -32,7 +32,7 @@ use Rattle.law_lives.specs.Reloads.{KeepsItsHosts}
 use Rattle.law_lives.specs.Same.{KeepsAllHosts}
 use Rattle.law_lives.specs.Outs.{AnswersTheHeard, AsksTheDue}
 use Rattle.law_lives.specs.Frames.{SpeaksByItsFrames}
-use Rattle.law_lives.specs.Since.{tables_since}
+use Rattle.law_lives.specs.Since.{CountAlike, tables_since}
 
 -- there is a log of it in which each connection lives as it is to, and what the controller has of each is what its life comes to
 abbrev pub HasItsLives : Configuration → List Happening → Type 0
@@ -69,6 +69,7 @@ pub record IsWhole (conf : Configuration) (story : List Happening) : Type 0 wher
   -- law_lives::spans: of which frame what is said is said, and from where it counts
   pub by_frames : AllByRecursion SpeaksByItsFrames (turns (first conf) story)
   pub since : (number : ℕ) → tables_said number (said_in (first conf) story) ≡ tables_since number (as_told (first conf) story)
+  pub since_settled : CountAlike [] [] (first conf) story
   -- law_lives::hosts: which hosts are known, frame by frame, turn by turn, and over reloads
   pub heard_hosts : AllByRecursion KnowsTheHeard (frames (first conf) story)
   pub hosts : AllByRecursion KnowsItsHosts (turns (first conf) story)
@@ -101,3 +102,7 @@ pub record IsDescribed (conf : Configuration) (story : List Happening) : Type 0 
 
 abbrev pub IsDescribedThrough : Configuration → List Happening → Type 0
 IsDescribedThrough conf story = (front : List Happening) → IsFront front story → IsDescribed conf front
+
+-- all of it, of each front of a story of bytes
+abbrev pub IsAllRightThrough : Configuration → List Happening → Type 0
+IsAllRightThrough conf story = IsWholeThrough conf story × IsDescribedThrough conf story

@@ -17,7 +17,7 @@ ghost use Rattle.faucet_top.specs.Answer.{Answer};
 ghost use Rattle.faucet_top.specs.Given.{BreaksOff, Delivers, IsReplayed, Loads, RepliesJob};
 ghost use Rattle.faucet_top.specs.Serving.{IsServed, ServesUntil};
 ghost use Rattle.law_answers.specs.Answered.{IsWholeReply, serve_story};
-ghost use Rattle.law_answers.specs.Whole.{IsDescribedThrough, IsWhole, IsWholeThrough};
+ghost use Rattle.law_answers.specs.Whole.{IsAllRightThrough, IsDescribedThrough, IsWhole, IsWholeThrough};
 
 use conf_load::laws::a_loaded_configuration_is_valid;
 use fg_outside::{Files, Hub};
@@ -39,7 +39,8 @@ use law_lives::neighbours::{
 use law_lives::reloads::all_hosts_stay_over_a_reload_of_the_same;
 use law_lives::sessions::each_connection_lives_as_it_is_to;
 use law_lives::spans::{
-    what_is_said_of_a_turn_is_said_by_its_frames, what_is_said_of_tables_counts_from_the_opening,
+    each_settling_counts_from_the_opening, what_is_said_of_a_turn_is_said_by_its_frames,
+    what_is_said_of_tables_counts_from_the_opening,
 };
 use law_stories::laws::{
     after_each_turn_it_rests, connections_stand_by_number, whatever_happens_what_is_known_is_sound,
@@ -63,6 +64,7 @@ pub fn all_is_right_of_every_story()
     each_closing_has_its_cause();
     what_is_said_of_a_turn_is_said_by_its_frames();
     what_is_said_of_tables_counts_from_the_opening();
+    each_settling_counts_from_the_opening();
     whatever_is_heard_its_host_is_known();
     whatever_happens_hosts_stay_where_they_stand();
     hosts_stay_over_a_reload_but_for_a_cause();
@@ -98,19 +100,20 @@ pub fn all_is_right_of_what_replay_answers()
     a_loaded_configuration_is_valid();
 }
 
-/// Whatever `serve` answers where the files tell what they hold: of each front of what happened all is right. At status 0, 6 and 7 that is
-/// what happened in `IsServed` (`served`); else, however serving ended, what happened in the reply which was given (`gives`).
+/// Whatever `serve` answers where the files tell what they hold: of each front of what happened all is right, with no premise on bytes,
+/// since what came is bytes, whichever hub gave it. At status 0, 6 and 7 that is what happened in `IsServed` (`served`); else, however
+/// serving ended, what happened in the reply which was given (`gives`).
 pub fn all_is_right_of_what_serve_answers<F: Files, H: Hub>()
     ensures served { (config : List ℕ) (held : Held) (reload_ms events : ℕ) (end : Drove) (hub_old hub_new : H) (files_old files_new : F) (out_old out_new err_old err_new : Option (List ℕ))
         → (is : IsServed H.may F.contents F.faults config held reload_ms events end hub_old hub_new files_old files_new out_old out_new err_old err_new)
-        → IsWholeThrough is.conf is.happened }
+        → IsAllRightThrough is.conf is.happened }
     ensures gives { (config text refused : List ℕ) (held : Contents) (absences_old absences_new faults_old faults_new : ℕ) (reload_ms events : ℕ) (conf : Configuration)
         (hub_old hub_new : H) (files_old files_new : F) (status : ℕ) (o0 o1 e0 e1 : Option (List ℕ)) (m0 m1 n0 n1 : ℕ) (end : Drove)
         → F.contents files_old ≡ Some held
         → Loads (F.contents files_old) (Rose absences_old absences_new) (Rose faults_old faults_new) refused config (Ok conf)
         → (ran : ServesUntil H.may F.contents F.faults config text reload_ms events conf hub_old hub_new files_old files_new
         (λ a. Delivers a status o0 o1 e0 e1 m0 m1 n0 n1) (λ a. BreaksOff a status o0 o1 e0 e1 m0 m1 n0 n1) end)
-        → IsWholeThrough conf (serve_story H.may F.contents F.faults config text reload_ms events conf hub_old hub_new files_old files_new
+        → IsAllRightThrough conf (serve_story H.may F.contents F.faults config text reload_ms events conf hub_old hub_new files_old files_new
         (λ a. Delivers a status o0 o1 e0 e1 m0 m1 n0 n1) (λ a. BreaksOff a status o0 o1 e0 e1 m0 m1 n0 n1) end ran) }
 {
     all_is_right_of_every_story();

@@ -1,5 +1,5 @@
 -- The pieces that a recording of bytes tells are bytes.
-use Rattle.std.proofs.Common.{ℕ, ◌||◌, true, false, nat_lt, List, [], ◌∷◌, ◌++◌, subst, if◌then◌else◌, suc, get_or, ◌<◌}
+use Rattle.std.proofs.Common.{ℕ, ◌||◌, true, false, nat_lt, List, [], ◌∷◌, ◌++◌, subst, if◌then◌else◌}
 use Rattle.std.specs.List.{AllByRecursion, fold}
 use Rattle.fg_outside.specs.declared.hub.Happening.{Happening}
 use Rattle.fg_outside.specs.declared.hub.Happening.TheVariants as happenings
@@ -12,10 +12,6 @@ use Rattle.recording.specs.Recording.{AllSpell, Records}
 use Rattle.recording.specs.Turns.{Closing, Told, clock, is_passed_over, own, own_of, tell, turns}
 use Rattle.law_stories.specs.Right.{IsOfBytes}
 use Rattle.law_stories.proofs.PacketBytes.{AreBytes, bytes_left}
-
-pub all_bytes : (bytes : List ℕ) → ((i : ℕ) → get_or bytes i 0 < 256) → AreBytes bytes
-all_bytes [] small = tt
-all_bytes (b ∷ bytes) small = (small 0, all_bytes bytes (λ i. small (suc i)))
 
 all_parts : (front rest : List ℕ) → AreBytes (front ++ rest) → AreBytes front × AreBytes rest
 all_parts [] rest all = (tt, all)

@@ -18,7 +18,7 @@ use Rattle.ctl_world.specs.declared.said.Said.TheVariants as told
 use Rattle.ctl_world.specs.Connections.{is_open}
 use Rattle.ctl_world.specs.Ends.{end_line, ended}
 use Rattle.ctl_world.specs.Frames.{front}
-use Rattle.ctl_world.specs.TablesSaid.{is_hello, is_of_tables, said_more}
+use Rattle.ctl_world.specs.TablesSaid.{is_hello, is_of_tables, said_more, tables_said}
 use Rattle.ctl_world.specs.World.{World}
 use Rattle.ctl_core.specs.Settlings.{settle}
 use Rattle.ctl_life.specs.Life.{closing_for, feed, has_frame, open_conn, read, says, unread}
@@ -27,11 +27,12 @@ use Rattle.ctl_core.specs.Hearing.{hear_frame, hear_frames, hear_front, hear_nex
 use Rattle.ctl_core.specs.Reloading.{accepted, reload}
 use Rattle.ctl_core.specs.Turns.{hear, pass, turn, work}
 use Rattle.law_stories.specs.Sayable.{is_answer}
-use Rattle.law_stories.specs.Settlings.{said_in}
+use Rattle.law_stories.specs.Settlings.{Settling, at_frames, at_front, at_next, at_piece, at_work, known_behind, said_in}
 use Rattle.law_stories.proofs.Singly.{Steps, feed_stays, heard_stays, pass_stays, read_stays, reload_stays, settle_stays}
+use Rattle.law_lives.specs.Known.{open_more}
 use Rattle.law_lives.specs.Told.{Told, as_told}
 use Rattle.law_lives.proofs.Opened.{taken, turn_open}
-use Rattle.law_lives.specs.Since.{Since, begins, of_tables, since_more}
+use Rattle.law_lives.specs.Since.{CountAlike, CountsAlike, Since, begins, of_tables, since_more, tables_since}
 
 -- ---- no HELLO
 
@@ -85,6 +86,32 @@ module _ (base : List Said) where
   heard_grown number piece w grown =
       let fed : World = feed number piece w in
       frames_grown (length (unread number fed)) number fed (feed_stays Adds single number piece w grown)
+
+  -- ---- at each settling in a piece
+
+  abbrev Grew : (past : List Said) → Settling → Type 0
+  Grew past s = (s.past ≡ past) × Grown s.before
+
+  front_grew : (past : List Said) (number : ℕ) (w : World) → Grown w → (f : Front) → front (unread number w) ≡ f → AllByRecursion (Grew past) (at_front past f number (read number w))
+  front_grew past number w grown Part is = tt
+  front_grew past number w grown (Frame frame) is = ((refl, heard_stays Adds single (says frame) number w (λ part. absurd (cc)) grown), tt)
+  front_grew past number w grown Bad is = ((refl, heard_stays Adds single None number w (λ part. absurd (cc)) grown), tt)
+
+  frames_grew : (past : List Said) (most number : ℕ) (w : World) → Grown w → AllByRecursion (Grew past) (at_frames past most number w)
+  frames_grew past zero number w grown = tt
+  frames_grew past (suc most) number w grown =
+      let next : Grown (hear_next number w) = front_grown number w grown (front (unread number w)) refl in
+      all_append (Grew past) (at_next past number w) (if has_frame number w then at_frames past most number (hear_next number w) else [])
+      (front_grew past number w grown (front (unread number w)) refl)
+      (elim (has_frame number w) as (λ b. AllByRecursion (Grew past) (if b then at_frames past most number (hear_next number w) else [])) [
+        | true ↦ frames_grew past most number (hear_next number w) next
+        | false ↦ tt
+      ])
+
+  piece_grew : (past : List Said) (number : ℕ) (piece : List ℕ) (w : World) → Grown w → AllByRecursion (Grew past) (at_piece past number (feed number piece w))
+  piece_grew past number piece w grown =
+      let fed : World = feed number piece w in
+      frames_grew past (length (unread number fed)) number fed (feed_stays Adds single number piece w grown)
 
 -- ---- what of it is said of tables
 
@@ -205,3 +232,108 @@ module _ (n : ℕ) where
       ∙ ap (λ (t : List (Message × ℕ)). counted t (said_in v hs)) (turn_counts h w before)
       ∙ story_since now v hs
       ∙ ap (λ (b : Bool). (fold (since_more n) (record { opened = b; said = now }) (as_told v hs)).said) (sym (turn_open h w n))
+
+-- ---- at each settling
+
+module _ (past : List Said) (w : World) where
+  -- what was said in this turn counts so, just before a settling and at its end
+  abbrev Counting : Happening → Settling → Type 0
+  Counting h s =
+      (s.past ≡ past)
+      × ((n : ℕ) → Counts n (begins n (is_open w.conns n) h) s.before.said × Counts n (begins n (is_open w.conns n) h) (known_behind s).said)
+
+  abbrev Plain : Settling → Type 0
+  Plain s = (s.past ≡ past) × ((n : ℕ) → Counts n false s.before.said × Counts n false (known_behind s).said)
+
+  plain_one : (s : Settling) → Grew [] past s → Plain s
+  plain_one s grew =
+      let now = grew.1 in
+      let behind = settled [] s.before now in
+      (grew.0, λ n. (none_anew n s.before.said (now.0, now.1, now.2), none_anew n (known_behind s).said (behind.0, behind.1, behind.2)))
+
+  all_plain : (ss : List Settling) → AllByRecursion (Grew [] past) ss → AllByRecursion Plain ss
+  all_plain [] all = tt
+  all_plain (s ∷ ss) all = (plain_one s all.0, all_plain ss all.1)
+
+  module _ (silent : w.said ≡ []) where
+    opened_counting : (number : ℕ) (b : Bool) → is_open w.conns number ≡ b → AllByRecursion (Counting (happenings.Opened number)) (if b then [] else record { past = past; before = open_conn number w } ∷ [])
+    opened_counting number true at = tt
+    opened_counting number false shut = ((refl, both), tt)
+      where
+        v : World
+        v = open_conn number w
+
+        xid : ℕ
+        xid = next_id (fresh number w).session.last_xid
+
+        both : (n : ℕ) → Counts n (begins n (is_open w.conns n) (happenings.Opened number)) v.said × Counts n (begins n (is_open w.conns n) (happenings.Opened number)) (settle v).said
+        both n =
+            let now = opened_said n w silent number shut in
+            let behind = settled (greeting n number xid ∷ []) v now in
+            subst (λ (anew : Bool). Counts n anew v.said × Counts n anew (settle v).said) (sym (newly_open n w silent number shut))
+            (greeted n number xid v.said (now.0, now.1, now.2), greeted n number xid (settle v).said (behind.0, behind.1, behind.2))
+
+    begun : Grown [] w
+    begun = start 0 w silent
+
+    work_counting : (h : Happening) → AllByRecursion (Counting h) (at_work past h w)
+    work_counting (happenings.Opened number) = opened_counting number (is_open w.conns number) refl
+    work_counting (happenings.Heard number piece) =
+        elim (is_open w.conns number) as (λ b. AllByRecursion Plain (if b then at_piece past number (feed number piece w) else [])) [
+          | true ↦ all_plain (at_piece past number (feed number piece w)) (piece_grew [] past number piece w begun)
+          | false ↦ tt
+        ]
+    work_counting (happenings.Closed number cause) =
+        let v : World = ended (closing_for cause) number w in
+        elim (is_open w.conns number) as (λ b. AllByRecursion Plain (if b then record { past = past; before = ended (closing_for cause) number w } ∷ [] else [])) [
+          | true ↦ (plain_one (record { past = past; before = v }) (refl, add [] w.conns v.conns w.said (end_line number (closing_for cause) ∷ []) (tt, tt) begun), tt)
+          | false ↦ tt
+        ]
+    work_counting (happenings.Moment moment) =
+        (plain_one (record { past = past; before = pass moment w }) (refl, pass_stays (Adds []) (single []) moment w begun), tt)
+    work_counting (happenings.Reload text) =
+        (plain_one (record { past = past; before = reload (accepted text) w }) (refl, reload_stays (Adds []) (single []) (accepted text) w begun), tt)
+
+abbrev so_far : (n : ℕ) → List Told → Since
+so_far n turns = fold (since_more n) (record { opened = false; said = [] }) turns
+
+-- behind these turns both counts agree, and what is open is
+abbrev Stands : (past : List Said) → List Told → World → Type 0
+Stands past turns w = (n : ℕ) → (tables_said n past ≡ (so_far n turns).said) × (is_open w.conns n ≡ (so_far n turns).opened)
+
+one_turn : (past : List Said) (turns : List Told) (w : World) → Stands past turns w → (h : Happening) (said : List Said) (n : ℕ) → Counts n (begins n (is_open w.conns n) h) said
+    → tables_said n (past ++ said) ≡ tables_since n (turns ++ record { what = h; said = said } ∷ [])
+one_turn past turns w stands h said n counts =
+    let t : Told = record { what = h; said = said } in
+    fold-append (said_more n) [] past said
+    ∙ counts (tables_said n past)
+    ∙ ap (λ (b : Bool). (if begins n b h then [] else tables_said n past) ++ found n said) (stands n).1
+    ∙ ap (λ (l : List (Message × ℕ)). (if begins n (so_far n turns).opened h then [] else l) ++ found n said) (stands n).0
+    ∙ sym (ap (λ (s : Since). s.said) (fold-append (since_more n) (record { opened = false; said = [] }) turns (t ∷ [])))
+
+each_alike : (past : List Said) (turns : List Told) (w : World) → Stands past turns w → (h : Happening) (ss : List Settling) → AllByRecursion (Counting past w h) ss → AllByRecursion (CountsAlike turns h) ss
+each_alike past turns w stands h [] all = tt
+each_alike past turns w stands h (s ∷ ss) all = (λ n. (alike n s.before.said (all.0.1 n).0, alike n (known_behind s).said (all.0.1 n).1), each_alike past turns w stands h ss all.1)
+  where
+    alike : (n : ℕ) (said : List Said) → Counts n (begins n (is_open w.conns n) h) said → tables_said n (s.past ++ said) ≡ tables_since n (turns ++ record { what = h; said = said } ∷ [])
+    alike n said counts =
+        subst (λ (l : List Said). tables_said n (l ++ said) ≡ tables_since n (turns ++ record { what = h; said = said } ∷ [])) (sym all.0.0) (one_turn past turns w stands h said n counts)
+
+pub story_alike : (past : List Said) (turns : List Told) (w : World) → Stands past turns w → (story : List Happening) → CountAlike past turns w story
+story_alike past turns w stands [] = tt
+story_alike past turns w stands (h ∷ hs) = (
+  each_alike past turns w stands h (at_work past h (record w { said = [] })) (work_counting past (record w { said = [] }) refl h),
+  story_alike (past ++ v.said) (turns ++ t ∷ []) v (λ n. (one_turn past turns w stands h v.said n (turn_counts n h w), opened n)) hs,
+)
+  where
+    v : World
+    v = turn h w
+
+    t : Told
+    t = record { what = h; said = v.said }
+
+    opened : (n : ℕ) → is_open v.conns n ≡ (so_far n (turns ++ t ∷ [])).opened
+    opened n =
+        sym (turn_open h w n)
+        ∙ ap (λ (b : Bool). open_more n b t) (stands n).1
+        ∙ sym (ap (λ (s : Since). s.opened) (fold-append (since_more n) (record { opened = false; said = [] }) turns (t ∷ [])))

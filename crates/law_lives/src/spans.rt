@@ -1,7 +1,7 @@
 //! Where in a story a thing is said: behind which frame, and since which opening of its connection. The functions are empty but for
 //! calls of the laws that they rest on, and their contracts are the laws.
 
-ghost use Rattle.std.specs.Prelude.{◌≡◌, ℕ, List};
+ghost use Rattle.std.specs.Prelude.{◌≡◌, ℕ, List, []};
 ghost use Rattle.std.specs.List.{AllByRecursion};
 ghost use Rattle.fg_outside.specs.declared.hub.Happening.{Happening};
 ghost use Rattle.conf_types.specs.Configuration.{Configuration};
@@ -11,7 +11,7 @@ ghost use Rattle.law_stories.specs.Settlings.{said_in};
 ghost use Rattle.law_lives.specs.Steps.{turns};
 ghost use Rattle.law_lives.specs.Told.{as_told};
 ghost use Rattle.law_lives.specs.Frames.{SpeaksByItsFrames};
-ghost use Rattle.law_lives.specs.Since.{tables_since};
+ghost use Rattle.law_lives.specs.Since.{CountAlike, tables_since};
 
 /// Whatever happens, what is said in a turn in which bytes are heard is said of the frames in them, one behind the other: of each up
 /// to the next one, where each closing has its cause in its own frame, and what was said of the frames before stands before it. The
@@ -24,4 +24,9 @@ pub fn what_is_said_of_a_turn_is_said_by_its_frames()
 /// last Opened that found the connection not open.
 pub fn what_is_said_of_tables_counts_from_the_opening()
     ensures { (conf : Configuration) (story : List Happening) (number : ℕ) → tables_said number (said_in (first conf) story) ≡ tables_since number (as_told (first conf) story) }
+{}
+
+/// So it is within turns too: just before each settling, and at its end.
+pub fn each_settling_counts_from_the_opening()
+    ensures { (conf : Configuration) (story : List Happening) → CountAlike [] [] (first conf) story }
 {}

@@ -42,7 +42,7 @@ returns-in-Err-clause-drove g c = λ w known.
     subst (λ (d : Drove). Drives works may outlet c.args.most w c.args.hub.now c.take_turn.new.hub out_old out_new err_old err_new d) (sym c.drove.ensures)
     (stopped_drives works may outlet c.args.most w c.args.hub.now c.take_turn.new.hub out_old out_new err_old err_new c.in-Err.stopped (hs ++ what ∷ []) few
     (AnswersFront-push works may outlet w hs what c.args.hub.now c.loop.hub c.turn.new.self c.take_turn.new.hub out_old (g.O.Sink.wrote c.loop.out) out_new err_old (g.E.Sink.wrote c.loop.err) err_new
-    all.3 c.in-Happened.ensures.step (c.in-Err.ensures.part (behind works w hs) all.2))
+    all.3 c.in-Happened.ensures.step c.a_happening_is_of_bytes.ensures (c.in-Err.ensures.part (behind works w hs) all.2))
     (λ failed. told-push works may outlet w hs what c.args.hub.now c.loop.hub c.turn.new.self c.take_turn.new.hub (all.3).told c.in-Happened.ensures.step (c.in-Err.ensures.told (behind works w hs) all.2 (ap (λ (s : Stopped). Err s) failed))))
 
 pub returns-in-Memory-clause-drove : goal.returns-in-Memory-clause-drove
@@ -76,7 +76,7 @@ loop-preserved g c = record {
         subst (g.M.Machine.runs.stands c.take_turn.new.machine) (sym (behind-push g.M.Machine.runs.works w hs what)) (c.in_default-take_turn.ensures.known (behind g.M.Machine.runs.works w hs) all.2),
         AnswersAll-push g.M.Machine.runs.works g.H.Hub.may c.args.outlet w hs what c.args.hub.now c.loop.hub c.turn.new.self c.take_turn.new.hub
             (g.O.Sink.wrote c.args.out.now) (g.O.Sink.wrote c.loop.out) (g.O.Sink.wrote c.take_turn.new.out) (g.E.Sink.wrote c.args.err.now) (g.E.Sink.wrote c.loop.err) (g.E.Sink.wrote c.take_turn.new.err)
-            all.3 c.in-Happened.ensures.step (c.in_default-take_turn.ensures.ok (behind g.M.Machine.runs.works w hs) all.2),
+            all.3 c.in-Happened.ensures.step c.a_happening_is_of_bytes.ensures (c.in_default-take_turn.ensures.ok (behind g.M.Machine.runs.works w hs) all.2),
       );
   goes =
       Goes-then g.H.Hub.may c.args.hub.now c.turn.new.self c.take_turn.new.hub

@@ -19,6 +19,7 @@ returns c = λ conf story valid. record {
   causes = c.each_closing_has_its_cause.ensures.turns conf story;
   by_frames = c.what_is_said_of_a_turn_is_said_by_its_frames.ensures conf story;
   since = c.what_is_said_of_tables_counts_from_the_opening.ensures conf story;
+  since_settled = c.each_settling_counts_from_the_opening.ensures conf story;
   heard_hosts = c.whatever_is_heard_its_host_is_known.ensures conf story valid;
   hosts = c.whatever_happens_hosts_stay_where_they_stand.ensures conf story valid;
   kept_hosts = c.hosts_stay_over_a_reload_but_for_a_cause.ensures conf story valid;

@@ -1,5 +1,5 @@
 use Rattle.std.proofs.Common.{arith}
-use Rattle.law_lives.proofs.Pieces.{all_bytes}
+use Rattle.hub_drive.proofs.Came.{all_bytes}
 use Rattle.law_answers.proofs.Bytes.{so_far_bytes, story_bytes}
 use Rattle.law_answers.proofs.Described.{described}
 use Rattle.law_answers.proofs.whole.what_a_recording_tells_is_described.Goals as goal
