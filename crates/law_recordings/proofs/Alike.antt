@@ -11,6 +11,7 @@ use Rattle.ctl_life.specs.Sayings.{saying_of}
 use Rattle.ctl_core.specs.Story.{behind}
 use Rattle.ctl_core.specs.Turns.{turn, work}
 use Rattle.hub_drive.specs.Driving.{line_by, record_by}
+use Rattle.ctl_drive.specs.Controller.{controller}
 use Rattle.ctl_drive.specs.Driving.{lines_of, records_of}
 use Rattle.ctl_drive.proofs.Stories.{behind-push, lines-push}
 use Rattle.law_recordings.specs.Pieces.{known_only}
@@ -93,7 +94,7 @@ module _ (w : World) where
   unless true given other more a = a
   unless false given other more a = alike-more given other more a
 
-  pub alike-tell : (told other : Told) (r : Record) → AlikeTold told other → AlikeTold (tell_on w told r) (tell_on w other r)
+  pub alike-tell : (told other : Told) (r : Record) → AlikeTold told other → AlikeTold (tell_on controller w told r) (tell_on controller w other r)
   alike-tell told other r a =
       let given : List Happening = told.given ++ clock told.moment r in
       let others : List Happening = other.given ++ clock other.moment r in

@@ -3,7 +3,6 @@ use Rattle.std.proofs.Common.{◌≡◌, ◌⊎◌, inl, inr, ℕ, List, [], ◌
 use Rattle.std.proofs.lemmas.List.{append-nil}
 use Rattle.std.specs.List.{fold}
 use Rattle.fg_outside.specs.declared.hub.Happening.{Happening}
-use Rattle.conf_types.specs.Configuration.{Configuration}
 use Rattle.recording.specs.declared.record.Record.{Record}
 use Rattle.recording.specs.declared.refused.RecordCause.{RecordCause}
 use Rattle.recording.specs.declared.refused.RecordRefused.{RecordRefused}
@@ -12,10 +11,9 @@ use Rattle.recording.specs.Refused.{IsRefused, refusal}
 use Rattle.recording.specs.Script.{IsStoryOf, IsStoryOfFront, IsStorySoFar, clock_of, listed}
 use Rattle.recording.specs.Turns.{Told, clock, tell, told_by}
 use Rattle.recording.proofs.Grammar.{front_records, fronts_split, unrefused}
-use Rattle.ctl_world.specs.World.{World, first}
-use Rattle.ctl_drive.specs.Replay.{closed_in}
-use Rattle.hub_drive.specs.Driving.{IsFront}
-use Rattle.law_recordings.proofs.Closed.{closed}
+use Rattle.hub_drive.specs.Driving.{IsFront, closings_of}
+use Rattle.hub_drive.specs.Machine.{Workings}
+use Rattle.law_recordings.proofs.Closing.{closed}
 use Rattle.law_recordings.proofs.Told.{clock-front, front-then, steps-front, tell-same, tell_on, the_story, told_on, untold}
 
 -- ---- records at the front of bytes
@@ -71,59 +69,59 @@ more_records bytes all part records read (Some r) same are whole refuses =
 
 -- ---- their stories
 
-told_both : (w : World) (told : Told) (records more : List Record) → told_on w told (records ++ more) ≡ told_on w (told_on w told records) more
-told_both w told [] more = refl
-told_both w told (r ∷ records) more = told_both w (tell_on w told r) records more
+module _ {S : Type 0} (m : Workings S) (w : S) where
+  told_both : (told : Told) (records more : List Record) → told_on m w told (records ++ more) ≡ told_on m w (told_on m w told records) more
+  told_both told [] more = refl
+  told_both told (r ∷ records) more = told_both (tell_on m w told r) records more
 
-module _ (w : World) where
   -- what is told by the closings of a story at whose front it stands is told by those before each record
-  told_front : (story : List Happening) (told : Told) (records : List Record) → IsFront (fold (tell (closed w story)) told records).given story → fold (tell (closed w story)) told records ≡ told_on w told records
+  told_front : (story : List Happening) (told : Told) (records : List Record) → IsFront (fold (tell (closed m w story)) told records).given story → fold (tell (closed m w story)) told records ≡ told_on m w told records
   told_front story told [] front = refl
   told_front story told (r ∷ records) front =
-      let next : Told = tell (closed w story) told r in
+      let next : Told = tell (closed m w story) told r in
       let here : IsFront (told.given ++ clock told.moment r) story =
-      front-then (told.given ++ clock told.moment r) (fold (tell (closed w story)) told (r ∷ records)).given story (clock-front (λ t q. closed w story) told r records) front
+      front-then (told.given ++ clock told.moment r) (fold (tell (closed m w story)) told (r ∷ records)).given story (clock-front (λ t q. closed m w story) told r records) front
       in
-      told_front story next records front ∙ ap (λ (t : Told). told_on w t records) (tell-same w story told r here)
+      told_front story next records front ∙ ap (λ (t : Told). told_on m w t records) (tell-same m w story told r here)
 
   -- of the last of these records the moment alone may be told
-  behind_front : (told : Told) (waits : Option Record) (more : List Record) → IsFront (told.given ++ clock_of told.moment waits) (told_on w told (listed waits ++ more)).given
+  behind_front : (told : Told) (waits : Option Record) (more : List Record) → IsFront (told.given ++ clock_of told.moment waits) (told_on m w told (listed waits ++ more)).given
   behind_front told None more =
-      subst (λ (l : List Happening). IsFront l (told_on w told more).given) (sym (append-nil told.given)) (steps-front (λ t q. closed w (t.given ++ clock t.moment q)) told more)
-  behind_front told (Some r) more = clock-front (λ t q. closed w (t.given ++ clock t.moment q)) told r more
+      subst (λ (l : List Happening). IsFront l (told_on m w told more).given) (sym (append-nil told.given)) (steps-front (λ t q. closed m w (t.given ++ clock t.moment q)) told more)
+  behind_front told (Some r) more = clock-front (λ t q. closed m w (t.given ++ clock t.moment q)) told r more
 
   stories_front : (story whole : List Happening) (records more : List Record) (waits : Option Record)
-      → (let told : Told = told_by (closed w story) records in story ≡ told.given ++ clock_of told.moment waits)
-      → whole ≡ (told_by (closed w whole) (records ++ (listed waits ++ more))).given → IsFront story whole
+      → (let told : Told = told_by (closed m w story) records in story ≡ told.given ++ clock_of told.moment waits)
+      → whole ≡ (told_by (closed m w whole) (records ++ (listed waits ++ more))).given → IsFront story whole
   stories_front story whole records more waits is whole_is =
-      let told : Told = told_by (closed w story) records in
-      let same : told ≡ told_on w untold records = told_front story untold records (record { rest = clock_of told.moment waits; parts = is }) in
-      let all : whole ≡ (told_on w (told_on w untold records) (listed waits ++ more)).given =
-      the_story w whole (records ++ (listed waits ++ more)) whole_is ∙ ap (λ (t : Told). t.given) (told_both w untold records (listed waits ++ more))
+      let told : Told = told_by (closed m w story) records in
+      let same : told ≡ told_on m w untold records = told_front story untold records (record { rest = clock_of told.moment waits; parts = is }) in
+      let all : whole ≡ (told_on m w (told_on m w untold records) (listed waits ++ more)).given =
+      the_story m w whole (records ++ (listed waits ++ more)) whole_is ∙ ap (λ (t : Told). t.given) (told_both untold records (listed waits ++ more))
       in
       subst (λ (l : List Happening). IsFront l whole) (sym (is ∙ ap (λ (t : Told). t.given ++ clock_of t.moment waits) same))
-      (subst (λ (l : List Happening). IsFront ((told_on w untold records).given ++ clock_of (told_on w untold records).moment waits) l) (sym all)
-      (behind_front (told_on w untold records) waits more))
+      (subst (λ (l : List Happening). IsFront ((told_on m w untold records).given ++ clock_of (told_on m w untold records).moment waits) l) (sym all)
+      (behind_front (told_on m w untold records) waits more))
 
-module _ (conf : Configuration) (bytes : List ℕ) (story whole : List Happening) (refused : Option RecordRefused) (is : IsStoryOf bytes whole (closed_in conf whole) refused) where
-  pub begun_story : IsStorySoFar bytes story (closed_in conf story) → IsFront story whole
-  begun_story so_far =
-      let records : List Record = so_far.records in
-      let more = more_records so_far.front bytes so_far.rest (records ++ listed so_far.waits) is.records refused so_far.parts (record { spell = so_far.spell; follow = so_far.follow }) is.whole is.refuses in
-      let all : is.records ≡ records ++ (listed so_far.waits ++ more.0) = more.1 ∙ append_assoc records (listed so_far.waits) more.0 in
-      stories_front (first conf) story whole records more.0 so_far.waits so_far.told (is.told ∙ ap (λ (l : List Record). (told_by (closed_in conf whole) l).given) all)
+  module _ (bytes : List ℕ) (story whole : List Happening) (refused : Option RecordRefused) (is : IsStoryOf bytes whole (closings_of m 0 w whole) refused) where
+    pub begun_story : IsStorySoFar bytes story (closings_of m 0 w story) → IsFront story whole
+    begun_story so_far =
+        let records : List Record = so_far.records in
+        let more = more_records so_far.front bytes so_far.rest (records ++ listed so_far.waits) is.records refused so_far.parts (record { spell = so_far.spell; follow = so_far.follow }) is.whole is.refuses in
+        let all : is.records ≡ records ++ (listed so_far.waits ++ more.0) = more.1 ∙ append_assoc records (listed so_far.waits) more.0 in
+        stories_front story whole records more.0 so_far.waits so_far.told (is.told ∙ ap (λ (l : List Record). (told_by (closings_of m 0 w whole) l).given) all)
 
-  pub whole_records_story : IsStoryOfFront bytes story (closed_in conf story) → IsFront story whole
-  whole_records_story of_front =
-      let records : List Record = of_front.records in
-      let all : records ++ [] ≡ records = append-nil records in
-      begun_story (record {
-        records = records;
-        waits = None;
-        front = of_front.front;
-        rest = of_front.rest;
-        parts = of_front.parts;
-        spell = subst (λ (l : List Record). AllSpell l of_front.front) (sym all) of_front.are.spell;
-        follow = subst (λ (l : List Record). AllFollow first_place l) (sym all) of_front.are.follow;
-        told = of_front.told ∙ sym (append-nil (told_by (closed_in conf story) records).given);
-      })
+    pub whole_records_story : IsStoryOfFront bytes story (closings_of m 0 w story) → IsFront story whole
+    whole_records_story of_front =
+        let records : List Record = of_front.records in
+        let all : records ++ [] ≡ records = append-nil records in
+        begun_story (record {
+          records = records;
+          waits = None;
+          front = of_front.front;
+          rest = of_front.rest;
+          parts = of_front.parts;
+          spell = subst (λ (l : List Record). AllSpell l of_front.front) (sym all) of_front.are.spell;
+          follow = subst (λ (l : List Record). AllFollow first_place l) (sym all) of_front.are.follow;
+          told = of_front.told ∙ sym (append-nil (told_by (closings_of m 0 w story) records).given);
+        })

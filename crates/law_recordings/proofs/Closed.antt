@@ -7,7 +7,7 @@ use Rattle.std.proofs.lemmas.List.Concat.{flat_map-append}
 use Rattle.std.proofs.lemmas.List.Folds.{list_any-append}
 use Rattle.fg_outside.specs.declared.hub.Happening.{Happening}
 use Rattle.recording.specs.Turns.{Closing, closings, is_shut, opens}
-use Rattle.recording.proofs.Turning.{AreWithin, closings-within, is_shut-closing, is_shut-happening, is_shut-later, within_more, within_push}
+use Rattle.recording.proofs.Turning.{AreWithin, closings-within, is_shut-closing, is_shut-happening, within_more, within_push}
 use Rattle.ctl_world.specs.declared.said.Said.{Said}
 use Rattle.ctl_world.specs.World.{World}
 use Rattle.ctl_life.specs.declared.saying.Saying.{Saying}
@@ -15,7 +15,11 @@ use Rattle.ctl_life.specs.Sayings.{saying_of}
 use Rattle.ctl_core.specs.Story.{behind}
 use Rattle.ctl_core.specs.Turns.{turn}
 use Rattle.hub_drive.specs.Driving.{shut_by}
+use Rattle.hub_drive.specs.Machine as machine
+use Rattle.ctl_drive.specs.Controller.{controller}
 use Rattle.ctl_drive.specs.Driving.{closings_of}
+use Rattle.law_recordings.proofs.Closing as general
+use Rattle.law_recordings.proofs.Closing.{at, closings_at, pushed}
 
 -- the connections that are closed in what was said, and by the last turn
 abbrev pub closes_in : List Said → (conn : ℕ) → Bool
@@ -27,19 +31,12 @@ closed_by w = flat_map shut_by (map saying_of w.said)
 abbrev pub closes_by : World → (conn : ℕ) → Bool
 closes_by w conn = closes_in w.said conn
 
--- closings behind so many happenings
-abbrev closings_at : ℕ → List ℕ → List Closing
-closings_at n conns = map (λ conn. record { conn = conn; behind = n }) conns
-
-abbrev at : ℕ → (conn : ℕ) → Closing
-at n conn = record { conn = conn; behind = n }
-
 -- the closings of a story, and whether a connection is shut behind it
 abbrev pub closed : World → List Happening → List Closing
-closed w given = closings_of 0 w given
+closed w given = general.closed controller w given
 
 abbrev pub is_closed : World → List Happening → (conn : ℕ) → Bool
-is_closed w given conn = is_shut (closed w given) given conn
+is_closed w given conn = general.is_closed controller w given conn
 
 -- ---- more that was said
 
@@ -52,43 +49,14 @@ closes-append said more conn =
     ap (λ (l : List ℕ). list_any (λ c. c == conn) l) (of-append shut_by said more)
     ∙ list_any-append (λ c. c == conn) (flat_map shut_by (map saying_of said)) (flat_map shut_by (map saying_of more))
 
--- ---- closings one behind the other
+-- what is known behind a story, as the machine tells it
+same_behind : (w : World) (given : List Happening) → machine.behind controller w given ≡ behind w given
+same_behind w [] = refl
+same_behind w (h ∷ hs) = same_behind (turn h w) hs
 
-pushed : (closes : List Closing) (c : Closing) (more : List Closing) → closes ++ c ∷ more ≡ (closes ++ c ∷ []) ++ more
-pushed closes c more = sym (append_assoc closes (c ∷ []) more)
-
-closings-append : (n : ℕ) (w : World) (given more : List Happening) → closings_of n w (given ++ more) ≡ closings_of n w given ++ closings_of (n + length given) (behind w given) more
-closings-append n w [] more = ap (λ m. closings_of m w more) (omega arith)
-closings-append n w (h ∷ hs) more =
-    let here : List Closing = closings_at (n + 1) (closed_by (turn h w)) in
-    let rest : List Closing = closings_of (n + 1) (turn h w) hs in
-    ap (λ (l : List Closing). here ++ l)
-    (closings-append (n + 1) (turn h w) hs more ∙ ap (λ m. rest ++ closings_of m (behind (turn h w) hs) more) (omega arith))
-    ∙ sym (append_assoc here rest (closings_of (n + length (h ∷ hs)) (behind (turn h w) hs) more))
-
--- ---- those of later turns don't count
+-- ---- those of the last turn count
 
 module _ (given : List Happening) (conn : ℕ) where
-  later_turn : (closes : List Closing) (n : ℕ) (conns : List ℕ) → length given < n → is_shut (closes ++ closings_at n conns) given conn ≡ is_shut closes given conn
-  later_turn closes n [] less = ap (λ (l : List Closing). is_shut l given conn) (append-nil closes)
-  later_turn closes n (c ∷ conns) less =
-      ap (λ (l : List Closing). is_shut l given conn) (pushed closes (at n c) (closings_at n conns)) ∙ later_turn (closes ++ at n c ∷ []) n conns less
-      ∙ is_shut-later closes given (at n c) conn less
-
-  later_turns : (closes : List Closing) (n : ℕ) (w : World) (more : List Happening) → length given ≤ n → is_shut (closes ++ closings_of n w more) given conn ≡ is_shut closes given conn
-  later_turns closes n w [] le = ap (λ (l : List Closing). is_shut l given conn) (append-nil closes)
-  later_turns closes n w (h ∷ hs) le =
-      let here : List Closing = closings_at (n + 1) (closed_by (turn h w)) in
-      ap (λ (l : List Closing). is_shut l given conn) (sym (append_assoc closes here (closings_of (n + 1) (turn h w) hs)))
-      ∙ later_turns (closes ++ here) (n + 1) (turn h w) hs (omega arith)
-      ∙ later_turn closes (n + 1) (closed_by (turn h w)) (omega arith)
-
-  pub is_closed-front : (w : World) (more : List Happening) → is_shut (closed w (given ++ more)) given conn ≡ is_closed w given conn
-  is_closed-front w more =
-      ap (λ (l : List Closing). is_shut l given conn) (closings-append 0 w given more) ∙ later_turns (closed w given) (0 + length given) (behind w given) more (omega arith)
-
-  -- ---- those of the last turn count
-
   last_turn : (closes : List Closing) (conns : List ℕ) → is_shut (closes ++ closings_at (length given) conns) given conn ≡ (is_shut closes given conn || list_any (λ c. c == conn) conns)
   last_turn closes [] = ap (λ (l : List Closing). is_shut l given conn) (append-nil closes) ∙ sym (or-false (is_shut closes given conn))
   last_turn closes (c ∷ conns) =
@@ -128,7 +96,8 @@ is_closed-push w given h conn =
     let conns : List ℕ = closed_by (turn h (behind w given)) in
     let count : 0 + length given + 1 ≡ length now = omega (arith, length-append given (h ∷ [])) in
     ap (λ (l : List Closing). is_shut l now conn)
-    (closings-append 0 w given (h ∷ []) ∙ ap (λ (l : List Closing). closed w given ++ l) (append-nil (closings_at (0 + length given + 1) conns))
+    (general.closings-append controller 0 w given (h ∷ [])
+    ∙ ap (λ (v : World). closed w given ++ closings_of (0 + length given) v (h ∷ [])) (same_behind w given) ∙ ap (λ (l : List Closing). closed w given ++ l) (append-nil (closings_at (0 + length given + 1) conns))
     ∙ ap (λ n. closed w given ++ closings_at n conns) count)
     ∙ last_turn now conn (closed w given) conns
     ∙ ap (λ b. b || closes_by (turn h (behind w given)) conn) (is_shut-happening (closed w given) given h conn (closed_within w given))

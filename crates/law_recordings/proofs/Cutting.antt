@@ -8,6 +8,7 @@ use Rattle.recording.specs.Turns.{Told, clock, turns}
 use Rattle.ctl_world.specs.World.{World}
 use Rattle.ctl_core.specs.Story.{behind}
 use Rattle.ctl_core.specs.Turns.{turn}
+use Rattle.ctl_drive.specs.Controller.{controller}
 use Rattle.law_recordings.specs.Cuts.{SameButCuts, came, chained, cut, none, same, swapped}
 use Rattle.law_recordings.proofs.Closed.{closed, closes_by, is_closed, is_closed-push}
 use Rattle.law_recordings.proofs.Told.{tell_on, the_story, told_on, untold}
@@ -53,7 +54,7 @@ module _ (w : World) (conn : ℕ) (front back : List ℕ) where
   same_moment moment = ap (λ (b : Bool). if b || false then Moment moment ∷ [] else []) (le-ltb moment moment (omega arith))
 
   pub alike-cut : (moment : ℕ) (told : Told)
-      → AlikeTold w (tell_on w told (came moment conn (front ++ back))) (tell_on w (tell_on w told (came moment conn front)) (came moment conn back))
+      → AlikeTold w (tell_on controller w told (came moment conn (front ++ back))) (tell_on controller w (tell_on controller w told (came moment conn front)) (came moment conn back))
   alike-cut moment told =
       let given : List Happening = told.given ++ clock told.moment (came moment conn front) in
       let first : List Happening = more given front in
@@ -69,29 +70,29 @@ module _ (w : World) where
   told-then : (one two three : Told) → AlikeTold w one two → AlikeTold w two three → AlikeTold w one three
   told-then one two three a b = record { given = alike-then w one.given two.given three.given a.given b.given; moment = a.moment ∙ b.moment }
 
-  alike-all : (records others : List Record) → SameButCuts records others → (told other : Told) → AlikeTold w told other → AlikeTold w (told_on w told records) (told_on w other others)
+  alike-all : (records others : List Record) → SameButCuts records others → (told other : Told) → AlikeTold w told other → AlikeTold w (told_on controller w told records) (told_on controller w other others)
   alike-all _ _ none told other a = a
-  alike-all _ _ (same r records others rest) told other a = alike-all records others rest (tell_on w told r) (tell_on w other r) (alike-tell w told other r a)
+  alike-all _ _ (same r records others rest) told other a = alike-all records others rest (tell_on controller w told r) (tell_on controller w other r) (alike-tell w told other r a)
   alike-all _ _ (cut moment conn front back records others rest) told other a =
       let whole : Record = came moment conn (front ++ back) in
-      let pieces_told : Told = tell_on w (tell_on w other (came moment conn front)) (came moment conn back) in
-      alike-all records others rest (tell_on w told whole) pieces_told
-      (told-then (tell_on w told whole) (tell_on w other whole) pieces_told (alike-tell w told other whole a) (alike-cut w conn front back moment other))
+      let pieces_told : Told = tell_on controller w (tell_on controller w other (came moment conn front)) (came moment conn back) in
+      alike-all records others rest (tell_on controller w told whole) pieces_told
+      (told-then (tell_on controller w told whole) (tell_on controller w other whole) pieces_told (alike-tell w told other whole a) (alike-cut w conn front back moment other))
   alike-all _ _ (swapped records others rest) told other a =
-      let b : AlikeTold w (told_on w other records) (told_on w told others) =
+      let b : AlikeTold w (told_on controller w other records) (told_on controller w told others) =
       alike-all records others rest other told (record { given = alike-back w told.given other.given a.given; moment = sym a.moment })
       in
-      record { given = alike-back w (told_on w other records).given (told_on w told others).given b.given; moment = sym b.moment }
+      record { given = alike-back w (told_on controller w other records).given (told_on controller w told others).given b.given; moment = sym b.moment }
   alike-all _ _ (chained records between others first second) told other a =
-      told-then (told_on w told records) (told_on w told between) (told_on w other others)
+      told-then (told_on controller w told records) (told_on controller w told between) (told_on controller w other others)
       (alike-all records between first told told (record { given = alike-itself w told.given; moment = refl }))
       (alike-all between others second told other a)
 
   pub alike_stories : (records others : List Record) (story other : List Happening) → SameButCuts records others → story ≡ turns records (closed w story) → other ≡ turns others (closed w other)
       → Alike w story other
   alike_stories records others story other but is other_is =
-      let a : AlikeTold w (told_on w untold records) (told_on w untold others) =
+      let a : AlikeTold w (told_on controller w untold records) (told_on controller w untold others) =
       alike-all records others but untold untold (record { given = alike-itself w []; moment = refl })
       in
-      subst (λ (l : List Happening). Alike w l other) (sym (the_story w story records is))
-      (subst (Alike w (told_on w untold records).given) (sym (the_story w other others other_is)) a.given)
+      subst (λ (l : List Happening). Alike w l other) (sym (the_story controller w story records is))
+      (subst (Alike w (told_on controller w untold records).given) (sym (the_story controller w other others other_is)) a.given)

@@ -8,6 +8,7 @@ pub mod Frames
 pub mod Grown
 pub mod Pieces
 pub mod Closed
+pub mod Closing
 pub mod Told
 pub mod Begun
 pub mod Alike

@@ -16,6 +16,7 @@ use Rattle.recording_hub.proofs.Telling.{all_held}
 use Rattle.ctl_world.specs.World.{first}
 use Rattle.hub_drive.specs.declared.replay.Replayed.TheVariants.{Read}
 use Rattle.hub_drive.specs.Driving.{IsFront}
+use Rattle.ctl_drive.specs.Controller.{controller}
 use Rattle.ctl_drive.specs.Replay.{Replays, WritesAll, closed_in}
 use Rattle.law_recordings.proofs.Begun.{whole_records_story}
 use Rattle.law_recordings.proofs.Told.{one_story}
@@ -34,7 +35,7 @@ pub replayed_story : (conf : Configuration) (happened other : List Happening) (b
 replayed_story conf happened other bytes None are recording is =
     let whole : Records bytes recording.records = subst (λ (l : List ℕ). Records l recording.records) (sym (same_bytes recording.bytes bytes recording.written)) recording.is in
     let same : is.records ≡ recording.records = one_list bytes is.records recording.records (is.whole refl) whole in (
-      one_story (first conf) recording.records other happened (is.told ∙ ap (λ (l : List Record). turns l (closed_in conf other)) same) (tells_held conf happened recording.records are recording.tells),
+      one_story controller (first conf) recording.records other happened (is.told ∙ ap (λ (l : List Record). turns l (closed_in conf other)) same) (tells_held conf happened recording.records are recording.tells),
       refl,
     )
 replayed_story conf happened other bytes (Some r) are recording is =
@@ -51,7 +52,7 @@ pub broken_story : (conf : Configuration) (happened other : List Happening) (byt
     → IsRecordingSoFar conf happened (Some []) (Some bytes) → IsStoryOf bytes other (closed_in conf other) refused → IsFront happened other
 broken_story conf happened other bytes refused are recording is =
     let same : bytes ≡ recording.bytes ++ recording.part = same_bytes (recording.bytes ++ recording.part) bytes recording.written in
-    whole_records_story conf bytes happened other refused is (record {
+    whole_records_story controller (first conf) bytes happened other refused is (record {
       records = recording.records;
       front = recording.bytes;
       rest = recording.part;
