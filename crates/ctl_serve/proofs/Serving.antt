@@ -9,7 +9,7 @@ use Rattle.fg_outside.specs.declared.hub.Said.TheVariants as answers
 use Rattle.fg_outside.specs.Contents.{Contents}
 use Rattle.fg_outside.specs.HubStep.{HubStep, Event, Leads, closed, happenings, next, said, start, story, turned}
 use Rattle.fg_outside.specs.Wrote.{appended, AppendsFront}
-use Rattle.fg_outside.proofs.SinkLemmas.{appended-nil, AppendsFront-none}
+use Rattle.fg_outside.proofs.SinkLemmas.{appended-nil}
 use Rattle.fg_outside.proofs.StoryLemmas.{Leads-append, story-append}
 use Rattle.fg_links.specs.HubInMemory.{lacks_memory}
 use Rattle.conf_types.specs.Configuration.{Configuration}
@@ -17,7 +17,7 @@ use Rattle.watch_hub.specs.declared.watch.Watch.{Watch}
 use Rattle.watch_hub.specs.Texts.{AreTold, missed}
 use Rattle.watch_hub.specs.Watch.{IsBegun, WatchStep, files_in, hub_in, is_spent, last_in, looked_in, waiting_in, waits_in}
 use Rattle.watch_hub.specs.Watched.{looks_from, reloads, watched, watched_from}
-use Rattle.watch_hub.specs.WatchedStory.{PutsIn, WatchedPart, WatchedStory, none}
+use Rattle.watch_hub.specs.WatchedStory.{PutsIn, WatchedPart, WatchedStory}
 use Rattle.ctl_world.specs.World.{World, first}
 use Rattle.hub_drive.specs.declared.drive.Drove.{Drove}
 use Rattle.hub_drive.specs.declared.drive.Drove.TheVariants as drove
