@@ -2,10 +2,9 @@
 use Rattle.std.proofs.Common.{◌≡◌, ◌≢◌, ◌⊎◌, inl, inr, ℕ, ◌-◌, ◌^◌, ◌<◌, ◌≤◌, List, [], ◌++◌, length, take, drop, Option, Some, None, unwrap_or, Result, Ok, Err, refl, sym, ap, subst, ◌∙◌, append_assoc, arith, length-append}
 use Rattle.std.proofs.lemmas.List.{append-nil, take-append-drop}
 use Rattle.fg_outside.specs.Contents.{Contents}
-use Rattle.fg_outside.specs.Counts.{Rose}
 use Rattle.fg_outside.specs.Wrote.{appended, AppendsFront}
 use Rattle.fg_outside.specs.declared.hub.Happening.{Happening}
-use Rattle.fg_outside.proofs.SinkLemmas.{appended-nil, AppendsFront-first}
+use Rattle.fg_outside.proofs.SinkLemmas.{AppendsFront-first}
 use Rattle.conf_gather.specs.declared.refused.LoadRefused.{LoadRefused}
 use Rattle.conf_gather.specs.declared.refused.LoadRefused.TheVariants.{Read, Yaml, Conf, IncludeTwice, IncludeDepth, Absent, Memory}
 use Rattle.conf_gather.specs.Gathered.{Held}
@@ -19,8 +18,8 @@ use Rattle.hub_drive.specs.declared.replay.Replayed.TheVariants as replayed
 use Rattle.hub_drive.specs.declared.sayings.Outlet.{Outlet}
 use Rattle.hub_drive.specs.Driving.{IsFront, closings_of, lines_of, out_of}
 use Rattle.hub_drive.specs.Machine.{Workings, behind}
-use Rattle.hub_drive.specs.Replay.{Replays, WritesAll, WritesFront}
-use Rattle.hub_drive.proofs.Stories.{front-whole, lines-append, out-append}
+use Rattle.hub_drive.specs.Replay.{Replays, WritesAll}
+use Rattle.hub_drive.proofs.Stories.{front-whole, lines-append, out-append, out-none}
 use Rattle.law_recordings.proofs.Begun.{begun_story, whole_records_story}
 use Rattle.faucet_top.specs.Answer.{Answer, last_line, out_of_memory, refusal, unread}
 use Rattle.faucet_top.specs.Ends.{status_after}
@@ -269,7 +268,7 @@ module _ {S : Type 0} (m : Workings S) (outlet : Outlet) (w : S) (held : Content
       unread_end out lines replayed.Memory a replays is s whole = absurd (omega (arith, s, whole.0, ap (λ (b : Answer). b.status) is))
 
       no_turns : (file : List ℕ) (a : Answer) → a.out ≡ [] → a.err ≡ (unread file).err → Whole a → StopsUnread m outlet w story o0 o1 e0 e1
-      no_turns file a none said whole = ([], file, record { is = nothing_is_front story; out = whole.1 ∙ ap (appended o0) none; err = whole.2 ∙ ap (appended e0) said })
+      no_turns file a none said whole = ([], file, record { is = nothing_is_front story; out = whole.1 ∙ ap (appended o0) (none ∙ sym (out-none m outlet w)); err = whole.2 ∙ ap (appended e0) said })
 
       refusal_unread : (why : LoadRefused) → GaveIt name (Err why) → status ≡ 3 → Whole (refusal config why) → StopsUnread m outlet w story o0 o1 e0 e1
       refusal_unread (Read file) loads s whole = no_turns file (refusal config (Read file)) refl refl whole

@@ -1,5 +1,5 @@
 -- What was replied to `replay` and to `gauge`, as the reply to a run by a configuration.
-use Rattle.std.proofs.Common.{◌≡◌, ℕ, inl, inr, List, Option, Some, Ok, Err, refl}
+use Rattle.std.proofs.Common.{ℕ, inl, inr, List, Option, Some, Ok, Err, refl}
 use Rattle.fg_outside.specs.declared.hub.Happening.{Happening}
 use Rattle.fg_outside.specs.Contents.{Contents}
 use Rattle.conf_types.specs.Configuration.{Configuration}
