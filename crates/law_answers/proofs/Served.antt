@@ -5,7 +5,6 @@ use Rattle.fg_outside.specs.declared.hub.Happening.{Happening}
 use Rattle.fg_outside.specs.Contents.{Contents}
 use Rattle.fg_outside.specs.HubStep.{HubStep}
 use Rattle.conf_types.specs.Configuration.{Configuration}
-use Rattle.conf_types.specs.Valid.{IsValid}
 use Rattle.hub_drive.specs.declared.drive.Drove.{Drove}
 use Rattle.hub_drive.specs.declared.drive.Drove.TheVariants as drove
 use Rattle.hub_drive.specs.Driven.{CameAsBytes}
