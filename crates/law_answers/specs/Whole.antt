@@ -27,6 +27,7 @@ use Rattle.law_lives.specs.Known.{conf_by, moment_by, open_by}
 use Rattle.law_lives.specs.Lines.{HaveTheirLines}
 use Rattle.law_lives.specs.Steps.{frames, turns}
 use Rattle.law_lives.specs.Told.{as_told}
+use Rattle.law_lives.specs.Gone.{ClosesTheGone}
 use Rattle.law_lives.specs.Hosts.{KnowsItsHosts, KnowsTheHeard}
 use Rattle.law_lives.specs.Reloads.{KeepsItsHosts}
 use Rattle.law_lives.specs.Same.{KeepsAllHosts}
@@ -74,7 +75,8 @@ pub record IsWhole (conf : Configuration) (story : List Happening) : Type 0 wher
   pub heard_hosts : AllByRecursion KnowsTheHeard (frames (first conf) story)
   pub hosts : AllByRecursion KnowsItsHosts (turns (first conf) story)
   pub kept_hosts : AllByRecursion KeepsItsHosts (turns (first conf) story)
-  -- law_lives::reloads: over a reload of the same configuration all hosts stay
+  -- law_lives::reloads: which connections a reload closes; over one of the same configuration all hosts stay
+  pub gone : AllByRecursion ClosesTheGone (turns (first conf) story)
   pub same_hosts : AllByRecursion KeepsAllHosts (turns (first conf) story)
   -- law_lives::neighbours: what is asked and answered, once, and nothing else
   pub asks : AllByRecursion AsksTheDue (settlings (first conf) story)

@@ -36,7 +36,9 @@ use law_lives::lines::{
 use law_lives::neighbours::{
     each_answer_is_sent_once_and_nothing_else, each_ask_is_sent_once_and_nothing_else,
 };
-use law_lives::reloads::all_hosts_stay_over_a_reload_of_the_same;
+use law_lives::reloads::{
+    a_reload_closes_exactly_what_is_gone, all_hosts_stay_over_a_reload_of_the_same,
+};
 use law_lives::sessions::each_connection_lives_as_it_is_to;
 use law_lives::spans::{
     each_settling_counts_from_the_opening, what_is_said_of_a_turn_is_said_by_its_frames,
@@ -68,6 +70,7 @@ pub fn all_is_right_of_every_story()
     whatever_is_heard_its_host_is_known();
     whatever_happens_hosts_stay_where_they_stand();
     hosts_stay_over_a_reload_but_for_a_cause();
+    a_reload_closes_exactly_what_is_gone();
     all_hosts_stay_over_a_reload_of_the_same();
     each_ask_is_sent_once_and_nothing_else();
     each_answer_is_sent_once_and_nothing_else();

@@ -14,6 +14,7 @@ pub mod Follows
 pub mod Framed
 pub mod Frames
 pub mod Fronts
+pub mod Gone
 pub mod Heard
 pub mod Kept
 pub mod Leads

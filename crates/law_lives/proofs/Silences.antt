@@ -29,15 +29,15 @@ use Rattle.ctl_core.specs.Turns.{pass}
 use Rattle.law_lives.specs.Causes.{closes}
 use Rattle.law_lives.proofs.Walk.{Steps, look_stays, settle_stays}
 
-or_none : (b : Bool) → (b || false) ≡ b
+pub or_none : (b : Bool) → (b || false) ≡ b
 or_none true = refl
 or_none false = refl
 
 module _ (n : ℕ) where
-  abbrev closed : List Said → Bool
+  abbrev pub closed : List Said → Bool
   closed said = list_any (closes n) said
 
-  closed_more : (said more : List Said) → closed (said ++ more) ≡ (closed said || closed more)
+  pub closed_more : (said more : List Said) → closed (said ++ more) ≡ (closed said || closed more)
   closed_more said more = list_any-append (closes n) said more
 
   -- a message more is none
@@ -58,7 +58,7 @@ module _ (n : ℕ) where
       knows = λ hosts neighbours w has. has;
     }
 
-  settle_closes : (w : World) → closed (settle w).said ≡ closed w.said
+  pub settle_closes : (w : World) → closed (settle w).said ≡ closed w.said
   settle_closes w = settle_stays (λ number cause. ⊥) (Has (closed w.said)) (single (closed w.said)) w refl
 
   -- ---- a connection that is looked at is closed where it is silent
@@ -158,7 +158,7 @@ module _ (n : ℕ) where
 
   -- ---- each of them
 
-  abbrev is_in : List ℕ → Bool
+  abbrev pub is_in : List ℕ → Bool
   is_in numbers = list_any (λ k. k == n) numbers
 
   own_case : (x among b c : Bool) → c ≡ false → ((x || b) || (among && c)) ≡ (x || b)

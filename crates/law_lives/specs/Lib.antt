@@ -2,6 +2,7 @@ pub mod Batches
 pub mod Behind
 pub mod Causes
 pub mod Frames
+pub mod Gone
 pub mod Hosts
 pub mod Known
 pub mod Lines

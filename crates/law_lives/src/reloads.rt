@@ -1,5 +1,5 @@
-//! What a reload leaves whose text has the configuration that is in force. The function's body is at most calls of the laws that it
-//! rests on, and its contract is the law.
+//! What a reload closes, and what one leaves whose text has the configuration that is in force. The functions are empty but for calls
+//! of the laws that they rest on, and their contracts are the laws.
 
 ghost use Rattle.std.specs.Prelude.{List};
 ghost use Rattle.std.specs.List.{AllByRecursion};
@@ -8,6 +8,7 @@ ghost use Rattle.conf_types.specs.Configuration.{Configuration};
 ghost use Rattle.conf_types.specs.Valid.{IsValid};
 ghost use Rattle.ctl_world.specs.World.{first};
 ghost use Rattle.law_lives.specs.Steps.{turns};
+ghost use Rattle.law_lives.specs.Gone.{ClosesTheGone};
 ghost use Rattle.law_lives.specs.Same.{KeepsAllHosts};
 
 use law_stories::laws::what_the_laws_rest_on;
@@ -16,6 +17,14 @@ use law_stories::laws::what_the_laws_rest_on;
 /// stay, in order.
 pub fn all_hosts_stay_over_a_reload_of_the_same()
     ensures { (conf : Configuration) (story : List Happening) → IsValid conf → AllByRecursion KeepsAllHosts (turns (first conf) story) }
+{
+    what_the_laws_rest_on();
+}
+
+/// Whatever happens, a reload that is accepted closes exactly the open connections of datapaths that its configuration hasn't, and one
+/// that is refused none.
+pub fn a_reload_closes_exactly_what_is_gone()
+    ensures { (conf : Configuration) (story : List Happening) → AllByRecursion ClosesTheGone (turns (first conf) story) }
 {
     what_the_laws_rest_on();
 }

@@ -23,6 +23,7 @@ returns c = λ conf story valid. record {
   heard_hosts = c.whatever_is_heard_its_host_is_known.ensures conf story valid;
   hosts = c.whatever_happens_hosts_stay_where_they_stand.ensures conf story valid;
   kept_hosts = c.hosts_stay_over_a_reload_but_for_a_cause.ensures conf story valid;
+  gone = c.a_reload_closes_exactly_what_is_gone.ensures conf story;
   same_hosts = c.all_hosts_stay_over_a_reload_of_the_same.ensures conf story valid;
   asks = c.each_ask_is_sent_once_and_nothing_else.ensures conf story valid;
   answers = c.each_answer_is_sent_once_and_nothing_else.ensures conf story valid;
