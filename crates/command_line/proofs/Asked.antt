@@ -19,17 +19,20 @@ use Rattle.command_line.specs.declared.meaning.Command.{Command}
 use Rattle.command_line.specs.declared.meaning.Command.TheVariants as commands
 use Rattle.command_line.specs.declared.meaning.Job.{Job}
 use Rattle.command_line.specs.declared.meaning.Job.TheVariants as jobs
+use Rattle.command_line.specs.declared.meaning.SentOn.{SentOn}
 use Rattle.command_line.specs.declared.meaning.ServeOptions.{ServeOptions}
 use Rattle.command_line.specs.declared.parts.CommandOption.{CommandOption}
 use Rattle.command_line.specs.declared.parts.Parts.{Parts}
 use Rattle.command_line.specs.declared.recorded.RecordedServe.{RecordedServe}
 use Rattle.command_line.specs.declared.values.Listen.{Listen}
-use Rattle.command_line.specs.Asked.{StandOnce, AreWritten, StandsBehind, StandsOrIs, Spells, SpellsListen, SaysEvents, SaysReload, SaysListen, SayHowToServe, AskFor, Check, Plan, Replay, Serve, Gauge, GaugeServe, Bench, AskToRecord}
-use Rattle.command_line.specs.Meaning.{command_of, options_of, are_taken, one_of, two_of, events_of, listen_or, serve_options, job_of, meaning}
+use Rattle.command_line.specs.Asked.{StandOnce, AreWritten, StandsBehind, StandsOrIs, Spells, SpellsFrame, SpellsListen, SaysEvents, SaysReload, SaysListen, SayHowToServe, AskFor, Check, Plan, Replay, Serve, Gauge, GaugeServe, Bench, Trace, Walk, AskToRecord}
+use Rattle.command_line.specs.Meaning.{command_of, options_of, are_taken, one_of, two_of, events_of, listen_or, serve_options, sent_by, sent_on, job_of, meaning}
+use Rattle.command_line.specs.Frames.{frame_of}
 use Rattle.command_line.specs.Parts.{parts_of}
 use Rattle.command_line.specs.Recorded.{recorded_options, are_recorded_options, recorded_serve, recorded_meaning}
 use Rattle.command_line.specs.Values.{is_numeral, number_in, is_colon, address_and_port, listen_of, value_of}
 use Rattle.command_line.specs.Written.{Written}
+use Rattle.command_line.proofs.Digits.{frame_spelled, frame_again}
 use Rattle.command_line.proofs.Grammar.{bound, what_is_parted, what_is_written}
 use Rattle.command_line.proofs.Marks.{before_mark, after_mark, has_mark, split_mark}
 use Rattle.command_line.proofs.Numerals.{own, all_digits, is_there}
@@ -215,6 +218,41 @@ two_words (first ∷ []) two e = absurd (none-some two e)
 two_words (first ∷ second ∷ []) two e = ap (λ (t : List ℕ × List ℕ). t.0 ∷ t.1 ∷ []) (same_Some _ _ e)
 two_words (first ∷ second ∷ third ∷ others) two e = absurd (none-some two e)
 
+-- five words, of which the fourth spells a port and the fifth a frame
+record FiveWords (plain : List (List ℕ)) (sent : SentOn) : Type 0 where
+  port : List ℕ
+  digits : List ℕ
+  words : plain ≡ sent.config ∷ sent.recording ∷ sent.dp ∷ port ∷ digits ∷ []
+  is_port : Spells 1 0xffffff00 port sent.port
+  is_frame : SpellsFrame digits sent.frame
+
+by_words : (config recording dp port digits : List ℕ) (sent : SentOn) → sent_by config recording dp port digits ≡ Some sent
+    → FiveWords (config ∷ recording ∷ dp ∷ port ∷ digits ∷ []) sent
+by_words config recording dp port digits sent e =
+    let number = bound (number_in 1 0xffffff00 port) _ sent e in
+    let frame = bound (frame_of digits) _ sent number.2 in
+    subst (FiveWords (config ∷ recording ∷ dp ∷ port ∷ digits ∷ [])) (same_Some _ _ frame.2) (record {
+      port = port;
+      digits = digits;
+      words = refl;
+      is_port = spelled 1 0xffffff00 port number.0 (omega arith) number.1;
+      is_frame = frame_spelled digits frame.0 frame.1;
+    })
+
+five_words : (plain : List (List ℕ)) (sent : SentOn) → sent_on plain ≡ Some sent → FiveWords plain sent
+five_words [] sent e = absurd (none-some sent e)
+five_words (a ∷ []) sent e = absurd (none-some sent e)
+five_words (a ∷ b ∷ []) sent e = absurd (none-some sent e)
+five_words (a ∷ b ∷ c ∷ []) sent e = absurd (none-some sent e)
+five_words (a ∷ b ∷ c ∷ d ∷ []) sent e = absurd (none-some sent e)
+five_words (config ∷ recording ∷ dp ∷ port ∷ digits ∷ []) sent e = by_words config recording dp port digits sent e
+five_words (a ∷ b ∷ c ∷ d ∷ e' ∷ f ∷ others) sent e = absurd (none-some sent e)
+
+five_again : (config recording dp port digits : List ℕ) (number : ℕ) (frame : List ℕ) → Spells 1 0xffffff00 port number → SpellsFrame digits frame
+    → sent_by config recording dp port digits ≡ Some (record { config = config; recording = recording; dp = dp; port = number; frame = frame })
+five_again config recording dp port digits number frame is_port is_frame =
+    rw (read 1 0xffffff00 port number (omega arith) (omega arith) is_port, frame_again digits frame is_frame) refl
+
 mapped : {A B : Type 0} (f : A → B) (o : Option A) (y : B) → option_map f o ≡ Some y → (x : A) × (o ≡ Some x) × (f x ≡ y)
 mapped f None y e = absurd (none-some y e)
 mapped f (Some x) y e = (x, refl, same_Some (f x) y e)
@@ -307,6 +345,22 @@ asks_bench words job e =
     let written = subst (λ plain. Written words plain []) (one_word parts.0.plain text.0 text.1) (without_options words parts.0 parts.1 parts.2) in
     subst (AskFor (codes "bench" ∷ words)) hosts.2 (Bench words text.0 hosts.0 written (spelled 1 10000 text.0 hosts.0 (omega arith) hosts.1))
 
+asks_trace : (words : List (List ℕ)) (job : Job) → asked_of commands.Trace words ≡ Some job → AskFor (codes "trace" ∷ words) job
+asks_trace words job e =
+    let parts = parts_from words (are_taken commands.Trace) (job_of commands.Trace) job e in
+    let sent = mapped (λ (sent : SentOn). jobs.Trace sent.config sent.recording sent.dp sent.port sent.frame) (sent_on parts.0.plain) job parts.3 in
+    let five = five_words parts.0.plain sent.0 sent.1 in
+    let written = subst (λ plain. Written words plain []) five.words (without_options words parts.0 parts.1 parts.2) in
+    subst (AskFor (codes "trace" ∷ words)) sent.2 (Trace words sent.0.config sent.0.recording sent.0.dp five.port five.digits sent.0.port sent.0.frame written five.is_port five.is_frame)
+
+asks_walk : (words : List (List ℕ)) (job : Job) → asked_of commands.Walk words ≡ Some job → AskFor (codes "walk" ∷ words) job
+asks_walk words job e =
+    let parts = parts_from words (are_taken commands.Walk) (job_of commands.Walk) job e in
+    let sent = mapped (λ (sent : SentOn). jobs.Walk sent.config sent.recording sent.dp sent.port sent.frame) (sent_on parts.0.plain) job parts.3 in
+    let five = five_words parts.0.plain sent.0 sent.1 in
+    let written = subst (λ plain. Written words plain []) five.words (without_options words parts.0 parts.1 parts.2) in
+    subst (AskFor (codes "walk" ∷ words)) sent.2 (Walk words sent.0.config sent.0.recording sent.0.dp five.port five.digits sent.0.port sent.0.frame written five.is_port five.is_frame)
+
 -- one word of a table, or one of the rest
 first_or : (word name : List ℕ) (command : Command) (rest : Option Command) (found : Command) → cond (bytes_eq word name) (Some command) rest ≡ Some found
     → ((word ≡ name) × (command ≡ found)) ⊎ (rest ≡ Some found)
@@ -336,9 +390,15 @@ asks_by word command e = elim (first_or word (codes "check") commands.Check _ co
           | inl is ↦ here word (codes "gauge") commands.Gauge command asks_gauge is
           | inr e ↦ elim (first_or word (codes "gauge-serve") commands.GaugeServe _ command e) [
             | inl is ↦ here word (codes "gauge-serve") commands.GaugeServe command asks_gauge_serve is
-            | inr e ↦ elim (first_or word (codes "bench") commands.Bench None command e) [
+            | inr e ↦ elim (first_or word (codes "bench") commands.Bench _ command e) [
               | inl is ↦ here word (codes "bench") commands.Bench command asks_bench is
-              | inr e ↦ absurd (none-some command e)
+              | inr e ↦ elim (first_or word (codes "trace") commands.Trace _ command e) [
+                | inl is ↦ here word (codes "trace") commands.Trace command asks_trace is
+                | inr e ↦ elim (first_or word (codes "walk") commands.Walk None command e) [
+                  | inl is ↦ here word (codes "walk") commands.Walk command asks_walk is
+                  | inr e ↦ absurd (none-some command e)
+                ]
+              ]
             ]
           ]
         ]
@@ -388,6 +448,20 @@ meant_bench : (words : List (List ℕ)) (text : List ℕ) (hosts : ℕ) → Writ
 meant_bench words text hosts is spells =
     meant_plain commands.Bench words (text ∷ []) refl is ∙ ap (option_map jobs.Bench) (read 1 10000 text hosts (omega arith) (omega arith) spells)
 
+meant_trace : (words : List (List ℕ)) (config recording dp port digits : List ℕ) (number : ℕ) (frame : List ℕ)
+    → Written words (config ∷ recording ∷ dp ∷ port ∷ digits ∷ []) [] → Spells 1 0xffffff00 port number → SpellsFrame digits frame
+    → asked_of commands.Trace words ≡ Some (jobs.Trace config recording dp number frame)
+meant_trace words config recording dp port digits number frame is is_port is_frame =
+    meant_plain commands.Trace words (config ∷ recording ∷ dp ∷ port ∷ digits ∷ []) refl is
+    ∙ ap (option_map (λ (sent : SentOn). jobs.Trace sent.config sent.recording sent.dp sent.port sent.frame)) (five_again config recording dp port digits number frame is_port is_frame)
+
+meant_walk : (words : List (List ℕ)) (config recording dp port digits : List ℕ) (number : ℕ) (frame : List ℕ)
+    → Written words (config ∷ recording ∷ dp ∷ port ∷ digits ∷ []) [] → Spells 1 0xffffff00 port number → SpellsFrame digits frame
+    → asked_of commands.Walk words ≡ Some (jobs.Walk config recording dp number frame)
+meant_walk words config recording dp port digits number frame is is_port is_frame =
+    meant_plain commands.Walk words (config ∷ recording ∷ dp ∷ port ∷ digits ∷ []) refl is
+    ∙ ap (option_map (λ (sent : SentOn). jobs.Walk sent.config sent.recording sent.dp sent.port sent.frame)) (five_again config recording dp port digits number frame is_port is_frame)
+
 pub meant : (words : List (List ℕ)) (job : Job) → AskFor words job → meaning words ≡ Some job
 unfolding meaning
 meant w j (Check words files some is) = meant_check words files some is
@@ -397,6 +471,8 @@ meant w j (Serve words config options said is how) = meant_serve words config op
 meant w j (Gauge words config recording is) = meant_plain commands.Gauge words (config ∷ recording ∷ []) refl is
 meant w j (GaugeServe words config options events listen is says_events says_listen) = meant_gauge_serve words config options events listen is says_events says_listen
 meant w j (Bench words text hosts is spells) = meant_bench words text hosts is spells
+meant w j (Trace words config recording dp port digits number frame is is_port is_frame) = meant_trace words config recording dp port digits number frame is is_port is_frame
+meant w j (Walk words config recording dp port digits number frame is is_port is_frame) = meant_walk words config recording dp port digits number frame is is_port is_frame
 
 -- ---- a recorded controller
 

@@ -1,6 +1,7 @@
 -- What words ask for, with no reader in mind: by what stands behind the name of each option.
-use Rattle.std.specs.Prelude.{◌≡◌, ◌≢◌, ◌⊎◌, ◌^◌, ◌<◌, ◌≤◌, ◌++◌, ℕ, List, [], ◌∷◌, codes, decimal, All, AllPairs, Contains}
-use Rattle.net_base.specs.Address.{ip4_text}
+use Rattle.std.specs.Prelude.{◌≡◌, ◌≢◌, ◌⊎◌, ◌^◌, ◌<◌, ◌≤◌, ◌++◌, ℕ, IsTrue, List, [], ◌∷◌, length, codes, decimal, All, AllPairs, Contains}
+use Rattle.net_base.specs.Address.{IsPair, ip4_text}
+use Rattle.pkt_view.specs.Frame.{has_type}
 use Rattle.command_line.specs.declared.meaning.Job.{Job}
 use Rattle.command_line.specs.declared.meaning.Job.TheVariants as jobs
 use Rattle.command_line.specs.declared.meaning.ServeOptions.{ServeOptions}
@@ -44,6 +45,17 @@ pub record SpellsListen (text : List ℕ) (listen : Listen) : Type 0 where
   pub port_at_least : 1 ≤ listen.port
   pub port_at_most : listen.port ≤ 65535
 
+-- two hexadecimal digits of either case for each byte
+abbrev pub SpellsBytes : (text bytes : List ℕ) → Type 0
+SpellsBytes text [] = text ≡ []
+SpellsBytes text (byte ∷ bytes) = (a b : ℕ) × (rest : List ℕ) × (text ≡ a ∷ b ∷ rest) × IsPair a b byte × SpellsBytes rest bytes
+
+-- the digits of a frame whose EtherType is there, at most two for each of 1,522 bytes
+pub record SpellsFrame (text frame : List ℕ) : Type 0 where
+  pub digits : SpellsBytes text frame
+  pub at_most : length text ≤ 3044
+  pub typed : IsTrue (has_type frame)
+
 -- how many events are taken at most, which has to be said
 abbrev pub SaysEvents : List CommandOption → ℕ → Type 0
 SaysEvents options events = (text : List ℕ) × StandsBehind options (codes "events") text × Spells 1 1000000000 text events
@@ -83,6 +95,14 @@ pub data AskFor : List (List ℕ) → Job → Type 0 where
       → AskFor (codes "gauge-serve" ∷ words) (jobs.GaugeServe config events listen)
   -- `bench N`, N from 1 to 10,000
   Bench : (words : List (List ℕ)) (text : List ℕ) (hosts : ℕ) → Written words (text ∷ []) [] → Spells 1 10000 text hosts → AskFor (codes "bench" ∷ words) (jobs.Bench hosts)
+  -- `trace CONFIG RECORDING DP PORT FRAME`
+  Trace : (words : List (List ℕ)) (config recording dp port digits : List ℕ) (number : ℕ) (frame : List ℕ)
+      → Written words (config ∷ recording ∷ dp ∷ port ∷ digits ∷ []) [] → Spells 1 0xffffff00 port number → SpellsFrame digits frame
+      → AskFor (codes "trace" ∷ words) (jobs.Trace config recording dp number frame)
+  -- `walk CONFIG RECORDING DP PORT FRAME`
+  Walk : (words : List (List ℕ)) (config recording dp port digits : List ℕ) (number : ℕ) (frame : List ℕ)
+      → Written words (config ∷ recording ∷ dp ∷ port ∷ digits ∷ []) [] → Spells 1 0xffffff00 port number → SpellsFrame digits frame
+      → AskFor (codes "walk" ∷ words) (jobs.Walk config recording dp number frame)
 
 -- words of `faucet_recorded`, `CONFIG --record FILE` with the options of `serve`, and what they ask for
 pub record AskToRecord (words : List (List ℕ)) (asked : RecordedServe) : Type 0 where

@@ -5,3 +5,4 @@ pub mod Values
 pub mod Meaning
 pub mod Recorded
 pub mod Asked
+pub mod Frames

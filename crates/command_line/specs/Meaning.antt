@@ -8,10 +8,12 @@ use Rattle.command_line.specs.declared.meaning.Command.{Command}
 use Rattle.command_line.specs.declared.meaning.Command.TheVariants as commands
 use Rattle.command_line.specs.declared.meaning.Job.{Job}
 use Rattle.command_line.specs.declared.meaning.Job.TheVariants as jobs
+use Rattle.command_line.specs.declared.meaning.SentOn.{SentOn}
 use Rattle.command_line.specs.declared.meaning.ServeOptions.{ServeOptions}
 use Rattle.command_line.specs.declared.parts.CommandOption.{CommandOption}
 use Rattle.command_line.specs.declared.parts.Parts.{Parts}
 use Rattle.command_line.specs.declared.values.Listen.{Listen}
+use Rattle.command_line.specs.Frames.{frame_of}
 use Rattle.command_line.specs.Parts.{parts_of}
 use Rattle.command_line.specs.Values.{number_in, listen_of, value_of}
 
@@ -25,6 +27,8 @@ command_of word =
     else if bytes_eq word (codes "gauge") then Some commands.Gauge
     else if bytes_eq word (codes "gauge-serve") then Some commands.GaugeServe
     else if bytes_eq word (codes "bench") then Some commands.Bench
+    else if bytes_eq word (codes "trace") then Some commands.Trace
+    else if bytes_eq word (codes "walk") then Some commands.Walk
     else None
 
 -- the options that a command takes
@@ -36,6 +40,8 @@ options_of commands.Serve = codes "events" ∷ codes "reload-ms" ∷ codes "list
 options_of commands.Gauge = []
 options_of commands.GaugeServe = codes "events" ∷ codes "listen" ∷ []
 options_of commands.Bench = []
+options_of commands.Trace = []
+options_of commands.Walk = []
 
 -- each of these options is one that the command takes
 abbrev pub are_taken : Command → List CommandOption → Bool
@@ -70,9 +76,21 @@ serve_options options = do
 abbrev pub bench_of : List (List ℕ) → Option Job
 bench_of words = one_of words >>= λ word. option_map jobs.Bench (number_in 1 10000 word)
 
+-- a frame that comes in by a port, 1 to 0xffffff00, of a datapath behind what a recording tells
+abbrev pub sent_by : (config recording dp port digits : List ℕ) → Option SentOn
+sent_by config recording dp port digits = do
+  number ← number_in 1 0xffffff00 port
+  frame ← frame_of digits
+  Some (record { config = config; recording = recording; dp = dp; port = number; frame = frame })
+
+-- `CONFIG RECORDING DP PORT FRAME`
+abbrev pub sent_on : List (List ℕ) → Option SentOn
+sent_on words = elim words [ config ∷ recording ∷ dp ∷ port ∷ digits ∷ [] ↦ sent_by config recording dp port digits | _ ↦ None ]
+
 -- what a command asks for: `check FILE..`, one file or more; `plan CONFIG DP`; `replay CONFIG RECORDING`;
 -- `serve CONFIG --events N`, with what options it has beside; `gauge GAUGE_CONFIG RECORDING`;
--- `gauge-serve GAUGE_CONFIG --events N`, which without the other option listens at port 6654 of this host alone; `bench N`
+-- `gauge-serve GAUGE_CONFIG --events N`, which without the other option listens at port 6654 of this host alone; `bench N`;
+-- `trace CONFIG RECORDING DP PORT FRAME`, and `walk` with the same words
 abbrev pub job_of : Command → Parts → Option Job
 job_of commands.Check parts = elim parts.plain [ [] ↦ None | file ∷ files ↦ Some (jobs.Check (file ∷ files)) ]
 job_of commands.Plan parts = option_map (λ two. jobs.Plan two.0 two.1) (two_of parts.plain)
@@ -88,6 +106,8 @@ job_of commands.GaugeServe parts = do
   listen ← listen_or (codes "127.0.0.1:6654") parts.options
   Some (jobs.GaugeServe config events listen)
 job_of commands.Bench parts = bench_of parts.plain
+job_of commands.Trace parts = option_map (λ sent. jobs.Trace sent.config sent.recording sent.dp sent.port sent.frame) (sent_on parts.plain)
+job_of commands.Walk parts = option_map (λ sent. jobs.Walk sent.config sent.recording sent.dp sent.port sent.frame) (sent_on parts.plain)
 
 -- the first word is the command
 unfoldable pub meaning : List (List ℕ) → Option Job

@@ -2,6 +2,7 @@
 //! what the whole asks the program to do.
 #![tactic(auto)]
 
+mod frames;
 pub mod laws;
 mod meaning;
 mod parts;

@@ -1,11 +1,13 @@
 ghost use Rattle.std.specs.Prelude.{◌≡◌, List, ℕ, map, IfOk};
 ghost use Rattle.std.specs.List.{list_any};
 ghost use Rattle.std.specs.Str.{bytes_eq};
-ghost use Rattle.command_line.specs.Meaning.{command_of, options_of, are_taken, one_of, two_of, events_of, listen_or, serve_options, bench_of, job_of, meaning};
+ghost use Rattle.command_line.specs.Meaning.{command_of, options_of, are_taken, one_of, two_of, events_of, listen_or, serve_options, bench_of, sent_on, job_of, meaning};
+ghost use Rattle.command_line.specs.Values.{number_in};
 
+use crate::frames::frame_of;
 use crate::parts::{CommandOption, Parts, part_words};
 use crate::values::{Listen, listen_of, number_in, value_of, value_or};
-use net_base::{Names, NoMemory, Text, TryCopy};
+use net_base::{Bytes, Names, NoMemory, PortNo, Text, TryCopy};
 use std::alloc::Global;
 
 #[derive(Clone, Copy)]
@@ -17,6 +19,8 @@ enum Command {
     Gauge,
     GaugeServe,
     Bench,
+    Trace,
+    Walk,
 }
 
 /// What the program is asked to do.
@@ -55,6 +59,23 @@ pub enum Job {
     },
     /// To run a controller on a story in which so many hosts come, and to measure what it says.
     Bench(u32),
+    /// To run the controller of a configuration file on a recording, and to show what a datapath then sends of a
+    /// frame that comes in by a port.
+    Trace {
+        config: Text,
+        recording: Text,
+        dp: Text,
+        port: PortNo,
+        frame: Bytes,
+    },
+    /// The same, and to show where the frame arrives, over the links of the stack.
+    Walk {
+        config: Text,
+        recording: Text,
+        dp: Text,
+        port: PortNo,
+        frame: Bytes,
+    },
 }
 
 /// The options of `serve`.
@@ -63,6 +84,16 @@ pub(crate) struct ServeOptions {
     pub(crate) events: u64,
     pub(crate) reload_ms: u64,
     pub(crate) listen: Listen,
+}
+
+/// The words of `trace` and `walk`.
+#[derive(Debug, Drop)]
+struct SentOn {
+    config: Text,
+    recording: Text,
+    dp: Text,
+    port: PortNo,
+    frame: Bytes,
 }
 
 fn command_of(word: &str) -> Option<Command>
@@ -82,6 +113,10 @@ fn command_of(word: &str) -> Option<Command>
         Some(Command::GaugeServe)
     } else if word == "bench" {
         Some(Command::Bench)
+    } else if word == "trace" {
+        Some(Command::Trace)
+    } else if word == "walk" {
+        Some(Command::Walk)
     } else {
         None
     }
@@ -92,7 +127,13 @@ fn options_of(command: Command) -> &'static [&'static str]
     ensures { map (λ name. name.now) result.now ≡ options_of command }
 {
     match command {
-        Command::Check | Command::Plan | Command::Replay | Command::Gauge | Command::Bench => &[],
+        Command::Check
+        | Command::Plan
+        | Command::Replay
+        | Command::Gauge
+        | Command::Bench
+        | Command::Trace
+        | Command::Walk => &[],
         Command::Serve => &["events", "reload-ms", "listen"],
         Command::GaugeServe => &["events", "listen"],
     }
@@ -218,6 +259,61 @@ fn bench_job(plain: &[Text]) -> Option<Job>
     }
 }
 
+fn port_of(text: &str) -> Option<PortNo>
+    ensures { result ≡ number_in 1 0xffffff00 text.now }
+{
+    let number = number_in(text, 1, 0xffff_ff00)?;
+    PortNo::new(number as u32)
+}
+
+/// What the words of `trace` and `walk` say.
+fn sent_on(alloc: Global, plain: &[Text]) -> Result<Option<SentOn>, NoMemory>
+    ensures { IfOk result (λ sent. sent ≡ sent_on plain.now) }
+{
+    let [config, recording, dp, port, digits] = plain else {
+        return Ok(None);
+    };
+    let Some(port) = port_of(port.as_str()) else {
+        return Ok(None);
+    };
+    let Some(frame) = frame_of(alloc, digits.as_str())? else {
+        return Ok(None);
+    };
+    Ok(Some(SentOn {
+        config: config.copy(alloc)?,
+        recording: recording.copy(alloc)?,
+        dp: dp.copy(alloc)?,
+        port,
+        frame,
+    }))
+}
+
+/// What `trace` asks for.
+fn trace_job(sent: SentOn) -> Job
+    ensures { result ≡ Job.Trace sent.config sent.recording sent.dp sent.port sent.frame }
+{
+    Job::Trace {
+        config: sent.config,
+        recording: sent.recording,
+        dp: sent.dp,
+        port: sent.port,
+        frame: sent.frame,
+    }
+}
+
+/// What `walk` asks for.
+fn walk_job(sent: SentOn) -> Job
+    ensures { result ≡ Job.Walk sent.config sent.recording sent.dp sent.port sent.frame }
+{
+    Job::Walk {
+        config: sent.config,
+        recording: sent.recording,
+        dp: sent.dp,
+        port: sent.port,
+        frame: sent.frame,
+    }
+}
+
 fn job_of(alloc: Global, command: Command, parts: Parts) -> Result<Option<Job>, NoMemory>
     ensures { IfOk result (λ job. job ≡ job_of command parts) }
 {
@@ -245,6 +341,18 @@ fn job_of(alloc: Global, command: Command, parts: Parts) -> Result<Option<Job>, 
         }
         Command::GaugeServe => gauge_serve_job(alloc, &parts),
         Command::Bench => Ok(bench_job(parts.plain.as_slice())),
+        Command::Trace => {
+            let Some(sent) = sent_on(alloc, parts.plain.as_slice())? else {
+                return Ok(None);
+            };
+            Ok(Some(trace_job(sent)))
+        }
+        Command::Walk => {
+            let Some(sent) = sent_on(alloc, parts.plain.as_slice())? else {
+                return Ok(None);
+            };
+            Ok(Some(walk_job(sent)))
+        }
     }
 }
 

@@ -125,6 +125,37 @@ pub fn words_behind_bench()
     ensures option { meaning (codes "bench" ∷ codes "3" ∷ codes "--events=3" ∷ []) ≡ None }
 {}
 
+/// `trace CONFIG RECORDING DP PORT FRAME`: five words, of which the fourth is a port's number and the fifth the
+/// digits of a frame, and no option.
+#[tactic(auto, unfolding(crate::specs::Meaning::meaning, crate::specs::Parts::parts_of, crate::specs::Parts::parted))]
+pub fn words_behind_trace()
+    ensures both_cases { meaning (codes "trace" ∷ codes "a" ∷ codes "r" ∷ codes "sw1" ∷ codes "4294967040" ∷ codes "ffFFffffffff0200000000010800" ∷ [])
+        ≡ Some (jobs.Trace (codes "a") (codes "r") (codes "sw1") 4294967040 (255 ∷ 255 ∷ 255 ∷ 255 ∷ 255 ∷ 255 ∷ 2 ∷ 0 ∷ 0 ∷ 0 ∷ 0 ∷ 1 ∷ 8 ∷ 0 ∷ [])) }
+    ensures no_port { meaning (codes "trace" ∷ codes "a" ∷ codes "r" ∷ codes "sw1" ∷ codes "0" ∷ codes "ffffffffffff0200000000010800" ∷ []) ≡ None }
+    ensures reserved_port { meaning (codes "trace" ∷ codes "a" ∷ codes "r" ∷ codes "sw1" ∷ codes "4294967041" ∷ codes "ffffffffffff0200000000010800" ∷ []) ≡ None }
+    ensures hexadecimal_port { meaning (codes "trace" ∷ codes "a" ∷ codes "r" ∷ codes "sw1" ∷ codes "0x1" ∷ codes "ffffffffffff0200000000010800" ∷ []) ≡ None }
+    ensures odd_digits { meaning (codes "trace" ∷ codes "a" ∷ codes "r" ∷ codes "sw1" ∷ codes "1" ∷ codes "ffffffffffff02000000000108000" ∷ []) ≡ None }
+    ensures no_digit { meaning (codes "trace" ∷ codes "a" ∷ codes "r" ∷ codes "sw1" ∷ codes "1" ∷ codes "ffffffffffff020000000001080g" ∷ []) ≡ None }
+    ensures no_type { meaning (codes "trace" ∷ codes "a" ∷ codes "r" ∷ codes "sw1" ∷ codes "1" ∷ codes "ffffffffffff02000000000108" ∷ []) ≡ None }
+    ensures tag_alone { meaning (codes "trace" ∷ codes "a" ∷ codes "r" ∷ codes "sw1" ∷ codes "1" ∷ codes "ffffffffffff02000000000181000064" ∷ []) ≡ None }
+    ensures empty { meaning (codes "trace" ∷ codes "a" ∷ codes "r" ∷ codes "sw1" ∷ codes "1" ∷ [] ∷ []) ≡ None }
+    ensures missing { meaning (codes "trace" ∷ codes "a" ∷ codes "r" ∷ codes "sw1" ∷ codes "1" ∷ []) ≡ None }
+    ensures further { meaning (codes "trace" ∷ codes "a" ∷ codes "r" ∷ codes "sw1" ∷ codes "1" ∷ codes "ffffffffffff0200000000010800" ∷ codes "b" ∷ []) ≡ None }
+    ensures option { meaning (codes "trace" ∷ codes "a" ∷ codes "r" ∷ codes "sw1" ∷ codes "1" ∷ codes "ffffffffffff0200000000010800" ∷ codes "--x=1" ∷ []) ≡ None }
+{}
+
+/// `walk` with the same words.
+#[tactic(auto, unfolding(crate::specs::Meaning::meaning, crate::specs::Parts::parts_of, crate::specs::Parts::parted))]
+pub fn words_behind_walk()
+    ensures tagged { meaning (codes "walk" ∷ codes "a" ∷ codes "r" ∷ codes "sw1" ∷ codes "1" ∷ codes "ffffffffffff020000000001810000640800" ∷ [])
+        ≡ Some (jobs.Walk (codes "a") (codes "r") (codes "sw1") 1 (255 ∷ 255 ∷ 255 ∷ 255 ∷ 255 ∷ 255 ∷ 2 ∷ 0 ∷ 0 ∷ 0 ∷ 0 ∷ 1 ∷ 129 ∷ 0 ∷ 0 ∷ 100 ∷ 8 ∷ 0 ∷ [])) }
+    ensures no_port { meaning (codes "walk" ∷ codes "a" ∷ codes "r" ∷ codes "sw1" ∷ codes "01" ∷ codes "ffffffffffff0200000000010800" ∷ []) ≡ None }
+    ensures no_type { meaning (codes "walk" ∷ codes "a" ∷ codes "r" ∷ codes "sw1" ∷ codes "1" ∷ codes "ffffffffffff02000000000108" ∷ []) ≡ None }
+    ensures none { meaning (codes "walk" ∷ []) ≡ None }
+    ensures missing { meaning (codes "walk" ∷ codes "a" ∷ codes "r" ∷ codes "sw1" ∷ codes "1" ∷ []) ≡ None }
+    ensures option { meaning (codes "walk" ∷ codes "--dp=sw1" ∷ codes "a" ∷ codes "r" ∷ codes "sw1" ∷ codes "1" ∷ codes "ffffffffffff0200000000010800" ∷ []) ≡ None }
+{}
+
 /// Options stand anywhere, in either spelling.
 #[tactic(auto, unfolding(crate::specs::Parts::parts_of, crate::specs::Parts::parted))]
 pub fn options_among_words()

@@ -7,3 +7,4 @@ pub mod Story
 pub mod Turning
 pub mod Turns
 pub mod Changes
+pub mod Waits

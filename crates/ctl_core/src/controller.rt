@@ -166,4 +166,11 @@ impl Controller {
         }
         tables_of(&self.known, dp)
     }
+
+    /// What is known. Of a spent controller nothing is said.
+    pub(crate) fn world(&self) -> &World
+        ensures { (w : Seen) → self.now ≡ Some w → result.now ≡ w }
+    {
+        &self.known.world
+    }
 }

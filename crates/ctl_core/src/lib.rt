@@ -12,5 +12,6 @@ mod reloading;
 mod setup;
 mod turned;
 mod turns;
+mod waits;
 
 pub use controller::Controller;

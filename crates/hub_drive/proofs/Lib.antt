@@ -3,6 +3,7 @@ pub mod Came
 pub mod Deeds
 pub mod Pieces
 pub mod Replaying
+pub mod Silence
 pub mod Stories
 pub mod Telling
 pub mod Told

@@ -127,7 +127,7 @@ module _ {S F : Type 0} (m : Workings S) (outlet : Outlet) (held : F → Option 
         let told = stopped_told (left_in held) (KeepsFiles held faults absences named) bytes hub to steps (begins bytes tells) way in
         told_with_all m outlet w hs (story steps) bytes front happened (subst (λ (l : List Happening). IsStorySoFar bytes l (closings 0 (story steps))) happened told)
 
-    whole_so_far : (hs : List Happening) (steps : List HubStep) (to : ScriptHub (FileSource F)) → Leads (MayRead held faults absences named) hub steps to → deeds (story steps) ≡ deeds_of m outlet w hs → TellsSoFar m contents name w hs
+    pub whole_so_far : (hs : List Happening) (steps : List HubStep) (to : ScriptHub (FileSource F)) → Leads (MayRead held faults absences named) hub steps to → deeds (story steps) ≡ deeds_of m outlet w hs → TellsSoFar m contents name w hs
     whole_so_far hs steps to way told =
         so_far hs steps to way (subst (λ (l : List Deed). IsFront (deeds (story steps)) l) told (IsFront-same (deeds (story steps)))) (whole_happened m outlet w hs (story steps) told)
 
@@ -137,7 +137,7 @@ module _ {S F : Type 0} (m : Workings S) (outlet : Outlet) (held : F → Option 
         (subst (λ (l : List Happening). IsStoryOfFront bytes l (closings 0 (story steps))) (whole_happened m outlet w hs (story steps) told)
         (failed_told (left_in held) (KeepsFiles held faults absences named) bytes hub to after steps (begins bytes tells) way failed))
 
-    whole_story : (hs : List Happening) (steps : List HubStep) (to after : ScriptHub (FileSource F)) → Leads (MayRead held faults absences named) hub steps to → deeds (story steps) ≡ deeds_of m outlet w hs → MayRead held faults absences named to (turned is_done) after → (bytes : List ℕ) → FilesTell contents name (Some bytes) → IsStoryOf bytes hs (closings_of m 0 w hs) (refusal_in after)
+    pub whole_story : (hs : List Happening) (steps : List HubStep) (to after : ScriptHub (FileSource F)) → Leads (MayRead held faults absences named) hub steps to → deeds (story steps) ≡ deeds_of m outlet w hs → MayRead held faults absences named to (turned is_done) after → (bytes : List ℕ) → FilesTell contents name (Some bytes) → IsStoryOf bytes hs (closings_of m 0 w hs) (refusal_in after)
     whole_story hs steps to after way told done bytes tells =
         subst (λ (l : List Closing). IsStoryOf bytes hs l (refusal_in after)) (whole_closed m outlet w hs (story steps) 0 told)
         (subst (λ (l : List Happening). IsStoryOf bytes l (closings 0 (story steps)) (refusal_in after)) (whole_happened m outlet w hs (story steps) told)

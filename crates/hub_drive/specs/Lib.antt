@@ -2,3 +2,4 @@ pub mod Machine
 pub mod Driving
 pub mod Driven
 pub mod Replay
+pub mod Still

@@ -26,7 +26,7 @@ pub enum Replayed {
     Memory,
 }
 
-fn replayed_by(drove: Drove, refused: Option<RecordRefused>) -> Replayed
+pub(crate) fn replayed_by(drove: Drove, refused: Option<RecordRefused>) -> Replayed
     ensures { result ≡ replayed_by drove refused }
 {
     match drove {
@@ -40,7 +40,7 @@ fn replayed_by(drove: Drove, refused: Option<RecordRefused>) -> Replayed
 
 /// Whether there is a file of this name. The buffer has no room, so that nothing of the file is taken, which may
 /// be a pipe.
-fn is_there<F: Files>(files: &mut F, name: &str) -> Result<bool, Failed>
+pub(crate) fn is_there<F: Files>(files: &mut F, name: &str) -> Result<bool, Failed>
     ensures missing { Tells (F.contents files.old) name.now None → IfOk result (λ there. there ≡ false) }
     ensures there { (bytes : List ℕ) → Tells (F.contents files.old) name.now (Some bytes) → IfOk result (λ there. there ≡ true) }
     ensures absent { IfOk result (λ there. there ≡ false → Rose (F.absences files.old) (F.absences files.new)) }
