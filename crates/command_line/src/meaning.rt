@@ -1,7 +1,7 @@
 ghost use Rattle.std.specs.Prelude.{◌≡◌, List, ℕ, map, IfOk};
 ghost use Rattle.std.specs.List.{list_any};
 ghost use Rattle.std.specs.Str.{bytes_eq};
-ghost use Rattle.command_line.specs.Meaning.{command_of, options_of, are_taken, one_of, two_of, events_of, listen_or, serve_options, bench_of, sent_on, job_of, meaning};
+ghost use Rattle.command_line.specs.Meaning.{command_of, options_of, are_taken, one_of, two_of, events_of, listen_or, serve_options, bench_of, sent_by, sent_on, job_of, meaning};
 ghost use Rattle.command_line.specs.Values.{number_in};
 
 use crate::frames::frame_of;
@@ -266,13 +266,17 @@ fn port_of(text: &str) -> Option<PortNo>
     PortNo::new(number as u32)
 }
 
-/// What the words of `trace` and `walk` say.
-fn sent_on(alloc: Global, plain: &[Text]) -> Result<Option<SentOn>, NoMemory>
-    ensures { IfOk result (λ sent. sent ≡ sent_on plain.now) }
+/// What these words of `trace` or `walk` say.
+fn sent_by(
+    alloc: Global,
+    config: &Text,
+    recording: &Text,
+    dp: &Text,
+    port: &Text,
+    digits: &Text,
+) -> Result<Option<SentOn>, NoMemory>
+    ensures { IfOk result (λ sent. sent ≡ sent_by config.now recording.now dp.now port.now digits.now) }
 {
-    let [config, recording, dp, port, digits] = plain else {
-        return Ok(None);
-    };
     let Some(port) = port_of(port.as_str()) else {
         return Ok(None);
     };
@@ -286,6 +290,18 @@ fn sent_on(alloc: Global, plain: &[Text]) -> Result<Option<SentOn>, NoMemory>
         port,
         frame,
     }))
+}
+
+/// What the words of `trace` and `walk` say.
+fn sent_on(alloc: Global, plain: &[Text]) -> Result<Option<SentOn>, NoMemory>
+    ensures { IfOk result (λ sent. sent ≡ sent_on plain.now) }
+{
+    match plain {
+        [config, recording, dp, port, digits] => {
+            sent_by(alloc, config, recording, dp, port, digits)
+        }
+        _ => Ok(None),
+    }
 }
 
 /// What `trace` asks for.

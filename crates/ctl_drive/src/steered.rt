@@ -1,4 +1,4 @@
-ghost use Rattle.std.specs.Prelude.{IfOk};
+ghost use Rattle.std.specs.Prelude.{◌≡◌, IfOk};
 ghost use Rattle.ctl_world.specs.World.{first};
 ghost use Rattle.ctl_drive.specs.Controller.{StandsFor};
 
@@ -23,6 +23,13 @@ impl<T: Tally + Drop> Steered<T> {
     {
         let core = Controller::new(alloc, conf)?;
         Ok(Steered { core, units })
+    }
+
+    /// The controller, and its count.
+    pub fn into_parts(self) -> (Controller, T)
+        ensures { result ≡ (self.core, self.units) }
+    {
+        (self.core, self.units)
     }
 }
 

@@ -1,6 +1,7 @@
 pub mod BenchLemmas
 pub mod CheckLemmas
 pub mod EndLemmas
+pub mod FollowLemmas
 pub mod ReadLemmas
 pub mod RefusalLemmas
 pub mod ReplayLemmas

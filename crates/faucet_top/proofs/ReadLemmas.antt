@@ -39,8 +39,9 @@ unread_by_number statuses.RecordRefused is = absurd (omega (arith, is))
 unread_by_number statuses.HubFault is = absurd (omega (arith, is))
 unread_by_number statuses.Spent is = absurd (omega (arith, is))
 unread_by_number statuses.Memory is = absurd (omega (arith, is))
+unread_by_number statuses.NotReady is = absurd (omega (arith, is))
 
-write_fault_by_number : (one : Status) → number_of_status one ≡ 4 → one ≡ statuses.WriteFault
+pub write_fault_by_number : (one : Status) → number_of_status one ≡ 4 → one ≡ statuses.WriteFault
 write_fault_by_number statuses.Done is = absurd (omega (arith, is))
 write_fault_by_number statuses.Usage is = absurd (omega (arith, is))
 write_fault_by_number statuses.Refused is = absurd (omega (arith, is))
@@ -50,6 +51,7 @@ write_fault_by_number statuses.RecordRefused is = absurd (omega (arith, is))
 write_fault_by_number statuses.HubFault is = absurd (omega (arith, is))
 write_fault_by_number statuses.Spent is = absurd (omega (arith, is))
 write_fault_by_number statuses.Memory is = absurd (omega (arith, is))
+write_fault_by_number statuses.NotReady is = absurd (omega (arith, is))
 
 pub hub_fault_by_number : (one : Status) → number_of_status one ≡ 6 → one ≡ statuses.HubFault
 hub_fault_by_number statuses.Done is = absurd (omega (arith, is))
@@ -61,6 +63,7 @@ hub_fault_by_number statuses.RecordRefused is = absurd (omega (arith, is))
 hub_fault_by_number statuses.HubFault is = refl
 hub_fault_by_number statuses.Spent is = absurd (omega (arith, is))
 hub_fault_by_number statuses.Memory is = absurd (omega (arith, is))
+hub_fault_by_number statuses.NotReady is = absurd (omega (arith, is))
 
 -- nor is a plan
 pub no_read_planned : (config dp : List ℕ) (made : Result (Option (List ℕ)) LoadRefused) (ended : Status) (o0 o1 e0 e1 : Option (List ℕ)) (m0 m1 n0 n1 : ℕ)

@@ -9,7 +9,7 @@ use Rattle.conf_gather.specs.declared.refused.LoadRefused.TheVariants.{Read, Yam
 use Rattle.conf_json.specs.Text.{json_text}
 use Rattle.gauge_conf.specs.declared.gauge.GaugeConf.{GaugeConf}
 use Rattle.command_line.specs.declared.meaning.Job.{Job}
-use Rattle.command_line.specs.declared.meaning.Job.TheVariants.{Bench, Check, Gauge, GaugeServe, Plan, Replay, Serve}
+use Rattle.command_line.specs.declared.meaning.Job.TheVariants.{Bench, Check, Gauge, GaugeServe, Plan, Replay, Serve, Trace, Walk}
 use Rattle.opening_batch.specs.Opening.{opening_of}
 use Rattle.bench_story.specs.declared.measuring.Measured.{Measured}
 use Rattle.bench_story.specs.Measured.{measured}
@@ -18,6 +18,10 @@ use Rattle.hub_drive.specs.declared.drive.Drove.{Drove}
 use Rattle.hub_drive.specs.declared.drive.Drove.TheVariants as drove
 use Rattle.hub_drive.specs.declared.replay.Replayed.{Replayed}
 use Rattle.hub_drive.specs.declared.replay.Replayed.TheVariants as replayed
+use Rattle.trace_story.specs.declared.entry.Missing.{Missing}
+use Rattle.trace_story.specs.declared.entry.Missing.TheVariants as missing
+use Rattle.trace_story.specs.declared.showing.Shown.{Shown}
+use Rattle.trace_story.specs.declared.showing.Shown.TheVariants.{Lines, NotReady}
 use Rattle.conf_causes.specs.Causes.{conf_cause_text}
 
 pub record Answer : Type 0 where
@@ -30,7 +34,7 @@ abbrev pub line : List (List ℕ) → List ℕ
 line pieces = concat pieces ++ 10 ∷ []
 
 abbrev pub usage : Answer
-usage = record { out = []; err = line (codes "usage: faucet check, plan, replay, serve, gauge, gauge-serve or bench" ∷ []); status = 1 }
+usage = record { out = []; err = line (codes "usage: faucet check, plan, replay, serve, gauge, gauge-serve, bench, trace or walk" ∷ []); status = 1 }
 
 abbrev pub out_of_memory : Answer
 out_of_memory = record { out = []; err = line (codes "out of memory" ∷ []); status = 8 }
@@ -128,10 +132,22 @@ bench_line m =
 abbrev pub bench_answer : Measured → Answer
 bench_answer m = record { out = bench_line m; err = []; status = 0 }
 
+-- ---- `trace` and `walk`
+
+-- the datapath isn't in the configuration, or has no such interface
+abbrev pub missing_answer : (config dp : List ℕ) → (port : ℕ) → Missing → Answer
+missing_answer config dp port missing.Dp = refused_with (config ∷ codes ": dps." ∷ dp ∷ codes ": Unresolved" ∷ [])
+missing_answer config dp port missing.Port = refused_with (config ∷ codes ": dps." ∷ dp ∷ codes ".interfaces." ∷ decimal port ∷ codes ": Unresolved" ∷ [])
+
+-- what is shown: lines, or which datapath isn't ready
+abbrev pub shown_answer : (config : List ℕ) → Shown → Answer
+shown_answer config (Lines lines) = record { out = lines; err = []; status = 0 }
+shown_answer config (NotReady name) = record { out = []; err = line (config ∷ codes ": " ∷ name ∷ codes ": NotReady" ∷ []); status = 9 }
+
 -- ---- the words
 
 -- the answer to a job, where files give these configurations; those to the commands that take in what happens are said by relations
--- (Given, Serving, Watching)
+-- (Given, Serving, Watching, Follow)
 abbrev pub job_answer : Option Job → (List ℕ → Load) → Option Answer
 job_answer None load = Some usage
 job_answer (Some (Check files)) load = Some (check_answer (map (λ file. (file, load file)) files))
@@ -141,3 +157,5 @@ job_answer (Some (Serve config events reload_ms listen)) load = None
 job_answer (Some (Gauge config recording)) load = None
 job_answer (Some (GaugeServe config events listen)) load = None
 job_answer (Some (Bench hosts)) load = Some (bench_answer (measured hosts))
+job_answer (Some (Trace config recording dp port frame)) load = None
+job_answer (Some (Walk config recording dp port frame)) load = None

@@ -5,3 +5,4 @@ pub mod Given
 pub mod Serving
 pub mod Status
 pub mod Watching
+pub mod Follow

@@ -1,5 +1,5 @@
 -- The reply to `serve`, and what becomes of the hub that was handed in.
-use Rattle.std.specs.Prelude.{◌≡◌, ◌⊎◌, ℕ, List, [], ◌++◌, Option, Some, None, Result, Ok, Err, length}
+use Rattle.std.specs.Prelude.{◌≡◌, ◌⊎◌, ℕ, IsTrue, List, [], ◌++◌, Option, Some, None, Result, Ok, Err, length}
 use Rattle.fg_outside.specs.Contents.{Contents}
 use Rattle.fg_outside.specs.declared.hub.Happening.{Happening}
 use Rattle.fg_outside.specs.HubStep.{HubStep}
@@ -9,8 +9,9 @@ use Rattle.conf_gather.specs.declared.refused.LoadRefused.{LoadRefused}
 use Rattle.conf_gather.specs.Gathered.{Held}
 use Rattle.conf_load.specs.Loaded.{loaded}
 use Rattle.command_line.specs.declared.meaning.Job.{Job}
-use Rattle.command_line.specs.declared.meaning.Job.TheVariants.{GaugeServe, Serve}
+use Rattle.command_line.specs.declared.meaning.Job.TheVariants.{Bench, Check, Gauge, GaugeServe, Plan, Replay, Serve, Trace, Walk}
 use Rattle.command_line.specs.declared.values.Listen.{Listen}
+use Rattle.pkt_view.specs.Frame.{has_type}
 use Rattle.watch_hub.specs.Look.{text_of}
 use Rattle.ctl_world.specs.World.{first}
 use Rattle.law_stories.specs.Right.{IsRight}
@@ -31,6 +32,19 @@ LooksOnce job = (config : List ℕ) (events reload_ms : ℕ) (listen : Listen) �
 -- a job that needs no hub, so neither `serve` nor `gauge-serve`
 abbrev pub IsLocal : Option Job → Type 0
 IsLocal job = LooksOnce job × ((config : List ℕ) (events : ℕ) (listen : Listen) → job ≡ Some (GaugeServe config events listen) → ⊥)
+
+-- the frame that the job is about, if it is about one, has its EtherType
+abbrev pub HasFrame : Option Job → Type 0
+HasFrame None = Unit {0}
+HasFrame (Some (Check files)) = Unit {0}
+HasFrame (Some (Plan config dp)) = Unit {0}
+HasFrame (Some (Replay config recording)) = Unit {0}
+HasFrame (Some (Serve config events reload_ms listen)) = Unit {0}
+HasFrame (Some (Gauge config recording)) = Unit {0}
+HasFrame (Some (GaugeServe config events listen)) = Unit {0}
+HasFrame (Some (Bench hosts)) = Unit {0}
+HasFrame (Some (Trace config recording dp port frame)) = IsTrue (has_type frame)
+HasFrame (Some (Walk config recording dp port frame)) = IsTrue (has_type frame)
 
 -- ---- the reply
 

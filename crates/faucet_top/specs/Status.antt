@@ -1,6 +1,6 @@
 use Rattle.std.specs.Prelude.{ℕ}
 use Rattle.faucet_top.specs.declared.deliver.Status.{Status}
-use Rattle.faucet_top.specs.declared.deliver.Status.TheVariants.{Done, Usage, Refused, Unread, WriteFault, RecordRefused, HubFault, Spent, Memory}
+use Rattle.faucet_top.specs.declared.deliver.Status.TheVariants.{Done, Usage, Refused, Unread, WriteFault, RecordRefused, HubFault, Spent, Memory, NotReady}
 
 -- the number of each status
 abbrev pub number_of_status : Status → ℕ
@@ -13,3 +13,4 @@ number_of_status RecordRefused = 5
 number_of_status HubFault = 6
 number_of_status Spent = 7
 number_of_status Memory = 8
+number_of_status NotReady = 9

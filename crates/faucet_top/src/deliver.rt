@@ -3,7 +3,8 @@ ghost use Rattle.std.specs.Fmt.{decimal};
 ghost use Rattle.fg_outside.specs.Wrote.{line_of};
 ghost use Rattle.conf_gather.specs.declared.refused.LoadRefused.TheVariants.{Yaml, Conf};
 ghost use Rattle.hub_drive.specs.declared.replay.Replayed.TheVariants.{Read};
-ghost use Rattle.faucet_top.specs.Answer.{bench_line, last_line, refusal, usage, out_of_memory, line, plan_answer, served_line};
+ghost use Rattle.faucet_top.specs.Answer.{bench_line, last_line, refusal, usage, out_of_memory, line, missing_answer, plan_answer, served_line, shown_answer};
+ghost use Rattle.faucet_top.specs.Follow.{followed_answer};
 ghost use Rattle.faucet_top.specs.Given.{Delivers};
 ghost use Rattle.faucet_top.specs.Status.{number_of_status};
 ghost use Rattle.faucet_top.specs.Ends.{Ends, refused_status, status_after, status_served};
@@ -15,11 +16,13 @@ use conf_shape::{ConfCause, ConfFault};
 use fg_outside::{Sink, write_all, write_line};
 use hub_drive::{Drove, Replayed};
 use itoa::Buffer;
-use net_base::Bytes;
+use net_base::{Bytes, PortNo};
 use recording::RecordRefused;
+use trace_story::{Followed, Missing, Shown};
 use yaml_subset::YamlFault;
 
-const USAGE: &str = "usage: faucet check, plan, replay, serve, gauge, gauge-serve or bench";
+const USAGE: &str =
+    "usage: faucet check, plan, replay, serve, gauge, gauge-serve, bench, trace or walk";
 
 /// The exit statuses of the program.
 #[derive(Clone, Copy, Debug, PartialEq, Eq)]
@@ -42,6 +45,8 @@ pub enum Status {
     Spent = 7,
     /// Memory ran out.
     Memory = 8,
+    /// A datapath doesn't run, or a barrier is outstanding for it.
+    NotReady = 9,
 }
 
 impl Status {
@@ -287,5 +292,75 @@ pub fn deliver_plan<O: Sink, E: Sink>(
             end_with_line(err, &pieces, Status::Refused)
         }
         Err(why) => deliver_refusal(err, config, &why),
+    }
+}
+
+/// Says that a datapath of a configuration has no interface with this number.
+fn deliver_missing_port<E: Sink>(err: &mut E, config: &str, dp: &str, number: &str) -> Status
+    ensures ends { Ends Status.Refused (line (config.now ∷ codes ": dps." ∷ dp.now ∷ codes ".interfaces." ∷ number.now ∷ codes ": Unresolved" ∷ []))
+        (E.wrote err.old) (E.wrote err.new) (E.faults err.old) (E.faults err.new) result }
+    ensures faults { E.faults err.old ≤ E.faults err.new }
+{
+    let pieces = [config, ": dps.", dp, ".interfaces.", number, ": Unresolved"];
+    end_with_line(err, &pieces, Status::Refused)
+}
+
+/// Says what isn't there of where a frame is to come in.
+pub fn deliver_missing<E: Sink>(
+    err: &mut E,
+    config: &str,
+    dp: &str,
+    port: PortNo,
+    missing: Missing,
+) -> Status
+    ensures ends { Ends Status.Refused (missing_answer config.now dp.now port missing).err (E.wrote err.old) (E.wrote err.new) (E.faults err.old) (E.faults err.new) result }
+    ensures faults { E.faults err.old ≤ E.faults err.new }
+{
+    match missing {
+        Missing::Dp => {
+            let pieces = [config, ": dps.", dp, ": Unresolved"];
+            end_with_line(err, &pieces, Status::Refused)
+        }
+        Missing::Port => {
+            let mut buffer = Buffer::new();
+            deliver_missing_port(err, config, dp, buffer.format(port.get()))
+        }
+    }
+}
+
+/// Writes what is shown of a frame: its lines, or which datapath isn't ready.
+fn deliver_shown<O: Sink, E: Sink>(out: &mut O, err: &mut E, config: &str, shown: &Shown) -> Status
+    ensures answer { Delivers (shown_answer config.now shown.now) (number_of_status result)
+        (O.wrote out.old) (O.wrote out.new) (E.wrote err.old) (E.wrote err.new)
+        (O.faults out.old) (O.faults out.new) (E.faults err.old) (E.faults err.new) }
+    ensures out_faults { O.faults out.old ≤ O.faults out.new }
+    ensures err_faults { E.faults err.old ≤ E.faults err.new }
+{
+    match shown {
+        Shown::Lines(lines) => end_with_bytes(out, lines.as_str().as_bytes(), Status::Done),
+        Shown::NotReady(name) => {
+            let pieces = [config, ": ", name.as_str(), ": NotReady"];
+            end_with_line(err, &pieces, Status::NotReady)
+        }
+    }
+}
+
+/// Writes what came of following a frame.
+pub fn deliver_followed<O: Sink, E: Sink>(
+    out: &mut O,
+    err: &mut E,
+    config: &str,
+    recording: &str,
+    followed: Followed,
+) -> Status
+    ensures answer { Delivers (followed_answer config.now recording.now followed) (number_of_status result)
+        (O.wrote out.old) (O.wrote out.new) (E.wrote err.old) (E.wrote err.new)
+        (O.faults out.old) (O.faults out.new) (E.faults err.old) (E.faults err.new) }
+    ensures out_faults { O.faults out.old ≤ O.faults out.new }
+    ensures err_faults { E.faults err.old ≤ E.faults err.new }
+{
+    match followed {
+        Followed::Showed(shown) => deliver_shown(out, err, config, &shown),
+        Followed::Ended(replayed) => deliver_replayed(err, recording, replayed),
     }
 }

@@ -4,6 +4,7 @@
 mod bench;
 mod check;
 mod deliver;
+mod follow;
 mod gauge;
 pub mod laws;
 mod plan;

@@ -5,29 +5,34 @@ ghost use Rattle.fg_outside.specs.Wrote.{appended, AppendsFront};
 ghost use Rattle.conf_types.specs.Configuration.{Configuration};
 ghost use Rattle.conf_load.specs.Loaded.{loaded};
 ghost use Rattle.command_line.specs.declared.meaning.Job.TheVariants.{Bench, Check, Gauge, GaugeServe, Plan, Replay, Serve};
+ghost use Rattle.trace_story.specs.declared.showing.How.{How};
+ghost use Rattle.trace_story.specs.declared.showing.Shown.TheVariants as shown;
 ghost use Rattle.command_line.specs.declared.values.Listen.{Listen};
 ghost use Rattle.command_line.specs.Meaning.{meaning};
 ghost use Rattle.faucet_top.specs.Answer.{out_of_memory};
 ghost use Rattle.gauge_conf.specs.declared.gauge.GaugeConf.{GaugeConf};
 ghost use Rattle.gauge_load.specs.Loaded.{gauge_of};
 ghost use Rattle.faucet_top.specs.Any.{GivesAny};
+ghost use Rattle.faucet_top.specs.Follow.{IsCutShort, IsFollowed, job_for};
 ghost use Rattle.faucet_top.specs.Given.{AreAccepted, Gives, IsMeasured, IsOpened, IsReplayed, IsStatus, IsStatusOf, IsWatched, NamesUnread, ReadsRecording, StatusFor};
 ghost use Rattle.recording.specs.declared.refused.RecordRefused.{RecordRefused};
 ghost use Rattle.hub_drive.specs.declared.drive.Drove.{Drove};
 ghost use Rattle.faucet_top.specs.Ends.{status_served};
-ghost use Rattle.faucet_top.specs.Serving.{IsItsEnd, IsLocal, IsServed, LooksOnce};
+ghost use Rattle.faucet_top.specs.Serving.{HasFrame, IsItsEnd, IsLocal, IsServed, LooksOnce};
 ghost use Rattle.faucet_top.specs.Watching.{IsHubWatched};
 ghost use Rattle.faucet_top.specs.Status.{number_of_status};
 
 use crate::bench::measure_story;
 use crate::check::check_files;
 use crate::deliver::{Status, deliver_out_of_memory, deliver_plan, deliver_refusal, deliver_usage};
+use crate::follow::follow_frame;
 use crate::gauge::watch_switches;
 use crate::plan::make_plan;
 use crate::replay::run_recording;
 use crate::serve::{Pace, serve_switches};
 use crate::units::Units;
 use bench_story::laws::the_configuration_is_valid;
+use command_line::laws::words_ask_for_what_is_written;
 use command_line::{Job, read_words};
 use conf_load::laws::a_loaded_configuration_is_valid;
 use conf_load::load;
@@ -41,6 +46,7 @@ use law_stories::whatever_happens_is_right;
 use net_base::Names;
 use opening_batch::laws::an_opening_batch_opens_the_datapath;
 use std::alloc::Global;
+use trace_story::How;
 
 /// Does a job that needs no hub.
 fn do_job<F: Files, O: Sink, E: Sink>(
@@ -50,7 +56,8 @@ fn do_job<F: Files, O: Sink, E: Sink>(
     out: &mut O,
     err: &mut E,
 ) -> (Status, F)
-    requires { IsLocal (Some job.now) }
+    requires local { IsLocal (Some job.now) }
+    requires frame { HasFrame (Some job.now) }
     ensures gives { Gives (Some job.now) (F.contents files) (Rose (F.absences files) (F.absences result.1)) (Rose (F.faults files) (F.faults result.1)) (F.refused result.1)
         (number_of_status result.0) (O.wrote out.old) (O.wrote out.new) (E.wrote err.old) (E.wrote err.new)
         (O.faults out.old) (O.faults out.new) (E.faults err.old) (E.faults err.new) }
@@ -92,6 +99,48 @@ fn do_job<F: Files, O: Sink, E: Sink>(
             let status = measure_story(alloc, *hosts, out, err);
             (status, files)
         }
+        Job::Trace {
+            config,
+            recording,
+            dp,
+            port,
+            frame,
+        } => {
+            let (config, dp, frame) = (config.as_str(), dp.as_str(), frame.as_slice());
+            follow_frame(
+                alloc,
+                How::Trace,
+                config,
+                recording,
+                dp,
+                *port,
+                frame,
+                files,
+                out,
+                err,
+            )
+        }
+        Job::Walk {
+            config,
+            recording,
+            dp,
+            port,
+            frame,
+        } => {
+            let (config, dp, frame) = (config.as_str(), dp.as_str(), frame.as_slice());
+            follow_frame(
+                alloc,
+                How::Walk,
+                config,
+                recording,
+                dp,
+                *port,
+                frame,
+                files,
+                out,
+                err,
+            )
+        }
         Job::Serve { .. } => unreachable!(),
         Job::GaugeServe { .. } => unreachable!(),
     }
@@ -105,7 +154,8 @@ pub fn local<F: Files, O: Sink, E: Sink>(
     out: &mut O,
     err: &mut E,
 ) -> (u8, F)
-    requires { IsLocal (Some job.now) }
+    requires local { IsLocal (Some job.now) }
+    requires frame { HasFrame (Some job.now) }
 
     // One reply was given, as `faucet` gives it.
     ensures gives { Gives (Some job.now) (F.contents files) (Rose (F.absences files) (F.absences result.1)) (Rose (F.faults files) (F.faults result.1)) (F.refused result.1)
@@ -138,6 +188,12 @@ pub fn local<F: Files, O: Sink, E: Sink>(
     ensures watched_to { (config recording : List ℕ) (held : Contents) → job.now ≡ Gauge config recording → F.contents files ≡ Some held
         → result.0 ≡ 5 → (refused : RecordRefused) × IsWatched config recording (Some refused) (held 0) (O.wrote out.old) (O.wrote out.new) (E.wrote err.old) (E.wrote err.new) }
     ensures measured { (hosts : ℕ) → job.now ≡ Bench hosts → result.0 ≡ 0 → IsMeasured hosts (O.wrote out.old) (O.wrote out.new) }
+    ensures followed { (how : How) (config recording dp : List ℕ) (port : ℕ) (frame : List ℕ) (held : Contents) → job.now ≡ job_for how config recording dp port frame → F.contents files ≡ Some held
+        → result.0 ≡ 0 → (lines : List ℕ) × IsFollowed how config recording dp port frame (held 0) (shown.Lines lines) (O.wrote out.old) (O.wrote out.new) (E.wrote err.old) (E.wrote err.new) }
+    ensures not_ready { (how : How) (config recording dp : List ℕ) (port : ℕ) (frame : List ℕ) (held : Contents) → job.now ≡ job_for how config recording dp port frame → F.contents files ≡ Some held
+        → result.0 ≡ 9 → (name : List ℕ) × IsFollowed how config recording dp port frame (held 0) (shown.NotReady name) (O.wrote out.old) (O.wrote out.new) (E.wrote err.old) (E.wrote err.new) }
+    ensures cut_short { (how : How) (config recording dp : List ℕ) (port : ℕ) (frame : List ℕ) (held : Contents) → job.now ≡ job_for how config recording dp port frame → F.contents files ≡ Some held
+        → result.0 ≡ 5 → (refused : RecordRefused) × IsCutShort config recording dp port refused (held 0) (O.wrote out.old) (O.wrote out.new) (E.wrote err.old) (E.wrote err.new) }
 
     // The files are handed back.
     ensures contents { F.contents result.1 ≡ F.contents files }
@@ -164,6 +220,7 @@ fn do_any<F: Files, H: Hub, O: Sink, E: Sink>(
     out: &mut O,
     err: &mut E,
 ) -> (u8, F, H)
+    requires frame { HasFrame (Some job.now) }
     ensures gives { GivesAny H.may F.contents F.faults (Rose (F.absences files) (F.absences result.1)) (Rose (F.faults files) (F.faults result.1)) (F.refused result.1) (Some job.now)
         hub result.2 files result.1 result.0 (O.wrote out.old) (O.wrote out.new) (E.wrote err.old) (E.wrote err.new)
         (O.faults out.old) (O.faults out.new) (E.faults err.old) (E.faults err.new) }
@@ -234,6 +291,7 @@ fn answer_words<F: Files, H: Hub, O: Sink, E: Sink>(
     ensures out_faults { O.faults out.old ≤ O.faults out.new }
     ensures err_faults { E.faults err.old ≤ E.faults err.new }
 {
+    words_ask_for_what_is_written();
     match read_words(alloc, words) {
         Ok(Some(job)) => do_any(alloc, &job, files, hub, out, err),
         Ok(None) => (deliver_usage(err).number(), files, hub),
@@ -253,11 +311,15 @@ fn answer_words<F: Files, H: Hub, O: Sink, E: Sink>(
 /// of GAUGE_CONFIG on what the recording tells, and writes on `out` the lines of what switches told; `gauge-serve
 /// GAUGE_CONFIG --events N --listen A:P` runs it on the hub, for at most N happenings. `bench N` runs a controller on a
 /// story in which N hosts come, and writes on `out` a line of what it says of it: how many hosts it knows, the batches
-/// and commands that they led to, and the sum of all bytes that were said. Any other words have no meaning. A refusal is
-/// one line on `err`. Statuses: 0 done, so of `serve` and `gauge-serve` where the hub said so; 1 the words have no
-/// meaning; 2 a configuration was read and is refused, or DP isn't one of its datapaths; 3 a file isn't there, or a read
+/// and commands that they led to, and the sum of all bytes that were said. `trace CONFIG RECORDING DP PORT FRAME` runs
+/// the controller of CONFIG on what the recording tells, drops what it says, and writes on `out` what the datapath DP then
+/// sends of a frame that comes in by PORT; `walk` with the same words where that arrives, over the links of the stack.
+/// Any other words have no meaning. A refusal is one line on `err`. Statuses: 0 done, so of `serve` and `gauge-serve` where the hub said so; 1 the words have no
+/// meaning; 2 a configuration was read and is refused, or DP isn't one of its datapaths, or PORT none of DP's
+/// interfaces; 3 a file isn't there, or a read
 /// failed, of these two before the hub was asked; 4 a write failed; 5 a record of the recording is refused; 6 the hub
-/// failed; 7 N turns were taken, for `replay` and `gauge` 2^64 - 1; 8 out of memory.
+/// failed; 7 N turns were taken, for `replay`, `gauge`, `trace` and `walk` 2^64 - 1; 8 out of memory; 9 a
+/// datapath doesn't run, or a barrier is outstanding for it: DP, or for `walk` one that links join to it.
 pub fn faucet<F: Files, H: Hub, O: Sink, E: Sink>(
     alloc: Global,
     words: &Names,
@@ -284,7 +346,7 @@ pub fn faucet<F: Files, H: Hub, O: Sink, E: Sink>(
     ensures usage { result.0 ≡ 1 → meaning words.now ≡ None }
     ensures no_meaning { meaning words.now ≡ None → (result.0 ≡ 1) ⊎ ((result.0 ≡ 4) ⊎ (result.0 ≡ 8)) }
 
-    // Status 3 only where a file isn't there, or a read failed. That file is named: of `replay` and `gauge` the one that was refused
+    // Status 3 only where a file isn't there, or a read failed. That file is named: of a job with a recording the one that was refused
     // last, be it the recording or one of the configuration's. The hub wasn't asked for a turn then, nor at 2. But for a look
     // of `serve` no read that failed is passed over: it ends the run with this status, or with 4 where the line that says so
     // couldn't be written.
@@ -356,6 +418,17 @@ pub fn faucet<F: Files, H: Hub, O: Sink, E: Sink>(
     // `bench`: at status 0 what stands on `out` is the line of what is measured of its story, and all that is right, of each front of
     // that story.
     ensures measured { (hosts : ℕ) → meaning words.now ≡ Some (Bench hosts) → result.0 ≡ 0 → IsMeasured hosts (O.wrote out.old) (O.wrote out.new) }
+
+    // `trace` and `walk`: at status 0 the recording was taken in whole, and what stands on `out` are the lines of what the datapath
+    // sends of the frame, by what was sent to its switch, or of where it arrives, by the cold starts of what is then known: exactly
+    // where the datapath runs and no barrier is outstanding for it, and for `walk` the same of each that links join to it. Status 9
+    // says that one isn't so, and which; status 5 that a record is refused. All that the controller says is right.
+    ensures followed { (how : How) (config recording dp : List ℕ) (port : ℕ) (frame : List ℕ) (held : Contents) → meaning words.now ≡ Some (job_for how config recording dp port frame) → F.contents files ≡ Some held
+        → result.0 ≡ 0 → (lines : List ℕ) × IsFollowed how config recording dp port frame (held 0) (shown.Lines lines) (O.wrote out.old) (O.wrote out.new) (E.wrote err.old) (E.wrote err.new) }
+    ensures not_ready { (how : How) (config recording dp : List ℕ) (port : ℕ) (frame : List ℕ) (held : Contents) → meaning words.now ≡ Some (job_for how config recording dp port frame) → F.contents files ≡ Some held
+        → result.0 ≡ 9 → (name : List ℕ) × IsFollowed how config recording dp port frame (held 0) (shown.NotReady name) (O.wrote out.old) (O.wrote out.new) (E.wrote err.old) (E.wrote err.new) }
+    ensures cut_short { (how : How) (config recording dp : List ℕ) (port : ℕ) (frame : List ℕ) (held : Contents) → meaning words.now ≡ Some (job_for how config recording dp port frame) → F.contents files ≡ Some held
+        → result.0 ≡ 5 → (refused : RecordRefused) × IsCutShort config recording dp port refused (held 0) (O.wrote out.old) (O.wrote out.new) (E.wrote err.old) (E.wrote err.new) }
 
     // Files and hub are handed back; but for `serve`, the files hold what they held, and but for `serve` and `gauge-serve`, nothing
     // was said to the hub.

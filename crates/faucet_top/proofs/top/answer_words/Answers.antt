@@ -6,6 +6,7 @@ use Rattle.command_line.specs.Meaning.{meaning}
 use Rattle.faucet_top.proofs.CheckLemmas.{refused}
 use Rattle.faucet_top.proofs.ReadLemmas.{memory_read, unread_by_number, usage_read}
 use Rattle.faucet_top.proofs.ServedLemmas.{any_memory}
+use Rattle.faucet_top.proofs.FollowLemmas.{has_frame}
 use Rattle.faucet_top.proofs.TopLemmas.{usage_given}
 use Rattle.faucet_top.proofs.top.answer_words.Goals as goal
 
@@ -32,3 +33,8 @@ pub returns-in-Ok-Some-clause-named : goal.returns-in-Ok-Some-clause-named
 returns-in-Ok-Some-clause-named g c =
     let some : meaning c.args.words.now ≡ Some c.in-Ok-Some.job = grind (arith, common_steps) in
     rw some c.do_any.ensures.named
+
+pub do_any-requires-frame : goal.do_any-requires-frame
+do_any-requires-frame g c =
+    let some : meaning c.args.words.now ≡ Some c.in-Ok-Some.job = grind (arith, common_steps) in
+    has_frame c.args.words.now c.in-Ok-Some.job (c.words_ask_for_what_is_written.ensures.asked c.args.words.now c.in-Ok-Some.job some)

@@ -50,8 +50,8 @@ pub returns-in-GaugeServe-clause-no_hub_fault : goal.returns-in-GaugeServe-claus
 returns-in-GaugeServe-clause-no_hub_fault g c = λ six four.
     c.watch_switches-status.ensures.no_hub_fault (λ is. six (c.number-in-GaugeServe.ensures ∙ ap number_of_status is)) (λ is. four (c.number-in-GaugeServe.ensures ∙ ap number_of_status is))
 
-pub local-status-requires : goal.local-status-requires
-local-status-requires g c = (
+pub local-status-requires-local : goal.local-status-requires-local
+local-status-requires-local g c = (
   λ config events reload_ms listen is. c.in_default.not-Serve config events reload_ms listen (some_is is),
   λ config events listen is. c.in_default.not-GaugeServe config events listen (some_is is),
 )
@@ -63,14 +63,8 @@ returns-in_default-clause-gives g c =
       λ config events listen is. c.in_default.not-GaugeServe config events listen (some_is is),
     ) c.local-status.ensures.gives
 
-not_served : {name : List ℕ} {events reload_ms : ℕ} {listen : Listen} {config recording : List ℕ} → (Some (Serve name events reload_ms listen) ≡ Some (Replay config recording)) ⊎ (Some (Serve name events reload_ms listen) ≡ Some (Gauge config recording)) → ⊥
-not_served is = elim is [ inl one ↦ absurd (cc) | inr other ↦ absurd (cc) ]
-
-not_watched : {name : List ℕ} {events : ℕ} {listen : Listen} {config recording : List ℕ} → (Some (GaugeServe name events listen) ≡ Some (Replay config recording)) ⊎ (Some (GaugeServe name events listen) ≡ Some (Gauge config recording)) → ⊥
-not_watched is = elim is [ inl one ↦ absurd (cc) | inr other ↦ absurd (cc) ]
-
 pub returns-in-Serve-clause-named : goal.returns-in-Serve-clause-named
-returns-in-Serve-clause-named g c = λ reads. absurd (not_served (rw c.in-Serve.is at reads.2))
+returns-in-Serve-clause-named g c = λ reads. absurd (rw c.in-Serve.is at reads)
 
 pub returns-in-GaugeServe-clause-named : goal.returns-in-GaugeServe-clause-named
-returns-in-GaugeServe-clause-named g c = λ reads. absurd (not_watched (rw c.in-GaugeServe.is at reads.2))
+returns-in-GaugeServe-clause-named g c = λ reads. absurd (rw c.in-GaugeServe.is at reads)

@@ -82,32 +82,23 @@ returns-in-Bench-clause-gives g c =
     rw c.in-Bench.is c.measure_story-status.ensures.gives
 
 pub unreachable-requires : goal.unreachable-requires
-unreachable-requires g c = c.requires.0 c.in-Serve.config c.in-Serve.events c.in-Serve.reload_ms c.in-Serve.listen (ap (λ (j : Job). Some j) c.in-Serve.is)
+unreachable-requires g c = c.requires.local.0 c.in-Serve.config c.in-Serve.events c.in-Serve.reload_ms c.in-Serve.listen (ap (λ (j : Job). Some j) c.in-Serve.is)
 
 pub unreachable-requires-in-GaugeServe : goal.unreachable-requires-in-GaugeServe
-unreachable-requires-in-GaugeServe g c = c.requires.1 c.in-GaugeServe.config c.in-GaugeServe.events c.in-GaugeServe.listen (ap (λ (j : Job). Some j) c.in-GaugeServe.is)
-
-not_checked : {names : List (List ℕ)} {config recording : List ℕ} → (Some (Check names) ≡ Some (Replay config recording)) ⊎ (Some (Check names) ≡ Some (Gauge config recording)) → ⊥
-not_checked is = elim is [ inl one ↦ absurd (cc) | inr other ↦ absurd (cc) ]
-
-not_planned : {name dp : List ℕ} {config recording : List ℕ} → (Some (Plan name dp) ≡ Some (Replay config recording)) ⊎ (Some (Plan name dp) ≡ Some (Gauge config recording)) → ⊥
-not_planned is = elim is [ inl one ↦ absurd (cc) | inr other ↦ absurd (cc) ]
-
-not_measured : {hosts : ℕ} {config recording : List ℕ} → (Some (Bench hosts) ≡ Some (Replay config recording)) ⊎ (Some (Bench hosts) ≡ Some (Gauge config recording)) → ⊥
-not_measured is = elim is [ inl one ↦ absurd (cc) | inr other ↦ absurd (cc) ]
+unreachable-requires-in-GaugeServe g c = c.requires.local.1 c.in-GaugeServe.config c.in-GaugeServe.events c.in-GaugeServe.listen (ap (λ (j : Job). Some j) c.in-GaugeServe.is)
 
 pub returns-in-Bench-clause-named : goal.returns-in-Bench-clause-named
-returns-in-Bench-clause-named g c = λ reads. absurd (not_measured (rw c.in-Bench.is at reads.2))
+returns-in-Bench-clause-named g c = λ reads. absurd (rw c.in-Bench.is at reads)
 
 pub returns-in-Check-clause-named : goal.returns-in-Check-clause-named
 returns-in-Check-clause-named g c = λ reads.
     let is : c.args.job.now ≡ Check c.in-Check.names = grind (arith, common_steps) in
-    absurd (not_checked (rw is at reads.2))
+    absurd (rw is at reads)
 
 pub returns-in-Plan-clause-named : goal.returns-in-Plan-clause-named
 returns-in-Plan-clause-named g c = λ reads.
     let is : c.args.job.now ≡ Plan c.in-Plan.config c.in-Plan.dp = grind (arith, common_steps) in
-    absurd (not_planned (rw is at reads.2))
+    absurd (rw is at reads)
 
 pub returns-in-Ok-clause-named : goal.returns-in-Ok-clause-named
 returns-in-Ok-clause-named g c = λ reads unread below.
@@ -128,3 +119,15 @@ pub returns-in-Err-load_gauge-clause-named : goal.returns-in-Err-load_gauge-clau
 returns-in-Err-load_gauge-clause-named g c = λ reads unread below.
     refusal_named gauge_of _ _ _ _ c.in-Gauge.config _ _ _ _ c.deliver_refusal-in-Err-load_gauge.result unread c.in-Err-load_gauge.why
     (refused_loads gauge_of _ _ _ _ _ _ _ c.in-Err-load_gauge.why (rw c.as_str-in-Gauge.ensures at c.in-Err-load_gauge.ensures.told) c.in-Err-load_gauge.ensures.files) (rw c.as_str-in-Err-load_gauge.ensures at c.deliver_refusal-in-Err-load_gauge.ensures.ends)
+
+pub follow_frame-requires-typed : goal.follow_frame-requires-typed
+follow_frame-requires-typed g c = rw c.in-Trace.is at c.requires.frame
+
+pub follow_frame-in-Walk-requires-typed : goal.follow_frame-in-Walk-requires-typed
+follow_frame-in-Walk-requires-typed g c = rw c.in-Walk.is at c.requires.frame
+
+pub returns-in-Trace-clause-gives : goal.returns-in-Trace-clause-gives
+returns-in-Trace-clause-gives g c = rw c.in-Trace.is c.follow_frame.ensures.gives
+
+pub returns-in-Walk-clause-gives : goal.returns-in-Walk-clause-gives
+returns-in-Walk-clause-gives g c = rw c.in-Walk.is c.follow_frame-in-Walk.ensures.gives

@@ -59,3 +59,12 @@ returns-clause-gauge_completes g c = λ config events listen held conf is told_s
 
 pub returns-clause-measured : goal.returns-clause-measured
 returns-clause-measured g c = by.story_measured g.H.Hub.may g.F.Files.contents g.F.Files.faults _ _ _ (meaning c.args.words.now) c.args.hub _ c.args.files _ _ _ _ _ _ _ _ _ _ c.answer_words.ensures.gives c.whatever_happens_is_right.ensures c.the_configuration_is_valid.ensures
+
+pub returns-clause-followed : goal.returns-clause-followed
+returns-clause-followed g c = by.frame_followed g.H.Hub.may g.F.Files.contents g.F.Files.faults _ _ _ (meaning c.args.words.now) c.args.hub _ c.args.files _ _ _ _ _ _ _ _ _ _ c.answer_words.ensures.gives c.a_loaded_configuration_is_valid.ensures c.whatever_happens_is_right.ensures
+
+pub returns-clause-not_ready : goal.returns-clause-not_ready
+returns-clause-not_ready g c = by.frame_waits g.H.Hub.may g.F.Files.contents g.F.Files.faults _ _ _ (meaning c.args.words.now) c.args.hub _ c.args.files _ _ _ _ _ _ _ _ _ _ c.answer_words.ensures.gives c.a_loaded_configuration_is_valid.ensures c.whatever_happens_is_right.ensures
+
+pub returns-clause-cut_short : goal.returns-clause-cut_short
+returns-clause-cut_short g c = by.frame_cut g.H.Hub.may g.F.Files.contents g.F.Files.faults _ _ _ (meaning c.args.words.now) c.args.hub _ c.args.files _ _ _ _ _ _ _ _ _ _ c.answer_words.ensures.gives c.a_loaded_configuration_is_valid.ensures c.whatever_happens_is_right.ensures

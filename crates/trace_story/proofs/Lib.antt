@@ -1,0 +1,4 @@
+pub mod Behind
+pub mod Joined
+pub mod Sent
+pub mod Walks

@@ -1,0 +1,5 @@
+pub mod Entry
+pub mod Ready
+pub mod Shown
+pub mod Followed
+pub mod Held

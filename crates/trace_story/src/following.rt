@@ -1,0 +1,101 @@
+//! A packet behind what a recording tells.
+
+ghost use Rattle.std.specs.Prelude.{◌≡◌, ◌≢◌, ◌≤◌, ◌<◌, ◌-◌, ◌^◌, ◌⊎◌, ℕ, List, Some, None};
+ghost use Rattle.fg_outside.specs.Contents.{Tells};
+ghost use Rattle.fg_outside.specs.Counts.{Rose};
+ghost use Rattle.conf_types.specs.Valid.{IsValid};
+ghost use Rattle.ctl_world.specs.World.{IsSound, World};
+ghost use Rattle.ctl_drive.specs.Controller.{StandsFor};
+ghost use Rattle.trace_story.specs.Followed.{Follows, IsShown};
+ghost use Rattle.trace_story.specs.Shown.{shown};
+
+use crate::showing::{How, Shown, show};
+use conf_types::{Conf, Tally};
+use ctl_drive::Steered;
+use fg_outside::Files;
+use hub_drive::Replayed;
+use hub_drive::still::run_still;
+use law_stories::whatever_happens_is_right;
+use net_base::{PortNo, Text, TryCopy};
+use of_match::Packet;
+use std::alloc::Global;
+
+/// What came of following a packet.
+#[derive(Debug, Drop)]
+pub enum Followed {
+    /// The recording is whole, and this is shown.
+    Showed(Shown),
+    /// The run over the recording ended so, and nothing is shown.
+    Ended(Replayed),
+}
+
+/// A configuration is valid.
+fn a_configuration_is_valid(conf: &Conf)
+    ensures { IsValid conf.now }
+{
+    let _dps = conf.dps();
+}
+
+/// What is shown of a packet by what a machine knows.
+fn show_behind<T: Tally + Drop>(
+    alloc: Global,
+    machine: Steered<T>,
+    how: How,
+    dp: &str,
+    port: PortNo,
+    packet: &Packet,
+) -> Followed
+    requires known { (w : World) × StandsFor machine w × IsSound w }
+    ensures { (w : World) → StandsFor machine w → IsShown (shown how w dp.now port packet.now) result }
+{
+    let (core, mut units) = machine.into_parts();
+    match show(alloc, &core, how, dp, port, packet, &mut units) {
+        Ok(shown) => Followed::Showed(shown),
+        Err(_) => Followed::Ended(Replayed::Memory),
+    }
+}
+
+/// Runs the controller of a configuration on the recording of this name, one record at a time, drops what it says,
+/// and then follows a packet that comes in by a port of the datapath with a name. Gives the files back.
+pub fn follow<F: Files, T: Tally + Drop>(
+    alloc: Global,
+    conf: Conf,
+    how: How,
+    recording: &Text,
+    dp: &str,
+    port: PortNo,
+    packet: &Packet,
+    files: F,
+    units: T,
+) -> (Followed, F)
+    ensures follows { Follows how (F.contents files) recording.now (Rose (F.absences files) (F.absences result.1)) (Rose (F.faults files) (F.faults result.1)) conf dp.now port packet.now result.0 }
+
+    // A recording that isn't there is told as such, and one that is there only where a read failed, but for want of memory.
+    ensures missing { Tells (F.contents files) recording.now None → (result.0 ≡ Followed.Ended Replayed.Unread) ⊎ (result.0 ≡ Followed.Ended Replayed.Memory) }
+    ensures there { (bytes : List ℕ) → Tells (F.contents files) recording.now (Some bytes) → result.0 ≡ Followed.Ended Replayed.Unread → Rose (F.faults files) (F.faults result.1) }
+
+    // The file that was refused last is then the recording, unless the count of faults stood at its last value.
+    ensures named { result.0 ≡ Followed.Ended Replayed.Unread → F.faults files < 2 ^ 64 - 1 → F.refused result.1 ≡ recording.now }
+
+    // No read that failed is passed over, or tried again in silence.
+    ensures no_fault { result.0 ≢ Followed.Ended Replayed.Unread → F.faults files < 2 ^ 64 - 1 → F.faults result.1 ≡ F.faults files }
+
+    // The files are handed back.
+    ensures contents { F.contents result.1 ≡ F.contents files }
+    ensures faults { F.faults files ≤ F.faults result.1 }
+    ensures absences { F.absences files ≤ F.absences result.1 }
+{
+    whatever_happens_is_right();
+    a_configuration_is_valid(&conf);
+    let Ok(mut machine) = Steered::new(alloc, conf, units) else {
+        return (Followed::Ended(Replayed::Memory), files);
+    };
+    let Ok(name) = recording.copy(alloc) else {
+        return (Followed::Ended(Replayed::Memory), files);
+    };
+    let (replayed, files) = run_still(alloc, &mut machine, files, name);
+    match replayed {
+        Replayed::Read(None) => (show_behind(alloc, machine, how, dp, port, packet), files),
+        _ => (Followed::Ended(replayed), files),
+    }
+}
