@@ -26,7 +26,7 @@ _faucet() {
   if [[ ${COMP_WORDS[0]##*/} == faucet_recorded ]]; then
     command=recorded
   elif [[ $COMP_CWORD -eq 1 ]]; then
-    mapfile -t COMPREPLY < <(compgen -W "check plan replay serve gauge gauge-serve bench" -- "$word")
+    mapfile -t COMPREPLY < <(compgen -W "check plan replay serve gauge gauge-serve bench trace walk" -- "$word")
     return
   fi
   case $command in
@@ -41,8 +41,8 @@ _faucet() {
   esac
   if [[ $word == -* ]]; then
     _faucet_options "$options" "$word"
-  elif [[ $command == plan && $COMP_CWORD -eq 3 ]]; then
-    mapfile -t COMPREPLY < <(compgen -W "$(_faucet_datapaths "${COMP_WORDS[0]}" "$before")" -- "$word")
+  elif [[ $command == plan && $COMP_CWORD -eq 3 || $command =~ ^(trace|walk)$ && $COMP_CWORD -eq 4 ]]; then
+    mapfile -t COMPREPLY < <(compgen -W "$(_faucet_datapaths "${COMP_WORDS[0]}" "${COMP_WORDS[2]}")" -- "$word")
   else
     _faucet_files "$word"
   fi
