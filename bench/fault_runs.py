@@ -14,7 +14,7 @@ from gauge_cases import features as gauge_features
 from gauge_runs import DPS, FAUCET, GAUGE, WATCHERS, escaped
 from one_vlan import HELLO, Controller, barrier_reply, cold, descriptions, features, flow_mod, message, wipe
 
-USAGE = "usage: faucet check, plan, replay, serve, gauge, gauge-serve or bench"
+USAGE = "usage: faucet check, plan, replay, serve, gauge, gauge-serve, bench, trace or walk"
 OFF = "drop_spoofed_faucet_mac: false, drop_broadcast_source_address: false, drop_lldp: false, drop_bpdu: false"
 BARE = f"{{dps: {{a: {{dp_id: 1, {OFF}, interfaces: {{}}}}}}}}"
 READ_LEN = 4096  # of files, at once

@@ -167,10 +167,14 @@ impl Controller {
         tables_of(&self.known, dp)
     }
 
-    /// What is known. Of a spent controller nothing is said.
-    pub(crate) fn world(&self) -> &World
-        ensures { (w : Seen) → self.now ≡ Some w → result.now ≡ w }
+    /// What is known; `None` exactly where the controller is spent.
+    pub(crate) fn world(&self) -> Option<&World>
+        ensures { option_copied result ≡ self.now }
     {
-        &self.known.world
+        if self.is_spent {
+            None
+        } else {
+            Some(&self.known.world)
+        }
     }
 }
