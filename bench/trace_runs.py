@@ -217,11 +217,11 @@ def one_switch(runs):
     ipv4 = "ffffffffffff020000000001" + "0800" + header.hex()
     runs.run(f"trace t.yaml t.rec sw1 1 {ipv4}", 0, one.trace("sw1", 1, "02:00:00:00:00:01", BROADCAST, "63"))
     runs.run(f"trace t.yaml t.rec sw1 1 ffffffffffff020000000001810000070800", 0)
-    for name, made in (("u.rec", open_one().says(1, message(21, 5))), ("u.rec", open_one()), ("u.rec", Recording().put(0, 1, 1)),
-                       ("u.rec", Recording()), ("u.rec", open_one().says(1, message(21, 5)).says(1, message(21, 24)).put(0, 3, 1))):
-        runs.recording(name, made)
+    for name, made in (("batch", open_one().says(1, message(21, 5))), ("wipe", open_one()), ("greeting", Recording().put(0, 1, 1)), ("nothing", Recording()),
+                       ("ended", open_one().says(1, message(21, 5)).says(1, message(21, 24)).put(0, 3, 1))):
+        runs.recording(f"{name}.rec", made)
         for command in ("trace", "walk"):
-            runs.refused(f"{command} t.yaml {name} sw1 1 {FRAME}", 9, "t.yaml: sw1: NotReady")
+            runs.refused(f"{command} t.yaml {name}.rec sw1 1 {FRAME}", 9, "t.yaml: sw1: NotReady")
     return rested
 
 
@@ -234,14 +234,15 @@ def where_it_comes_in(runs, rested):
         runs.refused(f"{command} t.yaml none.rec sw1 4294967040 {FRAME}", 2, "t.yaml: dps.sw1.interfaces.4294967040: Unresolved")
         runs.refused(f"{command} t.yaml none.rec sw1 1 {FRAME}", 3, "none.rec: read fault")
         runs.refused(f"{command} none.yaml none.rec sw1 1 {FRAME}", 3, "none.yaml: read fault")
-    runs.put("cut t.rec 300")
-    runs.refused(f"trace t.yaml cut sw1 1 {FRAME}", 5, "recording: record 3: Cut")
+    runs.put("cut t.rec 250")
+    runs.refused(f"trace t.yaml cut sw1 1 {FRAME}", 5, "recording: record 4: Cut")
+    runs.refused(f"walk t.yaml cut sw1 1 {FRAME}", 5, "recording: record 4: Cut")
     runs.put("fail out 1")
     runs.run(f"trace t.yaml t.rec sw1 1 {FRAME}", 4)
     runs.put("fail room 20")
     runs.run(f"walk t.yaml t.rec sw1 1 {FRAME}", 4, quick().walk("sw1", 1, "02:00:00:00:00:01", BROADCAST)[:20])
     runs.put("fail err 1")
-    runs.run(f"trace t.yaml u.rec sw1 1 {FRAME}", 4)
+    runs.run(f"trace t.yaml wipe.rec sw1 1 {FRAME}", 4)
     runs.put("fail read 3")
     runs.refused(f"trace t.yaml t.rec sw1 1 {FRAME}", 3, "t.rec: read fault")
 
@@ -250,14 +251,14 @@ def reloads(runs):
     runs.put("# a reload that takes the datapath away, one that takes the port away, and one that is refused")
     gone = Network(sw2={"ports": {1: "native"}}).text().replace("dp_id: 1", "dp_id: 2")
     away = Network(sw1={"ports": {2: "native"}}).text()
-    for name, text, answer in (("gone", gone, None), ("away", away, ""), ("bad", "dps: {}\n", quick().trace("sw1", 1, "02:00:00:00:00:01", BROADCAST))):
+    for name, text, answer in (("gone", gone, None), ("away", away, ""), ("bad", "dps: &a {}\n", quick().trace("sw1", 1, "02:00:00:00:00:01", BROADCAST))):
         made = Recording().opens(1, 1, [1, 2]).rests(1).put(0, 4, 0, text.encode()).rests(1)
-        runs.recording("v.rec", made)
+        runs.recording(f"{name}.rec", made)
         if answer is None:
-            runs.refused(f"trace t.yaml v.rec sw1 1 {FRAME}", 9, "t.yaml: sw1: NotReady")
-            runs.refused(f"walk t.yaml v.rec sw1 1 {FRAME}", 9, "t.yaml: sw1: NotReady")
+            runs.refused(f"trace t.yaml {name}.rec sw1 1 {FRAME}", 9, "t.yaml: sw1: NotReady")
+            runs.refused(f"walk t.yaml {name}.rec sw1 1 {FRAME}", 9, "t.yaml: sw1: NotReady")
         else:
-            runs.run(f"trace t.yaml v.rec sw1 1 {FRAME}", 0, answer)
+            runs.run(f"trace t.yaml {name}.rec sw1 1 {FRAME}", 0, answer)
 
 
 def words(runs):
@@ -295,19 +296,22 @@ def networks(runs):
     for name in net.dps:
         runs.run(f"walk r.yaml d.rec {name} 10 {FRAME}", 0, net.walk(name, 10, "02:00:00:00:00:01", BROADCAST))
     net.down |= {("sw2", 2), ("sw3", 2)}
-    runs.recording("d.rec", ring().recording().says(2, goes_down(1), goes_down(2)).says(1, goes_down(1)).says(3, goes_down(2)).rests(1, 2, 3))
+    runs.recording("a.rec", ring().recording().says(2, goes_down(1), goes_down(2)).says(1, goes_down(1)).says(3, goes_down(2)).rests(1, 2, 3))
     for name in net.dps:
-        runs.run(f"walk r.yaml d.rec {name} 10 {FRAME}", 0, net.walk(name, 10, "02:00:00:00:00:01", BROADCAST))
+        runs.run(f"walk r.yaml a.rec {name} 10 {FRAME}", 0, net.walk(name, 10, "02:00:00:00:00:01", BROADCAST))
 
     runs.put("# who isn't ready: the first by name of those that links join to the datapath; others count for nothing")
-    runs.recording("w.rec", ring().recording().says(3, goes_down(10)))
+    runs.recording("w.rec", ring().recording().says(3, goes_down(1)).rests(1, 2))
+    one_down = ring()
+    one_down.down = {("sw1", 2), ("sw3", 1)}
     runs.refused(f"walk r.yaml w.rec sw1 10 {FRAME}", 9, "r.yaml: sw3: NotReady")
-    runs.run(f"trace r.yaml w.rec sw1 10 {FRAME}", 0, ring().trace("sw1", 10, "02:00:00:00:00:01", BROADCAST))
+    runs.run(f"trace r.yaml w.rec sw1 10 {FRAME}", 0, one_down.trace("sw1", 10, "02:00:00:00:00:01", BROADCAST))
     runs.refused(f"trace r.yaml w.rec sw3 10 {FRAME}", 9, "r.yaml: sw3: NotReady")
-    apart = ring().recording().says(2, goes_down(1), goes_down(2)).says(1, goes_down(1)).says(3, goes_down(2)).rests(1, 3)
-    runs.recording("w.rec", apart)
-    runs.run(f"walk r.yaml w.rec sw1 10 {FRAME}", 0, net.walk("sw1", 10, "02:00:00:00:00:01", BROADCAST))
-    runs.refused(f"walk r.yaml w.rec sw2 10 {FRAME}", 9, "r.yaml: sw2: NotReady")
+    runs.recording("busy.rec", ring().recording().says(3, learned(10, host)))
+    runs.refused(f"walk r.yaml busy.rec sw3 10 {FRAME}", 9, "r.yaml: sw1: NotReady")
+    runs.recording("two.rec", ring().recording().says(2, goes_down(1), goes_down(2)).says(1, goes_down(1)).says(3, goes_down(2)).rests(1, 3))
+    runs.run(f"walk r.yaml two.rec sw1 10 {FRAME}", 0, net.walk("sw1", 10, "02:00:00:00:00:01", BROADCAST))
+    runs.refused(f"walk r.yaml two.rec sw2 10 {FRAME}", 9, "r.yaml: sw2: NotReady")
 
     runs.put("# a line of four, and a tree with a tagged port")
     line = Network(a={"ports": {1: ("b", 1), 9: "native"}}, b={"ports": {1: ("a", 1), 2: ("c", 1)}},
