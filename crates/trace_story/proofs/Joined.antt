@@ -34,7 +34,7 @@ module _ (s : Stack) (is : IsStack s) (from to : DpId) (node : IsNode s from) wh
 
   pub walk_between : is_joined s from to ≡ true → IsJoined s from to
   walk_between joined = elim (one_holds (is_same_dp from to) (is_some (hop_of s from to)) joined) [
-    | inl same ↦ (zero, node, same_dp from to same)
+    | inl same ↦ (zero, (node, same_dp from to same))
     | inr some ↦ by_hop (hop_of s from to) refl some
   ]
 
@@ -66,9 +66,10 @@ module _ (id : DpId) (port : ℕ) where
 
   pub far_link : (ls : List StackLink) (there : StackEnd) → far_end ls id port ≡ Some there → (l : StackLink) × Contains ls l × Joins l id port there.dp there.port
   far_link [] there e = absurd (none-some there e)
-  far_link (l ∷ ls) there e = by (is_at id port l) refl e
+  far_link (l ∷ ls) there e = by (is_at id port l) refl e (λ e. far_link ls there e)
     where
       by : (here : Bool) → is_at id port l ≡ here → option_map (other_end id port) (cond here (Some l) (find (is_at id port) ls)) ≡ Some there
+          → (far_end ls id port ≡ Some there → (m : StackLink) × Contains ls m × Joins m id port there.dp there.port)
           → (m : StackLink) × Contains (l ∷ ls) m × Joins m id port there.dp there.port
-      by true is e = (l, contains_here l ls, one_link l there (l.a.0 == id.0 && l.a_port == port) refl is (same_Some (other_end id port l) there e))
-      by false is e = let rest = far_link ls there e in (rest.0, contains_there l rest.0 ls rest.1, rest.2)
+      by true is e later = (l, contains_here l ls, one_link l there (l.a.0 == id.0 && l.a_port == port) refl is (same_Some (other_end id port l) there e))
+      by false is e later = let rest = later e in (rest.0, contains_there l rest.0 ls rest.1, rest.2)

@@ -32,7 +32,7 @@ ports_told Shut is = absurd cc
 -- a datapath that is at work has a connection that runs
 at_work : (conns : List Conn) (id : DpId) (dps : List Dp) → list_any (λ d. is_at_work conns d && d.id.0 == id.0) dps ≡ true → (c : Conn) × (conn_of conns id ≡ Some c) × (runs c.session.state.stage ≡ true)
 at_work conns id [] is = absurd cc
-at_work conns id (d ∷ dps) is = by (is_at_work conns d && d.id.0 == id.0) refl is
+at_work conns id (d ∷ dps) is = by (is_at_work conns d && d.id.0 == id.0) refl is (λ is. at_work conns id dps is)
   where
     same : (d.id.0 == id.0) ≡ true → d.id ≡ id
     same e = ap (λ (n : ℕ). let x : DpId = record { 0 = n } in x) (eqb-true d.id.0 id.0 e)
@@ -41,9 +41,10 @@ at_work conns id (d ∷ dps) is = by (is_at_work conns d && d.id.0 == id.0) refl
     found (Some c) at works is_id = (c, subst (λ x. conn_of conns x ≡ Some c) is_id at, works)
     found None at works is_id = absurd cc
 
-    by : (here : Bool) → (is_at_work conns d && d.id.0 == id.0) ≡ here → (here || list_any (λ e. is_at_work conns e && e.id.0 == id.0) dps) ≡ true → (c : Conn) × (conn_of conns id ≡ Some c) × (runs c.session.state.stage ≡ true)
-    by true here is = let parts = and_parts (is_at_work conns d) (d.id.0 == id.0) here in found (conn_of conns d.id) refl parts.0 (same parts.1)
-    by false here is = at_work conns id dps is
+    by : (here : Bool) → (is_at_work conns d && d.id.0 == id.0) ≡ here → (here || list_any (λ e. is_at_work conns e && e.id.0 == id.0) dps) ≡ true
+        → (list_any (λ e. is_at_work conns e && e.id.0 == id.0) dps ≡ true → (c : Conn) × (conn_of conns id ≡ Some c) × (runs c.session.state.stage ≡ true)) → (c : Conn) × (conn_of conns id ≡ Some c) × (runs c.session.state.stage ≡ true)
+    by true here is later = let parts = and_parts (is_at_work conns d) (d.id.0 == id.0) here in found (conn_of conns d.id) refl parts.0 (same parts.1)
+    by false here is later = later is
 
 pub runs_on : (w : World) (id : DpId) → is_running (running w) id ≡ true → (c : Conn) × (conn_of w.conns id ≡ Some c) × (runs c.session.state.stage ≡ true)
 runs_on w id is = at_work w.conns id w.conf.dps (sym (list_any-running (is_at_work w.conns) id w.conf.dps) ∙ is)

@@ -1,5 +1,5 @@
 -- A walk through cold starts is one through what the switches hold.
-use Rattle.std.proofs.Common.{◌≡◌, ◌==◌, ◌&&◌, ◌++◌, ℕ, zero, suc, Bool, true, false, not, ◌<◌, List, [], ◌∷◌, length, get_or, Option, Some, None, find, unwrap_or, refl, sym, ap, subst, ◌∙◌, arith, true≢false}
+use Rattle.std.proofs.Common.{◌≡◌, ◌==◌, inl, inr, ◌&&◌, ◌++◌, ℕ, zero, suc, Bool, true, false, not, ◌<◌, List, [], ◌∷◌, length, get_or, Option, Some, None, find, unwrap_or, refl, sym, ap, subst, ◌∙◌, arith, true≢false}
 use Rattle.std.specs.Prelude.{Contains, cond, map, slice_get}
 use Rattle.std.specs.List.{flat_map}
 use Rattle.std.specs.Option.{option_and_then, option_map, option_map_or}
@@ -50,13 +50,14 @@ module _ (conf : Configuration) (now : State) (held : DpId → List Entry) (from
     same_walk zero id port p joined = refl
     same_walk (suc k) id port p joined =
         same_flat (going_on conf (links conf now.ups) (λ e q y. arrivals conf now k e q y) id) (going_on conf (links conf now.ups) (λ e q y. walk_by held conf (links conf now.ups) k e q y) id) (first_run (cold_at conf now id) port p)
-        (λ s. step s (far_end (links conf now.ups) id s.port) refl)
+        (λ s. step s (far_end (links conf now.ups) id s.port) refl (λ e q y on. same_walk k e q y on))
         ∙ ap (λ (entries : List Entry). flat_map (going_on conf (links conf now.ups) (λ e q y. walk_by held conf (links conf now.ups) k e q y) id) (first_run entries port p)) (cold id joined)
       where
         step : (s : Sent) (far : Option StackEnd) → far_end (links conf now.ups) id s.port ≡ far
+            → ((e : DpId) (q : ℕ) (y : Packet) → IsJoined (stack_of conf now.ups) from e → arrivals conf now k e q y ≡ walk_by held conf (links conf now.ups) k e q y)
             → option_map_or (λ there. arrivals conf now k there.dp there.port s.packet) far (arrived conf id s) ≡ option_map_or (λ there. walk_by held conf (links conf now.ups) k there.dp there.port s.packet) far (arrived conf id s)
-        step s None leads = refl
-        step s (Some there) leads = same_walk k there.dp there.port s.packet (joined_on id s.port there joined leads zero (end_there id s.port there leads, refl))
+        step s None leads further = refl
+        step s (Some there) leads further = further there.dp there.port s.packet (joined_on id s.port there joined leads zero (end_there id s.port there leads, refl))
 
 -- none of a list passes a test
 none_passes : {X : Type 0} (test : X → Bool) (xs : List X) → find test xs ≡ None → (x : X) → Contains xs x → test x ≡ false
@@ -64,13 +65,13 @@ none_passes test [] none x c = absurd (none_in c)
   where
     none_in : Contains [] x → ⊥
     none_in (i, lt, is) = omega (arith, lt)
-none_passes test (y ∷ ys) none x c = by (test y) refl none
+none_passes test (y ∷ ys) none x c = by (test y) refl none (λ none c. none_passes test ys none x c)
   where
-    by : (here : Bool) → test y ≡ here → cond here (Some y) (find test ys) ≡ None → test x ≡ false
-    by true here none = absurd cc
-    by false here none = elim (contains_cons y x ys c) [
+    by : (here : Bool) → test y ≡ here → cond here (Some y) (find test ys) ≡ None → (find test ys ≡ None → Contains ys x → test x ≡ false) → test x ≡ false
+    by true here none later = absurd cc
+    by false here none later = elim (contains_cons y x ys c) [
       | inl same ↦ subst (λ z. test z ≡ false) same here
-      | inr later ↦ none_passes test ys none x later
+      | inr among ↦ later none among
     ]
 
 pub all_ready : {X : Type 0} (joined ready : X → Bool) (xs : List X) → find (λ x. joined x && not (ready x)) xs ≡ None → (x : X) → Contains xs x → joined x ≡ true → ready x ≡ true
@@ -111,8 +112,9 @@ module _ (w : World) (stack : IsStack (stack_of w.conf (ups w))) (d : Dp) (node 
 -- a datapath that is found stands among the nodes
 pub node_of_dp : (dps : List Dp) (id : DpId) (d : Dp) → dp_with dps id ≡ Some d → (i : ℕ) × (slice_get (ids (map node_of dps)) i ≡ Some id)
 node_of_dp [] id d is = absurd (none-some d is)
-node_of_dp (e ∷ dps) id d is = by (e.id.0 == id.0) refl is
+node_of_dp (e ∷ dps) id d is = by (e.id.0 == id.0) refl is (λ is. node_of_dp dps id d is)
   where
-    by : (here : Bool) → (e.id.0 == id.0) ≡ here → cond here (Some e) (dp_with dps id) ≡ Some d → (i : ℕ) × (slice_get (ids (map node_of (e ∷ dps))) i ≡ Some id)
-    by true here is = (zero, ap (λ (n : ℕ). let x : DpId = record { 0 = n } in Some x) (eqb-true e.id.0 id.0 here))
-    by false here is = let rest = node_of_dp dps id d is in (suc rest.0, rest.1)
+    by : (here : Bool) → (e.id.0 == id.0) ≡ here → cond here (Some e) (dp_with dps id) ≡ Some d
+        → (dp_with dps id ≡ Some d → (i : ℕ) × (slice_get (ids (map node_of dps)) i ≡ Some id)) → (i : ℕ) × (slice_get (ids (map node_of (e ∷ dps))) i ≡ Some id)
+    by true here is later = (zero, ap (λ (n : ℕ). let x : DpId = record { 0 = n } in Some x) (eqb-true e.id.0 id.0 here))
+    by false here is later = let rest = later is in (suc rest.0, rest.1)

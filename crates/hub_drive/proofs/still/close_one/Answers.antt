@@ -1,4 +1,4 @@
-use Rattle.std.proofs.Common.{[], ◌∷◌, refl, sym, ap, ◌∙◌}
+use Rattle.std.proofs.Common.{[], ◌∷◌, refl, sym, ap}
 use Rattle.fg_outside.specs.HubStep.{closed}
 use Rattle.ctl_life.specs.declared.saying.Saying.{Saying}
 use Rattle.hub_drive.specs.declared.sayings.Outlet.TheVariants.{Nowhere}

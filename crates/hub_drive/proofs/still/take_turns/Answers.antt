@@ -39,7 +39,7 @@ loop-preserved g c =
           let v = behind works w hs in (
             hs ++ what ∷ [],
             omega (arith, length_push hs what, all.1),
-            subst (g.M.Machine.runs.stands c.turn-2.new.self) (sym (behind-push works w hs what)) (c.in-Ok.ensures.stands v all.2),
+            subst (g.M.Machine.runs.stands c.turn-in-Happened.new.self) (sym (behind-push works w hs what)) (c.in-Ok.ensures.stands v all.2),
             told-push works may Nowhere w hs what c.args.hub.now c.loop.hub c.turn.new.self c.close_all.new.hub all.3 c.in-Happened.ensures.step
                 (Tells-same may c.turn.new.self c.close_all.new.hub _ (flat_map (deeds_by Nowhere) (sayings_of works what v)) (ap (λ l. flat_map (deeds_by Nowhere) l) (c.as_slice.ensures ∙ c.in-Ok.ensures.says v all.2)) c.close_all.ensures.told),
           );
