@@ -19,3 +19,4 @@ pub mod Stands
 pub mod Stays
 pub mod Telling
 pub mod Walk
+pub mod Soundness

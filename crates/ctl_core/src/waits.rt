@@ -1,7 +1,8 @@
-//! Whether a switch still has to reply to a barrier.
+//! Whether a switch still has to reply to a barrier; and that what is known is sound.
 
-ghost use Rattle.std.specs.Prelude.{◌≡◌, false};
+ghost use Rattle.std.specs.Prelude.{◌≡◌, false, Some};
 ghost use Rattle.std.specs.Option.{option_map_or};
+ghost use Rattle.ctl_world.specs.World.{IsSound, World as Seen};
 ghost use Rattle.ctl_core.specs.Waits.{waits, waits_on};
 
 use crate::controller::Controller;
@@ -37,5 +38,12 @@ impl Controller {
             Some(world) => waits_in(world, dp),
             None => false,
         }
+    }
+
+    /// What a controller knows that isn't spent is sound: its state is valid.
+    pub fn is_sound(&self)
+        ensures { (w : Seen) → self.now ≡ Some w → IsSound w }
+    {
+        let _spent = self.world().is_none();
     }
 }

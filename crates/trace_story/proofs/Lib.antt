@@ -1,4 +1,1 @@
 pub mod Behind
-pub mod Joined
-pub mod Sent
-pub mod Walks

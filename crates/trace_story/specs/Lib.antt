@@ -2,4 +2,3 @@ pub mod Entry
 pub mod Ready
 pub mod Shown
 pub mod Followed
-pub mod Held

@@ -3,8 +3,7 @@
 ghost use Rattle.std.specs.Prelude.{◌≡◌, ◌≢◌, ◌≤◌, ◌<◌, ◌-◌, ◌^◌, ◌⊎◌, ℕ, List, Some, None};
 ghost use Rattle.fg_outside.specs.Contents.{Tells};
 ghost use Rattle.fg_outside.specs.Counts.{Rose};
-ghost use Rattle.conf_types.specs.Valid.{IsValid};
-ghost use Rattle.ctl_world.specs.World.{IsSound, World};
+ghost use Rattle.ctl_world.specs.World.{World};
 ghost use Rattle.ctl_drive.specs.Controller.{StandsFor};
 ghost use Rattle.trace_story.specs.Followed.{Follows, IsShown};
 ghost use Rattle.trace_story.specs.Shown.{shown};
@@ -15,7 +14,6 @@ use ctl_drive::Steered;
 use fg_outside::Files;
 use hub_drive::Replayed;
 use hub_drive::still::run_still;
-use law_stories::whatever_happens_is_right;
 use net_base::{PortNo, Text, TryCopy};
 use of_match::Packet;
 use std::alloc::Global;
@@ -29,13 +27,6 @@ pub enum Followed {
     Ended(Replayed),
 }
 
-/// A configuration is valid.
-fn a_configuration_is_valid(conf: &Conf)
-    ensures { IsValid conf.now }
-{
-    let _dps = conf.dps();
-}
-
 /// What is shown of a packet by what a machine knows.
 fn show_behind<T: Tally + Drop>(
     alloc: Global,
@@ -45,7 +36,7 @@ fn show_behind<T: Tally + Drop>(
     port: PortNo,
     packet: &Packet,
 ) -> Followed
-    requires known { (w : World) × StandsFor machine w × IsSound w }
+    requires known { (w : World) × StandsFor machine w }
     ensures { (w : World) → StandsFor machine w → IsShown (shown how w dp.now port packet.now) result }
 {
     let (core, mut units) = machine.into_parts();
@@ -85,8 +76,6 @@ pub fn follow<F: Files, T: Tally + Drop>(
     ensures faults { F.faults files ≤ F.faults result.1 }
     ensures absences { F.absences files ≤ F.absences result.1 }
 {
-    whatever_happens_is_right();
-    a_configuration_is_valid(&conf);
     let Ok(mut machine) = Steered::new(alloc, conf, units) else {
         return (Followed::Ended(Replayed::Memory), files);
     };

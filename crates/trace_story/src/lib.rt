@@ -4,7 +4,6 @@
 
 mod entry;
 mod following;
-pub mod laws;
 mod lines;
 mod ready;
 mod showing;

@@ -1,7 +1,7 @@
 //! What is shown of a packet, by what a controller knows.
 
 ghost use Rattle.std.specs.Prelude.{◌≡◌, Some, IfOk};
-ghost use Rattle.ctl_world.specs.World.{IsSound, World};
+ghost use Rattle.ctl_world.specs.World.{World};
 ghost use Rattle.trace_story.specs.Shown.{shown, traced_at, walked_from};
 
 use crate::entry::dp_named;
@@ -64,9 +64,10 @@ fn walk_from<T: Tally>(
     packet: &Packet,
     units: &mut T,
 ) -> Result<Shown, NoMemory>
-    requires known { (w : World) × (core.now ≡ Some w) × IsSound w }
+    requires known { (w : World) × (core.now ≡ Some w) }
     ensures { IfOk result (λ made. (w : World) → core.now ≡ Some w → made ≡ walked_from w dp.now port packet.now) }
 {
+    core.is_sound();
     let conf = core.conf();
     let running = core.running()?;
     let ups = core.ups()?;
@@ -92,7 +93,7 @@ pub(crate) fn show<T: Tally>(
     packet: &Packet,
     units: &mut T,
 ) -> Result<Shown, NoMemory>
-    requires known { (w : World) × (core.now ≡ Some w) × IsSound w }
+    requires known { (w : World) × (core.now ≡ Some w) }
     ensures { IfOk result (λ made. (w : World) → core.now ≡ Some w → made ≡ shown how w dp.now port packet.now) }
 {
     let Some(found) = dp_named(core.conf().dps().as_slice(), dp) else {

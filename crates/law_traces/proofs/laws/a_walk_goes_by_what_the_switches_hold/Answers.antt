@@ -1,8 +1,8 @@
 use Rattle.packet_way.proofs.Stacked.{is_stack}
 use Rattle.ctl_core.specs.Story.{behind}
 use Rattle.ctl_world.specs.World.{first, ups}
-use Rattle.trace_story.proofs.Walks.{node_of_dp, walk_held}
-use Rattle.trace_story.proofs.laws.a_walk_goes_by_what_the_switches_hold.Goals as goal
+use Rattle.law_traces.proofs.Walks.{node_of_dp, walk_held}
+use Rattle.law_traces.proofs.laws.a_walk_goes_by_what_the_switches_hold.Goals as goal
 
 pub returns : goal.returns
 returns c = λ conf story d valid is none k port p.

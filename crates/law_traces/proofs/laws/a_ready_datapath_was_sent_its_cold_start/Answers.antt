@@ -1,7 +1,7 @@
 use Rattle.ctl_core.specs.Story.{behind}
 use Rattle.ctl_world.specs.World.{first}
-use Rattle.trace_story.proofs.Sent.{sent_cold}
-use Rattle.trace_story.proofs.laws.a_ready_datapath_was_sent_its_cold_start.Goals as goal
+use Rattle.law_traces.proofs.Sent.{sent_cold}
+use Rattle.law_traces.proofs.laws.a_ready_datapath_was_sent_its_cold_start.Goals as goal
 
 pub returns : goal.returns
 returns c = λ conf story id valid ready.

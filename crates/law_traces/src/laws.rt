@@ -16,7 +16,7 @@ ghost use Rattle.cold_start.specs.Cold.{cold_at};
 ghost use Rattle.net_walk.specs.Arrivals.{arrivals};
 ghost use Rattle.ctl_world.specs.World.{first, now, ups};
 ghost use Rattle.ctl_core.specs.Story.{behind, tables_of};
-ghost use Rattle.trace_story.specs.Held.{held_by, walk_by};
+ghost use Rattle.law_traces.specs.Held.{held_by, walk_by};
 ghost use Rattle.trace_story.specs.Ready.{is_joined, is_ready, unready};
 
 use law_stories::laws::{after_each_turn_nothing_waits, whatever_happens_what_is_known_is_sound};

@@ -26,9 +26,9 @@ use Rattle.net_walk.specs.declared.arrival.Arrival.{Arrival}
 use Rattle.net_walk.specs.Arrivals.{arrivals, arrived, far_end, going_on}
 use Rattle.ctl_world.specs.World.{World, now, ups}
 use Rattle.ctl_core.specs.Story.{tables_of}
-use Rattle.trace_story.specs.Held.{held_by, walk_by}
+use Rattle.law_traces.specs.Held.{held_by, walk_by}
 use Rattle.trace_story.specs.Ready.{is_joined, is_ready, unready}
-use Rattle.trace_story.proofs.Joined.{far_link, joined_by_walk}
+use Rattle.law_traces.proofs.Joined.{far_link, joined_by_walk}
 
 same_flat : {X A : Type 0} (f g : X → List A) (xs : List X) → ((x : X) → f x ≡ g x) → flat_map f xs ≡ flat_map g xs
 same_flat f g [] same = refl

@@ -1,7 +1,7 @@
 use Rattle.packet_way.proofs.Stacked.{is_stack}
 use Rattle.packet_way.specs.Known.{stack_of}
-use Rattle.trace_story.proofs.Joined.{joined_by_walk, walk_between}
-use Rattle.trace_story.proofs.laws.joined_datapaths_are_of_one_part.Goals as goal
+use Rattle.law_traces.proofs.Joined.{joined_by_walk, walk_between}
+use Rattle.law_traces.proofs.laws.joined_datapaths_are_of_one_part.Goals as goal
 
 pub returns : goal.returns
 returns c = λ conf ups from to valid node. (

@@ -1,0 +1,3 @@
+pub mod Joined
+pub mod Sent
+pub mod Walks
