@@ -2,7 +2,7 @@ ghost use Rattle.std.specs.Prelude.{◌≡◌, ◌==◌, ◌&&◌, ◌<◌, fals
 ghost use Rattle.std.specs.List.{list_any};
 ghost use Rattle.std.specs.Option.{option_and_then, option_copied};
 ghost use Rattle.packet_way.specs.Present.{state_of};
-ghost use Rattle.ctl_world.specs.World.{first, is_at_work, now, running, ups, World as Seen};
+ghost use Rattle.ctl_world.specs.World.{first, is_at_work, now, running, ups, IsSound, World as Seen};
 ghost use Rattle.ctl_settle.specs.Rest.{rests_until};
 ghost use Rattle.ctl_core.specs.Changes.{latest, turn_changes};
 ghost use Rattle.ctl_core.specs.Known.{HasSettled};
@@ -125,6 +125,13 @@ impl Controller {
         ensures { (w : Seen) → self.now ≡ Some w → result.now ≡ w.conf }
     {
         &self.known.world.conf
+    }
+
+    /// What a controller knows that isn't spent is sound.
+    pub fn is_sound(&self)
+        ensures { (w : Seen) → self.now ≡ Some w → IsSound w }
+    {
+        let _ = &self.alloc;
     }
 
     /// The last moment, in milliseconds: 0 at first.

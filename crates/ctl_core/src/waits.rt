@@ -1,8 +1,7 @@
-//! Whether a switch still has to reply to a barrier; and that what is known is sound.
+//! Whether a switch still has to reply to a barrier.
 
-ghost use Rattle.std.specs.Prelude.{◌≡◌, false, Some};
+ghost use Rattle.std.specs.Prelude.{◌≡◌, false};
 ghost use Rattle.std.specs.Option.{option_map_or};
-ghost use Rattle.ctl_world.specs.World.{IsSound, World as Seen};
 ghost use Rattle.ctl_core.specs.Waits.{waits, waits_on};
 
 use crate::controller::Controller;
@@ -38,12 +37,5 @@ impl Controller {
             Some(world) => waits_in(world, dp),
             None => false,
         }
-    }
-
-    /// What a controller knows that isn't spent is sound: its state is valid.
-    pub fn is_sound(&self)
-        ensures { (w : Seen) → self.now ≡ Some w → IsSound w }
-    {
-        let _spent = self.world().is_none();
     }
 }
