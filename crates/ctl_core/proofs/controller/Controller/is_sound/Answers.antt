@@ -6,5 +6,5 @@ use Rattle.ctl_core.proofs.controller.Controller.is_sound.Goals as goal
 
 pub returns : goal.returns
 returns c = λ w is.
-    let seen : unless_spent c.args.self.is_spent c.args.self.known.world ≡ Some w = grind (arith, common_steps) in
-    kept_sound c.args.self.is_spent c.args.self.known w c.self.invariant seen
+    let seen : unless_spent c.self.inside.is_spent c.self.inside.known.world ≡ Some w = grind (arith, common_steps) in
+    kept_sound c.self.inside.is_spent c.self.inside.known w c.self.invariant seen
