@@ -40,7 +40,7 @@ use Rattle.law_runs.specs.Members.{all_joined}
 use Rattle.ctl_core.specs.declared.ends.Ends.{Ends}
 use Rattle.ctl_core.specs.declared.ends.Ends.TheVariants as ends
 use Rattle.ctl_core.specs.declared.found.Found.{Found}
-use Rattle.ctl_core.specs.declared.found.Found.TheVariants.{Nothing, Due, Heard, One, Any}
+use Rattle.ctl_core.specs.declared.found.Found.TheVariants.{Nothing, Due, Heard, One, Named, Any}
 use Rattle.ctl_core.specs.Found.{Bounds, Leaves, Tells, by_packet, by_parts, by_port, by_table, ends_of, is_touched}
 
 -- ---- the hosts that are known behind one that is heard
@@ -183,6 +183,8 @@ names_of conf Nothing = []
 names_of conf Due = []
 names_of conf (Heard h) = host conf h ∷ []
 names_of conf (One c) = c ∷ []
+names_of conf (Named None) = []
+names_of conf (Named (Some changes)) = changes
 names_of conf Any = []
 
 module _ {A : Type 0} (g : Found → List Change) (f : A → Found) (l : A → List Change) (none : g Due ≡ []) where
@@ -246,6 +248,8 @@ tells_of w v Nothing none names leaves = absurd (cc)
 tells_of w v Due some names leaves = (names, leaves)
 tells_of w v (Heard h) some names leaves = (names, leaves)
 tells_of w v (One c) some names leaves = (names, leaves)
+tells_of w v (Named None) some names leaves = (names.conf, tt)
+tells_of w v (Named (Some changes)) some names leaves = (names.conf, names.named)
 tells_of w v Any some names leaves = tt
 
 pub packet_tells : (m : PacketIn) (number : ℕ) (dp : DpId) (w : World) → Tells w (packet_in m number dp w) (by_packet m dp w)

@@ -3,11 +3,11 @@ use Rattle.std.proofs.Common.{◌≡◌, ◌<◌, ◌==◌, ℕ, zero, suc, Bool
 use Rattle.std.specs.Prelude.{◌⊎◌, Contains}
 use Rattle.std.specs.List.{AllByRecursion}
 use Rattle.std.specs.Option.{option_map_or}
+use Rattle.std.proofs.lemmas.Bool.{and_parts}
 use Rattle.net_base.specs.declared.numbers.DpId.{DpId}
 use Rattle.conf_types.specs.declared.state.HostRec.{HostRec}
 use Rattle.conf_types.specs.Configuration.{Configuration}
-use Rattle.conf_types.specs.Lists.{EachBefore}
-use Rattle.conf_types.specs.State.{is_fresh, is_to_forget}
+use Rattle.conf_types.specs.State.{State, is_fresh, is_to_forget}
 use Rattle.of13_codec.specs.declared.message.Message.{Message}
 use Rattle.of13_codec.specs.declared.message.Message.TheVariants as messages
 use Rattle.of13_codec.specs.declared.ports.PortDesc.{PortDesc}
@@ -16,7 +16,8 @@ use Rattle.switch_session.specs.declared.state.Stage.{Stage}
 use Rattle.switch_session.specs.declared.state.Stage.TheVariants.{Greeting, Features, Ports, Wiping, Running, Shut}
 use Rattle.switch_session.specs.declared.state.Step.{Step}
 use Rattle.switch_session.specs.declared.state.Step.TheVariants as steps
-use Rattle.switch_session.specs.Stages.{State, awaited, awaits, changed_port, described, heard, heard_in, leads, speaks}
+use Rattle.switch_session.specs.Stages.{State as Session, answered, awaited, awaits, changed_port, described, heard, heard_in, leads, passed, speaks}
+use Rattle.switch_session.specs.Staying.{is_passed, leaves}
 use Rattle.switch_session.specs.Told.{takes, told_of}
 use Rattle.switch_session.proofs.ReplyLemmas.{pick}
 use Rattle.ctl_world.specs.declared.conns.Conn.{Conn}
@@ -24,28 +25,30 @@ use Rattle.ctl_world.specs.Alike.{IsAlike}
 use Rattle.ctl_world.specs.Connections.{change, conn_with, with_heard, with_said}
 use Rattle.ctl_world.specs.Saying.{say, say_by}
 use Rattle.ctl_world.specs.Ends.{forget_lost}
-use Rattle.ctl_world.specs.World.{IsSound, World, now}
-use Rattle.ctl_world.proofs.Faces.{alike_through}
+use Rattle.ctl_world.specs.World.{IsSound, World, now, runs}
+use Rattle.ctl_world.proofs.Faces.{alike_through, same_now}
 use Rattle.ctl_life.specs.Silence.{show}
 use Rattle.ctl_world.proofs.Numbered.{change_same}
 use Rattle.ctl_settle.specs.declared.plans.Held.{Held}
 use Rattle.ctl_settle.specs.Rest.{AreBounded, AreInOrder, rests_until}
-use Rattle.ctl_settle.specs.Touched.{AllFollow}
+use Rattle.ctl_settle.specs.Touched.{AllFollow, AreAmong}
 use Rattle.ctl_settle.proofs.Following.{alike_names, any_follow, named_follow}
 use Rattle.ctl_settle.proofs.Until.{fresh_before, same_bounded}
 use Rattle.law_runs.specs.Members.{tail_of}
 use Rattle.conf_types.specs.declared.change.Change.{Change}
 use Rattle.conf_types.specs.declared.change.Change.TheVariants as changes
-use Rattle.ctl_settle.specs.Names.{Names, dps_on, host, is_other}
-use Rattle.ctl_settle.proofs.Names.{IsSame, gone_named, join, kept_quiet, more_named, no_dp_on, say_quiet, then_quiet, turned_named}
+use Rattle.ctl_settle.specs.Names.{Names, host, is_other}
+use Rattle.ctl_settle.proofs.Names.{gone_named, join, kept_quiet, more_named, say_quiet, then_quiet, turned_named}
 use Rattle.ctl_core.specs.declared.found.Found.{Found}
 use Rattle.ctl_core.specs.declared.ends.Ends.{Ends}
 use Rattle.ctl_core.specs.declared.ends.Ends.TheVariants as ends
-use Rattle.ctl_core.specs.declared.found.Found.TheVariants.{Nothing, Due, Heard, One, Any}
+use Rattle.ctl_core.specs.declared.found.Found.TheVariants.{Nothing, Due, Heard, One, Named, Any}
 use Rattle.ctl_core.specs.Hearing.{follow}
-use Rattle.ctl_core.specs.Found.{Leaves, Tells, behind_step, by_end, ends_of, is_settled, is_stranger, is_touched, may_differ}
-use Rattle.ctl_core.specs.Turning.{turned, turns}
+use Rattle.ctl_core.specs.Found.{Leaves, Tells, ends_of, is_barrier_reply, is_reply, is_settled, is_touched, may_differ}
+use Rattle.ctl_core.specs.Behind.{behind}
+use Rattle.ctl_core.specs.Turning.{aged, turned, turns}
 use Rattle.ctl_core.specs.Turns.{age}
+use Rattle.ctl_core.proofs.NoneNew.{NoneIsNew, behind_follow}
 
 -- ---- what was found
 
@@ -59,6 +62,8 @@ module _ (u w v : World) (alike : IsAlike u w) where
   tells_behind (Heard h) told =
       (subst (λ conf. Names w v (host conf h ∷ [])) alike.conf (join w u v [] (host u.conf h ∷ []) (alike_names u w alike) told.0), leaves_behind (ends.But h) told.1)
   tells_behind (One c) told = (join w u v [] (c ∷ []) (alike_names u w alike) told.0, leaves_behind ends.Later told.1)
+  tells_behind (Named may) told =
+      (told.0 ∙ alike.conf, subst (λ (s : State). AreAmong w.conf s (now v) may) (same_now u w alike) (subst (λ conf. AreAmong conf (now u) (now v) may) alike.conf told.1))
   tells_behind Any told = tt
 
 pub tells_follow : (w v : World) (found : Found) → Tells w v found → (held : List Held) → AllFollow w (Some []) held → AllFollow v (may_differ v.conf found) held
@@ -67,6 +72,8 @@ tells_follow w v Due told held all = named_follow w v [] told.0 held all
 tells_follow w v (Heard h) told held all =
     subst (λ conf. AllFollow v (Some (host conf h ∷ [])) held) (sym (told.0).conf) (named_follow w v (host w.conf h ∷ []) told.0 held all)
 tells_follow w v (One c) told held all = named_follow w v (c ∷ []) told.0 held all
+tells_follow w v (Named None) told held all = any_follow v held
+tells_follow w v (Named (Some changes)) told held all = named_follow w v changes (record { conf = told.0; named = told.1 }) held all
 tells_follow w v Any told held all = any_follow v held
 
 -- when the hosts' times end
@@ -75,6 +82,7 @@ tells_bounds w v Nothing alike = λ until all. same_bounded v w until alike.conf
 tells_bounds w v Due told = told.1
 tells_bounds w v (Heard h) told = told.1
 tells_bounds w v (One c) told = told.1
+tells_bounds w v (Named may) told = λ until all. tt
 tells_bounds w v Any told = λ until all. tt
 
 -- where nothing was found
@@ -83,6 +91,7 @@ tells_alike w v Nothing none alike = alike
 tells_alike w v Due none told = absurd (true≢false none)
 tells_alike w v (Heard h) none told = absurd (true≢false none)
 tells_alike w v (One c) none told = absurd (true≢false none)
+tells_alike w v (Named may) none told = absurd (true≢false none)
 tells_alike w v Any none told = absurd (true≢false none)
 
 pub nothing_follows : (w : World) (found : Found) → is_touched found ≡ false → (held : List Held) → AllFollow w (may_differ w.conf found) held → AllFollow w (Some []) held
@@ -90,17 +99,8 @@ nothing_follows w Nothing none held all = all
 nothing_follows w Due none held all = absurd (true≢false none)
 nothing_follows w (Heard h) none held all = absurd (true≢false none)
 nothing_follows w (One c) none held all = absurd (true≢false none)
+nothing_follows w (Named may) none held all = absurd (true≢false none)
 nothing_follows w Any none held all = absurd (true≢false none)
-
--- ---- a connection that is no datapath yet
-
-pub touched_behind : (dp : Option DpId) (found : Found) → is_touched (behind_step dp found) ≡ true
-touched_behind (Some dp) found = refl
-touched_behind None Nothing = refl
-touched_behind None Due = refl
-touched_behind None (Heard h) = refl
-touched_behind None (One c) = refl
-touched_behind None Any = refl
 
 -- nothing differs, and no host's time ends earlier
 abbrev pub IsQuiet : World → World → Type 0
@@ -113,63 +113,19 @@ said_quiet number m w = (
   λ until all. elim (conn_with w.conns number) as (λ o. AreBounded until (option_map_or (say_by with_said m w) o w)) [ Some c ↦ all | None ↦ all ],
 )
 
-pub same_leaves : (w v : World) → IsSame w v → Leaves w v ends.Later
-same_leaves w v same = λ until all. same_bounded v w until same.conf same.moment same.hosts all
-
--- of a step that changes nothing, what follows from it is told
-pub tells_step : (w u v : World) (dp : Option DpId) (found : Found) → (dp ≡ None → IsQuiet w u) → Tells u v found → Tells w v (behind_step dp found)
-tells_step w u v (Some dp) found quiet tells = tt
-tells_step w u v None Nothing quiet alike =
-    let q = quiet refl in
-    (join w u v [] [] q.0 (alike_names v u alike), λ until all. same_bounded v u until alike.conf alike.moment alike.hosts (q.1 until all))
-tells_step w u v None Due quiet told = let q = quiet refl in (join w u v [] [] q.0 told.0, λ until all. told.1 until (q.1 until all))
-tells_step w u v None (Heard h) quiet told =
-    let q = quiet refl in
-    (subst (λ conf. Names w v (host conf h ∷ [])) (q.0).conf (join w u v [] (host u.conf h ∷ []) q.0 told.0), λ until all. told.1 until (q.1 until all))
-tells_step w u v None (One c) quiet told = let q = quiet refl in (join w u v [] (c ∷ []) q.0 told.0, λ until all. told.1 until (q.1 until all))
-tells_step w u v None Any quiet told = tt
-
-stranger_case : (number : ℕ) (conns : List Conn) → EachBefore (λ (a b : Conn). a.number < b.number) conns → (is_stranger conns number ≡ false) ⊎ (dps_on number conns ≡ [])
-stranger_case number conns ordered = by (conn_with conns number) refl
-  where
-    of : (c : Conn) → conn_with conns number ≡ Some c → (o : Option DpId) → c.dp ≡ o → (not (is_some c.dp) ≡ false) ⊎ (dps_on number conns ≡ [])
-    of c at None none = inr (no_dp_on number conns c ordered at none)
-    of c at (Some d) some = inl (ap (λ (o : Option DpId). not (is_some o)) some)
-
-    by : (o : Option Conn) → conn_with conns number ≡ o → (option_map_or (λ (c : Conn). not (is_some c.dp)) o false ≡ false) ⊎ (dps_on number conns ≡ [])
-    by None none = inl refl
-    by (Some c) at = of c at c.dp refl
-
-module _ (number : ℕ) (w v : World) (ordered : AreInOrder w) (quiet : dps_on number w.conns ≡ [] → IsQuiet w v) where
-  abbrev found_at : Bool → Found
-  found_at b = if b then Due else Any
-
-  tells_at : (b : Bool) → IsQuiet w v → Tells w v (found_at b)
-  tells_at true told = told
-  tells_at false told = tt
-
-  pub end_tells : Tells w v (by_end w.conns number)
-  end_tells = elim (stranger_case number w.conns ordered.numbers) [
-    | inl known ↦ subst (λ (b : Bool). Tells w v (found_at b)) (sym known) tt
-    | inr none ↦ tells_at (is_stranger w.conns number) (quiet none)
-  ]
-
-pub end_touched : (conns : List Conn) (number : ℕ) → is_touched (by_end conns number) ≡ true
-end_touched conns number = elim (is_stranger conns number) as (λ b. is_touched (if b then Due else Any) ≡ true) [ true ↦ refl | false ↦ refl ]
-
 -- ---- the reply to a barrier
 
-abbrev Settles : State → State × Step → Type 0
+abbrev Settles : Session → Session × Step → Type 0
 Settles s r = is_settled r.1 ≡ true → r.0 ≡ record s { awaited = None }
 
 never : {P : Type 0} → false ≡ true → P
 never is = absurd (true≢false (sym is))
 
-described_settles : (s : State) (more : Bool) (descs : List PortDesc) → Settles s (described s more descs)
+described_settles : (s : Session) (more : Bool) (descs : List PortDesc) → Settles s (described s more descs)
 described_settles s true descs = never
 described_settles s false descs = never
 
-awaited_settles : (stage : Stage) (s : State) (m : Message) (xid : ℕ) → s.stage ≡ stage → Settles s (awaited stage s m xid)
+awaited_settles : (stage : Stage) (s : Session) (m : Message) (xid : ℕ) → s.stage ≡ stage → Settles s (awaited stage s m xid)
 awaited_settles Greeting s (messages.Hello version bitmap) xid is = pick (Settles s) (speaks version bitmap) _ _ never never
 awaited_settles Features s (messages.FeaturesReply reply) xid is = never
 awaited_settles Ports s (messages.PortDescReply more descs) xid is = pick (Settles s) (awaits s xid) _ _ (described_settles s more descs) never
@@ -178,23 +134,47 @@ awaited_settles Running s messages.BarrierReply xid is = pick (Settles s) (await
 awaited_settles Running s (messages.PacketIn packet) xid is = never
 awaited_settles stage s m xid is = never
 
-told_settles : (s r : State) (port : PortTold) (b : Bool) → is_settled (if b then steps.PortChanged port.no else steps.Nothing) ≡ true → r ≡ record s { awaited = None }
+told_settles : (s r : Session) (port : PortTold) (b : Bool) → is_settled (if b then steps.PortChanged port.no else steps.Nothing) ≡ true → r ≡ record s { awaited = None }
 told_settles s r port true = never
 told_settles s r port false = never
 
-changed_settles : (s : State) (reason : ℕ) (port : Option PortTold) → Settles s (changed_port s reason port)
+changed_settles : (s : Session) (reason : ℕ) (port : Option PortTold) → Settles s (changed_port s reason port)
 changed_settles s reason None = never
 changed_settles s reason (Some port) = pick (Settles s) (reason == 1) _ _ never (told_settles s _ port (takes s.ports port.no))
 
-heard_settles : (s : State) (m : Message) (xid : ℕ) → Settles s (heard s m xid)
+heard_settles : (s : Session) (m : Message) (xid : ℕ) → Settles s (heard s m xid)
 heard_settles s (messages.Error kind code payload) xid = never
 heard_settles s (messages.EchoRequest payload) xid = never
 heard_settles s (messages.PortStatus reason port) xid = changed_settles s reason (told_of port)
 heard_settles s m xid = awaited_settles s.stage s m xid refl
 
-heard_in_settles : (stage : Stage) (s : State) (m : Message) (xid : ℕ) → Settles s (heard_in stage s m xid)
+heard_in_settles : (stage : Stage) (s : Session) (m : Message) (xid : ℕ) → Settles s (heard_in stage s m xid)
 heard_in_settles Shut s m xid = never
 heard_in_settles stage s m xid = heard_settles s m xid
+
+-- on a connection that runs the reply that is awaited is that to a barrier
+reply_awaited : (s : Session) (xid : ℕ) (b : Bool) → not b ≡ false → is_settled (if b then answered s steps.Settled else passed s).1 ≡ true
+reply_awaited s xid true out = refl
+reply_awaited s xid false out = absurd (true≢false out)
+
+reply_by : (s : Session) (xid : ℕ) (stage : Stage) → s.stage ≡ stage → runs stage ≡ true → is_passed stage s messages.BarrierReply xid ≡ false
+    → is_settled (heard_in stage s messages.BarrierReply xid).1 ≡ true
+reply_by s xid Greeting is run out = absurd (true≢false (sym run))
+reply_by s xid Features is run out = absurd (true≢false (sym run))
+reply_by s xid Ports is run out = absurd (true≢false (sym run))
+reply_by s xid Wiping is run out = absurd (true≢false (sym run))
+reply_by s xid Running is run out =
+    subst (λ (stage : Stage). is_settled (awaited stage s messages.BarrierReply xid).1 ≡ true) (sym is) (reply_awaited s xid (awaits s xid) out)
+reply_by s xid Shut is run out = absurd (true≢false (sym run))
+
+reply_of : (s : Session) (m : Message) (xid : ℕ) → runs s.stage ≡ true → is_barrier_reply m ≡ true → leaves s m xid ≡ false → is_settled (leads s m xid).1 ≡ true
+reply_of s messages.BarrierReply xid run is out = reply_by s xid s.stage refl run out
+reply_of s m xid run is out = absurd (true≢false (sym is))
+
+pub reply_settled : (c : Conn) (m : Message) (xid : ℕ) → is_reply c m ≡ true → leaves c.session.state m xid ≡ false → is_settled (leads c.session.state m xid).1 ≡ true
+reply_settled c m xid is out =
+    let both = and_parts (runs c.session.state.stage) (is_barrier_reply m) is in
+    reply_of c.session.state m xid both.0 both.1 out
 
 abbrev unawaited : Conn → Conn
 unawaited c = record c { session = record c.session { state = record c.session.state { awaited = None } } }
@@ -338,7 +318,8 @@ module _ (moment : ℕ) (w v : World) (alike : IsAlike v (show moment w)) where
       }
 
 -- as the code tells it
-pub at_moment_follow : (moment : ℕ) (w v : World) (closed : Bool) → (closed ≡ false → IsAlike v (show moment w)) → (held : List Held) → AllFollow w (Some []) held
-    → AllFollow (age v) (if closed then None else Some (turned w.moment.0 v)) held
-at_moment_follow moment w v true alike held all = any_follow (age v) held
-at_moment_follow moment w v false alike held all = named_follow w (age v) (turned w.moment.0 v) (turned_names moment w v (alike refl)) held all
+pub at_moment_follow : (moment : ℕ) (w v : World) (kept : Option State) → (kept ≡ None → IsAlike v (show moment w)) → ((s : State) → kept ≡ Some s → s ≡ now w) → NoneIsNew w (age v)
+    → (held : List Held) → AllFollow w (Some []) held → AllFollow (age v) (Some (aged w.moment.0 kept v)) held
+at_moment_follow moment w v None alike was none held all = named_follow w (age v) (turned w.moment.0 v) (turned_names moment w v (alike refl)) held all
+at_moment_follow moment w v (Some s) alike was none held all =
+    subst (λ (t : State). AllFollow (age v) (Some (behind v.conf t (now (age v)))) held) (sym (was s refl)) (behind_follow w (age v) none held all)

@@ -1,5 +1,5 @@
 -- When what happens changes something that a settling looks at.
-use Rattle.std.specs.Prelude.{ℕ, zero, suc, ◌&&◌, ◌||◌, not, max, Bool, true, false, is_ok, [], length, map, Option, Some, None}
+use Rattle.std.specs.Prelude.{◌≡◌, IsSomeAnd, ℕ, zero, suc, ◌&&◌, ◌||◌, not, max, Bool, true, false, is_ok, [], length, map, Option, Some, None}
 use Rattle.std.specs.List.{list_any}
 use Rattle.std.specs.Option.{option_map_or}
 use Rattle.net_base.specs.declared.numbers.DpId.{DpId}
@@ -48,6 +48,10 @@ message_changes_on m xid w c = not (leaves c.session.state m xid) || step_change
 
 abbrev pub message_changes : Message → (xid : ℕ) → (number : ℕ) → World → Bool
 message_changes m xid number w = option_map_or (message_changes_on m xid w) (conn_with w.conns number) false
+
+-- the connection of this datapath is there, and the message isn't one of those that leave its state
+abbrev pub Changes : Message → (xid : ℕ) → Option DpId → Option Conn → Type 0
+Changes m xid dp o = IsSomeAnd o (λ c. (c.dp ≡ dp) × (leaves c.session.state m xid ≡ false))
 
 -- a frame that spells no message closes its connection
 abbrev pub frame_changes : Option (Message × ℕ) → (number : ℕ) → World → Bool

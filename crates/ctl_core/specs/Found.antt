@@ -1,11 +1,13 @@
 -- What may differ behind a frame, as the code tells it.
-use Rattle.std.specs.Prelude.{ℕ, ◌==◌, min, Bool, true, false, not, is_some, if◌then◌else◌, Option, Some, None, List, [], ◌∷◌}
+use Rattle.std.specs.Prelude.{◌≡◌, ℕ, ◌==◌, ◌&&◌, min, Bool, true, false, if◌then◌else◌, Option, Some, None, [], ◌∷◌}
 use Rattle.std.specs.Option.{option_map_or}
 use Rattle.net_base.specs.declared.numbers.DpId.{DpId}
 use Rattle.conf_types.specs.declared.change.Change.TheVariants as change
 use Rattle.conf_types.specs.Configuration.{Configuration}
 use Rattle.conf_types.specs.Groups.{group_of}
 use Rattle.of_match.specs.InPort.{in_port}
+use Rattle.of13_codec.specs.declared.message.Message.{Message}
+use Rattle.of13_codec.specs.declared.message.Message.TheVariants as messages
 use Rattle.of13_codec.specs.declared.packet_in.PacketIn.{PacketIn}
 use Rattle.pkt_view.specs.Frame.{FrameParts, parts}
 use Rattle.neighbour_resolve.specs.Counted.{counted_vid}
@@ -14,16 +16,15 @@ use Rattle.switch_session.specs.declared.state.Step.{Step}
 use Rattle.switch_session.specs.declared.state.Step.TheVariants as steps
 use Rattle.ctl_world.specs.declared.conns.Conn.{Conn}
 use Rattle.ctl_world.specs.Alike.{IsAlike}
-use Rattle.ctl_world.specs.Connections.{conn_with}
-use Rattle.ctl_world.specs.World.{World}
+use Rattle.ctl_world.specs.World.{World, now, runs}
 use Rattle.ctl_packets.specs.Packets.{gateways, routes, sources}
 use Rattle.ctl_settle.specs.Rest.{AreBounded, host_until}
-use Rattle.ctl_settle.specs.Touched.{MayDiffer}
+use Rattle.ctl_settle.specs.Touched.{AreAmong, MayDiffer}
 use Rattle.ctl_settle.specs.Names.{Names, host}
 use Rattle.ctl_core.specs.declared.ends.Ends.{Ends}
 use Rattle.ctl_core.specs.declared.ends.Ends.TheVariants as ends
 use Rattle.ctl_core.specs.declared.found.Found.{Found}
-use Rattle.ctl_core.specs.declared.found.Found.TheVariants.{Nothing, Due, Heard, One, Any}
+use Rattle.ctl_core.specs.declared.found.Found.TheVariants.{Nothing, Due, Heard, One, Named, Any}
 
 -- a settling looks at it
 abbrev pub is_touched : Found → Bool
@@ -31,6 +32,7 @@ is_touched Nothing = false
 is_touched Due = true
 is_touched (Heard h) = true
 is_touched (One change) = true
+is_touched (Named may) = true
 is_touched Any = true
 
 abbrev pub may_differ : Configuration → Found → MayDiffer
@@ -38,15 +40,8 @@ may_differ conf Nothing = Some []
 may_differ conf Due = Some []
 may_differ conf (Heard h) = Some (host conf h ∷ [])
 may_differ conf (One change) = Some (change ∷ [])
+may_differ conf (Named may) = may
 may_differ conf Any = None
-
--- at least there may be something to say
-abbrev pub or_due : Found → Found
-or_due Nothing = Due
-or_due Due = Due
-or_due (Heard h) = Heard h
-or_due (One change) = One change
-or_due Any = Any
 
 -- ---- when the hosts' times end
 
@@ -55,6 +50,7 @@ ends_of Nothing = ends.Later
 ends_of Due = ends.Later
 ends_of (Heard h) = ends.But h
 ends_of (One change) = ends.Later
+ends_of (Named may) = ends.Any
 ends_of Any = ends.Any
 
 -- against a moment before which none ended: none does now, or one that was heard alone, or any may
@@ -66,20 +62,6 @@ Bounds ends.Any until w = Unit {0}
 -- whatever moment none of the hosts ended before, behind a step
 abbrev pub Leaves : World → World → Ends → Type 0
 Leaves w v e = (until : ℕ) → AreBounded until w → Bounds e until v
-
--- ---- connections that are no datapath yet
-
-abbrev pub is_stranger : List Conn → (number : ℕ) → Bool
-is_stranger conns number = option_map_or (λ c. not (is_some c.dp)) (conn_with conns number) false
-
--- with the end of one nothing differs
-abbrev pub by_end : List Conn → (number : ℕ) → Found
-by_end conns number = if is_stranger conns number then Due else Any
-
--- nor with a step of one, but for what follows from it
-abbrev pub behind_step : Option DpId → Found → Found
-behind_step None found = or_due found
-behind_step (Some dp) found = Any
 
 -- ---- packets
 
@@ -108,9 +90,20 @@ Tells w v Nothing = IsAlike v w
 Tells w v Due = Names w v [] × Leaves w v ends.Later
 Tells w v (Heard h) = Names w v (host w.conf h ∷ []) × Leaves w v (ends.But h)
 Tells w v (One change) = Names w v (change ∷ []) × Leaves w v ends.Later
+Tells w v (Named may) = (v.conf ≡ w.conf) × AreAmong w.conf (now w) (now v) may
 Tells w v Any = Unit {0}
 
--- the reply to a barrier came
+-- ---- the reply to a barrier
+
+abbrev pub is_barrier_reply : Message → Bool
+is_barrier_reply messages.BarrierReply = true
+is_barrier_reply m = false
+
+-- on a connection that runs
+abbrev pub is_reply : Conn → Message → Bool
+is_reply c m = runs c.session.state.stage && is_barrier_reply m
+
+-- it came
 abbrev pub is_settled : Step → Bool
 is_settled steps.Nothing = false
 is_settled steps.AskFeatures = false

@@ -1,4 +1,5 @@
 pub mod Hearing
+pub mod Behind
 pub mod Found
 pub mod Known
 pub mod Reloading

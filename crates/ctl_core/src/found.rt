@@ -7,12 +7,12 @@ ghost use Rattle.conf_types.specs.Groups.{group_of};
 ghost use Rattle.pkt_view.specs.Frame.{shown};
 ghost use Rattle.neighbour_resolve.specs.Hearing.{heard_sender};
 ghost use Rattle.ctl_core.specs.declared.found.Found.TheVariants.{Due, One};
-ghost use Rattle.ctl_core.specs.Found.{behind_step, by_end, by_packet, by_port, by_table, ends_of, is_stranger, is_touched, may_differ, or_due};
+ghost use Rattle.ctl_core.specs.Found.{by_packet, by_port, by_table, ends_of, is_touched, may_differ};
 
 use crate::ends::Ends;
 use conf_types::{Change, Conf, HostRec};
 use ctl_settle::Touched;
-use ctl_world::{Conns, World};
+use ctl_world::World;
 use neighbour_resolve::{counted_vid, heard_sender};
 use net_base::{DpId, NoMemory, PortNo, Vid};
 use of_match::in_port;
@@ -22,7 +22,7 @@ use plan_base::Table;
 use std::alloc::Global;
 
 /// What a settling finds behind a frame.
-#[derive(Clone, Copy, Debug)]
+#[derive(Drop)]
 pub(crate) enum Found {
     /// All is as it was.
     Nothing,
@@ -32,7 +32,9 @@ pub(crate) enum Found {
     Heard(HostRec),
     /// At most this part of the state differs.
     One(Change),
-    /// Anything may differ.
+    /// At most these parts do.
+    Named(Touched),
+    /// Anything may: a new configuration came.
     Any,
 }
 
@@ -51,13 +53,13 @@ impl Found {
     {
         match self {
             Found::Nothing => false,
-            Found::Due | Found::Heard(_) | Found::One(_) | Found::Any => true,
+            Found::Due | Found::Heard(_) | Found::One(_) | Found::Named(_) | Found::Any => true,
         }
     }
 
     /// What may differ.
-    pub(crate) fn touched(&self, alloc: Global, conf: &Conf) -> Result<Touched, NoMemory>
-        ensures { IfOk result (λ made. made ≡ may_differ conf.now self.now) }
+    pub(crate) fn touched(self, alloc: Global, conf: &Conf) -> Result<Touched, NoMemory>
+        ensures { IfOk result (λ made. made ≡ may_differ conf.now self) }
     {
         match self {
             Found::Nothing | Found::Due => Ok(Touched::nothing(alloc)),
@@ -69,7 +71,8 @@ impl Found {
                     mac: host.mac,
                 },
             ),
-            Found::One(change) => one(alloc, *change),
+            Found::One(change) => one(alloc, change),
+            Found::Named(touched) => Ok(touched),
             Found::Any => Ok(Touched::anything(alloc)),
         }
     }
@@ -81,48 +84,8 @@ impl Found {
         match self {
             Found::Nothing | Found::Due | Found::One(_) => Ends::Later,
             Found::Heard(host) => Ends::But(*host),
-            Found::Any => Ends::Any,
+            Found::Named(_) | Found::Any => Ends::Any,
         }
-    }
-}
-
-/// The same, where at least there may be something to say.
-fn or_due(found: Found) -> Found
-    ensures { result ≡ or_due found }
-{
-    match found {
-        Found::Nothing => Found::Due,
-        Found::Due | Found::Heard(_) | Found::One(_) | Found::Any => found,
-    }
-}
-
-fn is_stranger(conns: &Conns, conn: u32) -> bool
-    ensures { result ≡ is_stranger conns.now conn }
-{
-    match conns.get(conn) {
-        Some(found) => found.dp.is_none(),
-        None => false,
-    }
-}
-
-/// What may differ where a connection ends: nothing where it is no datapath yet.
-pub(crate) fn by_end(conns: &Conns, conn: u32) -> Found
-    ensures { result ≡ by_end conns.now conn }
-{
-    if is_stranger(conns, conn) {
-        Found::Due
-    } else {
-        Found::Any
-    }
-}
-
-/// What may differ where a connection of this datapath took a step, and this follows from it.
-pub(crate) fn behind_step(dp: Option<DpId>, found: Found) -> Found
-    ensures { result ≡ behind_step dp found }
-{
-    match dp {
-        Some(_) => Found::Any,
-        None => or_due(found),
     }
 }
 

@@ -1,23 +1,25 @@
 //! What a frame does that a switch sent.
 
-ghost use Rattle.std.specs.Prelude.{◌≡◌, false, IfOk, OnOk};
+ghost use Rattle.std.specs.Prelude.{◌≡◌, ◌||◌, false, true, IfOk, OnOk};
+ghost use Rattle.std.specs.Option.{option_map_or};
 ghost use Rattle.conf_types.specs.Valid.{IsValid};
 ghost use Rattle.switch_session.specs.declared.closing.Closing.TheVariants.{BadFrame};
 ghost use Rattle.ctl_world.specs.Connections.{conn_with};
 ghost use Rattle.ctl_world.specs.Ends.{close};
 ghost use Rattle.ctl_world.specs.Frames.{front};
 ghost use Rattle.ctl_world.specs.World.{IsSound};
-ghost use Rattle.ctl_settle.specs.Rest.{AreInOrder};
 ghost use Rattle.ctl_settle.specs.Settling.{settle};
-ghost use Rattle.ctl_core.specs.Changes.{any_changes, frame_changes, heard_packet_changes, message_changes, next_changes, step_changes};
+ghost use Rattle.ctl_core.specs.Changes.{Changes, any_changes, frame_changes, heard_packet_changes, message_changes, next_changes, step_changes};
 ghost use Rattle.ctl_life.specs.Life.{echo, has_frame, read, says, tell_version, turn_away, unread};
 ghost use Rattle.ctl_packets.specs.Changes.{packet_changes};
 ghost use Rattle.ctl_packets.specs.Packets.{packet_in};
-ghost use Rattle.ctl_core.specs.Found.{Tells, is_settled, is_touched};
+ghost use Rattle.ctl_core.specs.Found.{Tells, is_barrier_reply, is_reply, is_touched};
 ghost use Rattle.ctl_core.specs.Hearing.{follow, hear_frame, hear_frames, hear_message, hear_next, packet};
 ghost use Rattle.ctl_core.specs.Known.{HasSettled, IsEarly};
 
-use crate::found::{Found, behind_step, by_end, by_packet};
+use crate::before::Before;
+use crate::ends::Ends;
+use crate::found::{Found, by_packet};
 use crate::gateways::begin;
 use crate::known::{Known, settle_anew, settle_where_due};
 use crate::laws::{
@@ -27,18 +29,16 @@ use crate::setup::{introduce, unfit, wipe};
 use conf_types::{Conf, Tally};
 use ctl_life::{answer_echo, read_message, turn_away};
 use ctl_packets::packet_in;
-use ctl_settle::laws::{
-    alike_worlds_have_the_same_plans, alike_worlds_rest_alike, strangers_change_nothing,
-};
+use ctl_settle::laws::{alike_worlds_have_the_same_plans, alike_worlds_rest_alike};
 use ctl_world::laws::{
     a_sound_world_has_lost_nothing, alike_worlds_run_alike, forgetting_what_is_lost_makes_it_sound,
     such_changes_leave_it_sound, what_is_said_is_alike,
 };
-use ctl_world::{Front, World};
+use ctl_world::{Conn, Conns, Front, World};
 use net_base::{DpId, NoMemory};
 use of13_codec::{Message, PacketIn};
 use std::alloc::Global;
-use switch_session::{Closing, Step};
+use switch_session::{Closing, Stage, Step};
 
 /// An accepted configuration is valid, which its type keeps.
 pub(crate) fn a_configuration_is_valid(conf: &Conf)
@@ -127,10 +127,50 @@ fn follow(
     Ok(Found::Any)
 }
 
-fn is_settled(step: &Step) -> bool
-    ensures { result ≡ is_settled step.now }
+fn is_barrier_reply(message: &Message) -> bool
+    ensures { result ≡ is_barrier_reply message.now }
 {
-    matches!(step, Step::Settled)
+    matches!(message, Message::BarrierReply)
+}
+
+/// Whether a message is the reply to a barrier, on a connection that runs.
+fn is_reply(conn: &Conn, message: &Message) -> bool
+    ensures { result ≡ is_reply conn.now message.now }
+{
+    matches!(conn.session.stage(), Stage::Running) && is_barrier_reply(message)
+}
+
+/// Whether a message leaves the state of its connection, or is the reply to a barrier on one that runs.
+fn is_quiet(conns: &Conns, conn: u32, message: &Message, stays: bool) -> bool
+    ensures { result ≡ (stays || option_map_or (λ c. is_reply c message.now) (conn_with conns.now conn) false) }
+{
+    match conns.get(conn) {
+        Some(found) => stays || is_reply(found, message),
+        None => stays,
+    }
+}
+
+/// A connection hears a message that changes its state: what was known through it may be lost, and what differs is
+/// told.
+fn hear_change(
+    alloc: Global,
+    world: &mut World,
+    message: &Message,
+    xid: u32,
+    conn: u32,
+    dp: Option<DpId>,
+) -> Result<Found, NoMemory>
+    requires { Changes message.now xid dp (conn_with world.old.conns conn) }
+    ensures heard { OnOk result (world.new ≡ hear_message message.now xid conn world.old) }
+    ensures told { IfOk result (λ found. is_touched found ≡ true) }
+    ensures tells { IfOk result (λ found. Tells world.old world.new found) }
+{
+    let before = Before::of(alloc, world)?;
+    let step = world.conns.hear(conn, message, xid)?;
+    world.forget_lost(alloc)?;
+    follow(alloc, world, step, message, xid, conn, dp)?;
+    let touched = before.behind(alloc, world)?;
+    Ok(Found::Named(touched))
 }
 
 /// A connection hears a message. Where its state stays as it is, or it only awaits no reply any more, nothing is
@@ -142,8 +182,7 @@ fn hear_message(
     xid: u32,
     conn: u32,
 ) -> Result<Found, NoMemory>
-    requires sound { IsSound world.old }
-    requires in_order { AreInOrder world.old }
+    requires { IsSound world.old }
     ensures heard { OnOk result (world.new ≡ hear_message message.now xid conn world.old) }
     ensures told { IfOk result (λ found. is_touched found ≡ message_changes message.now xid conn world.old) }
     ensures tells { IfOk result (λ found. Tells world.old world.new found) }
@@ -151,39 +190,35 @@ fn hear_message(
     alike_worlds_run_alike();
     such_changes_leave_it_sound();
     a_sound_world_has_lost_nothing();
-    strangers_change_nothing();
     let dp = match world.conns.get(conn) {
         Some(found) => found.dp,
         None => return Ok(Found::Nothing),
     };
     let stays = world.conns.stays(conn, message, xid);
+    if !is_quiet(&world.conns, conn, message, stays) {
+        return hear_change(alloc, world, message, xid, conn, dp);
+    }
     let step = world.conns.hear(conn, message, xid)?;
     if stays {
         return follow(alloc, world, step, message, xid, conn, dp);
     }
-    if is_settled(&step) {
-        return Ok(Found::Due);
-    }
-    world.forget_lost(alloc)?;
-    let found = follow(alloc, world, step, message, xid, conn, dp)?;
-    Ok(behind_step(dp, found))
+    Ok(Found::Due)
 }
 
 /// A connection hears a frame; one that spells no message closes it. Tells what may differ.
 fn hear_frame(alloc: Global, world: &mut World, frame: &[u8], conn: u32) -> Result<Found, NoMemory>
-    requires sound { IsSound world.old }
-    requires in_order { AreInOrder world.old }
+    requires { IsSound world.old }
     ensures heard { OnOk result (world.new ≡ hear_frame (says frame.now) conn world.old) }
     ensures told { IfOk result (λ found. is_touched found ≡ frame_changes (says frame.now) conn world.old) }
     ensures tells { IfOk result (λ found. Tells world.old world.new found) }
 {
-    strangers_change_nothing();
     match read_message(alloc, frame)? {
         Some((message, xid)) => hear_message(alloc, world, &message, xid, conn),
         None => {
-            let found = by_end(&world.conns, conn);
+            let before = Before::of(alloc, world)?;
             world.close(alloc, Closing::BadFrame, conn)?;
-            Ok(found)
+            let touched = before.behind(alloc, world)?;
+            Ok(Found::Named(touched))
         }
     }
 }
@@ -239,15 +274,14 @@ fn refuse<T: Tally>(
     ensures refused { OnOk result (known.new.world ≡ settle (close BadFrame conn known.old.world)) }
     ensures settled { OnOk result (HasSettled known.new) }
 {
-    strangers_change_nothing();
     what_happens_keeps_connections_in_order();
     what_happens_keeps_the_plans();
     forgetting_what_is_lost_makes_it_sound();
     a_configuration_is_valid(&known.world.conf);
-    let found = by_end(&known.world.conns, conn);
+    let before = Before::of(alloc, &known.world)?;
     known.world.close(alloc, Closing::BadFrame, conn)?;
-    let touched = found.touched(alloc, &known.world.conf)?;
-    settle_anew(alloc, known, touched, found.ends(), units)
+    let touched = before.behind(alloc, &known.world)?;
+    settle_anew(alloc, known, touched, Ends::Any, units)
 }
 
 /// Takes what stands at the front of the bytes that came, and settles; `false` where less than a frame

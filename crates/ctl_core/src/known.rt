@@ -78,8 +78,9 @@ pub(crate) fn settle_where_due<T: Tally>(
 {
     what_rests_settles_as_it_is();
     if found.is_touched() || known.until <= known.world.moment.0 {
+        let ends = found.ends();
         let touched = found.touched(alloc, &known.world.conf)?;
-        return settle_anew(alloc, known, touched, found.ends(), units);
+        return settle_anew(alloc, known, touched, ends, units);
     }
     Ok(())
 }

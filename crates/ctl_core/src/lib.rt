@@ -1,6 +1,7 @@
 //! The controller: what happens, turn by turn, and what is said of it.
 #![tactic(auto)]
 
+mod before;
 mod controller;
 mod ends;
 mod found;

@@ -1,17 +1,19 @@
 //! What happens, turn by turn.
 
 ghost use Rattle.std.specs.Prelude.{◌≡◌, ◌<◌, Some, None, if◌then◌else◌, max, false, IfOk, OnOk};
+ghost use Rattle.std.specs.List.{list_any};
 ghost use Rattle.fg_outside.specs.declared.hub.Happening.TheVariants.{Opened, Heard, Closed, Moment as Shown, Reload};
-ghost use Rattle.ctl_life.specs.Silence.{closes, falls_silent, look, look_each, show, stir};
+ghost use Rattle.ctl_life.specs.Silence.{closes, falls_silent, is_silent, look, look_each, show, stir};
 ghost use Rattle.ctl_core.specs.Changes.{changes, latest, unread_changes};
+ghost use Rattle.ctl_world.specs.World.{now};
 ghost use Rattle.ctl_settle.specs.Rest.{IsBound, RestsUntil, rests_until};
 ghost use Rattle.ctl_core.specs.Known.{HasSettled, IsEarly};
 ghost use Rattle.ctl_life.specs.Life.{closing_for, feed, open_conn};
-ghost use Rattle.ctl_core.specs.Turning.{turned};
+ghost use Rattle.ctl_core.specs.Turning.{aged, turned};
 ghost use Rattle.ctl_core.specs.Turns.{age, hear, pass, pass_in, turn, work};
 
+use crate::before::Before;
 use crate::ends::Ends;
-use crate::found::by_end;
 use crate::hearing::{a_configuration_is_valid, hear_frames};
 use crate::known::{Known, settle_anew, settle_where_due};
 use crate::laws::{
@@ -23,17 +25,19 @@ use crate::turned::turned;
 use conf_types::Tally;
 use ctl_life::{closing_for, look_after, open};
 use ctl_settle::laws::{
-    alike_worlds_have_the_same_plans, alike_worlds_rest_alike, strangers_change_nothing,
-    what_rests_settles_as_it_is,
+    alike_worlds_have_the_same_plans, alike_worlds_rest_alike, what_rests_settles_as_it_is,
 };
 use ctl_settle::{Touched, rests_until};
-use ctl_world::World;
 use ctl_world::laws::{
     alike_worlds_run_alike, forgetting_what_is_lost_makes_it_sound, what_is_said_is_alike,
 };
+use ctl_world::{Conn, World};
 use fg_outside::{EndCause, Happening};
 use net_base::{Moment, NoMemory};
 use std::alloc::Global;
+
+/// After so many milliseconds without a byte a connection is closed.
+const SILENCE: u64 = 60_000;
 
 /// Bytes came on a connection.
 fn feed(known: &mut Known, conn: u32, piece: &[u8]) -> Result<(), NoMemory>
@@ -155,27 +159,58 @@ fn closed<T: Tally>(
     forgetting_what_is_lost_makes_it_sound();
     what_happens_keeps_connections_in_order();
     what_happens_keeps_the_plans();
-    strangers_change_nothing();
-    let found = by_end(&known.world.conns, conn);
+    let before = Before::of(alloc, &known.world)?;
     known.world.end(alloc, closing_for(cause), conn)?;
-    let touched = found.touched(alloc, &known.world.conf)?;
-    settle_anew(alloc, known, touched, found.ends(), units)
+    let touched = before.behind(alloc, &known.world)?;
+    settle_anew(alloc, known, touched, Ends::Any, units)
 }
 
-/// What may differ where the clock showed a moment: the hosts that it turns, or anything where a connection was
-/// closed.
-fn touched_at(
-    alloc: Global,
-    world: &World,
-    before: Moment,
-    closed: bool,
-) -> Result<Touched, NoMemory>
-    ensures { IfOk result (λ touched. touched ≡ (if closed then None else Some (turned before.0 world.now))) }
+/// Whether no byte came on a connection for too long.
+fn is_silent(now: Moment, conn: &Conn) -> bool
+    ensures { result ≡ is_silent now conn.now }
 {
-    if closed {
-        Ok(Touched::anything(alloc))
+    SILENCE <= now.0.saturating_sub(conn.session.heard().0)
+}
+
+fn any_silent(conns: &[Conn], now: Moment) -> bool
+    ensures { result ≡ list_any (is_silent now) conns.now }
+{
+    conns.iter().any(|conn| is_silent(now, conn))
+}
+
+/// What is known, where a connection falls silent at a moment.
+fn before_silence(alloc: Global, world: &World, moment: u64) -> Result<Option<Before>, NoMemory>
+    ensures { IfOk result (λ kept. kept ≡ (if list_any (is_silent (record { 0 = max world.now.moment.0 moment })) world.now.conns then Some (now world.now) else None)) }
+{
+    if any_silent(world.conns.as_slice(), Moment(world.moment.0.max(moment))) {
+        let before = Before::of(alloc, world)?;
+        Ok(Some(before))
     } else {
-        turned(alloc, world, before)
+        Ok(None)
+    }
+}
+
+/// Forgets the hosts whose time is over, and tells what differs: from what was known, where that was kept; else the
+/// hosts that the present moment turns, where an earlier one was shown before.
+fn age_named(
+    alloc: Global,
+    world: &mut World,
+    before: Moment,
+    kept: Option<Before>,
+) -> Result<Touched, NoMemory>
+    ensures done { OnOk result (world.new ≡ age world.old) }
+    ensures touched { IfOk result (λ touched. touched ≡ Some (aged before.0 kept world.old)) }
+{
+    match kept {
+        Some(kept) => {
+            age(world);
+            kept.behind(alloc, world)
+        }
+        None => {
+            let touched = turned(alloc, world, before)?;
+            age(world);
+            Ok(touched)
+        }
     }
 }
 
@@ -215,12 +250,12 @@ fn passed<T: Tally>(
     what_rests_settles_as_it_is();
     known.until = until_at(&known.world, known.until, moment);
     let before = known.world.moment;
+    let kept = before_silence(alloc, &known.world, moment)?;
     let closed = look_after(alloc, &mut known.world, moment)?;
     if !closed && known.world.moment.0 < known.until {
         return Ok(());
     }
-    let touched = touched_at(alloc, &known.world, before, closed)?;
-    age(&mut known.world);
+    let touched = age_named(alloc, &mut known.world, before, kept)?;
     settle_anew(alloc, known, touched, Ends::Any, units)
 }
 

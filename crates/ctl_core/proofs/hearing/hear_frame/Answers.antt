@@ -1,17 +1,18 @@
-use Rattle.std.proofs.Common.{sym, subst}
+use Rattle.std.proofs.Common.{◌≡◌, Some, sym, subst}
+use Rattle.conf_types.specs.State.{State}
 use Rattle.switch_session.specs.declared.closing.Closing.TheVariants.{BadFrame}
-use Rattle.ctl_world.specs.World.{World}
-use Rattle.ctl_settle.proofs.Names.{stranger_closed_same}
+use Rattle.ctl_world.specs.World.{World, now}
+use Rattle.ctl_settle.specs.Touched.{MayDiffer}
+use Rattle.ctl_core.specs.declared.found.Found.TheVariants.{Named}
+use Rattle.ctl_core.specs.Behind.{behind}
 use Rattle.ctl_core.specs.Found.{Tells}
-use Rattle.ctl_core.proofs.Telling.{IsQuiet, end_tells, same_leaves}
+use Rattle.ctl_core.proofs.NoneNew.{NoneIsNew, behind_tells, closed_new}
 use Rattle.ctl_core.proofs.hearing.hear_frame.Goals as goal
 
-pub returns-in_ok-close-in-None-clause-tells : goal.returns-in_ok-close-in-None-clause-tells
-returns-in_ok-close-in-None-clause-tells c =
+pub returns-in_ok-touched-in-None-clause-tells : goal.returns-in_ok-touched-in-None-clause-tells
+returns-in_ok-touched-in-None-clause-tells c =
     let w : World = c.args.world.now in
-    let number = c.args.conn in
-    let closed = sym c.in_ok-close-in-None.ensures in
-    subst (λ found. Tells w c.close.new.self found) (sym c.by_end-found.ensures)
-    (end_tells number w c.close.new.self c.requires.in_order
-    (λ none. subst (IsQuiet w) closed
-    (c.strangers_change_nothing.ensures.closed BadFrame number w none c.requires.sound, same_leaves w _ (stranger_closed_same number w none c.requires.sound BadFrame))))
+    let v : World = c.close.new.self in
+    let new : NoneIsNew w v = subst (NoneIsNew w) (sym c.in_ok-close-in-None.ensures) (closed_new w BadFrame c.args.conn) in
+    subst (λ (may : MayDiffer). Tells w v (Named may)) (sym c.in_ok-touched-in-None.ensures)
+    (subst (λ (s : State). Tells w v (Named (Some (behind v.conf s (now v))))) (sym c.in_ok-before-in-None.ensures) (behind_tells w v new))

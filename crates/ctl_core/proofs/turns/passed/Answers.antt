@@ -1,6 +1,9 @@
-use Rattle.std.proofs.Common.{◌≡◌, ◌<◌, [], Some, None, refl, subst, sym, ap, ◌∙◌, arith, if◌then◌else◌}
-use Rattle.ctl_world.specs.World.{IsSound, World}
-use Rattle.ctl_life.specs.Silence.{show}
+use Rattle.std.proofs.Common.{◌≡◌, ◌<◌, [], Some, None, map, max, refl, subst, sym, ap, ◌∙◌, arith}
+use Rattle.std.specs.List.{list_any}
+use Rattle.net_base.specs.declared.numbers.Moment.{Moment}
+use Rattle.ctl_world.specs.Alike.{IsAlike}
+use Rattle.ctl_world.specs.World.{IsSound, World, now}
+use Rattle.ctl_life.specs.Silence.{is_silent, show}
 use Rattle.ctl_settle.specs.Plans.{Fit}
 use Rattle.ctl_settle.specs.Rest.{AreInOrder}
 use Rattle.ctl_settle.specs.Settling.{settle}
@@ -8,8 +11,10 @@ use Rattle.ctl_settle.specs.Touched.{AllFollow}
 use Rattle.ctl_settle.proofs.Following.{named_follow}
 use Rattle.ctl_core.specs.declared.known.Known.{Known}
 use Rattle.ctl_core.specs.Known.{HasSettled}
+use Rattle.ctl_core.proofs.NoneNew.{NoneIsNew, passed_new}
+use Rattle.ctl_core.proofs.Silent.{none_falls, none_silent, was_kept}
 use Rattle.ctl_core.proofs.Telling.{at_moment_follow, quiet_before}
-use Rattle.ctl_core.specs.Turning.{turned}
+use Rattle.ctl_core.specs.Turning.{aged as aged_names}
 use Rattle.ctl_core.specs.Turns.{age, pass}
 use Rattle.ctl_core.proofs.Rests.{moment_passes, moment_rests, moment_until, none_ages}
 use Rattle.ctl_core.proofs.turns.passed.Goals as goal
@@ -52,13 +57,18 @@ settle_anew-requires g c =
     let k = c.args.known.now in
     let w = k.world in
     let v : World = c.look_after.new.world in
-    let aged = c.age.ensures ∙ ap age c.in_ok-closed.ensures.looked in
+    let shown : Moment = record { 0 = max w.moment.0 c.args.moment } in
+    let aged = c.in_ok-touched.ensures.done ∙ ap age c.in_ok-closed.ensures.looked in
+    let done = c.in_ok-touched.ensures.done in
+    let alike : c.in_ok-kept.kept ≡ None → IsAlike v (show c.args.moment w) =
+    λ none. c.in_ok-closed.ensures.alike (c.in_ok-closed.ensures.told ∙ none_falls (show c.args.moment w) (none_silent (list_any (is_silent shown) w.conns) (now w) (sym c.in_ok-kept.ensures ∙ none)) (map (λ d. d.number) w.conns)) in
+    let new : NoneIsNew w (age v) = subst (NoneIsNew w) (ap age (sym c.in_ok-closed.ensures.looked)) (passed_new w c.args.moment) in
     record {
       sound = subst IsSound (sym aged) (c.a_moment_leaves_it_sound.ensures c.args.moment w c.a_configuration_is_valid.ensures c.requires.sound);
       in_order = subst AreInOrder (sym aged) (c.what_happens_keeps_connections_in_order.ensures.passed c.args.moment w c.requires.in_order);
       fit = subst (λ (u : World). Fit u.conns k.plans) (sym aged) (c.what_happens_keeps_the_plans.ensures.passed c.args.moment w k.plans c.requires.held.fit);
-      follow = subst (λ may. AllFollow c.age.new.world may k.plans) (sym c.in_ok-touched.ensures)
-          (subst (λ (u : World). AllFollow u (if c.in_ok-closed.closed then None else Some (turned w.moment.0 v)) k.plans) (sym c.age.ensures)
-          (at_moment_follow c.args.moment w v c.in_ok-closed.closed c.in_ok-closed.ensures.alike k.plans c.requires.follow));
+      follow = subst (λ may. AllFollow c.age_named.new.world may k.plans) (sym c.in_ok-touched.ensures.touched)
+          (subst (λ (u : World). AllFollow u (Some (aged_names w.moment.0 c.in_ok-kept.kept v)) k.plans) (sym done)
+          (at_moment_follow c.args.moment w v c.in_ok-kept.kept alike (λ s is. was_kept (list_any (is_silent shown) w.conns) (now w) s (sym c.in_ok-kept.ensures ∙ is)) new k.plans c.requires.follow));
       bounds = tt;
     }
