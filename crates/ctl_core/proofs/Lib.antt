@@ -1,5 +1,6 @@
 pub mod Behind
 pub mod Bounded
+pub mod Exact
 pub mod HeardOn
 pub mod InOrder
 pub mod NoneNew
