@@ -72,9 +72,11 @@ fn is_vlan_full(conf: &Conf, hosts: &Hosts, host: &HostRec) -> bool
 fn is_full(conf: &Conf, limit: u32, hosts: &Hosts, heard: &HostRec) -> bool
     ensures { result ≡ is_full conf.now (record { limit = limit; hosts = hosts.now }) heard.now }
 {
-    let full_port = !hosts.stands_there(heard) && is_port_full(conf, hosts, heard);
-    let full_table = is_vlan_full(conf, hosts, heard) || hosts.len() >= limit as usize;
-    full_port || !hosts.is_known(conf, heard) && full_table
+    if !hosts.stands_there(heard) && is_port_full(conf, hosts, heard) {
+        return true;
+    }
+    !hosts.is_known(conf, heard)
+        && (is_vlan_full(conf, hosts, heard) || hosts.len() >= limit as usize)
 }
 
 /// What becomes of a host that is heard.
