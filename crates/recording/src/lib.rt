@@ -17,7 +17,7 @@ mod written;
 
 pub use conns::Conns;
 pub use kind::RecordKind;
-pub use put::{put_closed, put_read, put_sent};
+pub use put::{put_closed, put_read, put_record, put_sent};
 pub use record::Record;
 pub use refused::{RecordCause, RecordRefused};
 pub use script_hub::ScriptHub;

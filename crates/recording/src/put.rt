@@ -66,8 +66,9 @@ fn put_parts(out: &mut Bytes, moment: u64, kind: u8, conn: u32, body: &[u8]) -> 
     out.append(body)
 }
 
-// Adds a record. After `NoMemory` the bytes are as they were.
-fn put_record(
+/// Adds a record with these parts, whatever the number of its kind. One with a body of 2^32 bytes or more can't be read,
+/// since a record tells its length in 4 bytes. After `NoMemory` the bytes are as they were.
+pub fn put_record(
     out: &mut Bytes,
     moment: u64,
     kind: u8,
