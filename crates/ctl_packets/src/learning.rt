@@ -5,11 +5,9 @@ ghost use Rattle.host_learn.specs.Learning.{hosts_after};
 ghost use Rattle.ctl_packets.specs.Changes.{is_change, learns};
 ghost use Rattle.ctl_packets.specs.Packets.{learn};
 
-use conf_types::is_up;
 use ctl_world::World;
 use host_learn::Learn;
 use net_base::{DpId, Mac, NoMemory, PortNo, Vid};
-use std::alloc::Global;
 
 /// Whether a host stands elsewhere or later than before, where this became of one that was heard.
 fn is_change(said: Learn) -> bool
@@ -25,7 +23,6 @@ fn is_change(said: Learn) -> bool
 /// The source of a frame is learned at the port that it came in by, where that is up. Answers whether
 /// something was learned.
 pub(crate) fn learn(
-    alloc: Global,
     world: &mut World,
     dp: DpId,
     port: PortNo,
@@ -36,8 +33,7 @@ pub(crate) fn learn(
     ensures same { IfOk result (λ changed. changed ≡ false → world.new ≡ world.old) }
     ensures told { IfOk result (λ changed. changed ≡ learns dp port vid mac world.old) }
 {
-    let ups = world.ups(alloc)?;
-    if !is_up(ups.as_slice(), dp, port) {
+    if !world.has_up(dp, port) {
         return Ok(false);
     }
     let said = world

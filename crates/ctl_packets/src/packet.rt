@@ -1,5 +1,4 @@
 ghost use Rattle.std.specs.Prelude.{◌≡◌, false, IfOk, OnOk};
-ghost use Rattle.conf_types.specs.State.{is_running};
 ghost use Rattle.pkt_view.specs.Frame.{shown, shown_upper, HasFixedPart};
 ghost use Rattle.ctl_world.specs.Alike.{IsAlike};
 ghost use Rattle.ctl_packets.specs.Changes.{packet_changes, port_changes, table_changes};
@@ -37,7 +36,7 @@ fn packet_of_table(
 {
     let Arrival { dp, port, vid, .. } = arrival;
     if table == Table::Source.number() {
-        learn(alloc, world, dp, port, vid, frame.src)
+        learn(world, dp, port, vid, frame.src)
     } else if table == Table::Ipv4Route.number() {
         glean(alloc, world, dp, vid, frame)
     } else if table == Table::Vip.number() {
@@ -79,13 +78,6 @@ fn packet_by(
     }
 }
 
-/// Whether a datapath runs.
-fn is_running(running: &[DpId], dp: DpId) -> bool
-    ensures { result ≡ is_running running.now dp }
-{
-    running.iter().any(|other| *other == dp)
-}
-
 /// Takes a packet that a datapath sent on a connection (PACKET_IN; OpenFlow 1.3, 7.4.1). It counts
 /// where the datapath runs, with the cookie of this controller, with the port that it came in by, and
 /// where its frame has exactly one tag, of a VLAN that the port is an edge member of; every other one is
@@ -102,8 +94,7 @@ pub fn packet_in(
     ensures alike { IfOk result (λ changed. changed ≡ false → IsAlike world.new world.old) }
     ensures told { IfOk result (λ changed. changed ≡ packet_changes packet.now dp world.old) }
 {
-    let running = world.running(alloc)?;
-    if packet.cookie != COOKIE || !is_running(running.as_slice(), dp) {
+    if packet.cookie != COOKIE || !world.has_running(dp) {
         return Ok(false);
     }
     match in_port(packet.fields.as_slice()) {

@@ -6,6 +6,7 @@ pub mod Noted
 pub mod Numbered
 pub mod Ordered
 pub mod Places
+pub mod Present
 pub mod Says
 pub mod SoundChanges
 pub mod SoundEnds

@@ -1,6 +1,6 @@
 -- Connections that stand by number: where one is, and how they go on standing so.
 use Rattle.std.proofs.Common.{◌≡◌, ℕ, zero, suc, ◌+◌, ◌<◌, ◌≤◌, ◌==◌, Bool, true, false, cond, not, Option, Some, None, List, [], ◌∷◌, length, get_or, set, drop, filter, position, nat_lt, nat_le, is_some, refl, inl, inr, sym, ap, ◌∙◌, arith, subst, eq-eqb, if◌then◌else◌}
-use Rattle.std.specs.List.{AllByRecursion, list_any, position_or_len, prefix_len}
+use Rattle.std.specs.List.{AllByRecursion, position_or_len, prefix_len}
 use Rattle.std.specs.List.Sorted.{IsNonDecreasingBy, IsPartitionPoint}
 use Rattle.std.specs.Option.{option_map_or}
 use Rattle.std.proofs.lemmas.Bool.{cases_Bool, cases_lt, eqb-true, ltb-true, ltb-false, lt-ltb, le-ltb, ne_eqb, true≢false, false≢true}

@@ -1,8 +1,10 @@
 //! Which datapaths run and which interfaces are up, by what the connections told.
 
-ghost use Rattle.std.specs.Prelude.{◌≡◌, ◌++◌, map, filter, IfOk, OnOk};
-ghost use Rattle.std.specs.List.{flat_map};
-ghost use Rattle.conf_types.specs.State.{IsValidState};
+ghost use Rattle.std.specs.Prelude.{◌≡◌, ◌==◌, ◌&&◌, ◌++◌, map, filter, IfOk, OnOk};
+ghost use Rattle.std.specs.List.{flat_map, list_any};
+ghost use Rattle.conf_types.specs.Links.{is_up};
+ghost use Rattle.conf_types.specs.State.{is_running, IsValidState};
+ghost use Rattle.conf_types.specs.Valid.{IsValid};
 ghost use Rattle.packet_way.specs.Present.{state_of};
 ghost use Rattle.ctl_world.specs.World.{has_ports, is_at_work, is_up_by, now, runs, running, running_of, ups, ups_by, ups_on};
 ghost use Rattle.ctl_world.specs.UpPorts.{is_up_among};
@@ -11,7 +13,7 @@ use crate::conns::{Conn, Conns};
 use crate::up_ports::UpPorts;
 use crate::world::World;
 use conf_types::{Conf, Dp, DpIds, Port, UpRec, UpRecs};
-use net_base::{DpId, NoMemory};
+use net_base::{DpId, NoMemory, PortNo};
 use packet_way::Now;
 use std::alloc::Global;
 use switch_session::{PortTold, Stage};
@@ -106,7 +108,66 @@ fn ups_of(alloc: Global, dps: &[Dp], conns: &Conns) -> Result<UpRecs, NoMemory>
     Ok(ups)
 }
 
+/// Whether a switch told that its port with this number is up.
+fn is_told_up(told: &[PortTold], no: PortNo) -> bool
+    ensures { result ≡ list_any (λ port. port.no == no && port.up) told.now }
+{
+    told.iter().any(|port| port.no == no && port.up)
+}
+
+fn is_up_by(told: &[PortTold], port: &Port) -> bool
+    ensures { result ≡ is_up_by told.now port.now }
+{
+    is_told_up(told, port.no) || !port.opstatus_reconf
+}
+
+fn is_one_up(ports: &[Port], told: &[PortTold], no: PortNo) -> bool
+    ensures { result ≡ list_any (λ p. p.no == no && is_up_by told.now p) ports.now }
+{
+    ports
+        .iter()
+        .any(|port| port.no == no && is_up_by(told, port))
+}
+
+/// Whether the interface of a datapath with this number is up by what its connection tells.
+fn has_up(conn: &Conn, dp: &Dp, no: PortNo) -> bool
+    ensures { result ≡ is_up (ups_by dp.now conn.now) dp.now.id no }
+{
+    has_ports(conn.session.stage()) && is_one_up(dp.ports.as_slice(), conn.session.ports(), no)
+}
+
+fn a_configuration_is_valid(conf: &Conf)
+    ensures { IsValid conf.now }
+{
+    let _ = conf.dps();
+}
+
 impl World {
+    /// Whether a datapath runs.
+    pub fn has_running(&self, dp: DpId) -> bool
+        ensures { result ≡ is_running (running self.now) dp }
+    {
+        a_configuration_is_valid(&self.conf);
+        match self.conf.dp(dp) {
+            Some(found) => is_at_work(&self.conns, found),
+            None => false,
+        }
+    }
+
+    /// Whether the interface of a datapath with this number is up.
+    pub fn has_up(&self, dp: DpId, port: PortNo) -> bool
+        ensures { result ≡ is_up (ups self.now) dp port }
+    {
+        a_configuration_is_valid(&self.conf);
+        let Some(found) = self.conf.dp(dp) else {
+            return false;
+        };
+        match self.conns.of(found.id) {
+            Some(conn) => has_up(conn, found, port),
+            None => false,
+        }
+    }
+
     /// The datapaths that run, in the order of the configuration.
     pub fn running(&self, alloc: Global) -> Result<DpIds, NoMemory>
         ensures { IfOk result (λ ids. ids ≡ running self.now) }

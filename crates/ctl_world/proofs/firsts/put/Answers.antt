@@ -1,4 +1,4 @@
-use Rattle.ctl_world.proofs.Noted.{put_keeps, put_notes}
+use Rattle.ctl_world.proofs.Noted.{put_keeps}
 use Rattle.ctl_world.proofs.firsts.put.Goals as goal
 
 pub returns-in-Ok-clause-kept : goal.returns-in-Ok-clause-kept
