@@ -121,6 +121,7 @@ fn renew<T: Tally>(
     held.plan.event(alloc, conf, now, touched.list(), units)
 }
 
+/// All plans that are kept want the cold start of what is known.
 fn renew_each<T: Tally>(
     held: &mut [Held],
     alloc: Global,
@@ -137,22 +138,6 @@ fn renew_each<T: Tally>(
         renew(one, alloc, conf, now, touched, units)?;
     }
     Ok(())
-}
-
-/// All plans that are kept want the cold start of what is known.
-fn renew_all<T: Tally>(
-    held: &mut Vec<Held>,
-    alloc: Global,
-    conf: &Conf,
-    now: &Now,
-    touched: &Touched,
-    units: &mut T,
-) -> Result<(), NoMemory>
-    requires state { IsValidState conf.now (state_of now.now) }
-    requires follow { AllByRecursion (λ h. Follows conf.now (state_of now.now) touched.now h.plan) held.old.items }
-    ensures { OnOk result (held.new.items ≡ map (renewed conf.now (state_of now.now)) held.old.items) }
-{
-    renew_each(held.as_mut_slice(), alloc, conf, now, touched, units)
 }
 
 /// Makes the plan of a datapath, where none is kept for its connection.
@@ -215,7 +200,14 @@ pub(crate) fn bring<T: Tally>(
     let ups = world.ups(alloc)?;
     let now = world.now(&running, &ups);
     drop_idle(&mut plans.held, &world.conns);
-    renew_all(&mut plans.held, alloc, &world.conf, &now, touched, units)?;
+    renew_each(
+        plans.held.as_mut_slice(),
+        alloc,
+        &world.conf,
+        &now,
+        touched,
+        units,
+    )?;
     open_plans(
         &mut plans.held,
         alloc,

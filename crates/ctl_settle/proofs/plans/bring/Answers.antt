@@ -8,12 +8,12 @@ use Rattle.ctl_settle.specs.Touched.{Follows}
 use Rattle.ctl_settle.proofs.Following.{some_follow}
 use Rattle.ctl_settle.proofs.plans.bring.Goals as goal
 
-pub renew_all-requires-clause-follow : goal.renew_all-requires-clause-follow
-renew_all-requires-clause-follow g c =
+pub renew_each-requires-clause-follow : goal.renew_each-requires-clause-follow
+renew_each-requires-clause-follow g c =
     let w : World = c.args.world.now in
     let may = c.args.touched.now in
     let state = c.now-now.ensures c.in_ok-running.ensures c.in_ok-ups.ensures in
     let kept = some_follow w may (λ h. runs_on w.conns h.conn) c.args.plans.now c.requires.follow in
-    let left : c.drop_idle.new.held.items ≡ filter (λ h. runs_on w.conns h.conn) c.args.plans.now = cc (c.drop_idle.ensures, c.plans.view_is) in
-    subst (λ (s : State). AllByRecursion (λ h. Follows w.conf s may h.plan) c.drop_idle.new.held.items) (sym state)
+    let left : c.as_mut_slice.result.now ≡ filter (λ h. runs_on w.conns h.conn) c.args.plans.now = cc (c.as_mut_slice.ensures.value, c.drop_idle.ensures, c.plans.view_is) in
+    subst (λ (s : State). AllByRecursion (λ h. Follows w.conf s may h.plan) c.as_mut_slice.result.now) (sym state)
     (subst (λ (hs : List Held). AllByRecursion (λ h. Follows w.conf (now w) may h.plan) hs) (sym left) kept)
