@@ -25,7 +25,7 @@ use Rattle.hub_drive.specs.declared.sayings.Outlet.{Outlet}
 use Rattle.hub_drive.specs.Driving.{Deed, IsFront, closings_of, deeds, deeds_of, out_of}
 use Rattle.hub_drive.specs.Machine.{Workings}
 use Rattle.hub_drive.specs.Driven.{Drives}
-use Rattle.hub_drive.specs.Replay.{ReadsSource, Replays, RunsSource, TellsFront, TellsSoFar, replayed_by}
+use Rattle.hub_drive.specs.Replay.{GivesBack, ReadsSource, Replays, RunsSource, TellsFront, TellsSoFar, replayed_by}
 use Rattle.hub_drive.proofs.Deeds.{told_with_all, whole_closed, whole_happened}
 use Rattle.hub_drive.proofs.Stories.{out-none}
 use Rattle.hub_drive.proofs.Telling.{IsFront-same}
@@ -119,6 +119,20 @@ module _ {F : Type 0} (held : F → Option Contents) (faults absences : F → �
   -- where the file is told, a fault is one of reading it
   pub fault_of_told : (files : F) (old new : FileSource F) (bytes : List ℕ) → missing_of old ≡ 0 → FilesTell (held (files_of old)) (name_of old) (Some bytes) → faults files ≤ faults (files_of old) → KeepsFiles held faults absences named old new → Rose (faults_of faults old) (faults_of faults new) → Rose (faults files) (faults (files_of new))
   fault_of_told files old new bytes none tells so_far keeps rose = Rose-since (faults files) (faults (files_of old)) (faults (files_of new)) so_far (KeepsFiles-read held faults absences named old new bytes none tells keeps rose)
+
+  -- the files behind a run over one of them
+  module _ (files : F) (old new : FileSource F) (name : List ℕ) (none : missing_of old ≡ 0) (is : name_of old ≡ name) (same : held (files_of old) ≡ held files) (so_far : faults (files_of old) ≡ faults files)
+      (no_fewer : absences files ≤ absences (files_of old)) (keeps : KeepsFiles held faults absences named old new) (unread : Type 0)
+      (rose : unread → Rose (faults_of faults old) (faults_of faults new)) (stayed : (unread → ⊥) → faults_of faults new ≡ faults_of faults old) where
+    pub gives_back : GivesBack held faults absences named name files (files_of new) unread
+    gives_back = record {
+      there = λ bytes tells not_read. fault_of_told files old new bytes none (rw (same, is) tells) (omega (arith, so_far)) keeps (rose not_read);
+      named = λ not_read below. named_by_file files old new name none so_far is keeps (rose not_read) below;
+      no_fault = λ read below. none_of_files files old new none so_far keeps (stayed read) below;
+      same_contents = keeps.same_contents ∙ same;
+      no_fewer_faults = omega (arith, so_far, keeps.files_faults);
+      no_fewer_absences = omega (arith, no_fewer, keeps.files_absences);
+    }
 
 module _ {S F : Type 0} (m : Workings S) (outlet : Outlet) (held : F → Option Contents) (faults absences : F → ℕ) (named : F → List ℕ) where
   module _ (contents : Option Contents) (name : List ℕ) (w : S) (hub : ScriptHub (FileSource F)) (begins : BeginsToRead held faults absences named contents name hub) where

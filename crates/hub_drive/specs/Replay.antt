@@ -1,7 +1,8 @@
 -- What a run over a recording has done.
-use Rattle.std.specs.Prelude.{◌≡◌, ℕ, ◌-◌, ◌^◌, ◌<◌, ◌⊎◌, List, [], length, Option, Some, None}
+use Rattle.std.specs.Prelude.{◌≡◌, ℕ, ◌-◌, ◌^◌, ◌<◌, ◌≤◌, ◌⊎◌, List, [], length, Option, Some, None}
 use Rattle.fg_outside.specs.declared.hub.Happening.{Happening}
 use Rattle.fg_outside.specs.Contents.{Contents, Tells}
+use Rattle.fg_outside.specs.Counts.{Rose}
 use Rattle.fg_outside.specs.Wrote.{appended, AppendsFront}
 use Rattle.recording.specs.declared.refused.RecordRefused.{RecordRefused}
 use Rattle.recording.specs.declared.script_hub.ScriptHub.{ScriptHub}
@@ -56,6 +57,17 @@ Replays m outlet contents name absence fault w out_old out_new err_old err_new W
     (story : List Happening) × WritesFront m outlet w story out_old out_new err_old err_new × TellsSoFar m contents name w story
 Replays m outlet contents name absence fault w out_old out_new err_old err_new Memory =
     (story : List Happening) × WritesFront m outlet w story out_old out_new err_old err_new × TellsSoFar m contents name w story
+
+-- The files that it was read from are handed back. Where it wasn't read, though it is there, a read failed, and the file that was refused
+-- last is then the recording, unless the count of faults stood at its last value. No read that failed is passed over, or tried again in
+-- silence.
+pub record GivesBack {F : Type 0} (contents : F → Option Contents) (faults absences : F → ℕ) (refused : F → List ℕ) (name : List ℕ) (old new : F) (unread : Type 0) : Type 0 where
+  pub there : (bytes : List ℕ) → Tells (contents old) name (Some bytes) → unread → Rose (faults old) (faults new)
+  pub named : unread → faults old < 2 ^ 64 - 1 → refused new ≡ name
+  pub no_fault : (unread → ⊥) → faults old < 2 ^ 64 - 1 → faults new ≡ faults old
+  pub same_contents : contents new ≡ contents old
+  pub no_fewer_faults : faults old ≤ faults new
+  pub no_fewer_absences : absences old ≤ absences new
 
 -- ---- the run over a source
 

@@ -1,12 +1,12 @@
 //! A run over a recording in silence, for what is known behind it.
 
-ghost use Rattle.std.specs.Prelude.{◌≡◌, ◌≢◌, ◌≤◌, ◌<◌, ◌-◌, ◌^◌, ℕ, List, Some, None};
+ghost use Rattle.std.specs.Prelude.{◌≡◌, ◌≢◌, ◌≤◌, None};
 ghost use Rattle.std.specs.List.{flat_map};
 ghost use Rattle.fg_outside.specs.Contents.{Tells as FilesTell};
 ghost use Rattle.fg_outside.specs.Counts.{Rose};
 ghost use Rattle.hub_drive.specs.Driven.{Goes, Tells};
 ghost use Rattle.hub_drive.specs.Driving.{deeds_by};
-ghost use Rattle.hub_drive.specs.Replay.{ReadsSource};
+ghost use Rattle.hub_drive.specs.Replay.{GivesBack, ReadsSource};
 ghost use Rattle.hub_drive.specs.Still.{Ended, RunsStill, Took};
 
 use crate::drive::Drove;
@@ -99,21 +99,10 @@ pub fn run_still<M: Machine, F: Files>(
     ensures ended { (w : M.runs.State) → M.runs.stands machine.old w
         → Ended M.runs.works (F.contents files) name (Rose (F.absences files) (F.absences result.1)) (Rose (F.faults files) (F.faults result.1)) w (M.runs.stands machine.new) result.0 }
 
-    // A recording that isn't there is told as such, and one that is there only where a read failed.
+    // A recording that isn't there is told as such.
     ensures missing { FilesTell (F.contents files) name None → result.0 ≡ Replayed.Unread }
-    ensures there { (bytes : List ℕ) → FilesTell (F.contents files) name (Some bytes) → result.0 ≡ Replayed.Unread → Rose (F.faults files) (F.faults result.1) }
-
-    // The file that was refused last is then the recording, unless the count of faults stood at its last value.
-    ensures named { result.0 ≡ Replayed.Unread → F.faults files < 2 ^ 64 - 1 → F.refused result.1 ≡ name }
-
-    // No read that failed is passed over, or tried again in silence.
-    ensures no_fault { result.0 ≢ Replayed.Unread → F.faults files < 2 ^ 64 - 1 → F.faults result.1 ≡ F.faults files }
     ensures no_write_fault { result.0 ≢ Replayed.WriteFault }
-
-    // The files are handed back.
-    ensures contents { F.contents result.1 ≡ F.contents files }
-    ensures faults { F.faults files ≤ F.faults result.1 }
-    ensures absences { F.absences files ≤ F.absences result.1 }
+    ensures back { GivesBack F.contents F.faults F.absences F.refused name files result.1 (result.0 ≡ Replayed.Unread) }
 {
     let mut files = files;
     if !is_there(&mut files, name.as_str()).unwrap_or(false) {
