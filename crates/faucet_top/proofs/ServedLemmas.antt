@@ -13,6 +13,7 @@ use Rattle.conf_gather.specs.Gathered.{Held}
 use Rattle.conf_load.specs.Loaded.{loaded}
 use Rattle.command_line.specs.declared.meaning.Job.{Job}
 use Rattle.command_line.specs.declared.meaning.Job.TheVariants.{Bench, Check, Gauge, GaugeServe, Plan, Replay, Serve, Trace, Walk}
+use Rattle.command_line.specs.declared.meaning.Traced.{Traced}
 use Rattle.command_line.specs.declared.values.Listen.{Listen}
 use Rattle.watch_hub.specs.Look.{text_of}
 use Rattle.opening_batch.specs.Opened.{Opens}
@@ -243,8 +244,8 @@ module _ {H F : Type 0} (may : H → HubStep → H → Type 0) (contents : F →
   either (Some (Replay config recording)) gives = inl ((λ c events reload_ms listen is. absurd cc, λ c events listen is. absurd cc), gives)
   either (Some (Gauge config recording)) gives = inl ((λ c events reload_ms listen is. absurd cc, λ c events listen is. absurd cc), gives)
   either (Some (Bench hosts)) gives = inl ((λ c events reload_ms listen is. absurd cc, λ c events listen is. absurd cc), gives)
-  either (Some (Trace config recording dp port frame)) gives = inl ((λ c events reload_ms listen is. absurd cc, λ c events listen is. absurd cc), gives)
-  either (Some (Walk config recording dp port frame)) gives = inl ((λ c events reload_ms listen is. absurd cc, λ c events listen is. absurd cc), gives)
+  either (Some (Trace traced)) gives = inl ((λ c events reload_ms listen is. absurd cc, λ c events listen is. absurd cc), gives)
+  either (Some (Walk traced)) gives = inl ((λ c events reload_ms listen is. absurd cc, λ c events listen is. absurd cc), gives)
   either (Some (Serve config events reload_ms listen)) gives = inr (inl (config, events, reload_ms, listen, refl, gives))
   either (Some (GaugeServe config events listen)) gives = inr (inr (config, events, listen, refl, gives))
 
@@ -255,8 +256,8 @@ module _ {H F : Type 0} (may : H → HubStep → H → Type 0) (contents : F →
   local_any (Some (Replay config recording)) local gives = gives
   local_any (Some (Gauge config recording)) local gives = gives
   local_any (Some (Bench hosts)) local gives = gives
-  local_any (Some (Trace config recording dp port frame)) local gives = gives
-  local_any (Some (Walk config recording dp port frame)) local gives = gives
+  local_any (Some (Trace traced)) local gives = gives
+  local_any (Some (Walk traced)) local gives = gives
   local_any (Some (Serve config events reload_ms listen)) local gives = absurd (local.0 config events reload_ms listen refl)
   local_any (Some (GaugeServe config events listen)) local gives = absurd (local.1 config events listen refl)
 
@@ -268,8 +269,8 @@ module _ {H F : Type 0} (may : H → HubStep → H → Type 0) (contents : F →
   any_memory (Some (Replay config recording)) delivers hub files = (out_of_memory, inr refl, delivers)
   any_memory (Some (Gauge config recording)) delivers hub files = (out_of_memory, inr refl, delivers)
   any_memory (Some (Bench hosts)) delivers hub files = (out_of_memory, inr refl, delivers)
-  any_memory (Some (Trace config recording dp port frame)) delivers hub files = (out_of_memory, inr refl, delivers)
-  any_memory (Some (Walk config recording dp port frame)) delivers hub files = (out_of_memory, inr refl, delivers)
+  any_memory (Some (Trace traced)) delivers hub files = (out_of_memory, inr refl, delivers)
+  any_memory (Some (Walk traced)) delivers hub files = (out_of_memory, inr refl, delivers)
   any_memory (Some (Serve config events reload_ms listen)) delivers hub files = inl (out_of_memory, inl refl, delivers, hub, files)
   any_memory (Some (GaugeServe config events listen)) delivers hub files = (out_of_memory, inl (inl refl, hub), delivers)
 
@@ -377,24 +378,24 @@ module _ {H F : Type 0} (may : H → HubStep → H → Type 0) (contents : F →
         by.story_measured job (contents files0) absence fault refused status o0 o1 e0 e1 m0 m1 n0 n1 (ours_where (λ c events reload_ms listen other. absurd cc, λ c events listen other. absurd cc)) right valid hosts is s
 
     -- a job that follows a frame needs no hub
-    job_local : (how : How) (config recording dp : List ℕ) (port : ℕ) (frame : List ℕ) → IsLocal (Some (job_for how config recording dp port frame))
-    job_local hows.Trace config recording dp port frame = (λ c events reload_ms listen other. absurd cc, λ c events listen other. absurd cc)
-    job_local hows.Walk config recording dp port frame = (λ c events reload_ms listen other. absurd cc, λ c events listen other. absurd cc)
+    job_local : (how : How) (traced : Traced) → IsLocal (Some (job_for how traced))
+    job_local hows.Trace traced = (λ c events reload_ms listen other. absurd cc, λ c events listen other. absurd cc)
+    job_local hows.Walk traced = (λ c events reload_ms listen other. absurd cc, λ c events listen other. absurd cc)
 
     module _ (valid : (held : Held) (name : List ℕ) (conf : Configuration) → loaded held name ≡ Ok conf → IsValid conf)
         (right : (conf : Configuration) (story : List Happening) → IsValid conf → IsRight conf story) where
-      module _ (how : How) (config recording dp : List ℕ) (port : ℕ) (frame : List ℕ) (held : Contents) (is : job ≡ Some (job_for how config recording dp port frame)) (told_so : contents files0 ≡ Some held) where
+      module _ (how : How) (traced : Traced) (held : Contents) (is : job ≡ Some (job_for how traced)) (told_so : contents files0 ≡ Some held) where
         ours : Ours job
-        ours = ours_where (subst (λ (j : Option Job). IsLocal j) (sym is) (job_local how config recording dp port frame))
+        ours = ours_where (subst (λ (j : Option Job). IsLocal j) (sym is) (job_local how traced))
 
-        pub frame_followed : status ≡ 0 → (lines : List ℕ) × IsFollowed how config recording dp port frame (held 0) (Lines lines) o0 o1 e0 e1
-        frame_followed s = by.frame_followed job (contents files0) absence fault refused status o0 o1 e0 e1 m0 m1 n0 n1 ours valid right how config recording dp port frame held is told_so s
+        pub frame_followed : status ≡ 0 → (lines : List ℕ) × IsFollowed how traced (held 0) (Lines lines) o0 o1 e0 e1
+        frame_followed s = by.frame_followed job (contents files0) absence fault refused status o0 o1 e0 e1 m0 m1 n0 n1 ours valid right how traced held is told_so s
 
-        pub frame_waits : status ≡ 9 → (name : List ℕ) × IsFollowed how config recording dp port frame (held 0) (NotReady name) o0 o1 e0 e1
-        frame_waits s = by.frame_waits job (contents files0) absence fault refused status o0 o1 e0 e1 m0 m1 n0 n1 ours valid right how config recording dp port frame held is told_so s
+        pub frame_waits : status ≡ 9 → (name : List ℕ) × IsFollowed how traced (held 0) (NotReady name) o0 o1 e0 e1
+        frame_waits s = by.frame_waits job (contents files0) absence fault refused status o0 o1 e0 e1 m0 m1 n0 n1 ours valid right how traced held is told_so s
 
-        pub frame_cut : status ≡ 5 → (why : RecordRefused) × IsCutShort config recording dp port why (held 0) o0 o1 e0 e1
-        frame_cut s = by.frame_cut job (contents files0) absence fault refused status o0 o1 e0 e1 m0 m1 n0 n1 ours valid right how config recording dp port frame held is told_so s
+        pub frame_cut : status ≡ 5 → (why : RecordRefused) × IsCutShort traced why (held 0) o0 o1 e0 e1
+        frame_cut s = by.frame_cut job (contents files0) absence fault refused status o0 o1 e0 e1 m0 m1 n0 n1 ours valid right how traced held is told_so s
 
       pub replayed : (config recording : List ℕ) (held : Contents) → job ≡ Some (Replay config recording) → contents files0 ≡ Some held → status ≡ 0 → IsReplayed config recording None (held 0) o0 o1 e0 e1
       replayed config recording held is told_so s =

@@ -14,6 +14,7 @@ use Rattle.conf_gather.specs.Gathered.{Held}
 use Rattle.conf_load.specs.Loaded.{loaded}
 use Rattle.command_line.specs.declared.meaning.Job.{Job}
 use Rattle.command_line.specs.declared.meaning.Job.TheVariants.{Bench, Check, Gauge, GaugeServe, Plan, Replay, Serve, Trace, Walk}
+use Rattle.command_line.specs.declared.meaning.Traced.{Traced}
 use Rattle.opening_batch.specs.Opened.{Opens}
 use Rattle.opening_batch.specs.Opening.{opening_of}
 use Rattle.law_stories.specs.Right.{IsRight}
@@ -94,11 +95,11 @@ module _ (contents : Option Contents) (absence fault : Type 0) (refused : List �
   job_inner (Some (Bench hosts)) a is =
       let at = ap (λ (b : Answer). b.status) is in
       (λ s. absurd (omega (arith, at, s)), λ s. omega (arith, at, s), λ s. omega (arith, at, s))
-  job_inner (Some (Trace config recording dp port frame)) a reply =
-      let inner = follow_inner hows.Trace contents absence fault config recording dp port frame reply.0 a reply.2 in
+  job_inner (Some (Trace traced)) a reply =
+      let inner = follow_inner hows.Trace contents absence fault traced reply.0 a reply.2 in
       (λ s. absurd (inner.0 s), inner.1, inner.2)
-  job_inner (Some (Walk config recording dp port frame)) a reply =
-      let inner = follow_inner hows.Walk contents absence fault config recording dp port frame reply.0 a reply.2 in
+  job_inner (Some (Walk traced)) a reply =
+      let inner = follow_inner hows.Walk contents absence fault traced reply.0 a reply.2 in
       (λ s. absurd (inner.0 s), inner.1, inner.2)
 
   job_unread : (job : Option Job) (a : Answer) → RepliesJob job contents absence fault refused a → a.status ≡ 3 → absence ⊎ fault
@@ -110,8 +111,8 @@ module _ (contents : Option Contents) (absence fault : Type 0) (refused : List �
   job_unread (Some (Gauge config recording)) a reply s = gauge_unread contents absence fault refused config recording reply.0 a reply.1 reply.2 s
   job_unread (Some (GaugeServe config events listen)) a reply s = absurd reply
   job_unread (Some (Bench hosts)) a is s = let at = ap (λ (b : Answer). b.status) is in absurd (omega (arith, at, s))
-  job_unread (Some (Trace config recording dp port frame)) a reply s = follow_unread hows.Trace contents absence fault config recording dp port frame refused reply.0 a reply.1 reply.2 s
-  job_unread (Some (Walk config recording dp port frame)) a reply s = follow_unread hows.Walk contents absence fault config recording dp port frame refused reply.0 a reply.1 reply.2 s
+  job_unread (Some (Trace traced)) a reply s = follow_unread hows.Trace contents absence fault traced refused reply.0 a reply.1 reply.2 s
+  job_unread (Some (Walk traced)) a reply s = follow_unread hows.Walk contents absence fault traced refused reply.0 a reply.1 reply.2 s
 
 -- ---- what is replied, where the files are told
 
@@ -179,8 +180,8 @@ module _ (held : Contents) (absence fault : Type 0) (refused : List ℕ) where
   job_told (Some (Gauge config recording)) a whole is reply = absurd cc
   job_told (Some (GaugeServe config events listen)) a whole is reply = absurd reply
   job_told (Some (Bench hosts)) a whole is reply = is_whole a (bench_answer (measured hosts)) whole is (inl reply)
-  job_told (Some (Trace config recording dp port frame)) a whole is reply = absurd cc
-  job_told (Some (Walk config recording dp port frame)) a whole is reply = absurd cc
+  job_told (Some (Trace traced)) a whole is reply = absurd cc
+  job_told (Some (Walk traced)) a whole is reply = absurd cc
 
   pub told_replied : (job : Option Job) (a whole : Answer) → job_answer job given ≡ Some whole → Replies job (Some held) absence fault refused a → AnswersSoFar a whole fault
   told_replied job a whole is (inl reply) = job_told job a whole is reply
@@ -200,8 +201,8 @@ module _ (held : Contents) (absence fault : Type 0) (refused : List ℕ) where
   job_status (Some (Gauge config recording)) a reply = gauge_told held absence fault refused config recording a reply.0 reply.1 reply.2
   job_status (Some (GaugeServe config events listen)) a reply = absurd reply
   job_status (Some (Bench hosts)) a is = inl (ap (λ (b : Answer). b.status) is)
-  job_status (Some (Trace config recording dp port frame)) a reply = follow_told hows.Trace held absence fault config recording dp port frame refused reply.0 a reply.1 reply.2
-  job_status (Some (Walk config recording dp port frame)) a reply = follow_told hows.Walk held absence fault config recording dp port frame refused reply.0 a reply.1 reply.2
+  job_status (Some (Trace traced)) a reply = follow_told hows.Trace held absence fault traced refused reply.0 a reply.1 reply.2
+  job_status (Some (Walk traced)) a reply = follow_told hows.Walk held absence fault traced refused reply.0 a reply.1 reply.2
 
   reply_status : (job : Option Job) (a : Answer) → Replies job (Some held) absence fault refused a → StatusFor a.status (IsStatusOf job (held 0)) fault
   reply_status job a (inl reply) = job_status job a reply
@@ -384,39 +385,39 @@ module _ (job : Option Job) (contents : Option Contents) (absence fault : Type 0
       ]
 
   -- the reply to a job that follows a frame
-  loaded_reply : (how : How) (config recording dp : List ℕ) (port : ℕ) (frame : List ℕ) (held : Contents) (b : Answer) → RepliesJob (Some (job_for how config recording dp port frame)) (Some held) absence fault refused b
-      → RepliesLoaded how (Some held) absence fault refused config recording dp port frame b
-  loaded_reply hows.Trace config recording dp port frame held b reply = reply
-  loaded_reply hows.Walk config recording dp port frame held b reply = reply
+  loaded_reply : (how : How) (traced : Traced) (held : Contents) (b : Answer) → RepliesJob (Some (job_for how traced)) (Some held) absence fault refused b
+      → RepliesLoaded how (Some held) absence fault refused traced b
+  loaded_reply hows.Trace traced held b reply = reply
+  loaded_reply hows.Walk traced held b reply = reply
 
   module _ (valid : (held : Held) (name : List ℕ) (conf : Configuration) → loaded held name ≡ Ok conf → IsValid conf)
       (right : (conf : Configuration) (story : List Happening) → IsValid conf → IsRight conf story)
-      (how : How) (config recording dp : List ℕ) (port : ℕ) (frame : List ℕ) (held : Contents) (is : job ≡ Some (job_for how config recording dp port frame)) (is_told : contents ≡ Some held) where
-    pub frame_followed : status ≡ 0 → (lines : List ℕ) × IsFollowed how config recording dp port frame (held 0) (Lines lines) o0 o1 e0 e1
+      (how : How) (traced : Traced) (held : Contents) (is : job ≡ Some (job_for how traced)) (is_told : contents ≡ Some held) where
+    pub frame_followed : status ≡ 0 → (lines : List ℕ) × IsFollowed how traced (held 0) (Lines lines) o0 o1 e0 e1
     frame_followed s =
         let done = at 0 s (λ e. omega (arith, e)) in
-        let reply = loaded_reply how config recording dp port frame held gives.0 (done_reply held is_told done.0 (Some (job_for how config recording dp port frame)) is) in
-        lines_shown (follow_shown how held absence fault config recording dp port frame valid right refused o0 o1 e0 e1 gives.0 0 reply done.0 (inl refl) done.1 done.2)
+        let reply = loaded_reply how traced held gives.0 (done_reply held is_told done.0 (Some (job_for how traced)) is) in
+        lines_shown (follow_shown how held absence fault traced valid right refused o0 o1 e0 e1 gives.0 0 reply done.0 (inl refl) done.1 done.2)
       where
-        lines_shown : (s : Shown) × ((shown_answer config s).status ≡ 0) × IsFollowed how config recording dp port frame (held 0) s o0 o1 e0 e1 → (lines : List ℕ) × IsFollowed how config recording dp port frame (held 0) (Lines lines) o0 o1 e0 e1
+        lines_shown : (s : Shown) × ((shown_answer traced.config s).status ≡ 0) × IsFollowed how traced (held 0) s o0 o1 e0 e1 → (lines : List ℕ) × IsFollowed how traced (held 0) (Lines lines) o0 o1 e0 e1
         lines_shown (Lines lines, at, followed) = (lines, followed)
         lines_shown (NotReady name, at, followed) = absurd (omega (arith, at))
 
-    pub frame_waits : status ≡ 9 → (name : List ℕ) × IsFollowed how config recording dp port frame (held 0) (NotReady name) o0 o1 e0 e1
+    pub frame_waits : status ≡ 9 → (name : List ℕ) × IsFollowed how traced (held 0) (NotReady name) o0 o1 e0 e1
     frame_waits s =
         let nine = at 9 s (λ e. omega (arith, e)) in
-        let reply = loaded_reply how config recording dp port frame held gives.0 (job_reply held is_told 9 nine.0 (λ e. omega arith) (Some (job_for how config recording dp port frame)) is) in
-        name_shown (follow_shown how held absence fault config recording dp port frame valid right refused o0 o1 e0 e1 gives.0 9 reply nine.0 (inr refl) nine.1 nine.2)
+        let reply = loaded_reply how traced held gives.0 (job_reply held is_told 9 nine.0 (λ e. omega arith) (Some (job_for how traced)) is) in
+        name_shown (follow_shown how held absence fault traced valid right refused o0 o1 e0 e1 gives.0 9 reply nine.0 (inr refl) nine.1 nine.2)
       where
-        name_shown : (s : Shown) × ((shown_answer config s).status ≡ 9) × IsFollowed how config recording dp port frame (held 0) s o0 o1 e0 e1 → (name : List ℕ) × IsFollowed how config recording dp port frame (held 0) (NotReady name) o0 o1 e0 e1
+        name_shown : (s : Shown) × ((shown_answer traced.config s).status ≡ 9) × IsFollowed how traced (held 0) s o0 o1 e0 e1 → (name : List ℕ) × IsFollowed how traced (held 0) (NotReady name) o0 o1 e0 e1
         name_shown (Lines lines, at, followed) = absurd (omega (arith, at))
         name_shown (NotReady name, at, followed) = (name, followed)
 
-    pub frame_cut : status ≡ 5 → (why : RecordRefused) × IsCutShort config recording dp port why (held 0) o0 o1 e0 e1
+    pub frame_cut : status ≡ 5 → (why : RecordRefused) × IsCutShort traced why (held 0) o0 o1 e0 e1
     frame_cut s =
         let five = at 5 s (λ e. omega (arith, e)) in
-        let reply = loaded_reply how config recording dp port frame held gives.0 (job_reply held is_told 5 five.0 (λ e. omega arith) (Some (job_for how config recording dp port frame)) is) in
-        follow_cut how held absence fault config recording dp port frame valid right refused o0 o1 e0 e1 gives.0 reply five.0 five.1 five.2
+        let reply = loaded_reply how traced held gives.0 (job_reply held is_told 5 five.0 (λ e. omega arith) (Some (job_for how traced)) is) in
+        follow_cut how held absence fault traced valid right refused o0 o1 e0 e1 gives.0 reply five.0 five.1 five.2
 
 -- ---- the reply that was given
 

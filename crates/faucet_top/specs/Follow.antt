@@ -8,6 +8,7 @@ use Rattle.conf_gather.specs.Gathered.{Held}
 use Rattle.conf_load.specs.Loaded.{loaded}
 use Rattle.command_line.specs.declared.meaning.Job.{Job}
 use Rattle.command_line.specs.declared.meaning.Job.TheVariants as jobs
+use Rattle.command_line.specs.declared.meaning.Traced.{Traced}
 use Rattle.of_match.specs.declared.packet.Packet.{Packet}
 use Rattle.pkt_view.specs.Packets.{packet}
 use Rattle.recording.specs.declared.refused.RecordRefused.{RecordRefused}
@@ -32,10 +33,10 @@ use Rattle.faucet_top.specs.Answer.{Answer, Load, last_line, missing_answer, ref
 use Rattle.faucet_top.specs.Ends.{status_after}
 use Rattle.faucet_top.specs.Status.{number_of_status}
 
--- the job that asks for it
-abbrev pub job_for : How → (config recording dp : List ℕ) → (port : ℕ) → (frame : List ℕ) → Job
-job_for hows.Trace config recording dp port frame = jobs.Trace config recording dp port frame
-job_for hows.Walk config recording dp port frame = jobs.Walk config recording dp port frame
+-- the job that follows a frame so
+abbrev pub job_for : How → Traced → Job
+job_for hows.Trace traced = jobs.Trace traced
+job_for hows.Walk traced = jobs.Walk traced
 
 -- ---- the reply
 
@@ -50,70 +51,70 @@ pub record GoesByRecording (contents : Option Contents) (recording : List ℕ) (
   pub there : (bytes : List ℕ) → Tells contents recording (Some bytes) → end ≡ followed.Ended replayed.Unread → fault
 
 -- the reply where the configuration has the datapath and the interface
-abbrev pub RepliesFollowed : How → Option Contents → (absence fault : Type 0) → (config recording dp : List ℕ) → (port : ℕ) → (frame : List ℕ) → Configuration → Answer → Type 0
-RepliesFollowed how contents absence fault config recording dp port frame conf a =
-    (p : Packet) × (packet frame ≡ Some p)
-    × ((end : Followed) × Follows how contents recording absence fault conf dp port p end × GoesByRecording contents recording fault end × (a ≡ followed_answer config recording end))
+abbrev pub RepliesFollowed : How → Option Contents → (absence fault : Type 0) → Traced → Configuration → Answer → Type 0
+RepliesFollowed how contents absence fault traced conf a =
+    (p : Packet) × (packet traced.frame ≡ Some p)
+    × ((end : Followed) × Follows how contents traced.recording absence fault conf traced.dp traced.port p end × GoesByRecording contents traced.recording fault end × (a ≡ followed_answer traced.config traced.recording end))
 
-abbrev pub RepliesEntered : How → Option Contents → (absence fault : Type 0) → (config recording dp : List ℕ) → (port : ℕ) → (frame : List ℕ) → Configuration → Option Missing → Answer → Type 0
-RepliesEntered how contents absence fault config recording dp port frame conf (Some missing) a = a ≡ missing_answer config dp port missing
-RepliesEntered how contents absence fault config recording dp port frame conf None a = RepliesFollowed how contents absence fault config recording dp port frame conf a
+abbrev pub RepliesEntered : How → Option Contents → (absence fault : Type 0) → Traced → Configuration → Option Missing → Answer → Type 0
+RepliesEntered how contents absence fault traced conf (Some missing) a = a ≡ missing_answer traced.config traced.dp traced.port missing
+RepliesEntered how contents absence fault traced conf None a = RepliesFollowed how contents absence fault traced conf a
 
 -- the reply by the configuration that a file gave
-abbrev pub RepliesFollow : How → Option Contents → (absence fault : Type 0) → (config recording dp : List ℕ) → (port : ℕ) → (frame : List ℕ) → Load → Answer → Type 0
-RepliesFollow how contents absence fault config recording dp port frame (Err why) a = a ≡ refusal config why
-RepliesFollow how contents absence fault config recording dp port frame (Ok conf) a =
-    RepliesEntered how contents absence fault config recording dp port frame conf (missing_in conf dp port) a
+abbrev pub RepliesFollow : How → Option Contents → (absence fault : Type 0) → Traced → Load → Answer → Type 0
+RepliesFollow how contents absence fault traced (Err why) a = a ≡ refusal traced.config why
+RepliesFollow how contents absence fault traced (Ok conf) a =
+    RepliesEntered how contents absence fault traced conf (missing_in conf traced.dp traced.port) a
 
 -- ---- its status
 
 -- 5 where a record is refused, else 0 where lines are shown and 9 where a datapath isn't ready
-abbrev pub IsEndStatus : How → Configuration → (dp : List ℕ) → (port : ℕ) → (frame : List ℕ) → List Happening → Option RecordRefused → ℕ → Type 0
-IsEndStatus how conf dp port frame story (Some refused) n = n ≡ 5
-IsEndStatus how conf dp port frame story None n =
-    (p : Packet) × (packet frame ≡ Some p) × (n ≡ (shown_answer [] (shown how (behind (first conf) story) dp port p)).status)
+abbrev pub IsEndStatus : How → Configuration → Traced → List Happening → Option RecordRefused → ℕ → Type 0
+IsEndStatus how conf traced story (Some refused) n = n ≡ 5
+IsEndStatus how conf traced story None n =
+    (p : Packet) × (packet traced.frame ≡ Some p) × (n ≡ (shown_answer [] (shown how (behind (first conf) story) traced.dp traced.port p)).status)
 
 -- by what the recording holds: 3 where there is none, or 7 where its story has more turns than may be taken
-abbrev pub IsFollowedStatus : How → Configuration → (dp : List ℕ) → (port : ℕ) → (frame : List ℕ) → (file : Option (List ℕ)) → ℕ → Type 0
-IsFollowedStatus how conf dp port frame None n = n ≡ 3
-IsFollowedStatus how conf dp port frame (Some bytes) n =
+abbrev pub IsFollowedStatus : How → Configuration → Traced → (file : Option (List ℕ)) → ℕ → Type 0
+IsFollowedStatus how conf traced None n = n ≡ 3
+IsFollowedStatus how conf traced (Some bytes) n =
     ((story : List Happening) × (refused : Option RecordRefused) × IsStoryOf bytes story (closed_in conf story) refused
-    × (length story < 2 ^ 64 - 1) × IsEndStatus how conf dp port frame story refused n)
+    × (length story < 2 ^ 64 - 1) × IsEndStatus how conf traced story refused n)
     ⊎ ((story : List Happening) × IsStorySoFar bytes story (closed_in conf story) × (length story ≡ 2 ^ 64 - 1) × (n ≡ 7))
 
 -- 2 where the datapath or the interface isn't there
-abbrev pub IsEnteredStatus : How → Configuration → (dp : List ℕ) → (port : ℕ) → (frame : List ℕ) → (file : Option (List ℕ)) → Option Missing → ℕ → Type 0
-IsEnteredStatus how conf dp port frame file (Some missing) n = n ≡ 2
-IsEnteredStatus how conf dp port frame file None n = IsFollowedStatus how conf dp port frame file n
+abbrev pub IsEnteredStatus : How → Configuration → Traced → (file : Option (List ℕ)) → Option Missing → ℕ → Type 0
+IsEnteredStatus how conf traced file (Some missing) n = n ≡ 2
+IsEnteredStatus how conf traced file None n = IsFollowedStatus how conf traced file n
 
-abbrev pub IsFollowStatus : How → (recording dp : List ℕ) → (port : ℕ) → (frame : List ℕ) → Held → Configuration → ℕ → Type 0
-IsFollowStatus how recording dp port frame held conf n = IsEnteredStatus how conf dp port frame (held recording) (missing_in conf dp port) n
+abbrev pub IsFollowStatus : How → Traced → Held → Configuration → ℕ → Type 0
+IsFollowStatus how traced held conf n = IsEnteredStatus how conf traced (held traced.recording) (missing_in conf traced.dp traced.port) n
 
 -- ---- the commands
 
 -- The configuration is accepted and has the interface, and this is the story that the recording tells of its controller: of all its
 -- records, or of those before this one, which is refused.
-pub record IsEntered (config recording dp : List ℕ) (port : ℕ) (refused : Option RecordRefused) (held : Held) : Type 0 where
+pub record IsEntered (traced : Traced) (refused : Option RecordRefused) (held : Held) : Type 0 where
   pub conf : Configuration
   pub bytes : List ℕ
   pub story : List Happening
-  pub accepted : loaded held config ≡ Ok conf
-  pub enters : missing_in conf dp port ≡ None
-  pub file : held recording ≡ Some bytes
+  pub accepted : loaded held traced.config ≡ Ok conf
+  pub enters : missing_in conf traced.dp traced.port ≡ None
+  pub file : held traced.recording ≡ Some bytes
   pub told : IsStoryOf bytes story (closed_in conf story) refused
   pub right : (front : List Happening) → IsFront front story → IsRight conf front
 
 -- Of the frame's packet this is shown by what the controller knows behind the recording, and it alone was written.
-pub record IsFollowed (how : How) (config recording dp : List ℕ) (port : ℕ) (frame : List ℕ) (held : Held) (s : Shown) (out_old out_new err_old err_new : Option (List ℕ)) : Type 0 where
-  pub entered : IsEntered config recording dp port None held
+pub record IsFollowed (how : How) (traced : Traced) (held : Held) (s : Shown) (out_old out_new err_old err_new : Option (List ℕ)) : Type 0 where
+  pub entered : IsEntered traced None held
   pub p : Packet
-  pub reads : packet frame ≡ Some p
-  pub shows : shown how (behind (first entered.conf) entered.story) dp port p ≡ s
-  pub out : out_new ≡ appended out_old (shown_answer config s).out
-  pub err : err_new ≡ appended err_old (shown_answer config s).err
+  pub reads : packet traced.frame ≡ Some p
+  pub shows : shown how (behind (first entered.conf) entered.story) traced.dp traced.port p ≡ s
+  pub out : out_new ≡ appended out_old (shown_answer traced.config s).out
+  pub err : err_new ≡ appended err_old (shown_answer traced.config s).err
 
 -- A record is refused, and the line that says so is all that was written.
-pub record IsCutShort (config recording dp : List ℕ) (port : ℕ) (refused : RecordRefused) (held : Held) (out_old out_new err_old err_new : Option (List ℕ)) : Type 0 where
-  pub entered : IsEntered config recording dp port (Some refused) held
+pub record IsCutShort (traced : Traced) (refused : RecordRefused) (held : Held) (out_old out_new err_old err_new : Option (List ℕ)) : Type 0 where
+  pub entered : IsEntered traced (Some refused) held
   pub out : out_new ≡ appended out_old []
-  pub err : err_new ≡ appended err_old (last_line recording (replayed.Read (Some refused)))
+  pub err : err_new ≡ appended err_old (last_line traced.recording (replayed.Read (Some refused)))

@@ -15,6 +15,7 @@ use Rattle.gauge_conf.specs.declared.gauge.GaugeConf.{GaugeConf}
 use Rattle.gauge_load.specs.Loaded.{gauge_of}
 use Rattle.command_line.specs.declared.meaning.Job.{Job}
 use Rattle.command_line.specs.declared.meaning.Job.TheVariants.{Bench, Check, Gauge, GaugeServe, Plan, Replay, Serve, Trace, Walk}
+use Rattle.command_line.specs.declared.meaning.Traced.{Traced}
 use Rattle.opening_batch.specs.Opened.{Opens}
 use Rattle.recording.specs.declared.refused.RecordRefused.{RecordRefused}
 use Rattle.recording.specs.Written.{written_records}
@@ -40,7 +41,7 @@ use Rattle.trace_story.specs.declared.showing.How.TheVariants as hows
 use Rattle.faucet_top.specs.declared.deliver.Status.{Status}
 use Rattle.faucet_top.specs.Answer.{Answer, GaugeLoad, Load, usage, out_of_memory, refusal, json_line, check_step, check_answer, bench_answer, bench_line, last_line, planned, plan_answer, unread as unread_answer}
 use Rattle.faucet_top.specs.Ends.{status_after}
-use Rattle.faucet_top.specs.Follow.{IsFollowStatus, RepliesFollow, RepliesFollowed}
+use Rattle.faucet_top.specs.Follow.{IsFollowStatus, RepliesFollow}
 use Rattle.faucet_top.specs.Status.{number_of_status}
 
 -- ---- which answer
@@ -89,9 +90,9 @@ RepliesGauge contents absence fault config recording (Err why) a = a ≡ refusal
 RepliesGauge contents absence fault config recording (Ok conf) a = RepliesRun monitor outlets.Nowhere contents absence fault recording (begun conf) a
 
 -- the reply to `trace` or `walk`
-abbrev pub RepliesLoaded : How → Option Contents → (absence fault : Type 0) → (refused config recording dp : List ℕ) → (port : ℕ) → (frame : List ℕ) → Answer → Type 0
-RepliesLoaded how contents absence fault refused config recording dp port frame a =
-    (made : Load) × Loads contents absence fault refused config made × RepliesFollow how contents absence fault config recording dp port frame made a
+abbrev pub RepliesLoaded : How → Option Contents → (absence fault : Type 0) → (refused : List ℕ) → Traced → Answer → Type 0
+RepliesLoaded how contents absence fault refused traced a =
+    (made : Load) × Loads contents absence fault refused traced.config made × RepliesFollow how contents absence fault traced made a
 
 -- the reply to a job that needs no hub, whatever fails: the answer for what the files gave
 abbrev pub RepliesJob : Option Job → Option Contents → (absence fault : Type 0) → (refused : List ℕ) → Answer → Type 0
@@ -103,8 +104,8 @@ RepliesJob (Some (Serve config events reload_ms listen)) contents absence fault 
 RepliesJob (Some (Gauge config recording)) contents absence fault refused a = (made : GaugeLoad) × GaugeLoads contents absence fault refused config made × RepliesGauge contents absence fault config recording made a
 RepliesJob (Some (GaugeServe config events listen)) contents absence fault refused a = ⊥
 RepliesJob (Some (Bench hosts)) contents absence fault refused a = a ≡ bench_answer (measured hosts)
-RepliesJob (Some (Trace config recording dp port frame)) contents absence fault refused a = RepliesLoaded hows.Trace contents absence fault refused config recording dp port frame a
-RepliesJob (Some (Walk config recording dp port frame)) contents absence fault refused a = RepliesLoaded hows.Walk contents absence fault refused config recording dp port frame a
+RepliesJob (Some (Trace traced)) contents absence fault refused a = RepliesLoaded hows.Trace contents absence fault refused traced a
+RepliesJob (Some (Walk traced)) contents absence fault refused a = RepliesLoaded hows.Walk contents absence fault refused traced a
 
 -- the same, or that memory ran out before the job was known or begun
 abbrev pub Replies : Option Job → Option Contents → (absence fault : Type 0) → (refused : List ℕ) → Answer → Type 0
@@ -149,15 +150,9 @@ GivesBench hosts status out_old out_new err_old err_new out_faults_old out_fault
     × Delivers a status out_old out_new err_old err_new out_faults_old out_faults_new err_faults_old err_faults_new
 
 -- the reply to `trace` or `walk` was delivered, or that memory ran out
-abbrev pub GivesFollow : How → Option Contents → (absence fault : Type 0) → (refused config recording dp : List ℕ) → (port : ℕ) → (frame : List ℕ) → (status : ℕ) → (out_old out_new err_old err_new : Option (List ℕ)) → (out_faults_old out_faults_new err_faults_old err_faults_new : ℕ) → Type 0
-GivesFollow how contents absence fault refused config recording dp port frame status out_old out_new err_old err_new out_faults_old out_faults_new err_faults_old err_faults_new =
-    (a : Answer) × (RepliesLoaded how contents absence fault refused config recording dp port frame a ⊎ (a ≡ out_of_memory))
-    × Delivers a status out_old out_new err_old err_new out_faults_old out_faults_new err_faults_old err_faults_new
-
--- the same, of a configuration that has the datapath and the interface
-abbrev pub GivesFollowed : How → Option Contents → (absence fault : Type 0) → (config recording dp : List ℕ) → (port : ℕ) → (frame : List ℕ) → Configuration → (status : ℕ) → (out_old out_new err_old err_new : Option (List ℕ)) → (out_faults_old out_faults_new err_faults_old err_faults_new : ℕ) → Type 0
-GivesFollowed how contents absence fault config recording dp port frame conf status out_old out_new err_old err_new out_faults_old out_faults_new err_faults_old err_faults_new =
-    (a : Answer) × (RepliesFollowed how contents absence fault config recording dp port frame conf a ⊎ (a ≡ out_of_memory))
+abbrev pub GivesFollow : How → Option Contents → (absence fault : Type 0) → (refused : List ℕ) → Traced → (status : ℕ) → (out_old out_new err_old err_new : Option (List ℕ)) → (out_faults_old out_faults_new err_faults_old err_faults_new : ℕ) → Type 0
+GivesFollow how contents absence fault refused traced status out_old out_new err_old err_new out_faults_old out_faults_new err_faults_old err_faults_new =
+    (a : Answer) × (RepliesLoaded how contents absence fault refused traced a ⊎ (a ≡ out_of_memory))
     × Delivers a status out_old out_new err_old err_new out_faults_old out_faults_new err_faults_old err_faults_new
 
 -- files of these names were loaded in order, and the answer delivered
@@ -189,8 +184,8 @@ ReadsRecording (Some (Serve config events reload_ms listen)) = ⊥
 ReadsRecording (Some (Gauge config recording)) = Unit {0}
 ReadsRecording (Some (GaugeServe config events listen)) = ⊥
 ReadsRecording (Some (Bench hosts)) = ⊥
-ReadsRecording (Some (Trace config recording dp port frame)) = Unit {0}
-ReadsRecording (Some (Walk config recording dp port frame)) = Unit {0}
+ReadsRecording (Some (Trace traced)) = Unit {0}
+ReadsRecording (Some (Walk traced)) = Unit {0}
 
 -- ---- statuses
 
@@ -222,8 +217,8 @@ IsStatusOf (Some (Serve config events reload_ms listen)) held n = IsLoadedStatus
 IsStatusOf (Some (Gauge config recording)) held n = IsLoadedStatus config (gauge_of held config) (λ conf. IsRunStatus monitor (begun conf) (held recording)) n
 IsStatusOf (Some (GaugeServe config events listen)) held n = IsLoadedStatus config (gauge_of held config) (λ conf. IsServeStatus) n
 IsStatusOf (Some (Bench hosts)) held n = n ≡ 0
-IsStatusOf (Some (Trace config recording dp port frame)) held n = IsLoadedStatus config (loaded held config) (IsFollowStatus hows.Trace recording dp port frame held) n
-IsStatusOf (Some (Walk config recording dp port frame)) held n = IsLoadedStatus config (loaded held config) (IsFollowStatus hows.Walk recording dp port frame held) n
+IsStatusOf (Some (Trace traced)) held n = IsLoadedStatus traced.config (loaded held traced.config) (IsFollowStatus hows.Trace traced held) n
+IsStatusOf (Some (Walk traced)) held n = IsLoadedStatus traced.config (loaded held traced.config) (IsFollowStatus hows.Walk traced held) n
 
 -- a status is that of the answer; or a write failed, memory ran out, or a read failed
 abbrev pub StatusFor : (status : ℕ) → (IsAnswered : ℕ → Type 0) → (fault : Type 0) → Type 0

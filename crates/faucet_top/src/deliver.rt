@@ -10,13 +10,14 @@ ghost use Rattle.faucet_top.specs.Status.{number_of_status};
 ghost use Rattle.faucet_top.specs.Ends.{Ends, refused_status, status_after, status_served};
 
 use bench_story::Measured;
+use command_line::Traced;
 use conf_causes::limit_name;
 use conf_gather::LoadRefused;
 use conf_shape::{ConfCause, ConfFault};
 use fg_outside::{Sink, write_all, write_line};
 use hub_drive::{Drove, Replayed};
 use itoa::Buffer;
-use net_base::{Bytes, PortNo};
+use net_base::Bytes;
 use recording::RecordRefused;
 use trace_story::{Followed, Missing, Shown};
 use yaml_subset::YamlFault;
@@ -295,8 +296,18 @@ pub fn deliver_plan<O: Sink, E: Sink>(
     }
 }
 
+/// Says that a configuration has no datapath with this name.
+fn deliver_no_dp<E: Sink>(err: &mut E, config: &str, dp: &str) -> Status
+    ensures ends { Ends Status.Refused (line (config.now ∷ codes ": dps." ∷ dp.now ∷ codes ": Unresolved" ∷ []))
+        (E.wrote err.old) (E.wrote err.new) (E.faults err.old) (E.faults err.new) result }
+    ensures faults { E.faults err.old ≤ E.faults err.new }
+{
+    let pieces = [config, ": dps.", dp, ": Unresolved"];
+    end_with_line(err, &pieces, Status::Refused)
+}
+
 /// Says that a datapath of a configuration has no interface with this number.
-fn deliver_missing_port<E: Sink>(err: &mut E, config: &str, dp: &str, number: &str) -> Status
+fn deliver_no_port<E: Sink>(err: &mut E, config: &str, dp: &str, number: &str) -> Status
     ensures ends { Ends Status.Refused (line (config.now ∷ codes ": dps." ∷ dp.now ∷ codes ".interfaces." ∷ number.now ∷ codes ": Unresolved" ∷ []))
         (E.wrote err.old) (E.wrote err.new) (E.faults err.old) (E.faults err.new) result }
     ensures faults { E.faults err.old ≤ E.faults err.new }
@@ -306,24 +317,16 @@ fn deliver_missing_port<E: Sink>(err: &mut E, config: &str, dp: &str, number: &s
 }
 
 /// Says what isn't there of where a frame is to come in.
-pub fn deliver_missing<E: Sink>(
-    err: &mut E,
-    config: &str,
-    dp: &str,
-    port: PortNo,
-    missing: Missing,
-) -> Status
-    ensures ends { Ends Status.Refused (missing_answer config.now dp.now port missing).err (E.wrote err.old) (E.wrote err.new) (E.faults err.old) (E.faults err.new) result }
+pub fn deliver_missing<E: Sink>(err: &mut E, traced: &Traced, missing: Missing) -> Status
+    ensures ends { Ends Status.Refused (missing_answer traced.now.config traced.now.dp traced.now.port missing).err (E.wrote err.old) (E.wrote err.new) (E.faults err.old) (E.faults err.new) result }
     ensures faults { E.faults err.old ≤ E.faults err.new }
 {
+    let (config, dp) = (traced.config.as_str(), traced.dp.as_str());
     match missing {
-        Missing::Dp => {
-            let pieces = [config, ": dps.", dp, ": Unresolved"];
-            end_with_line(err, &pieces, Status::Refused)
-        }
+        Missing::Dp => deliver_no_dp(err, config, dp),
         Missing::Port => {
             let mut buffer = Buffer::new();
-            deliver_missing_port(err, config, dp, buffer.format(port.get()))
+            deliver_no_port(err, config, dp, buffer.format(traced.port.get()))
         }
     }
 }
@@ -349,18 +352,17 @@ fn deliver_shown<O: Sink, E: Sink>(out: &mut O, err: &mut E, config: &str, shown
 pub fn deliver_followed<O: Sink, E: Sink>(
     out: &mut O,
     err: &mut E,
-    config: &str,
-    recording: &str,
+    traced: &Traced,
     followed: Followed,
 ) -> Status
-    ensures answer { Delivers (followed_answer config.now recording.now followed) (number_of_status result)
+    ensures answer { Delivers (followed_answer traced.now.config traced.now.recording followed) (number_of_status result)
         (O.wrote out.old) (O.wrote out.new) (E.wrote err.old) (E.wrote err.new)
         (O.faults out.old) (O.faults out.new) (E.faults err.old) (E.faults err.new) }
     ensures out_faults { O.faults out.old ≤ O.faults out.new }
     ensures err_faults { E.faults err.old ≤ E.faults err.new }
 {
     match followed {
-        Followed::Showed(shown) => deliver_shown(out, err, config, &shown),
-        Followed::Ended(replayed) => deliver_replayed(err, recording, replayed),
+        Followed::Showed(shown) => deliver_shown(out, err, traced.config.as_str(), &shown),
+        Followed::Ended(replayed) => deliver_replayed(err, traced.recording.as_str(), replayed),
     }
 }

@@ -5,6 +5,7 @@ ghost use Rattle.fg_outside.specs.Wrote.{appended, AppendsFront};
 ghost use Rattle.conf_types.specs.Configuration.{Configuration};
 ghost use Rattle.conf_load.specs.Loaded.{loaded};
 ghost use Rattle.command_line.specs.declared.meaning.Job.TheVariants.{Bench, Check, Gauge, GaugeServe, Plan, Replay, Serve};
+ghost use Rattle.command_line.specs.declared.meaning.Traced.{Traced};
 ghost use Rattle.trace_story.specs.declared.showing.How.{How};
 ghost use Rattle.trace_story.specs.declared.showing.Shown.TheVariants as shown;
 ghost use Rattle.command_line.specs.declared.values.Listen.{Listen};
@@ -99,48 +100,8 @@ fn do_job<F: Files, O: Sink, E: Sink>(
             let status = measure_story(alloc, *hosts, out, err);
             (status, files)
         }
-        Job::Trace {
-            config,
-            recording,
-            dp,
-            port,
-            frame,
-        } => {
-            let (config, dp, frame) = (config.as_str(), dp.as_str(), frame.as_slice());
-            follow_frame(
-                alloc,
-                How::Trace,
-                config,
-                recording,
-                dp,
-                *port,
-                frame,
-                files,
-                out,
-                err,
-            )
-        }
-        Job::Walk {
-            config,
-            recording,
-            dp,
-            port,
-            frame,
-        } => {
-            let (config, dp, frame) = (config.as_str(), dp.as_str(), frame.as_slice());
-            follow_frame(
-                alloc,
-                How::Walk,
-                config,
-                recording,
-                dp,
-                *port,
-                frame,
-                files,
-                out,
-                err,
-            )
-        }
+        Job::Trace(traced) => follow_frame(alloc, How::Trace, traced, files, out, err),
+        Job::Walk(traced) => follow_frame(alloc, How::Walk, traced, files, out, err),
         Job::Serve { .. } => unreachable!(),
         Job::GaugeServe { .. } => unreachable!(),
     }
@@ -188,12 +149,12 @@ pub fn local<F: Files, O: Sink, E: Sink>(
     ensures watched_to { (config recording : List ℕ) (held : Contents) → job.now ≡ Gauge config recording → F.contents files ≡ Some held
         → result.0 ≡ 5 → (refused : RecordRefused) × IsWatched config recording (Some refused) (held 0) (O.wrote out.old) (O.wrote out.new) (E.wrote err.old) (E.wrote err.new) }
     ensures measured { (hosts : ℕ) → job.now ≡ Bench hosts → result.0 ≡ 0 → IsMeasured hosts (O.wrote out.old) (O.wrote out.new) }
-    ensures followed { (how : How) (config recording dp : List ℕ) (port : ℕ) (frame : List ℕ) (held : Contents) → job.now ≡ job_for how config recording dp port frame → F.contents files ≡ Some held
-        → result.0 ≡ 0 → (lines : List ℕ) × IsFollowed how config recording dp port frame (held 0) (shown.Lines lines) (O.wrote out.old) (O.wrote out.new) (E.wrote err.old) (E.wrote err.new) }
-    ensures not_ready { (how : How) (config recording dp : List ℕ) (port : ℕ) (frame : List ℕ) (held : Contents) → job.now ≡ job_for how config recording dp port frame → F.contents files ≡ Some held
-        → result.0 ≡ 9 → (name : List ℕ) × IsFollowed how config recording dp port frame (held 0) (shown.NotReady name) (O.wrote out.old) (O.wrote out.new) (E.wrote err.old) (E.wrote err.new) }
-    ensures cut_short { (how : How) (config recording dp : List ℕ) (port : ℕ) (frame : List ℕ) (held : Contents) → job.now ≡ job_for how config recording dp port frame → F.contents files ≡ Some held
-        → result.0 ≡ 5 → (refused : RecordRefused) × IsCutShort config recording dp port refused (held 0) (O.wrote out.old) (O.wrote out.new) (E.wrote err.old) (E.wrote err.new) }
+    ensures followed { (how : How) (traced : Traced) (held : Contents) → job.now ≡ job_for how traced → F.contents files ≡ Some held
+        → result.0 ≡ 0 → (lines : List ℕ) × IsFollowed how traced (held 0) (shown.Lines lines) (O.wrote out.old) (O.wrote out.new) (E.wrote err.old) (E.wrote err.new) }
+    ensures not_ready { (how : How) (traced : Traced) (held : Contents) → job.now ≡ job_for how traced → F.contents files ≡ Some held
+        → result.0 ≡ 9 → (name : List ℕ) × IsFollowed how traced (held 0) (shown.NotReady name) (O.wrote out.old) (O.wrote out.new) (E.wrote err.old) (E.wrote err.new) }
+    ensures cut_short { (how : How) (traced : Traced) (held : Contents) → job.now ≡ job_for how traced → F.contents files ≡ Some held
+        → result.0 ≡ 5 → (refused : RecordRefused) × IsCutShort traced refused (held 0) (O.wrote out.old) (O.wrote out.new) (E.wrote err.old) (E.wrote err.new) }
 
     // The files are handed back.
     ensures contents { F.contents result.1 ≡ F.contents files }
@@ -423,12 +384,12 @@ pub fn faucet<F: Files, H: Hub, O: Sink, E: Sink>(
     // sends of the frame, by what was sent to its switch, or of where it arrives, by the cold starts of what is then known: exactly
     // where the datapath runs and no barrier is outstanding for it, and for `walk` the same of each that links join to it. Status 9
     // says that one isn't so, and which; status 5 that a record is refused. All that the controller says is right.
-    ensures followed { (how : How) (config recording dp : List ℕ) (port : ℕ) (frame : List ℕ) (held : Contents) → meaning words.now ≡ Some (job_for how config recording dp port frame) → F.contents files ≡ Some held
-        → result.0 ≡ 0 → (lines : List ℕ) × IsFollowed how config recording dp port frame (held 0) (shown.Lines lines) (O.wrote out.old) (O.wrote out.new) (E.wrote err.old) (E.wrote err.new) }
-    ensures not_ready { (how : How) (config recording dp : List ℕ) (port : ℕ) (frame : List ℕ) (held : Contents) → meaning words.now ≡ Some (job_for how config recording dp port frame) → F.contents files ≡ Some held
-        → result.0 ≡ 9 → (name : List ℕ) × IsFollowed how config recording dp port frame (held 0) (shown.NotReady name) (O.wrote out.old) (O.wrote out.new) (E.wrote err.old) (E.wrote err.new) }
-    ensures cut_short { (how : How) (config recording dp : List ℕ) (port : ℕ) (frame : List ℕ) (held : Contents) → meaning words.now ≡ Some (job_for how config recording dp port frame) → F.contents files ≡ Some held
-        → result.0 ≡ 5 → (refused : RecordRefused) × IsCutShort config recording dp port refused (held 0) (O.wrote out.old) (O.wrote out.new) (E.wrote err.old) (E.wrote err.new) }
+    ensures followed { (how : How) (traced : Traced) (held : Contents) → meaning words.now ≡ Some (job_for how traced) → F.contents files ≡ Some held
+        → result.0 ≡ 0 → (lines : List ℕ) × IsFollowed how traced (held 0) (shown.Lines lines) (O.wrote out.old) (O.wrote out.new) (E.wrote err.old) (E.wrote err.new) }
+    ensures not_ready { (how : How) (traced : Traced) (held : Contents) → meaning words.now ≡ Some (job_for how traced) → F.contents files ≡ Some held
+        → result.0 ≡ 9 → (name : List ℕ) × IsFollowed how traced (held 0) (shown.NotReady name) (O.wrote out.old) (O.wrote out.new) (E.wrote err.old) (E.wrote err.new) }
+    ensures cut_short { (how : How) (traced : Traced) (held : Contents) → meaning words.now ≡ Some (job_for how traced) → F.contents files ≡ Some held
+        → result.0 ≡ 5 → (refused : RecordRefused) × IsCutShort traced refused (held 0) (O.wrote out.old) (O.wrote out.new) (E.wrote err.old) (E.wrote err.new) }
 
     // Files and hub are handed back; but for `serve`, the files hold what they held, and but for `serve` and `gauge-serve`, nothing
     // was said to the hub.

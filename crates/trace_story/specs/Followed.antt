@@ -1,5 +1,5 @@
 -- What came of following a packet behind a recording.
-use Rattle.std.specs.Prelude.{◌≡◌, ℕ, ◌-◌, ◌^◌, ◌<◌, ◌⊎◌, List, length, Option, Some, None}
+use Rattle.std.specs.Prelude.{◌≡◌, ℕ, ◌-◌, ◌^◌, ◌<◌, ◌⊎◌, Bool, false, not, List, length, Option, Some, None, is_some}
 use Rattle.fg_outside.specs.declared.hub.Happening.{Happening}
 use Rattle.fg_outside.specs.Contents.{Contents, Tells}
 use Rattle.recording.specs.declared.refused.RecordRefused.{RecordRefused}
@@ -18,6 +18,14 @@ use Rattle.trace_story.specs.declared.following.Followed.TheVariants.{Showed, En
 use Rattle.trace_story.specs.declared.showing.How.{How}
 use Rattle.trace_story.specs.declared.showing.Shown.{Shown}
 use Rattle.trace_story.specs.Shown.{shown}
+
+-- the recording was read to its end
+abbrev pub is_whole : Replayed → Bool
+is_whole (replayed.Read refused) = not (is_some refused)
+is_whole replayed.Unread = false
+is_whole replayed.Spent = false
+is_whole replayed.WriteFault = false
+is_whole replayed.Memory = false
 
 -- this is shown, or memory ran out
 abbrev pub IsShown : Shown → Followed → Type 0

@@ -1,11 +1,12 @@
 //! A packet behind what a recording tells.
 
-ghost use Rattle.std.specs.Prelude.{◌≡◌, ◌≢◌, ◌≤◌, ◌<◌, ◌-◌, ◌^◌, ◌⊎◌, ℕ, List, Some, None};
+ghost use Rattle.std.specs.Prelude.{◌≡◌, ◌⊎◌, None};
 ghost use Rattle.fg_outside.specs.Contents.{Tells};
 ghost use Rattle.fg_outside.specs.Counts.{Rose};
 ghost use Rattle.ctl_world.specs.World.{World};
+ghost use Rattle.hub_drive.specs.Replay.{GivesBack};
 ghost use Rattle.ctl_drive.specs.Controller.{StandsFor};
-ghost use Rattle.trace_story.specs.Followed.{Follows, IsShown};
+ghost use Rattle.trace_story.specs.Followed.{Follows, IsShown, is_whole};
 ghost use Rattle.trace_story.specs.Shown.{shown};
 
 use crate::showing::{How, Shown, show};
@@ -25,6 +26,16 @@ pub enum Followed {
     Showed(Shown),
     /// The run over the recording ended so, and nothing is shown.
     Ended(Replayed),
+}
+
+/// Whether the recording was read to its end.
+fn is_whole(replayed: Replayed) -> bool
+    ensures { result ≡ is_whole replayed }
+{
+    match replayed {
+        Replayed::Read(refused) => refused.is_none(),
+        _ => false,
+    }
 }
 
 /// What is shown of a packet by what a machine knows.
@@ -53,7 +64,7 @@ pub fn follow<F: Files, T: Tally + Drop>(
     conf: Conf,
     how: How,
     recording: &Text,
-    dp: &str,
+    dp: &Text,
     port: PortNo,
     packet: &Packet,
     files: F,
@@ -61,20 +72,9 @@ pub fn follow<F: Files, T: Tally + Drop>(
 ) -> (Followed, F)
     ensures follows { Follows how (F.contents files) recording.now (Rose (F.absences files) (F.absences result.1)) (Rose (F.faults files) (F.faults result.1)) conf dp.now port packet.now result.0 }
 
-    // A recording that isn't there is told as such, and one that is there only where a read failed, but for want of memory.
+    // A recording that isn't there is told as such, but for want of memory.
     ensures missing { Tells (F.contents files) recording.now None → (result.0 ≡ Followed.Ended Replayed.Unread) ⊎ (result.0 ≡ Followed.Ended Replayed.Memory) }
-    ensures there { (bytes : List ℕ) → Tells (F.contents files) recording.now (Some bytes) → result.0 ≡ Followed.Ended Replayed.Unread → Rose (F.faults files) (F.faults result.1) }
-
-    // The file that was refused last is then the recording, unless the count of faults stood at its last value.
-    ensures named { result.0 ≡ Followed.Ended Replayed.Unread → F.faults files < 2 ^ 64 - 1 → F.refused result.1 ≡ recording.now }
-
-    // No read that failed is passed over, or tried again in silence.
-    ensures no_fault { result.0 ≢ Followed.Ended Replayed.Unread → F.faults files < 2 ^ 64 - 1 → F.faults result.1 ≡ F.faults files }
-
-    // The files are handed back.
-    ensures contents { F.contents result.1 ≡ F.contents files }
-    ensures faults { F.faults files ≤ F.faults result.1 }
-    ensures absences { F.absences files ≤ F.absences result.1 }
+    ensures back { GivesBack F.contents F.faults F.absences F.refused recording.now files result.1 (result.0 ≡ Followed.Ended Replayed.Unread) }
 {
     let Ok(mut machine) = Steered::new(alloc, conf, units) else {
         return (Followed::Ended(Replayed::Memory), files);
@@ -83,8 +83,9 @@ pub fn follow<F: Files, T: Tally + Drop>(
         return (Followed::Ended(Replayed::Memory), files);
     };
     let (replayed, files) = run_still(alloc, &mut machine, files, name);
-    match replayed {
-        Replayed::Read(None) => (show_behind(alloc, machine, how, dp, port, packet), files),
-        _ => (Followed::Ended(replayed), files),
+    if !is_whole(replayed) {
+        return (Followed::Ended(replayed), files);
     }
+    let followed = show_behind(alloc, machine, how, dp.as_str(), port, packet);
+    (followed, files)
 }

@@ -56,10 +56,10 @@ pub returns-clause-measured : goal.returns-clause-measured
 returns-clause-measured g c = λ hosts is. by.story_measured (Some c.args.job.now) _ _ _ _ c.number.result _ _ _ _ _ _ _ _ (rw (← c.number.ensures) at c.do_job-status.ensures.gives) c.whatever_happens_is_right.ensures c.the_configuration_is_valid.ensures hosts (ap (λ (j : Job). Some j) is)
 
 pub returns-clause-followed : goal.returns-clause-followed
-returns-clause-followed g c = λ how config recording dp port frame held is told. by.frame_followed (Some c.args.job.now) _ _ _ _ c.number.result _ _ _ _ _ _ _ _ (rw (← c.number.ensures) at c.do_job-status.ensures.gives) c.a_loaded_configuration_is_valid.ensures c.whatever_happens_is_right.ensures how config recording dp port frame held (ap (λ (j : Job). Some j) is) told
+returns-clause-followed g c = λ how traced held is told. by.frame_followed (Some c.args.job.now) _ _ _ _ c.number.result _ _ _ _ _ _ _ _ (rw (← c.number.ensures) at c.do_job-status.ensures.gives) c.a_loaded_configuration_is_valid.ensures c.whatever_happens_is_right.ensures how traced held (ap (λ (j : Job). Some j) is) told
 
 pub returns-clause-not_ready : goal.returns-clause-not_ready
-returns-clause-not_ready g c = λ how config recording dp port frame held is told. by.frame_waits (Some c.args.job.now) _ _ _ _ c.number.result _ _ _ _ _ _ _ _ (rw (← c.number.ensures) at c.do_job-status.ensures.gives) c.a_loaded_configuration_is_valid.ensures c.whatever_happens_is_right.ensures how config recording dp port frame held (ap (λ (j : Job). Some j) is) told
+returns-clause-not_ready g c = λ how traced held is told. by.frame_waits (Some c.args.job.now) _ _ _ _ c.number.result _ _ _ _ _ _ _ _ (rw (← c.number.ensures) at c.do_job-status.ensures.gives) c.a_loaded_configuration_is_valid.ensures c.whatever_happens_is_right.ensures how traced held (ap (λ (j : Job). Some j) is) told
 
 pub returns-clause-cut_short : goal.returns-clause-cut_short
-returns-clause-cut_short g c = λ how config recording dp port frame held is told. by.frame_cut (Some c.args.job.now) _ _ _ _ c.number.result _ _ _ _ _ _ _ _ (rw (← c.number.ensures) at c.do_job-status.ensures.gives) c.a_loaded_configuration_is_valid.ensures c.whatever_happens_is_right.ensures how config recording dp port frame held (ap (λ (j : Job). Some j) is) told
+returns-clause-cut_short g c = λ how traced held is told. by.frame_cut (Some c.args.job.now) _ _ _ _ c.number.result _ _ _ _ _ _ _ _ (rw (← c.number.ensures) at c.do_job-status.ensures.gives) c.a_loaded_configuration_is_valid.ensures c.whatever_happens_is_right.ensures how traced held (ap (λ (j : Job). Some j) is) told
