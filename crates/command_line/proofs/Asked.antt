@@ -19,14 +19,14 @@ use Rattle.command_line.specs.declared.meaning.Command.{Command}
 use Rattle.command_line.specs.declared.meaning.Command.TheVariants as commands
 use Rattle.command_line.specs.declared.meaning.Job.{Job}
 use Rattle.command_line.specs.declared.meaning.Job.TheVariants as jobs
+use Rattle.command_line.specs.declared.meaning.SentOn.{SentOn}
 use Rattle.command_line.specs.declared.meaning.ServeOptions.{ServeOptions}
-use Rattle.command_line.specs.declared.meaning.Traced.{Traced}
 use Rattle.command_line.specs.declared.parts.CommandOption.{CommandOption}
 use Rattle.command_line.specs.declared.parts.Parts.{Parts}
 use Rattle.command_line.specs.declared.recorded.RecordedServe.{RecordedServe}
 use Rattle.command_line.specs.declared.values.Listen.{Listen}
-use Rattle.command_line.specs.Asked.{StandOnce, AreWritten, StandsBehind, StandsOrIs, Spells, SpellsFrame, SpellsListen, SpellTraced, SaysEvents, SaysReload, SaysListen, SayHowToServe, AskFor, Check, Plan, Replay, Serve, Gauge, GaugeServe, Bench, Trace, Walk, AskToRecord}
-use Rattle.command_line.specs.Meaning.{command_of, options_of, are_taken, one_of, two_of, events_of, listen_or, serve_options, traced_by, traced_in, job_of, meaning}
+use Rattle.command_line.specs.Asked.{StandOnce, AreWritten, StandsBehind, StandsOrIs, Spells, SpellsFrame, SpellsListen, SaysEvents, SaysReload, SaysListen, SayHowToServe, AskFor, Check, Plan, Replay, Serve, Gauge, GaugeServe, Bench, Trace, Walk, AskToRecord}
+use Rattle.command_line.specs.Meaning.{command_of, options_of, are_taken, one_of, two_of, events_of, listen_or, serve_options, sent_by, sent_on, job_of, meaning}
 use Rattle.command_line.specs.Frames.{frame_of}
 use Rattle.command_line.specs.Parts.{parts_of}
 use Rattle.command_line.specs.Recorded.{recorded_options, are_recorded_options, recorded_serve, recorded_meaning}
@@ -219,32 +219,39 @@ two_words (first ∷ second ∷ []) two e = ap (λ (t : List ℕ × List ℕ). t
 two_words (first ∷ second ∷ third ∷ others) two e = absurd (none-some two e)
 
 -- five words, of which the fourth spells a port and the fifth a frame
-by_words : (words : List (List ℕ)) (config recording dp port digits : List ℕ) (traced : Traced) → Written words (config ∷ recording ∷ dp ∷ port ∷ digits ∷ []) []
-    → traced_by config recording dp port digits ≡ Some traced → SpellTraced words traced
-by_words words config recording dp port digits traced is e =
-    let number = bound (number_in 1 0xffffff00 port) _ traced e in
-    let frame = bound (frame_of digits) _ traced number.2 in
-    subst (SpellTraced words) (same_Some _ _ frame.2) (record {
+record FiveWords (plain : List (List ℕ)) (sent : SentOn) : Type 0 where
+  port : List ℕ
+  digits : List ℕ
+  words : plain ≡ sent.config ∷ sent.recording ∷ sent.dp ∷ port ∷ digits ∷ []
+  is_port : Spells 1 0xffffff00 port sent.port
+  is_frame : SpellsFrame digits sent.frame
+
+by_words : (config recording dp port digits : List ℕ) (sent : SentOn) → sent_by config recording dp port digits ≡ Some sent
+    → FiveWords (config ∷ recording ∷ dp ∷ port ∷ digits ∷ []) sent
+by_words config recording dp port digits sent e =
+    let number = bound (number_in 1 0xffffff00 port) _ sent e in
+    let frame = bound (frame_of digits) _ sent number.2 in
+    subst (FiveWords (config ∷ recording ∷ dp ∷ port ∷ digits ∷ [])) (same_Some _ _ frame.2) (record {
       port = port;
       digits = digits;
-      written = is;
+      words = refl;
       is_port = spelled 1 0xffffff00 port number.0 (omega arith) number.1;
       is_frame = frame_spelled digits frame.0 frame.1;
     })
 
-five_words : (words plain : List (List ℕ)) (traced : Traced) → Written words plain [] → traced_in plain ≡ Some traced → SpellTraced words traced
-five_words words [] traced is e = absurd (none-some traced e)
-five_words words (a ∷ []) traced is e = absurd (none-some traced e)
-five_words words (a ∷ b ∷ []) traced is e = absurd (none-some traced e)
-five_words words (a ∷ b ∷ c ∷ []) traced is e = absurd (none-some traced e)
-five_words words (a ∷ b ∷ c ∷ d ∷ []) traced is e = absurd (none-some traced e)
-five_words words (config ∷ recording ∷ dp ∷ port ∷ digits ∷ []) traced is e = by_words words config recording dp port digits traced is e
-five_words words (a ∷ b ∷ c ∷ d ∷ e' ∷ f ∷ others) traced is e = absurd (none-some traced e)
+five_words : (plain : List (List ℕ)) (sent : SentOn) → sent_on plain ≡ Some sent → FiveWords plain sent
+five_words [] sent e = absurd (none-some sent e)
+five_words (a ∷ []) sent e = absurd (none-some sent e)
+five_words (a ∷ b ∷ []) sent e = absurd (none-some sent e)
+five_words (a ∷ b ∷ c ∷ []) sent e = absurd (none-some sent e)
+five_words (a ∷ b ∷ c ∷ d ∷ []) sent e = absurd (none-some sent e)
+five_words (config ∷ recording ∷ dp ∷ port ∷ digits ∷ []) sent e = by_words config recording dp port digits sent e
+five_words (a ∷ b ∷ c ∷ d ∷ e' ∷ f ∷ others) sent e = absurd (none-some sent e)
 
-five_again : (words : List (List ℕ)) (traced : Traced) (is : SpellTraced words traced)
-    → traced_in (traced.config ∷ traced.recording ∷ traced.dp ∷ is.port ∷ is.digits ∷ []) ≡ Some traced
-five_again words traced is =
-    rw (read 1 0xffffff00 is.port traced.port (omega arith) (omega arith) is.is_port, frame_again is.digits traced.frame is.is_frame) refl
+five_again : (config recording dp port digits : List ℕ) (number : ℕ) (frame : List ℕ) → Spells 1 0xffffff00 port number → SpellsFrame digits frame
+    → sent_by config recording dp port digits ≡ Some (record { config = config; recording = recording; dp = dp; port = number; frame = frame })
+five_again config recording dp port digits number frame is_port is_frame =
+    rw (read 1 0xffffff00 port number (omega arith) (omega arith) is_port, frame_again digits frame is_frame) refl
 
 mapped : {A B : Type 0} (f : A → B) (o : Option A) (y : B) → option_map f o ≡ Some y → (x : A) × (o ≡ Some x) × (f x ≡ y)
 mapped f None y e = absurd (none-some y e)
@@ -338,24 +345,21 @@ asks_bench words job e =
     let written = subst (λ plain. Written words plain []) (one_word parts.0.plain text.0 text.1) (without_options words parts.0 parts.1 parts.2) in
     subst (AskFor (codes "bench" ∷ words)) hosts.2 (Bench words text.0 hosts.0 written (spelled 1 10000 text.0 hosts.0 (omega arith) hosts.1))
 
-asks_traced : (words : List (List ℕ)) (parts : Parts) (f : Traced → Job) (job : Job)
-    → parts_of words ≡ Some parts → list_all (λ o. false) parts.options ≡ true → option_map f (traced_in parts.plain) ≡ Some job
-    → (traced : Traced) × SpellTraced words traced × (f traced ≡ job)
-asks_traced words parts f job e none is =
-    let traced = mapped f (traced_in parts.plain) job is in
-    (traced.0, five_words words parts.plain traced.0 (without_options words parts e none) traced.1, traced.2)
-
 asks_trace : (words : List (List ℕ)) (job : Job) → asked_of commands.Trace words ≡ Some job → AskFor (codes "trace" ∷ words) job
 asks_trace words job e =
     let parts = parts_from words (are_taken commands.Trace) (job_of commands.Trace) job e in
-    let traced = asks_traced words parts.0 jobs.Trace job parts.1 parts.2 parts.3 in
-    subst (AskFor (codes "trace" ∷ words)) traced.2 (Trace words traced.0 traced.1)
+    let sent = mapped (λ (sent : SentOn). jobs.Trace sent.config sent.recording sent.dp sent.port sent.frame) (sent_on parts.0.plain) job parts.3 in
+    let five = five_words parts.0.plain sent.0 sent.1 in
+    let written = subst (λ plain. Written words plain []) five.words (without_options words parts.0 parts.1 parts.2) in
+    subst (AskFor (codes "trace" ∷ words)) sent.2 (Trace words sent.0.config sent.0.recording sent.0.dp five.port five.digits sent.0.port sent.0.frame written five.is_port five.is_frame)
 
 asks_walk : (words : List (List ℕ)) (job : Job) → asked_of commands.Walk words ≡ Some job → AskFor (codes "walk" ∷ words) job
 asks_walk words job e =
     let parts = parts_from words (are_taken commands.Walk) (job_of commands.Walk) job e in
-    let traced = asks_traced words parts.0 jobs.Walk job parts.1 parts.2 parts.3 in
-    subst (AskFor (codes "walk" ∷ words)) traced.2 (Walk words traced.0 traced.1)
+    let sent = mapped (λ (sent : SentOn). jobs.Walk sent.config sent.recording sent.dp sent.port sent.frame) (sent_on parts.0.plain) job parts.3 in
+    let five = five_words parts.0.plain sent.0 sent.1 in
+    let written = subst (λ plain. Written words plain []) five.words (without_options words parts.0 parts.1 parts.2) in
+    subst (AskFor (codes "walk" ∷ words)) sent.2 (Walk words sent.0.config sent.0.recording sent.0.dp five.port five.digits sent.0.port sent.0.frame written five.is_port five.is_frame)
 
 -- one word of a table, or one of the rest
 first_or : (word name : List ℕ) (command : Command) (rest : Option Command) (found : Command) → cond (bytes_eq word name) (Some command) rest ≡ Some found
@@ -444,13 +448,19 @@ meant_bench : (words : List (List ℕ)) (text : List ℕ) (hosts : ℕ) → Writ
 meant_bench words text hosts is spells =
     meant_plain commands.Bench words (text ∷ []) refl is ∙ ap (option_map jobs.Bench) (read 1 10000 text hosts (omega arith) (omega arith) spells)
 
-meant_trace : (words : List (List ℕ)) (traced : Traced) → SpellTraced words traced → asked_of commands.Trace words ≡ Some (jobs.Trace traced)
-meant_trace words traced is =
-    meant_plain commands.Trace words (traced.config ∷ traced.recording ∷ traced.dp ∷ is.port ∷ is.digits ∷ []) refl is.written ∙ ap (option_map jobs.Trace) (five_again words traced is)
+meant_trace : (words : List (List ℕ)) (config recording dp port digits : List ℕ) (number : ℕ) (frame : List ℕ)
+    → Written words (config ∷ recording ∷ dp ∷ port ∷ digits ∷ []) [] → Spells 1 0xffffff00 port number → SpellsFrame digits frame
+    → asked_of commands.Trace words ≡ Some (jobs.Trace config recording dp number frame)
+meant_trace words config recording dp port digits number frame is is_port is_frame =
+    meant_plain commands.Trace words (config ∷ recording ∷ dp ∷ port ∷ digits ∷ []) refl is
+    ∙ ap (option_map (λ (sent : SentOn). jobs.Trace sent.config sent.recording sent.dp sent.port sent.frame)) (five_again config recording dp port digits number frame is_port is_frame)
 
-meant_walk : (words : List (List ℕ)) (traced : Traced) → SpellTraced words traced → asked_of commands.Walk words ≡ Some (jobs.Walk traced)
-meant_walk words traced is =
-    meant_plain commands.Walk words (traced.config ∷ traced.recording ∷ traced.dp ∷ is.port ∷ is.digits ∷ []) refl is.written ∙ ap (option_map jobs.Walk) (five_again words traced is)
+meant_walk : (words : List (List ℕ)) (config recording dp port digits : List ℕ) (number : ℕ) (frame : List ℕ)
+    → Written words (config ∷ recording ∷ dp ∷ port ∷ digits ∷ []) [] → Spells 1 0xffffff00 port number → SpellsFrame digits frame
+    → asked_of commands.Walk words ≡ Some (jobs.Walk config recording dp number frame)
+meant_walk words config recording dp port digits number frame is is_port is_frame =
+    meant_plain commands.Walk words (config ∷ recording ∷ dp ∷ port ∷ digits ∷ []) refl is
+    ∙ ap (option_map (λ (sent : SentOn). jobs.Walk sent.config sent.recording sent.dp sent.port sent.frame)) (five_again config recording dp port digits number frame is_port is_frame)
 
 pub meant : (words : List (List ℕ)) (job : Job) → AskFor words job → meaning words ≡ Some job
 unfolding meaning
@@ -461,8 +471,8 @@ meant w j (Serve words config options said is how) = meant_serve words config op
 meant w j (Gauge words config recording is) = meant_plain commands.Gauge words (config ∷ recording ∷ []) refl is
 meant w j (GaugeServe words config options events listen is says_events says_listen) = meant_gauge_serve words config options events listen is says_events says_listen
 meant w j (Bench words text hosts is spells) = meant_bench words text hosts is spells
-meant w j (Trace words traced is) = meant_trace words traced is
-meant w j (Walk words traced is) = meant_walk words traced is
+meant w j (Trace words config recording dp port digits number frame is is_port is_frame) = meant_trace words config recording dp port digits number frame is is_port is_frame
+meant w j (Walk words config recording dp port digits number frame is is_port is_frame) = meant_walk words config recording dp port digits number frame is is_port is_frame
 
 -- ---- a recorded controller
 

@@ -5,7 +5,6 @@ use Rattle.pkt_view.specs.Frame.{has_type}
 use Rattle.command_line.specs.declared.meaning.Job.{Job}
 use Rattle.command_line.specs.declared.meaning.Job.TheVariants as jobs
 use Rattle.command_line.specs.declared.meaning.ServeOptions.{ServeOptions}
-use Rattle.command_line.specs.declared.meaning.Traced.{Traced}
 use Rattle.command_line.specs.declared.parts.CommandOption.{CommandOption}
 use Rattle.command_line.specs.declared.recorded.RecordedServe.{RecordedServe}
 use Rattle.command_line.specs.declared.values.Listen.{Listen}
@@ -74,14 +73,6 @@ pub record SayHowToServe (options : List CommandOption) (said : ServeOptions) : 
   pub reload_ms : SaysReload options said.reload_ms
   pub listen : SaysListen (codes "127.0.0.1:6653") options said.listen
 
--- `CONFIG RECORDING DP PORT FRAME`
-pub record SpellTraced (words : List (List ℕ)) (traced : Traced) : Type 0 where
-  pub port : List ℕ
-  pub digits : List ℕ
-  pub written : Written words (traced.config ∷ traced.recording ∷ traced.dp ∷ port ∷ digits ∷ []) []
-  pub is_port : Spells 1 0xffffff00 port traced.port
-  pub is_frame : SpellsFrame digits traced.frame
-
 -- ---- jobs
 
 -- words of a command line, and the job that they ask for
@@ -105,9 +96,13 @@ pub data AskFor : List (List ℕ) → Job → Type 0 where
   -- `bench N`, N from 1 to 10,000
   Bench : (words : List (List ℕ)) (text : List ℕ) (hosts : ℕ) → Written words (text ∷ []) [] → Spells 1 10000 text hosts → AskFor (codes "bench" ∷ words) (jobs.Bench hosts)
   -- `trace CONFIG RECORDING DP PORT FRAME`
-  Trace : (words : List (List ℕ)) (traced : Traced) → SpellTraced words traced → AskFor (codes "trace" ∷ words) (jobs.Trace traced)
+  Trace : (words : List (List ℕ)) (config recording dp port digits : List ℕ) (number : ℕ) (frame : List ℕ)
+      → Written words (config ∷ recording ∷ dp ∷ port ∷ digits ∷ []) [] → Spells 1 0xffffff00 port number → SpellsFrame digits frame
+      → AskFor (codes "trace" ∷ words) (jobs.Trace config recording dp number frame)
   -- `walk CONFIG RECORDING DP PORT FRAME`
-  Walk : (words : List (List ℕ)) (traced : Traced) → SpellTraced words traced → AskFor (codes "walk" ∷ words) (jobs.Walk traced)
+  Walk : (words : List (List ℕ)) (config recording dp port digits : List ℕ) (number : ℕ) (frame : List ℕ)
+      → Written words (config ∷ recording ∷ dp ∷ port ∷ digits ∷ []) [] → Spells 1 0xffffff00 port number → SpellsFrame digits frame
+      → AskFor (codes "walk" ∷ words) (jobs.Walk config recording dp number frame)
 
 -- words of `faucet_recorded`, `CONFIG --record FILE` with the options of `serve`, and what they ask for
 pub record AskToRecord (words : List (List ℕ)) (asked : RecordedServe) : Type 0 where

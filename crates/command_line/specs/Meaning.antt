@@ -8,8 +8,8 @@ use Rattle.command_line.specs.declared.meaning.Command.{Command}
 use Rattle.command_line.specs.declared.meaning.Command.TheVariants as commands
 use Rattle.command_line.specs.declared.meaning.Job.{Job}
 use Rattle.command_line.specs.declared.meaning.Job.TheVariants as jobs
+use Rattle.command_line.specs.declared.meaning.SentOn.{SentOn}
 use Rattle.command_line.specs.declared.meaning.ServeOptions.{ServeOptions}
-use Rattle.command_line.specs.declared.meaning.Traced.{Traced}
 use Rattle.command_line.specs.declared.parts.CommandOption.{CommandOption}
 use Rattle.command_line.specs.declared.parts.Parts.{Parts}
 use Rattle.command_line.specs.declared.values.Listen.{Listen}
@@ -77,15 +77,15 @@ abbrev pub bench_of : List (List ℕ) → Option Job
 bench_of words = one_of words >>= λ word. option_map jobs.Bench (number_in 1 10000 word)
 
 -- a frame that comes in by a port, 1 to 0xffffff00, of a datapath behind what a recording tells
-abbrev pub traced_by : (config recording dp port digits : List ℕ) → Option Traced
-traced_by config recording dp port digits = do
+abbrev pub sent_by : (config recording dp port digits : List ℕ) → Option SentOn
+sent_by config recording dp port digits = do
   number ← number_in 1 0xffffff00 port
   frame ← frame_of digits
   Some (record { config = config; recording = recording; dp = dp; port = number; frame = frame })
 
 -- `CONFIG RECORDING DP PORT FRAME`
-abbrev pub traced_in : List (List ℕ) → Option Traced
-traced_in words = elim words [ config ∷ recording ∷ dp ∷ port ∷ digits ∷ [] ↦ traced_by config recording dp port digits | _ ↦ None ]
+abbrev pub sent_on : List (List ℕ) → Option SentOn
+sent_on words = elim words [ config ∷ recording ∷ dp ∷ port ∷ digits ∷ [] ↦ sent_by config recording dp port digits | _ ↦ None ]
 
 -- what a command asks for: `check FILE..`, one file or more; `plan CONFIG DP`; `replay CONFIG RECORDING`;
 -- `serve CONFIG --events N`, with what options it has beside; `gauge GAUGE_CONFIG RECORDING`;
@@ -106,8 +106,8 @@ job_of commands.GaugeServe parts = do
   listen ← listen_or (codes "127.0.0.1:6654") parts.options
   Some (jobs.GaugeServe config events listen)
 job_of commands.Bench parts = bench_of parts.plain
-job_of commands.Trace parts = option_map jobs.Trace (traced_in parts.plain)
-job_of commands.Walk parts = option_map jobs.Walk (traced_in parts.plain)
+job_of commands.Trace parts = option_map (λ sent. jobs.Trace sent.config sent.recording sent.dp sent.port sent.frame) (sent_on parts.plain)
+job_of commands.Walk parts = option_map (λ sent. jobs.Walk sent.config sent.recording sent.dp sent.port sent.frame) (sent_on parts.plain)
 
 -- the first word is the command
 unfoldable pub meaning : List (List ℕ) → Option Job

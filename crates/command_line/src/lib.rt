@@ -10,7 +10,7 @@ mod recorded;
 mod values;
 pub mod worked;
 
-pub use meaning::{Job, Traced, read_words};
+pub use meaning::{Job, read_words};
 pub use parts::{CommandOption, CommandOptions, Parts, part_words};
 pub use recorded::{RecordedServe, read_recorded_words};
 pub use values::Listen;

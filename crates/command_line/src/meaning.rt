@@ -1,7 +1,7 @@
 ghost use Rattle.std.specs.Prelude.{◌≡◌, List, ℕ, map, IfOk};
 ghost use Rattle.std.specs.List.{list_any};
 ghost use Rattle.std.specs.Str.{bytes_eq};
-ghost use Rattle.command_line.specs.Meaning.{command_of, options_of, are_taken, one_of, two_of, events_of, listen_or, serve_options, bench_of, traced_by, traced_in, job_of, meaning};
+ghost use Rattle.command_line.specs.Meaning.{command_of, options_of, are_taken, one_of, two_of, events_of, listen_or, serve_options, bench_of, sent_by, sent_on, job_of, meaning};
 ghost use Rattle.command_line.specs.Values.{number_in};
 
 use crate::frames::frame_of;
@@ -21,18 +21,6 @@ enum Command {
     Bench,
     Trace,
     Walk,
-}
-
-/// A frame that comes in by a port of a datapath, behind what a recording tells to the controller of a configuration
-/// file.
-#[derive(Debug, Drop)]
-pub struct Traced {
-    pub config: Text,
-    pub recording: Text,
-    /// The name of the datapath.
-    pub dp: Text,
-    pub port: PortNo,
-    pub frame: Bytes,
 }
 
 /// What the program is asked to do.
@@ -71,10 +59,23 @@ pub enum Job {
     },
     /// To run a controller on a story in which so many hosts come, and to measure what it says.
     Bench(u32),
-    /// To show what the datapath sends of this frame.
-    Trace(Traced),
-    /// To show where this frame arrives, over the links of the stack.
-    Walk(Traced),
+    /// To run the controller of a configuration file on a recording, and to show what a datapath then sends of a
+    /// frame that comes in by a port.
+    Trace {
+        config: Text,
+        recording: Text,
+        dp: Text,
+        port: PortNo,
+        frame: Bytes,
+    },
+    /// The same, and to show where the frame arrives, over the links of the stack.
+    Walk {
+        config: Text,
+        recording: Text,
+        dp: Text,
+        port: PortNo,
+        frame: Bytes,
+    },
 }
 
 /// The options of `serve`.
@@ -83,6 +84,16 @@ pub(crate) struct ServeOptions {
     pub(crate) events: u64,
     pub(crate) reload_ms: u64,
     pub(crate) listen: Listen,
+}
+
+/// The words of `trace` and `walk`.
+#[derive(Debug, Drop)]
+struct SentOn {
+    config: Text,
+    recording: Text,
+    dp: Text,
+    port: PortNo,
+    frame: Bytes,
 }
 
 fn command_of(word: &str) -> Option<Command>
@@ -256,15 +267,15 @@ fn port_of(text: &str) -> Option<PortNo>
 }
 
 /// What these words of `trace` or `walk` say.
-fn traced_by(
+fn sent_by(
     alloc: Global,
     config: &Text,
     recording: &Text,
     dp: &Text,
     port: &Text,
     digits: &Text,
-) -> Result<Option<Traced>, NoMemory>
-    ensures { IfOk result (λ traced. traced ≡ traced_by config.now recording.now dp.now port.now digits.now) }
+) -> Result<Option<SentOn>, NoMemory>
+    ensures { IfOk result (λ sent. sent ≡ sent_by config.now recording.now dp.now port.now digits.now) }
 {
     let Some(port) = port_of(port.as_str()) else {
         return Ok(None);
@@ -272,7 +283,7 @@ fn traced_by(
     let Some(frame) = frame_of(alloc, digits.as_str())? else {
         return Ok(None);
     };
-    Ok(Some(Traced {
+    Ok(Some(SentOn {
         config: config.copy(alloc)?,
         recording: recording.copy(alloc)?,
         dp: dp.copy(alloc)?,
@@ -282,14 +293,40 @@ fn traced_by(
 }
 
 /// What the words of `trace` and `walk` say.
-fn traced_in(alloc: Global, plain: &[Text]) -> Result<Option<Traced>, NoMemory>
-    ensures { IfOk result (λ traced. traced ≡ traced_in plain.now) }
+fn sent_on(alloc: Global, plain: &[Text]) -> Result<Option<SentOn>, NoMemory>
+    ensures { IfOk result (λ sent. sent ≡ sent_on plain.now) }
 {
     match plain {
         [config, recording, dp, port, digits] => {
-            traced_by(alloc, config, recording, dp, port, digits)
+            sent_by(alloc, config, recording, dp, port, digits)
         }
         _ => Ok(None),
+    }
+}
+
+/// What `trace` asks for.
+fn trace_job(sent: SentOn) -> Job
+    ensures { result ≡ Job.Trace sent.config sent.recording sent.dp sent.port sent.frame }
+{
+    Job::Trace {
+        config: sent.config,
+        recording: sent.recording,
+        dp: sent.dp,
+        port: sent.port,
+        frame: sent.frame,
+    }
+}
+
+/// What `walk` asks for.
+fn walk_job(sent: SentOn) -> Job
+    ensures { result ≡ Job.Walk sent.config sent.recording sent.dp sent.port sent.frame }
+{
+    Job::Walk {
+        config: sent.config,
+        recording: sent.recording,
+        dp: sent.dp,
+        port: sent.port,
+        frame: sent.frame,
     }
 }
 
@@ -321,16 +358,16 @@ fn job_of(alloc: Global, command: Command, parts: Parts) -> Result<Option<Job>, 
         Command::GaugeServe => gauge_serve_job(alloc, &parts),
         Command::Bench => Ok(bench_job(parts.plain.as_slice())),
         Command::Trace => {
-            let Some(traced) = traced_in(alloc, parts.plain.as_slice())? else {
+            let Some(sent) = sent_on(alloc, parts.plain.as_slice())? else {
                 return Ok(None);
             };
-            Ok(Some(Job::Trace(traced)))
+            Ok(Some(trace_job(sent)))
         }
         Command::Walk => {
-            let Some(traced) = traced_in(alloc, parts.plain.as_slice())? else {
+            let Some(sent) = sent_on(alloc, parts.plain.as_slice())? else {
                 return Ok(None);
             };
-            Ok(Some(Job::Walk(traced)))
+            Ok(Some(walk_job(sent)))
         }
     }
 }

@@ -130,7 +130,7 @@ pub fn words_behind_bench()
 #[tactic(auto, unfolding(crate::specs::Meaning::meaning, crate::specs::Parts::parts_of, crate::specs::Parts::parted))]
 pub fn words_behind_trace()
     ensures both_cases { meaning (codes "trace" ∷ codes "a" ∷ codes "r" ∷ codes "sw1" ∷ codes "4294967040" ∷ codes "ffFFffffffff0200000000010800" ∷ [])
-        ≡ Some (jobs.Trace (record { config = codes "a"; recording = codes "r"; dp = codes "sw1"; port = 4294967040; frame = 255 ∷ 255 ∷ 255 ∷ 255 ∷ 255 ∷ 255 ∷ 2 ∷ 0 ∷ 0 ∷ 0 ∷ 0 ∷ 1 ∷ 8 ∷ 0 ∷ [] })) }
+        ≡ Some (jobs.Trace (codes "a") (codes "r") (codes "sw1") 4294967040 (255 ∷ 255 ∷ 255 ∷ 255 ∷ 255 ∷ 255 ∷ 2 ∷ 0 ∷ 0 ∷ 0 ∷ 0 ∷ 1 ∷ 8 ∷ 0 ∷ [])) }
     ensures no_port { meaning (codes "trace" ∷ codes "a" ∷ codes "r" ∷ codes "sw1" ∷ codes "0" ∷ codes "ffffffffffff0200000000010800" ∷ []) ≡ None }
     ensures reserved_port { meaning (codes "trace" ∷ codes "a" ∷ codes "r" ∷ codes "sw1" ∷ codes "4294967041" ∷ codes "ffffffffffff0200000000010800" ∷ []) ≡ None }
     ensures hexadecimal_port { meaning (codes "trace" ∷ codes "a" ∷ codes "r" ∷ codes "sw1" ∷ codes "0x1" ∷ codes "ffffffffffff0200000000010800" ∷ []) ≡ None }
@@ -148,7 +148,7 @@ pub fn words_behind_trace()
 #[tactic(auto, unfolding(crate::specs::Meaning::meaning, crate::specs::Parts::parts_of, crate::specs::Parts::parted))]
 pub fn words_behind_walk()
     ensures tagged { meaning (codes "walk" ∷ codes "a" ∷ codes "r" ∷ codes "sw1" ∷ codes "1" ∷ codes "ffffffffffff020000000001810000640800" ∷ [])
-        ≡ Some (jobs.Walk (record { config = codes "a"; recording = codes "r"; dp = codes "sw1"; port = 1; frame = 255 ∷ 255 ∷ 255 ∷ 255 ∷ 255 ∷ 255 ∷ 2 ∷ 0 ∷ 0 ∷ 0 ∷ 0 ∷ 1 ∷ 129 ∷ 0 ∷ 0 ∷ 100 ∷ 8 ∷ 0 ∷ [] })) }
+        ≡ Some (jobs.Walk (codes "a") (codes "r") (codes "sw1") 1 (255 ∷ 255 ∷ 255 ∷ 255 ∷ 255 ∷ 255 ∷ 2 ∷ 0 ∷ 0 ∷ 0 ∷ 0 ∷ 1 ∷ 129 ∷ 0 ∷ 0 ∷ 100 ∷ 8 ∷ 0 ∷ [])) }
     ensures no_port { meaning (codes "walk" ∷ codes "a" ∷ codes "r" ∷ codes "sw1" ∷ codes "01" ∷ codes "ffffffffffff0200000000010800" ∷ []) ≡ None }
     ensures no_type { meaning (codes "walk" ∷ codes "a" ∷ codes "r" ∷ codes "sw1" ∷ codes "1" ∷ codes "ffffffffffff02000000000108" ∷ []) ≡ None }
     ensures none { meaning (codes "walk" ∷ []) ≡ None }

@@ -14,5 +14,5 @@ listen_in (Some (Serve config events reload_ms listen)) = Some listen
 listen_in (Some (Gauge config recording)) = None
 listen_in (Some (GaugeServe config events listen)) = Some listen
 listen_in (Some (Bench hosts)) = None
-listen_in (Some (Trace traced)) = None
-listen_in (Some (Walk traced)) = None
+listen_in (Some (Trace config recording dp port frame)) = None
+listen_in (Some (Walk config recording dp port frame)) = None

@@ -13,7 +13,6 @@ use Rattle.conf_gather.specs.declared.refused.LoadRefused.{LoadRefused}
 use Rattle.conf_gather.specs.Gathered.{Held}
 use Rattle.conf_load.specs.Loaded.{loaded}
 use Rattle.command_line.specs.declared.meaning.Job.{Job}
-use Rattle.command_line.specs.declared.meaning.Traced.{Traced}
 use Rattle.command_line.specs.Asked.{AskFor, Check, Plan, Replay, Serve, Gauge, GaugeServe, Bench, Trace, Walk}
 use Rattle.of_match.specs.declared.packet.Packet.{Packet}
 use Rattle.pkt_view.specs.Frame.{has_type}
@@ -40,7 +39,7 @@ use Rattle.faucet_top.specs.declared.deliver.Status.{Status}
 use Rattle.faucet_top.specs.declared.deliver.Status.TheVariants as statuses
 use Rattle.faucet_top.specs.Answer.{Answer, Load, last_line, missing_answer, out_of_memory, refusal, shown_answer, unread as unread_answer}
 use Rattle.faucet_top.specs.Ends.{Ends, status_after}
-use Rattle.faucet_top.specs.Follow.{GoesByRecording, IsCutShort, IsEntered, IsEnteredStatus, IsFollowStatus, IsFollowed, RepliesEntered, RepliesFollow, followed_answer}
+use Rattle.faucet_top.specs.Follow.{GoesByRecording, IsCutShort, IsEntered, IsEnteredStatus, IsFollowStatus, IsFollowed, RepliesEntered, RepliesFollow, Traced, followed_answer}
 use Rattle.faucet_top.specs.Given.{Delivers, GivesFollow, IsLoadedStatus, Loads, NamesUnread, RepliesLoaded, StatusFor}
 use Rattle.faucet_top.specs.Serving.{HasFrame}
 use Rattle.faucet_top.specs.Status.{number_of_status}
@@ -400,5 +399,5 @@ has_frame w j (Serve words config options said is how) = tt
 has_frame w j (Gauge words config recording is) = tt
 has_frame w j (GaugeServe words config options events listen is says_events says_listen) = tt
 has_frame w j (Bench words text hosts is spells) = tt
-has_frame w j (Trace words traced is) = is.is_frame.typed
-has_frame w j (Walk words traced is) = is.is_frame.typed
+has_frame w j (Trace words config recording dp port digits number frame is is_port is_frame) = is_frame.typed
+has_frame w j (Walk words config recording dp port digits number frame is is_port is_frame) = is_frame.typed

@@ -13,7 +13,6 @@ use Rattle.conf_gather.specs.Gathered.{Held}
 use Rattle.conf_load.specs.Loaded.{loaded}
 use Rattle.command_line.specs.declared.meaning.Job.{Job}
 use Rattle.command_line.specs.declared.meaning.Job.TheVariants.{Bench, Check, Gauge, GaugeServe, Plan, Replay, Serve, Trace, Walk}
-use Rattle.command_line.specs.declared.meaning.Traced.{Traced}
 use Rattle.command_line.specs.declared.values.Listen.{Listen}
 use Rattle.watch_hub.specs.Look.{text_of}
 use Rattle.opening_batch.specs.Opened.{Opens}
@@ -37,7 +36,7 @@ use Rattle.trace_story.specs.declared.showing.How.{How}
 use Rattle.trace_story.specs.declared.showing.How.TheVariants as hows
 use Rattle.trace_story.specs.declared.showing.Shown.TheVariants.{Lines, NotReady}
 use Rattle.faucet_top.specs.Ends.{status_served}
-use Rattle.faucet_top.specs.Follow.{IsCutShort, IsFollowed, job_for}
+use Rattle.faucet_top.specs.Follow.{IsCutShort, IsFollowed, Traced, job_for}
 use Rattle.faucet_top.specs.Given.{AreAccepted, BreaksOff, Delivers, Gives, IsLoadedStatus, IsMeasured, IsOpened, IsReplayed, IsServeStatus, IsStatusOf, IsWatched, Loads, StatusFor}
 use Rattle.faucet_top.specs.Any.{GivesAny}
 use Rattle.faucet_top.specs.Serving.{IsItsEnd, IsLocal, IsServed, RepliesServe, ServesUntil, UnservedAnswer, served_answer}
@@ -244,8 +243,8 @@ module _ {H F : Type 0} (may : H → HubStep → H → Type 0) (contents : F →
   either (Some (Replay config recording)) gives = inl ((λ c events reload_ms listen is. absurd cc, λ c events listen is. absurd cc), gives)
   either (Some (Gauge config recording)) gives = inl ((λ c events reload_ms listen is. absurd cc, λ c events listen is. absurd cc), gives)
   either (Some (Bench hosts)) gives = inl ((λ c events reload_ms listen is. absurd cc, λ c events listen is. absurd cc), gives)
-  either (Some (Trace traced)) gives = inl ((λ c events reload_ms listen is. absurd cc, λ c events listen is. absurd cc), gives)
-  either (Some (Walk traced)) gives = inl ((λ c events reload_ms listen is. absurd cc, λ c events listen is. absurd cc), gives)
+  either (Some (Trace config recording dp port frame)) gives = inl ((λ c events reload_ms listen is. absurd cc, λ c events listen is. absurd cc), gives)
+  either (Some (Walk config recording dp port frame)) gives = inl ((λ c events reload_ms listen is. absurd cc, λ c events listen is. absurd cc), gives)
   either (Some (Serve config events reload_ms listen)) gives = inr (inl (config, events, reload_ms, listen, refl, gives))
   either (Some (GaugeServe config events listen)) gives = inr (inr (config, events, listen, refl, gives))
 
@@ -256,8 +255,8 @@ module _ {H F : Type 0} (may : H → HubStep → H → Type 0) (contents : F →
   local_any (Some (Replay config recording)) local gives = gives
   local_any (Some (Gauge config recording)) local gives = gives
   local_any (Some (Bench hosts)) local gives = gives
-  local_any (Some (Trace traced)) local gives = gives
-  local_any (Some (Walk traced)) local gives = gives
+  local_any (Some (Trace config recording dp port frame)) local gives = gives
+  local_any (Some (Walk config recording dp port frame)) local gives = gives
   local_any (Some (Serve config events reload_ms listen)) local gives = absurd (local.0 config events reload_ms listen refl)
   local_any (Some (GaugeServe config events listen)) local gives = absurd (local.1 config events listen refl)
 
@@ -269,8 +268,8 @@ module _ {H F : Type 0} (may : H → HubStep → H → Type 0) (contents : F →
   any_memory (Some (Replay config recording)) delivers hub files = (out_of_memory, inr refl, delivers)
   any_memory (Some (Gauge config recording)) delivers hub files = (out_of_memory, inr refl, delivers)
   any_memory (Some (Bench hosts)) delivers hub files = (out_of_memory, inr refl, delivers)
-  any_memory (Some (Trace traced)) delivers hub files = (out_of_memory, inr refl, delivers)
-  any_memory (Some (Walk traced)) delivers hub files = (out_of_memory, inr refl, delivers)
+  any_memory (Some (Trace config recording dp port frame)) delivers hub files = (out_of_memory, inr refl, delivers)
+  any_memory (Some (Walk config recording dp port frame)) delivers hub files = (out_of_memory, inr refl, delivers)
   any_memory (Some (Serve config events reload_ms listen)) delivers hub files = inl (out_of_memory, inl refl, delivers, hub, files)
   any_memory (Some (GaugeServe config events listen)) delivers hub files = (out_of_memory, inl (inl refl, hub), delivers)
 

@@ -14,7 +14,6 @@ use Rattle.conf_gather.specs.Gathered.{Held}
 use Rattle.conf_load.specs.Loaded.{loaded}
 use Rattle.command_line.specs.declared.meaning.Job.{Job}
 use Rattle.command_line.specs.declared.meaning.Job.TheVariants.{Bench, Check, Gauge, GaugeServe, Plan, Replay, Serve, Trace, Walk}
-use Rattle.command_line.specs.declared.meaning.Traced.{Traced}
 use Rattle.opening_batch.specs.Opened.{Opens}
 use Rattle.opening_batch.specs.Opening.{opening_of}
 use Rattle.law_stories.specs.Right.{IsRight}
@@ -33,7 +32,7 @@ use Rattle.faucet_top.specs.declared.deliver.Status.{Status}
 use Rattle.faucet_top.specs.declared.deliver.Status.TheVariants as statuses
 use Rattle.faucet_top.specs.Answer.{Answer, Load, bench_answer, usage, out_of_memory, refusal, behind_bytes, json_line, check_step, check_answer, planned, plan_answer, job_answer, shown_answer}
 use Rattle.faucet_top.specs.Ends.{Ends}
-use Rattle.faucet_top.specs.Follow.{IsCutShort, IsFollowed, job_for}
+use Rattle.faucet_top.specs.Follow.{IsCutShort, IsFollowed, Traced, job_for, traced_by}
 use Rattle.faucet_top.specs.Given.{Loads, RepliesJob, RepliesLoaded, Replies, AnswersSoFar, Delivers, Gives, Checks, StatusFor, IsStatusOf, AreAccepted, IsMeasured, IsOpened, IsReplayed, IsWatched}
 use Rattle.faucet_top.specs.Status.{number_of_status}
 use Rattle.faucet_top.proofs.CheckLemmas.{line_delivered}
@@ -95,11 +94,11 @@ module _ (contents : Option Contents) (absence fault : Type 0) (refused : List �
   job_inner (Some (Bench hosts)) a is =
       let at = ap (λ (b : Answer). b.status) is in
       (λ s. absurd (omega (arith, at, s)), λ s. omega (arith, at, s), λ s. omega (arith, at, s))
-  job_inner (Some (Trace traced)) a reply =
-      let inner = follow_inner hows.Trace contents absence fault traced reply.0 a reply.2 in
+  job_inner (Some (Trace config recording dp port frame)) a reply =
+      let inner = follow_inner hows.Trace contents absence fault (traced_by config recording dp port frame) reply.0 a reply.2 in
       (λ s. absurd (inner.0 s), inner.1, inner.2)
-  job_inner (Some (Walk traced)) a reply =
-      let inner = follow_inner hows.Walk contents absence fault traced reply.0 a reply.2 in
+  job_inner (Some (Walk config recording dp port frame)) a reply =
+      let inner = follow_inner hows.Walk contents absence fault (traced_by config recording dp port frame) reply.0 a reply.2 in
       (λ s. absurd (inner.0 s), inner.1, inner.2)
 
   job_unread : (job : Option Job) (a : Answer) → RepliesJob job contents absence fault refused a → a.status ≡ 3 → absence ⊎ fault
@@ -111,8 +110,8 @@ module _ (contents : Option Contents) (absence fault : Type 0) (refused : List �
   job_unread (Some (Gauge config recording)) a reply s = gauge_unread contents absence fault refused config recording reply.0 a reply.1 reply.2 s
   job_unread (Some (GaugeServe config events listen)) a reply s = absurd reply
   job_unread (Some (Bench hosts)) a is s = let at = ap (λ (b : Answer). b.status) is in absurd (omega (arith, at, s))
-  job_unread (Some (Trace traced)) a reply s = follow_unread hows.Trace contents absence fault traced refused reply.0 a reply.1 reply.2 s
-  job_unread (Some (Walk traced)) a reply s = follow_unread hows.Walk contents absence fault traced refused reply.0 a reply.1 reply.2 s
+  job_unread (Some (Trace config recording dp port frame)) a reply s = follow_unread hows.Trace contents absence fault (traced_by config recording dp port frame) refused reply.0 a reply.1 reply.2 s
+  job_unread (Some (Walk config recording dp port frame)) a reply s = follow_unread hows.Walk contents absence fault (traced_by config recording dp port frame) refused reply.0 a reply.1 reply.2 s
 
 -- ---- what is replied, where the files are told
 
@@ -180,8 +179,8 @@ module _ (held : Contents) (absence fault : Type 0) (refused : List ℕ) where
   job_told (Some (Gauge config recording)) a whole is reply = absurd cc
   job_told (Some (GaugeServe config events listen)) a whole is reply = absurd reply
   job_told (Some (Bench hosts)) a whole is reply = is_whole a (bench_answer (measured hosts)) whole is (inl reply)
-  job_told (Some (Trace traced)) a whole is reply = absurd cc
-  job_told (Some (Walk traced)) a whole is reply = absurd cc
+  job_told (Some (Trace config recording dp port frame)) a whole is reply = absurd cc
+  job_told (Some (Walk config recording dp port frame)) a whole is reply = absurd cc
 
   pub told_replied : (job : Option Job) (a whole : Answer) → job_answer job given ≡ Some whole → Replies job (Some held) absence fault refused a → AnswersSoFar a whole fault
   told_replied job a whole is (inl reply) = job_told job a whole is reply
@@ -201,8 +200,8 @@ module _ (held : Contents) (absence fault : Type 0) (refused : List ℕ) where
   job_status (Some (Gauge config recording)) a reply = gauge_told held absence fault refused config recording a reply.0 reply.1 reply.2
   job_status (Some (GaugeServe config events listen)) a reply = absurd reply
   job_status (Some (Bench hosts)) a is = inl (ap (λ (b : Answer). b.status) is)
-  job_status (Some (Trace traced)) a reply = follow_told hows.Trace held absence fault traced refused reply.0 a reply.1 reply.2
-  job_status (Some (Walk traced)) a reply = follow_told hows.Walk held absence fault traced refused reply.0 a reply.1 reply.2
+  job_status (Some (Trace config recording dp port frame)) a reply = follow_told hows.Trace held absence fault (traced_by config recording dp port frame) refused reply.0 a reply.1 reply.2
+  job_status (Some (Walk config recording dp port frame)) a reply = follow_told hows.Walk held absence fault (traced_by config recording dp port frame) refused reply.0 a reply.1 reply.2
 
   reply_status : (job : Option Job) (a : Answer) → Replies job (Some held) absence fault refused a → StatusFor a.status (IsStatusOf job (held 0)) fault
   reply_status job a (inl reply) = job_status job a reply

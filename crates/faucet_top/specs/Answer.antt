@@ -157,5 +157,5 @@ job_answer (Some (Serve config events reload_ms listen)) load = None
 job_answer (Some (Gauge config recording)) load = None
 job_answer (Some (GaugeServe config events listen)) load = None
 job_answer (Some (Bench hosts)) load = Some (bench_answer (measured hosts))
-job_answer (Some (Trace traced)) load = None
-job_answer (Some (Walk traced)) load = None
+job_answer (Some (Trace config recording dp port frame)) load = None
+job_answer (Some (Walk config recording dp port frame)) load = None

@@ -25,10 +25,10 @@ GivesAny may contents faults absence fault refused (Some (Gauge config recording
     Gives (Some (Gauge config recording)) (contents files_old) absence fault refused status o0 o1 e0 e1 m0 m1 n0 n1
 GivesAny may contents faults absence fault refused (Some (Bench hosts)) hub_old hub_new files_old files_new status o0 o1 e0 e1 m0 m1 n0 n1 =
     Gives (Some (Bench hosts)) (contents files_old) absence fault refused status o0 o1 e0 e1 m0 m1 n0 n1
-GivesAny may contents faults absence fault refused (Some (Trace traced)) hub_old hub_new files_old files_new status o0 o1 e0 e1 m0 m1 n0 n1 =
-    Gives (Some (Trace traced)) (contents files_old) absence fault refused status o0 o1 e0 e1 m0 m1 n0 n1
-GivesAny may contents faults absence fault refused (Some (Walk traced)) hub_old hub_new files_old files_new status o0 o1 e0 e1 m0 m1 n0 n1 =
-    Gives (Some (Walk traced)) (contents files_old) absence fault refused status o0 o1 e0 e1 m0 m1 n0 n1
+GivesAny may contents faults absence fault refused (Some (Trace config recording dp port frame)) hub_old hub_new files_old files_new status o0 o1 e0 e1 m0 m1 n0 n1 =
+    Gives (Some (Trace config recording dp port frame)) (contents files_old) absence fault refused status o0 o1 e0 e1 m0 m1 n0 n1
+GivesAny may contents faults absence fault refused (Some (Walk config recording dp port frame)) hub_old hub_new files_old files_new status o0 o1 e0 e1 m0 m1 n0 n1 =
+    Gives (Some (Walk config recording dp port frame)) (contents files_old) absence fault refused status o0 o1 e0 e1 m0 m1 n0 n1
 GivesAny may contents faults absence fault refused (Some (Serve config events reload_ms listen)) hub_old hub_new files_old files_new status o0 o1 e0 e1 m0 m1 n0 n1 =
     RepliesServe may contents faults absence fault refused config reload_ms events hub_old hub_new files_old files_new
     (λ a. Delivers a status o0 o1 e0 e1 m0 m1 n0 n1) (λ a. BreaksOff a status o0 o1 e0 e1 m0 m1 n0 n1)

@@ -8,7 +8,6 @@ use Rattle.conf_gather.specs.Gathered.{Held}
 use Rattle.conf_load.specs.Loaded.{loaded}
 use Rattle.command_line.specs.declared.meaning.Job.{Job}
 use Rattle.command_line.specs.declared.meaning.Job.TheVariants as jobs
-use Rattle.command_line.specs.declared.meaning.Traced.{Traced}
 use Rattle.of_match.specs.declared.packet.Packet.{Packet}
 use Rattle.pkt_view.specs.Packets.{packet}
 use Rattle.recording.specs.declared.refused.RecordRefused.{RecordRefused}
@@ -29,14 +28,30 @@ use Rattle.trace_story.specs.declared.showing.Shown.{Shown}
 use Rattle.trace_story.specs.Entry.{missing_in}
 use Rattle.trace_story.specs.Followed.{Follows}
 use Rattle.trace_story.specs.Shown.{shown}
+use Rattle.faucet_top.specs.declared.asked.Asked.{Asked}
 use Rattle.faucet_top.specs.Answer.{Answer, Load, last_line, missing_answer, refusal, shown_answer}
 use Rattle.faucet_top.specs.Ends.{status_after}
 use Rattle.faucet_top.specs.Status.{number_of_status}
 
--- the job that follows a frame so
+-- a frame that comes in by a port of a datapath, behind what a recording tells to the controller of a configuration file
+pub record Traced : Type 0 where
+  pub config : List ℕ
+  pub recording : List ℕ
+  pub dp : List ℕ
+  pub port : ℕ
+  pub frame : List ℕ
+
+abbrev pub traced_by : (config recording dp : List ℕ) → (port : ℕ) → (frame : List ℕ) → Traced
+traced_by config recording dp port frame = record { config = config; recording = recording; dp = dp; port = port; frame = frame }
+
+-- as it is lent
+abbrev pub traced_in : Asked → Traced
+traced_in asked = traced_by asked.config.now asked.recording.now asked.dp.now asked.port asked.frame.now
+
+-- the job that follows it so
 abbrev pub job_for : How → Traced → Job
-job_for hows.Trace traced = jobs.Trace traced
-job_for hows.Walk traced = jobs.Walk traced
+job_for hows.Trace traced = jobs.Trace traced.config traced.recording traced.dp traced.port traced.frame
+job_for hows.Walk traced = jobs.Walk traced.config traced.recording traced.dp traced.port traced.frame
 
 -- ---- the reply
 

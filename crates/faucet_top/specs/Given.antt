@@ -15,7 +15,6 @@ use Rattle.gauge_conf.specs.declared.gauge.GaugeConf.{GaugeConf}
 use Rattle.gauge_load.specs.Loaded.{gauge_of}
 use Rattle.command_line.specs.declared.meaning.Job.{Job}
 use Rattle.command_line.specs.declared.meaning.Job.TheVariants.{Bench, Check, Gauge, GaugeServe, Plan, Replay, Serve, Trace, Walk}
-use Rattle.command_line.specs.declared.meaning.Traced.{Traced}
 use Rattle.opening_batch.specs.Opened.{Opens}
 use Rattle.recording.specs.declared.refused.RecordRefused.{RecordRefused}
 use Rattle.recording.specs.Written.{written_records}
@@ -41,7 +40,7 @@ use Rattle.trace_story.specs.declared.showing.How.TheVariants as hows
 use Rattle.faucet_top.specs.declared.deliver.Status.{Status}
 use Rattle.faucet_top.specs.Answer.{Answer, GaugeLoad, Load, usage, out_of_memory, refusal, json_line, check_step, check_answer, bench_answer, bench_line, last_line, planned, plan_answer, unread as unread_answer}
 use Rattle.faucet_top.specs.Ends.{status_after}
-use Rattle.faucet_top.specs.Follow.{IsFollowStatus, RepliesFollow}
+use Rattle.faucet_top.specs.Follow.{IsFollowStatus, RepliesFollow, Traced, traced_by}
 use Rattle.faucet_top.specs.Status.{number_of_status}
 
 -- ---- which answer
@@ -104,8 +103,8 @@ RepliesJob (Some (Serve config events reload_ms listen)) contents absence fault 
 RepliesJob (Some (Gauge config recording)) contents absence fault refused a = (made : GaugeLoad) × GaugeLoads contents absence fault refused config made × RepliesGauge contents absence fault config recording made a
 RepliesJob (Some (GaugeServe config events listen)) contents absence fault refused a = ⊥
 RepliesJob (Some (Bench hosts)) contents absence fault refused a = a ≡ bench_answer (measured hosts)
-RepliesJob (Some (Trace traced)) contents absence fault refused a = RepliesLoaded hows.Trace contents absence fault refused traced a
-RepliesJob (Some (Walk traced)) contents absence fault refused a = RepliesLoaded hows.Walk contents absence fault refused traced a
+RepliesJob (Some (Trace config recording dp port frame)) contents absence fault refused a = RepliesLoaded hows.Trace contents absence fault refused (traced_by config recording dp port frame) a
+RepliesJob (Some (Walk config recording dp port frame)) contents absence fault refused a = RepliesLoaded hows.Walk contents absence fault refused (traced_by config recording dp port frame) a
 
 -- the same, or that memory ran out before the job was known or begun
 abbrev pub Replies : Option Job → Option Contents → (absence fault : Type 0) → (refused : List ℕ) → Answer → Type 0
@@ -184,8 +183,8 @@ ReadsRecording (Some (Serve config events reload_ms listen)) = ⊥
 ReadsRecording (Some (Gauge config recording)) = Unit {0}
 ReadsRecording (Some (GaugeServe config events listen)) = ⊥
 ReadsRecording (Some (Bench hosts)) = ⊥
-ReadsRecording (Some (Trace traced)) = Unit {0}
-ReadsRecording (Some (Walk traced)) = Unit {0}
+ReadsRecording (Some (Trace config recording dp port frame)) = Unit {0}
+ReadsRecording (Some (Walk config recording dp port frame)) = Unit {0}
 
 -- ---- statuses
 
@@ -217,8 +216,8 @@ IsStatusOf (Some (Serve config events reload_ms listen)) held n = IsLoadedStatus
 IsStatusOf (Some (Gauge config recording)) held n = IsLoadedStatus config (gauge_of held config) (λ conf. IsRunStatus monitor (begun conf) (held recording)) n
 IsStatusOf (Some (GaugeServe config events listen)) held n = IsLoadedStatus config (gauge_of held config) (λ conf. IsServeStatus) n
 IsStatusOf (Some (Bench hosts)) held n = n ≡ 0
-IsStatusOf (Some (Trace traced)) held n = IsLoadedStatus traced.config (loaded held traced.config) (IsFollowStatus hows.Trace traced held) n
-IsStatusOf (Some (Walk traced)) held n = IsLoadedStatus traced.config (loaded held traced.config) (IsFollowStatus hows.Walk traced held) n
+IsStatusOf (Some (Trace config recording dp port frame)) held n = IsLoadedStatus config (loaded held config) (IsFollowStatus hows.Trace (traced_by config recording dp port frame) held) n
+IsStatusOf (Some (Walk config recording dp port frame)) held n = IsLoadedStatus config (loaded held config) (IsFollowStatus hows.Walk (traced_by config recording dp port frame) held) n
 
 -- a status is that of the answer; or a write failed, memory ran out, or a read failed
 abbrev pub StatusFor : (status : ℕ) → (IsAnswered : ℕ → Type 0) → (fault : Type 0) → Type 0

@@ -43,8 +43,8 @@ HasFrame (Some (Serve config events reload_ms listen)) = Unit {0}
 HasFrame (Some (Gauge config recording)) = Unit {0}
 HasFrame (Some (GaugeServe config events listen)) = Unit {0}
 HasFrame (Some (Bench hosts)) = Unit {0}
-HasFrame (Some (Trace traced)) = IsTrue (has_type traced.frame)
-HasFrame (Some (Walk traced)) = IsTrue (has_type traced.frame)
+HasFrame (Some (Trace config recording dp port frame)) = IsTrue (has_type frame)
+HasFrame (Some (Walk config recording dp port frame)) = IsTrue (has_type frame)
 
 -- ---- the reply
 

@@ -9,8 +9,8 @@ ghost use Rattle.faucet_top.specs.Given.{Delivers};
 ghost use Rattle.faucet_top.specs.Status.{number_of_status};
 ghost use Rattle.faucet_top.specs.Ends.{Ends, refused_status, status_after, status_served};
 
+use crate::asked::Asked;
 use bench_story::Measured;
-use command_line::Traced;
 use conf_causes::limit_name;
 use conf_gather::LoadRefused;
 use conf_shape::{ConfCause, ConfFault};
@@ -317,16 +317,16 @@ fn deliver_no_port<E: Sink>(err: &mut E, config: &str, dp: &str, number: &str) -
 }
 
 /// Says what isn't there of where a frame is to come in.
-pub fn deliver_missing<E: Sink>(err: &mut E, traced: &Traced, missing: Missing) -> Status
-    ensures ends { Ends Status.Refused (missing_answer traced.now.config traced.now.dp traced.now.port missing).err (E.wrote err.old) (E.wrote err.new) (E.faults err.old) (E.faults err.new) result }
+pub fn deliver_missing<E: Sink>(err: &mut E, asked: &Asked, missing: Missing) -> Status
+    ensures ends { Ends Status.Refused (missing_answer asked.now.config.now asked.now.dp.now asked.now.port missing).err (E.wrote err.old) (E.wrote err.new) (E.faults err.old) (E.faults err.new) result }
     ensures faults { E.faults err.old ≤ E.faults err.new }
 {
-    let (config, dp) = (traced.config.as_str(), traced.dp.as_str());
+    let (config, dp) = (asked.config.as_str(), asked.dp.as_str());
     match missing {
         Missing::Dp => deliver_no_dp(err, config, dp),
         Missing::Port => {
             let mut buffer = Buffer::new();
-            deliver_no_port(err, config, dp, buffer.format(traced.port.get()))
+            deliver_no_port(err, config, dp, buffer.format(asked.port.get()))
         }
     }
 }
@@ -352,17 +352,17 @@ fn deliver_shown<O: Sink, E: Sink>(out: &mut O, err: &mut E, config: &str, shown
 pub fn deliver_followed<O: Sink, E: Sink>(
     out: &mut O,
     err: &mut E,
-    traced: &Traced,
+    asked: &Asked,
     followed: Followed,
 ) -> Status
-    ensures answer { Delivers (followed_answer traced.now.config traced.now.recording followed) (number_of_status result)
+    ensures answer { Delivers (followed_answer asked.now.config.now asked.now.recording.now followed) (number_of_status result)
         (O.wrote out.old) (O.wrote out.new) (E.wrote err.old) (E.wrote err.new)
         (O.faults out.old) (O.faults out.new) (E.faults err.old) (E.faults err.new) }
     ensures out_faults { O.faults out.old ≤ O.faults out.new }
     ensures err_faults { E.faults err.old ≤ E.faults err.new }
 {
     match followed {
-        Followed::Showed(shown) => deliver_shown(out, err, traced.config.as_str(), &shown),
-        Followed::Ended(replayed) => deliver_replayed(err, traced.recording.as_str(), replayed),
+        Followed::Showed(shown) => deliver_shown(out, err, asked.config.as_str(), &shown),
+        Followed::Ended(replayed) => deliver_replayed(err, asked.recording.as_str(), replayed),
     }
 }

@@ -1,6 +1,7 @@
 //! The commands of `faucet`, from their words to what they write.
 #![tactic(auto)]
 
+mod asked;
 mod bench;
 mod check;
 mod deliver;

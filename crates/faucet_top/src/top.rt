@@ -5,7 +5,6 @@ ghost use Rattle.fg_outside.specs.Wrote.{appended, AppendsFront};
 ghost use Rattle.conf_types.specs.Configuration.{Configuration};
 ghost use Rattle.conf_load.specs.Loaded.{loaded};
 ghost use Rattle.command_line.specs.declared.meaning.Job.TheVariants.{Bench, Check, Gauge, GaugeServe, Plan, Replay, Serve};
-ghost use Rattle.command_line.specs.declared.meaning.Traced.{Traced};
 ghost use Rattle.trace_story.specs.declared.showing.How.{How};
 ghost use Rattle.trace_story.specs.declared.showing.Shown.TheVariants as shown;
 ghost use Rattle.command_line.specs.declared.values.Listen.{Listen};
@@ -14,7 +13,7 @@ ghost use Rattle.faucet_top.specs.Answer.{out_of_memory};
 ghost use Rattle.gauge_conf.specs.declared.gauge.GaugeConf.{GaugeConf};
 ghost use Rattle.gauge_load.specs.Loaded.{gauge_of};
 ghost use Rattle.faucet_top.specs.Any.{GivesAny};
-ghost use Rattle.faucet_top.specs.Follow.{IsCutShort, IsFollowed, job_for};
+ghost use Rattle.faucet_top.specs.Follow.{IsCutShort, IsFollowed, Traced, job_for};
 ghost use Rattle.faucet_top.specs.Given.{AreAccepted, Gives, IsMeasured, IsOpened, IsReplayed, IsStatus, IsStatusOf, IsWatched, NamesUnread, ReadsRecording, StatusFor};
 ghost use Rattle.recording.specs.declared.refused.RecordRefused.{RecordRefused};
 ghost use Rattle.hub_drive.specs.declared.drive.Drove.{Drove};
@@ -23,6 +22,7 @@ ghost use Rattle.faucet_top.specs.Serving.{HasFrame, IsItsEnd, IsLocal, IsServed
 ghost use Rattle.faucet_top.specs.Watching.{IsHubWatched};
 ghost use Rattle.faucet_top.specs.Status.{number_of_status};
 
+use crate::asked::Asked;
 use crate::bench::measure_story;
 use crate::check::check_files;
 use crate::deliver::{Status, deliver_out_of_memory, deliver_plan, deliver_refusal, deliver_usage};
@@ -100,8 +100,40 @@ fn do_job<F: Files, O: Sink, E: Sink>(
             let status = measure_story(alloc, *hosts, out, err);
             (status, files)
         }
-        Job::Trace(traced) => follow_frame(alloc, How::Trace, traced, files, out, err),
-        Job::Walk(traced) => follow_frame(alloc, How::Walk, traced, files, out, err),
+        Job::Trace {
+            config,
+            recording,
+            dp,
+            port,
+            frame,
+        } => {
+            let asked = Asked {
+                how: How::Trace,
+                config,
+                recording,
+                dp,
+                port: *port,
+                frame,
+            };
+            follow_frame(alloc, &asked, files, out, err)
+        }
+        Job::Walk {
+            config,
+            recording,
+            dp,
+            port,
+            frame,
+        } => {
+            let asked = Asked {
+                how: How::Walk,
+                config,
+                recording,
+                dp,
+                port: *port,
+                frame,
+            };
+            follow_frame(alloc, &asked, files, out, err)
+        }
         Job::Serve { .. } => unreachable!(),
         Job::GaugeServe { .. } => unreachable!(),
     }
