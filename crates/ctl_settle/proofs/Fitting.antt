@@ -149,7 +149,7 @@ module _ (conf : Configuration) (state : State) (conns : List Conn) (held : List
   abbrev pub standing : List Held
   standing = map (renewed conf state) (filter (λ h. runs_on conns h.conn) held)
 
-  plan_standing : (n : ℕ) → plan_for standing n ≡ option_map (anew conf state) (if runs_on conns n then plan_for held n else None)
+  pub plan_standing : (n : ℕ) → plan_for standing n ≡ option_map (anew conf state) (if runs_on conns n then plan_for held n else None)
   plan_standing n = plan_renewed conf state (filter (λ h. runs_on conns h.conn) held) n ∙ ap (option_map (anew conf state)) (plan_filtered (runs_on conns) held n)
 
   pub standing_fit : Fit conns held → Fit conns standing
@@ -185,12 +185,12 @@ module _ (conf : Configuration) (state : State) (conns : List Conn) where
     abbrev more : List Held
     more = held ++ it ∷ []
 
-    more_some : (n : ℕ) → is_some (plan_for held n) ≡ true → is_some (plan_for more n) ≡ true
+    pub more_some : (n : ℕ) → is_some (plan_for held n) ≡ true → is_some (plan_for more n) ≡ true
     more_some n some =
         ap (λ (o : Option Kept). is_some o) (plan_pushed it held n)
         ∙ by_pushed (λ o. is_some o ≡ true) (plan_for held n) (is_for n it) it.plan (λ p is. refl) (λ none on. refl) (λ none off. sym (ap (λ (o : Option Kept). is_some o) none) ∙ some)
 
-    more_own : is_some (plan_for more c.number) ≡ true
+    pub more_own : is_some (plan_for more c.number) ≡ true
     more_own =
         ap (λ (o : Option Kept). is_some o) (plan_pushed it held c.number)
         ∙ by_pushed (λ o. is_some o ≡ true) (plan_for held c.number) (is_for c.number it) it.plan (λ p is. refl) (λ none on. refl)

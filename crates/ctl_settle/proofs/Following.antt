@@ -1,11 +1,9 @@
 -- What may differ from what the plans were brought up to, step by step.
-use Rattle.std.proofs.Common.{◌≡◌, ℕ, Bool, true, Option, Some, None, List, [], ◌∷◌, ◌++◌, filter, map, refl, sym, subst, ◌∙◌, ap}
+use Rattle.std.proofs.Common.{◌≡◌, Bool, true, Some, None, List, [], ◌∷◌, ◌++◌, filter, refl, sym, subst, ◌∙◌}
 use Rattle.std.specs.List.{AllByRecursion}
 use Rattle.std.specs.Option.{option_map}
-use Rattle.conf_types.specs.Configuration.{Configuration}
-use Rattle.conf_types.specs.State.{State}
 use Rattle.warm_plan.specs.Kept.{Kept}
-use Rattle.law_runs.specs.Members.{all_by, all_filtered, of_all}
+use Rattle.law_runs.specs.Members.{all_by, all_filtered}
 use Rattle.conf_types.specs.declared.change.Change.{Change}
 use Rattle.conf_types.specs.Changes.{AreNamed}
 use Rattle.law_names.specs.Names.{Names}
@@ -33,12 +31,12 @@ goes_on u v w first second third one two = record {
   any = λ none. two.any (one.any none);
 }
 
-module _ (w v : World) (c : Change) (names : Names w v (c ∷ [])) where
-  pub goes_by : (was : MayDiffer) → Goes w v was (option_map (λ changes. changes ++ c ∷ []) was)
+module _ (w v : World) (named : List Change) (names : Names w v named) where
+  pub goes_by : (was : MayDiffer) → Goes w v was (option_map (λ changes. changes ++ named) was)
   goes_by None = record { conf = names.conf; among = λ old is. tt; any = λ none. refl }
   goes_by (Some changes) = record {
     conf = names.conf;
-    among = λ old is. through_named w.conf old (now w) (now v) changes (c ∷ []) is names.named;
+    among = λ old is. through_named w.conf old (now w) (now v) changes named is names.named;
     any = λ none. absurd (cc);
   }
 

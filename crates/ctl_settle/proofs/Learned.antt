@@ -1,5 +1,5 @@
 -- A settling leaves the configuration, the moment and the hosts.
-use Rattle.std.proofs.Common.{◌≡◌, ℕ, zero, suc, true, false, Option, Some, None, List, [], ◌∷◌, is_some, length, if◌then◌else◌}
+use Rattle.std.proofs.Common.{◌≡◌, ℕ, zero, suc, true, false, Some, None, List, [], ◌∷◌, is_some, length, if◌then◌else◌}
 use Rattle.std.specs.Option.{option_map_or}
 use Rattle.net_base.specs.declared.numbers.DpId.{DpId}
 use Rattle.net_base.specs.declared.numbers.Moment.{Moment}
@@ -17,9 +17,9 @@ use Rattle.neighbour_resolve.specs.Asks.{AskOn, asks, in_order}
 use Rattle.neighbour_resolve.specs.Due.{due_said}
 use Rattle.ctl_world.specs.declared.conns.Conn.{Conn}
 use Rattle.ctl_world.specs.Connections.{conn_of, conn_with, with_asked, with_said}
-use Rattle.ctl_world.specs.Saying.{ask, packet_out, say, say_by}
+use Rattle.ctl_world.specs.Saying.{packet_out, say, say_by}
 use Rattle.ctl_world.specs.World.{World, running}
-use Rattle.ctl_settle.specs.Settling.{ask_all, ask_due, ask_each, ask_on, batch, batch_on, batches, note_sent, say_batch, say_due, say_each, settle, take_due, wanted}
+use Rattle.ctl_settle.specs.Settling.{ask_all, ask_due, ask_each, ask_on, batch, batch_on, batches, say_batch, say_due, say_each, settle, take_due, wanted}
 
 module _ (conf : Configuration) (moment : Moment) (hosts : Hosts) where
   abbrev pub Has : World → Type 0

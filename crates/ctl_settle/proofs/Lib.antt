@@ -1,11 +1,15 @@
+pub mod Apart
 pub mod Asked
 pub mod AskedNames
 pub mod Batches
 pub mod Brought
+pub mod Counting
 pub mod DueOnce
 pub mod Fitting
 pub mod Following
+pub mod Given
 pub mod Learned
+pub mod Lost
 pub mod Names
 pub mod PlanPlaces
 pub mod Placing

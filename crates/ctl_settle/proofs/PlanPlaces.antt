@@ -11,7 +11,7 @@ use Rattle.ctl_world.proofs.Numbered.{apart}
 use Rattle.ctl_settle.specs.declared.plans.Held.{Held}
 use Rattle.ctl_settle.specs.Plans.{is_for, plan_for, renewed, taken, took}
 
-abbrev plan_of : Option Held → Option Kept
+abbrev pub plan_of : Option Held → Option Kept
 plan_of o = option_map (λ (h : Held). h.plan) o
 
 -- ---- some are dropped, by their numbers

@@ -34,12 +34,12 @@ module _ (say_kept : (number : ℕ) (m : Message) (w : World) → IsSound w → 
   each_sound [] w sound = sound
   each_sound (a ∷ more) w sound = each_sound more (ask_on a w) (on_sound a w sound)
 
-  due_said_sound : (due : Due) (w : World) → IsSound w → IsSound (say_due due w)
+  pub due_said_sound : (due : Due) (w : World) → IsSound w → IsSound (say_due due w)
   due_said_sound (Ask group vid ip) w sound = each_sound (asks w.conf (running w) group vid ip) w sound
   due_said_sound (Gone group vid ip) w sound = sound
 
   module _ (due_kept : (conf : Configuration) (state : State) (moment : ℕ) → IsValidState conf state → IsValidState conf (record state { neighbours = after_due conf moment state.neighbours })) where
-    taken_sound : (w : World) → IsSound w → IsSound (take_due w)
+    pub taken_sound : (w : World) → IsSound w → IsSound (take_due w)
     taken_sound w sound = record { valid = due_kept w.conf (now w) w.moment.0 sound.valid; hosts = sound.hosts; neighbours = sound.neighbours }
 
     due_sound : (most : ℕ) (w : World) → IsSound w → IsSound (ask_due most w)

@@ -4,6 +4,7 @@ use Rattle.std.specs.List.{AllByRecursion, find}
 use Rattle.std.specs.Option.{option_map, option_map_or}
 use Rattle.net_base.specs.declared.numbers.DpId.{DpId}
 use Rattle.conf_types.specs.Configuration.{Configuration}
+use Rattle.conf_types.specs.Lists.{AreDistinct}
 use Rattle.conf_types.specs.State.{State, is_running}
 use Rattle.cold_start.specs.Cold.{cold_at}
 pub use Rattle.warm_plan.specs.Kept.{Kept}
@@ -22,6 +23,13 @@ is_for number h = h.conn == number
 
 abbrev pub plan_for : List Held → ℕ → Option Kept
 plan_for held number = option_map (λ h. h.plan) (find (is_for number) held)
+
+-- one for each connection at most
+abbrev pub numbers : List Held → List ℕ
+numbers held = map (λ h. h.conn) held
+
+abbrev pub AreApart : List Held → Type 0
+AreApart held = AreDistinct (numbers held)
 
 -- ---- a plan and what is noted of its connection
 

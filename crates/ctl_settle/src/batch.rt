@@ -49,6 +49,7 @@ fn say_batch(
 fn take(held: &mut Held, alloc: Global) -> Result<Commands, NoMemory>
     ensures batch { IfOk result (λ batch. batch ≡ difference held.old.plan.sent held.old.plan.wanted) }
     ensures taken { OnOk result (held.new ≡ took held.old) }
+    ensures conn { held.new.conn ≡ held.old.conn }
 {
     held.plan.take(alloc)
 }

@@ -17,6 +17,8 @@ ghost use Rattle.ctl_world.specs.Alike.{IsAlike};
 ghost use Rattle.ctl_world.specs.Connections.{conn_of};
 ghost use Rattle.ctl_world.specs.World.{IsSound, World, running};
 ghost use Rattle.ctl_settle.specs.declared.plans.Held.{Held};
+ghost use Rattle.ctl_settle.specs.Asked.{IsLost, all_asked};
+ghost use Rattle.ctl_settle.specs.Names.{Names};
 ghost use Rattle.ctl_settle.specs.Plans.{AreBrought, AreHeld, IsReady, with_batch};
 ghost use Rattle.ctl_settle.specs.Rest.{AreInOrder, IsAtRest, NoneIsOver, RestsUntil};
 ghost use Rattle.ctl_settle.specs.Settling.{ask_all, batch, settle, wanted};
@@ -35,6 +37,15 @@ use plan_difference::laws::{
 /// Asks leave what was learned valid.
 pub fn asks_leave_the_state()
     ensures { (w : World) → IsSound w → IsSound (ask_all w) }
+{
+    what_is_said_leaves_it_sound();
+    what_is_left_is_valid();
+}
+
+/// What asks touch was known before them and isn't behind them (`lost`), and nothing else differs there (`named`).
+pub fn what_asks_touch_was_known()
+    ensures lost { (w : World) → IsSound w → AllByRecursion (IsLost w (ask_all w)) (all_asked w) }
+    ensures named { (w : World) → IsSound w → Names w (ask_all w) (all_asked w) }
 {
     what_is_said_leaves_it_sound();
     what_is_left_is_valid();

@@ -1,13 +1,16 @@
 //! The plans that are kept of the datapaths of connections.
 
-ghost use Rattle.std.specs.Prelude.{◌≡◌, ◌<◌, [], Some, filter, is_some, length, map, position, IfSome, OnOk};
+ghost use Rattle.std.specs.Prelude.{◌≡◌, ◌<◌, ◌≤◌, ◌+◌, true, [], Some, filter, is_some, length, map, position, IfSome, OnOk};
 ghost use Rattle.std.specs.List.{AllByRecursion, find};
 ghost use Rattle.std.specs.Option.{option_copied, option_map};
-ghost use Rattle.conf_types.specs.State.{IsValidState};
+ghost use Rattle.conf_types.specs.State.{IsValidState, is_running};
+ghost use Rattle.cold_start.specs.Counts.{RisesAtMost};
 ghost use Rattle.packet_way.specs.Present.{state_of};
-ghost use Rattle.ctl_world.specs.World.{IsSound};
+ghost use Rattle.ctl_world.specs.World.{IsSound, running};
+ghost use Rattle.ctl_settle.specs.Counted.{again, all_again, all_anew, counted};
+ghost use Rattle.ctl_settle.specs.Rest.{AreInOrder};
 ghost use Rattle.ctl_settle.specs.Touched.{AllFollow, Follows};
-ghost use Rattle.ctl_settle.specs.Plans.{brought, is_for, plan_for, renewed, runs_on, with_plan, with_plans};
+ghost use Rattle.ctl_settle.specs.Plans.{AreApart, brought, is_for, numbers, plan_for, renewed, runs_on, with_plan, with_plans};
 
 use crate::touched::Touched;
 use conf_types::{Conf, Tally};
@@ -27,7 +30,7 @@ pub struct Held {
     pub plan: Warm,
 }
 
-/// The plans that are kept, each for the connection of its datapath. Contracts see the list.
+/// The plans that are kept, each for the connection of its datapath, one for each at most. Contracts see the list.
 #[derive(Drop)]
 pub struct Plans {
     pub(crate) held: Vec<Held>,
@@ -36,10 +39,13 @@ pub struct Plans {
 impl Model for Plans {
     ghost use Rattle.std.specs.Prelude.{List};
     ghost use Rattle.ctl_settle.specs.declared.plans.Held.{Held};
+    ghost use Rattle.ctl_settle.specs.Plans.{AreApart};
 
     ghost Value = { List Held };
 
     ghost view = { λ it. it.held.items };
+
+    ghost invariant = { λ it. AreApart it.held.items };
 }
 
 /// The plan that is kept for a connection.
@@ -113,7 +119,9 @@ fn renew<T: Tally>(
 ) -> Result<(), NoMemory>
     requires state { IsValidState conf.now (state_of now.now) }
     requires follows { Follows conf.now (state_of now.now) touched.now held.old.plan }
-    ensures { OnOk result (held.new ≡ renewed conf.now (state_of now.now) held.old) }
+    ensures renewed { OnOk result (held.new ≡ renewed conf.now (state_of now.now) held.old) }
+    ensures conn { held.new.conn ≡ held.old.conn }
+    ensures most { RisesAtMost (again conf.now (state_of now.now) touched.now held.old.plan) (T.count units.old) (T.count units.new) }
 {
     if touched.is_any() {
         return held.plan.reload(alloc, conf, now, units);
@@ -132,7 +140,9 @@ fn renew_each<T: Tally>(
 ) -> Result<(), NoMemory>
     requires state { IsValidState conf.now (state_of now.now) }
     requires follow { AllByRecursion (λ h. Follows conf.now (state_of now.now) touched.now h.plan) held.old }
-    ensures { OnOk result (held.new ≡ map (renewed conf.now (state_of now.now)) held.old) }
+    ensures renewed { OnOk result (held.new ≡ map (renewed conf.now (state_of now.now)) held.old) }
+    ensures numbers { numbers held.new ≡ numbers held.old }
+    ensures most { RisesAtMost (all_again conf.now (state_of now.now) touched.now held.old) (T.count units.old) (T.count units.new) }
 {
     for one in held.iter_mut() {
         renew(one, alloc, conf, now, touched, units)?;
@@ -149,8 +159,13 @@ fn open_plan<T: Tally>(
     dp: DpId,
     units: &mut T,
 ) -> Result<(), NoMemory>
-    requires { IsValidState world.now.conf (state_of now.now) }
-    ensures { OnOk result (held.new.items ≡ with_plan world.now.conf (state_of now.now) world.now.conns dp held.old.items) }
+    requires state { IsValidState world.now.conf (state_of now.now) }
+    requires apart { AreApart held.old.items }
+    requires runs { is_running (running world.now) dp ≡ true }
+    ensures opened { OnOk result (held.new.items ≡ with_plan world.now.conf (state_of now.now) world.now.conns dp held.old.items) }
+    ensures apart { AreApart held.new.items }
+    ensures most { RisesAtMost (all_anew world.now.conf (state_of now.now) world.now.conns held.old.items) (T.count units.old) (T.count units.new) }
+    ensures left { OnOk result (T.count units.new + all_anew world.now.conf (state_of now.now) world.now.conns held.new.items ≤ T.count units.old + all_anew world.now.conf (state_of now.now) world.now.conns held.old.items) }
 {
     let Some(conn) = world.conns.of(dp) else {
         return Ok(());
@@ -174,8 +189,12 @@ fn open_plans<T: Tally>(
     dps: &[DpId],
     units: &mut T,
 ) -> Result<(), NoMemory>
-    requires { IsValidState world.now.conf (state_of now.now) }
-    ensures { OnOk result (held.new.items ≡ with_plans world.now.conf (state_of now.now) world.now.conns dps.now held.old.items) }
+    requires state { IsValidState world.now.conf (state_of now.now) }
+    requires apart { AreApart held.old.items }
+    requires run { AllByRecursion (λ dp. is_running (running world.now) dp ≡ true) dps.now }
+    ensures opened { OnOk result (held.new.items ≡ with_plans world.now.conf (state_of now.now) world.now.conns dps.now held.old.items) }
+    ensures apart { AreApart held.new.items }
+    ensures most { RisesAtMost (all_anew world.now.conf (state_of now.now) world.now.conns held.old.items) (T.count units.old) (T.count units.new) }
 {
     for dp in dps {
         open_plan(held, alloc, world, now, *dp, units)?;
@@ -184,7 +203,7 @@ fn open_plans<T: Tally>(
 }
 
 /// Brings the plans up to what is known, from which they differ in what was touched at most: each datapath that runs
-/// has one, which wants its cold start.
+/// has one, which wants its cold start. What is made again is counted.
 pub(crate) fn bring<T: Tally>(
     plans: &mut Plans,
     alloc: Global,
@@ -193,8 +212,10 @@ pub(crate) fn bring<T: Tally>(
     units: &mut T,
 ) -> Result<(), NoMemory>
     requires sound { IsSound world.now }
+    requires in_order { AreInOrder world.now }
     requires follow { AllFollow world.now touched.now plans.old }
-    ensures { OnOk result (plans.new ≡ brought world.now plans.old) }
+    ensures brought { OnOk result (plans.new ≡ brought world.now plans.old) }
+    ensures most { RisesAtMost (counted world.now touched.now plans.old) (T.count units.old) (T.count units.new) }
 {
     let running = world.running(alloc)?;
     let ups = world.ups(alloc)?;

@@ -1,10 +1,13 @@
 ghost use Rattle.std.specs.Prelude.{◌≡◌, true, [], Some, OnOk};
 ghost use Rattle.std.specs.List.{AllByRecursion};
 ghost use Rattle.conf_types.specs.State.{is_running};
+ghost use Rattle.cold_start.specs.Counts.{RisesAtMost};
 ghost use Rattle.ctl_world.specs.World.{IsSound, running};
-ghost use Rattle.ctl_settle.specs.Plans.{AreBrought, AreHeld, Fit};
+ghost use Rattle.ctl_settle.specs.Asked.{with_asked};
+ghost use Rattle.ctl_settle.specs.Counted.{counted};
+ghost use Rattle.ctl_settle.specs.Plans.{AreBrought, AreCurrent, AreHeld, Fit};
 ghost use Rattle.ctl_settle.specs.Rest.{AreInOrder, IsAtRest};
-ghost use Rattle.ctl_settle.specs.Settling.{batches, settle};
+ghost use Rattle.ctl_settle.specs.Settling.{ask_all, batches, settle};
 ghost use Rattle.ctl_settle.specs.Touched.{AllFollow};
 
 use crate::asking::ask_all;
@@ -48,7 +51,9 @@ fn say_batches(
 /// is said what leads from the entries that it has to those that it is to have, unless a barrier is
 /// outstanding. What is to be said is taken from the datapath's plan, which is made where it begins to run, and
 /// brought up to what is known, also while a barrier is outstanding: what may differ is what was touched since the last
-/// settling. It rests then. After `NoMemory` nothing is known of what is left.
+/// settling, and the neighbours that the asks lose. Of a plan that is made at most three units of work are counted for
+/// each of its units, and of one that is brought up for each that this reaches, or for each where anything may differ.
+/// It rests then. After `NoMemory` nothing is known of what is left.
 pub fn settle<T: Tally>(
     alloc: Global,
     world: &mut World,
@@ -65,7 +70,9 @@ pub fn settle<T: Tally>(
     ensures rests { OnOk result (IsAtRest world.new) }
     ensures in_order { OnOk result (AreInOrder world.new) }
     ensures held { OnOk result (AreHeld world.new plans.new) }
+    ensures current { OnOk result (AreCurrent world.new plans.new) }
     ensures follow { OnOk result (AllFollow world.new (Some []) plans.new) }
+    ensures most { RisesAtMost (counted (ask_all world.old) (with_asked world.old touched.old) plans.old) (T.count units.old) (T.count units.new) }
 {
     asks_leave_the_state();
     a_settling_leaves_it_at_rest();

@@ -1,24 +1,37 @@
-use Rattle.std.proofs.Common.{◌≡◌, ℕ, [], ◌∷◌, ◌++◌, ap, sym, subst, ◌∙◌, ◌+◌, ◌-◌, arith}
-use Rattle.std.specs.Option.{option_map}
+use Rattle.std.proofs.Common.{◌≡◌, ℕ, List, [], ◌∷◌, if◌then◌else◌, ap, sym, subst, ◌∙◌, ◌+◌, ◌-◌, arith}
 use Rattle.conf_types.specs.declared.change.Change.{Change}
+use Rattle.conf_types.specs.declared.state.NeighRec.{NeighRec}
 use Rattle.neighbour_resolve.specs.Table.{Table}
 use Rattle.ctl_world.specs.World.{World}
+use Rattle.ctl_settle.specs.Asked.{asked, is_lost, lost}
 use Rattle.ctl_settle.specs.Settling.{ask_due, say_due, take_due}
 use Rattle.ctl_settle.specs.Touched.{Goes, MayDiffer}
 use Rattle.law_names.specs.Dues.{due}
 use Rattle.law_names.specs.Names.{Names}
-use Rattle.ctl_settle.proofs.AskedNames.{ask_named}
-use Rattle.ctl_settle.proofs.DueOnce.{due_none, due_some, none_taken}
+use Rattle.ctl_settle.proofs.DueOnce.{due_none, due_some, more_and_more, no_more, none_taken, touched_none, touched_some, with_more}
 use Rattle.ctl_settle.proofs.Following.{goes_by, goes_nowhere, goes_on}
+use Rattle.ctl_settle.proofs.Lost.{AreApart, lost_named}
 use Rattle.ctl_settle.proofs.asking.ask_due.Goals as goal
 
 pub loop-init : goal.loop-init
-loop-init c = record { asked = let e : c.args.most - 0 ≡ c.args.most = omega arith in ap (λ (k : ℕ). ask_due k c.args.world.now) e; goes = goes_nowhere c.args.world.now c.args.touched.now }
+loop-init c =
+    let e : c.args.most - 0 ≡ c.args.most = omega arith in
+    record {
+      whole = ap (λ (k : ℕ). ask_due k c.args.world.now) e;
+      touched = ap (λ (k : ℕ). with_more (asked k c.args.world.now) c.args.touched.now) e;
+      goes = goes_nowhere c.args.world.now c.args.touched.now;
+    }
 
 pub returns-in-None-clause-asked : goal.returns-in-None-clause-asked
 returns-in-None-clause-asked c =
     ap (λ (table : Table). record c.loop.world { neighbours = table }) c.due.ensures.list
-    ∙ sym (due_none c.args.most c.loop.counter c.loop.world c.loop-test.true (sym c.in-None.ensures.said)) ∙ c.loop.invariant.asked
+    ∙ sym (due_none c.args.most c.loop.counter c.loop.world c.loop-test.true (sym c.in-None.ensures.said)) ∙ c.loop.invariant.whole
+
+pub returns-in-None-clause-touched : goal.returns-in-None-clause-touched
+returns-in-None-clause-touched c =
+    sym (no_more c.loop.touched)
+    ∙ ap (λ (changes : List Change). with_more changes c.loop.touched) (sym (touched_none c.args.most c.loop.counter c.loop.world c.loop-test.true (sym c.in-None.ensures.said)))
+    ∙ c.loop.invariant.touched
 
 pub returns-in-None-clause-goes : goal.returns-in-None-clause-goes
 returns-in-None-clause-goes c =
@@ -26,20 +39,38 @@ returns-in-None-clause-goes c =
     let same : record w { neighbours = c.due.new.self } ≡ w = ap (λ (table : Table). record w { neighbours = table }) c.due.ensures.list ∙ none_taken w (sym c.in-None.ensures.said) in
     subst (λ (v : World). Goes c.args.world.now v c.args.touched.now c.loop.touched) (sym same) c.loop.invariant.goes
 
+pub returns-clause-touched : goal.returns-clause-touched
+returns-clause-touched c =
+    let e : c.args.most - c.loop.counter ≡ 0 = omega arith in
+    sym (no_more c.loop.touched)
+    ∙ sym (ap (λ (k : ℕ). with_more (asked k c.loop.world) c.loop.touched) e)
+    ∙ c.loop.invariant.touched
+
 pub loop-preserved : goal.loop-preserved
 loop-preserved c =
-    let left = c.args.most - (c.loop.counter + 1) in
+    let most = c.args.most in
+    let i = c.loop.counter in
+    let left = most - (i + 1) in
     let w = c.loop.world in
+    let d = c.in-Some.due in
     let said = sym c.in-Some.ensures.said in
-    let asked = c.in_ok-say_due-in-Some.ensures
-    ∙ ap (λ (table : Table). say_due c.in-Some.due (record w { neighbours = table })) c.due.ensures.list in
-    let names : Names w c.say_due.new.world (due c.in-Some.due ∷ []) =
-    subst (λ (v : World). Names w v (due c.in-Some.due ∷ [])) (sym asked) (ask_named c.in-Some.due w said) in
-    let pushed = c.in_ok-push-in-Some.ensures ∙ ap (λ (change : Change). option_map (λ changes. changes ++ change ∷ []) c.loop.touched) c.change_of.ensures in
-    let more : MayDiffer = option_map (λ changes. changes ++ due c.in-Some.due ∷ []) c.loop.touched in
+    let asked_now = c.in_ok-say_due-in-Some.ensures
+    ∙ ap (λ (table : Table). say_due d (record w { neighbours = table })) c.due.ensures.list in
+    let apart : AreApart w.neighbours.neighbours = subst AreApart c.list.ensures.value c.list.ensures.keys in
+    let goes_out : c.is_lost-lost.result ≡ is_lost w.moment.0 w.neighbours.neighbours = c.is_lost-lost.ensures ∙ ap (λ (ns : List NeighRec). is_lost w.moment.0 ns) c.list.ensures.value in
+    let names : Names w c.say_due.new.world (lost w d) =
+    subst (λ (v : World). Names w v (lost w d)) (sym asked_now) (lost_named d w said apart) in
+    let pushed : c.touch.new.touched ≡ with_more (lost w d) c.loop.touched =
+    c.in_ok-touch-in-Some.ensures ∙ ap (λ b. with_more (if b then due d ∷ [] else []) c.loop.touched) goes_out in
+    let more : MayDiffer = with_more (lost w d) c.loop.touched in
     record {
-      asked = ap (ask_due left) asked ∙ sym (due_some c.args.most c.loop.counter w c.loop-test.true c.in-Some.due said) ∙ c.loop.invariant.asked;
+      whole = ap (ask_due left) asked_now ∙ sym (due_some most i w c.loop-test.true d said) ∙ c.loop.invariant.whole;
+      touched = ap (λ (v : World). with_more (asked left v) c.touch.new.touched) asked_now
+          ∙ ap (with_more (asked left (say_due d (take_due w)))) pushed
+          ∙ more_and_more (lost w d) (asked left (say_due d (take_due w))) c.loop.touched
+          ∙ ap (λ (changes : List Change). with_more changes c.loop.touched) (sym (touched_some most i w c.loop-test.true d said))
+          ∙ c.loop.invariant.touched;
       goes = subst (Goes c.args.world.now c.say_due.new.world c.args.touched.now) (sym pushed)
           (goes_on c.args.world.now w c.say_due.new.world c.args.touched.now c.loop.touched more c.loop.invariant.goes
-          (goes_by w c.say_due.new.world (due c.in-Some.due) names c.loop.touched));
+          (goes_by w c.say_due.new.world (lost w d) names c.loop.touched));
     }

@@ -2,6 +2,7 @@ use Rattle.std.proofs.Common.{◌≡◌, ◌<◌, IfSome, Option, None, Some, le
 use Rattle.std.proofs.lemmas.List.{get_or-set_same}
 use Rattle.ctl_settle.specs.declared.plans.Held.{Held}
 use Rattle.ctl_settle.specs.Plans.{took}
+use Rattle.ctl_settle.proofs.Apart.{apart_by, numbers_set}
 use Rattle.ctl_settle.proofs.PlanPlaces.{is_there, none_set, none_there, set_there}
 use Rattle.ctl_settle.proofs.batch.take_for.Goals as goal
 
@@ -31,3 +32,15 @@ pub returns-clause-taken : goal.returns-clause-taken
 returns-clause-taken c =
     ap (set c.plans.inside.held.items c.in-Some.at) c.in_ok-commands.ensures.taken
     ∙ set_there _ _ _ _ c.as_slice.ensures.value c.plans.view_is _ _ c.in-Some.ensures.place c.in-Some.ensures.within c.index_mut.ensures.value
+
+pub invariant_of-plans : goal.invariant_of-plans
+invariant_of-plans c =
+    let items = c.plans.inside.held.items in
+    let within : c.in-Some.at < length items = omega (arith, c.in-Some.ensures.within, ap length c.as_slice.ensures.value) in
+    apart_by _ items (numbers_set items c.in-Some.at c.take.new.held c.index_mut.result.now (c.take.ensures.conn ∙ ap (λ (h : Held). h.conn) c.index_mut.ensures.value) within) c.plans.invariant
+
+pub invariant_of-plans-2 : goal.invariant_of-plans-2
+invariant_of-plans-2 c =
+    let items = c.plans.inside.held.items in
+    let within : c.in-Some.at < length items = omega (arith, c.in-Some.ensures.within, ap length c.as_slice.ensures.value) in
+    apart_by _ items (numbers_set items c.in-Some.at c.take.new.held c.index_mut.result.now (c.take.ensures.conn ∙ ap (λ (h : Held). h.conn) c.index_mut.ensures.value) within) c.plans.invariant

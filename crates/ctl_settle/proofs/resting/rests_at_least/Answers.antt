@@ -1,7 +1,7 @@
 use Rattle.std.proofs.Common.{◌≡◌, ◌≤◌, inl, ap, ◌∙◌, arith}
 use Rattle.std.specs.Prelude.{min}
 use Rattle.neighbour_resolve.specs.Due.{never}
-use Rattle.ctl_settle.specs.Rest.{IsBound, neighbours_until, rests_until}
+use Rattle.ctl_settle.specs.Rest.{neighbours_until, rests_until}
 use Rattle.ctl_settle.proofs.Until.{bounds_rest, less_bounded, rests_so_long, shorter_rest}
 use Rattle.ctl_settle.proofs.resting.rests_at_least.Goals as goal
 

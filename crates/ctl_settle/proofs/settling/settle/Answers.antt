@@ -11,13 +11,16 @@ say_batches-requires-clause-in_order g c = asked_in_order c.args.world.now _ c.i
 
 pub say_batches-requires-clause-brought : goal.say_batches-requires-clause-brought
 say_batches-requires-clause-brought g c =
-    asked_brought c.args.world.now _ c.in_ok-ask_all.ensures.asked c.requires.in_order c.args.plans.now _ c.requires.fit c.in_ok-bring.ensures
+    asked_brought c.args.world.now _ c.in_ok-ask_all.ensures.asked c.requires.in_order c.args.plans.now _ c.requires.fit c.in_ok-bring.ensures.brought
 
 pub say_batches-requires-clause-run : goal.say_batches-requires-clause-run
 say_batches-requires-clause-run g c =
     let w = c.ask_all.new.world in
     let dps : c.as_slice-2.result.now ≡ in_order (running w) = cc (c.in_ok-dps.ensures, c.in_ok-running.ensures) in
     all_in_order w c.as_slice-2.result.now dps
+
+pub bring-requires-clause-in_order : goal.bring-requires-clause-in_order
+bring-requires-clause-in_order g c = asked_in_order c.args.world.now _ c.in_ok-ask_all.ensures.asked c.requires.in_order
 
 pub bring-requires-clause-follow : goal.bring-requires-clause-follow
 bring-requires-clause-follow g c =

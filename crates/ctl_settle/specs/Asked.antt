@@ -1,0 +1,45 @@
+-- What the asks of a settling touch: the neighbours whose Ethernet address was known and isn't any more.
+use Rattle.std.specs.Prelude.{◌≡◌, ℕ, zero, suc, ◌&&◌, not, nat_lt, is_some, Bool, true, false, None, Contains, if◌then◌else◌, List, [], ◌∷◌, ◌++◌, length}
+use Rattle.std.specs.Option.{option_map, option_map_or}
+use Rattle.conf_types.specs.declared.change.Change.{Change}
+use Rattle.conf_types.specs.declared.state.NeighRec.{NeighRec}
+use Rattle.conf_types.specs.Changes.{mac_of_neighbour}
+use Rattle.law_names.specs.Differing.{neighbour}
+use Rattle.law_names.specs.Dues.{due}
+use Rattle.neighbour_resolve.specs.declared.neighbour.Due.{Due}
+use Rattle.neighbour_resolve.specs.Due.{due_said, first_due, is_due, most_tries}
+use Rattle.ctl_world.specs.World.{World}
+use Rattle.ctl_settle.specs.Settling.{say_due, take_due}
+use Rattle.ctl_settle.specs.Touched.{MayDiffer}
+
+-- it is known, and was asked as often as it may be
+abbrev pub is_spent : NeighRec → Bool
+is_spent n = is_some n.mac && not (nat_lt n.tries most_tries)
+
+-- the first one that is due is
+abbrev pub is_lost : (moment : ℕ) → List NeighRec → Bool
+is_lost moment neighbours = option_map_or is_spent (first_due moment neighbours) false
+
+abbrev pub lost : World → Due → List Change
+lost w d = if is_lost w.moment.0 w.neighbours.neighbours then due d ∷ [] else []
+
+-- of so many at most
+abbrev pub asked : (most : ℕ) → World → List Change
+asked zero w = []
+asked (suc most) w = option_map_or (λ d. lost w d ++ asked most (say_due d (take_due w))) (due_said w.conf w.moment.0 w.neighbours.neighbours) []
+
+abbrev pub all_asked : World → List Change
+all_asked w = asked (length w.neighbours.neighbours) w
+
+-- what may differ behind the asks
+abbrev pub with_asked : World → MayDiffer → MayDiffer
+with_asked w may = option_map (λ changes. changes ++ all_asked w) may
+
+-- a change names a neighbour that is due, was known, and isn't known any more
+pub record IsLost (w v : World) (c : Change) : Type 0 where
+  pub one : NeighRec
+  pub there : Contains w.neighbours.neighbours one
+  pub comes : is_due w.moment.0 one ≡ true
+  pub spent : is_spent one ≡ true
+  pub named : c ≡ neighbour one
+  pub gone : mac_of_neighbour v.neighbours.neighbours one.group one.vid one.ip.0 ≡ None
