@@ -1,5 +1,5 @@
 -- What is known behind a story, how a run over it ended, and what became of the files that it was read from.
-use Rattle.std.proofs.Common.{◌≡◌, ◌⊎◌, inl, inr, ℕ, Bool, true, false, List, [], ◌∷◌, Option, Some, None, refl, sym, ap, subst, ◌∙◌}
+use Rattle.std.proofs.Common.{◌≡◌, ◌⊎◌, inl, inr, ℕ, Bool, true, false, List, [], ◌∷◌, Option, Some, None, refl, sym, ap, arith, subst, ◌∙◌}
 use Rattle.fg_outside.specs.declared.hub.Happening.{Happening}
 use Rattle.fg_outside.specs.Contents.{Contents}
 use Rattle.of_match.specs.declared.packet.Packet.{Packet}
@@ -32,7 +32,7 @@ module _ (contents : Option Contents) (recording : List ℕ) (absence fault : Ty
   -- the recording isn't whole, or wasn't read, or memory ran out
   pub ends : (end : Replayed) → is_whole end ≡ false → Ran end → EndsSo contents recording absence fault conf end
   ends (replayed.Read None) other ran = absurd cc
-  ends (replayed.Read (Some refused)) other (story, few, known, told) = (story, few, told)
+  ends (replayed.Read (Some refused)) other (story, few, known, told) = (story, (few, told))
   ends replayed.Unread other ran = ran
   ends replayed.Spent other ran = ran
   ends replayed.WriteFault other ran = ran
@@ -88,8 +88,8 @@ module _ {F : Type 0} (held : F → Option Contents) (faults absences : F → �
     named = λ not_read below. absurd (read not_read);
     no_fault = λ other below. refl;
     same_contents = refl;
-    no_fewer_faults = refl;
-    no_fewer_absences = refl;
+    no_fewer_faults = omega arith;
+    no_fewer_absences = omega arith;
   }
 
   -- of which the same is said in other words

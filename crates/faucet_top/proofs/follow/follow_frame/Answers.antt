@@ -80,3 +80,9 @@ returns-clause-no_read_fault g c = λ unread written below.
 
 pub returns-clause-contents : goal.returns-clause-contents
 returns-clause-contents g c = c.follow-followed.ensures.back.same_contents ∙ c.in-Ok.ensures.files.same_contents
+
+pub returns-clause-faults : goal.returns-clause-faults
+returns-clause-faults g c = omega (arith, c.in-Ok.ensures.files.counted_faults, c.follow-followed.ensures.back.no_fewer_faults)
+
+pub returns-clause-absences : goal.returns-clause-absences
+returns-clause-absences g c = omega (arith, c.in-Ok.ensures.files.counted_absences, c.follow-followed.ensures.back.no_fewer_absences)
