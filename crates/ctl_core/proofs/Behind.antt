@@ -1,9 +1,9 @@
 -- What is compared behind a step names all that differs, where no host is new.
-use Rattle.std.proofs.Common.{◌≡◌, ℕ, ◌==◌, ◌&&◌, ◌||◌, Bool, true, false, cond, not, List, [], ◌∷◌, ◌++◌, map, filter, is_some, Option, Some, None, refl, inl, inr, sym, ap, ◌∙◌, subst, eqb-true, true≢false}
+use Rattle.std.proofs.Common.{◌≡◌, ℕ, ◌==◌, ◌&&◌, ◌||◌, Bool, true, false, cond, not, List, [], ◌∷◌, ◌++◌, map, filter, is_some, Option, Some, None, refl, sym, ap, ◌∙◌, subst, eqb-true, true≢false}
 use Rattle.std.specs.Prelude.{Contains}
 use Rattle.std.specs.List.{find, list_any}
 use Rattle.std.specs.Option.{option_and_then, option_eq, option_map, option_map_or}
-use Rattle.std.proofs.lemmas.Bool.{and_from, and_parts, cases_Bool}
+use Rattle.std.proofs.lemmas.Bool.{and_from, and_parts}
 use Rattle.std.proofs.lemmas.Option.{none-some, same_Some}
 use Rattle.net_base.specs.declared.address.Ip4.{Ip4}
 use Rattle.net_base.specs.declared.address.Mac.{Mac}
@@ -13,7 +13,7 @@ use Rattle.conf_types.specs.declared.change.Change.TheVariants as change
 use Rattle.conf_types.specs.declared.state.HostRec.{HostRec}
 use Rattle.conf_types.specs.declared.state.NeighRec.{NeighRec}
 use Rattle.conf_types.specs.declared.state.UpRec.{UpRec}
-use Rattle.conf_types.specs.Changes.{AreNamed, Standing, host_by, mac_of_neighbour, standing, standing_of}
+use Rattle.conf_types.specs.Changes.{AreNamed, host_by, mac_of_neighbour, standing, standing_of}
 use Rattle.conf_types.specs.Configuration.{Configuration}
 use Rattle.conf_types.specs.Groups.{group_of}
 use Rattle.conf_types.specs.Links.{is_up}
@@ -21,7 +21,7 @@ use Rattle.conf_types.specs.State.{State, is_running}
 use Rattle.law_runs.specs.Members.{behind as further, head_of, in_filtered, in_front, in_mapped, tail_of}
 use Rattle.law_names.specs.Differing.{host, is_one_address, is_one_place, neighbour}
 use Rattle.law_names.proofs.Hosts as hosts
-use Rattle.law_names.proofs.Joined.{not_true, one_address, one_by, one_place}
+use Rattle.law_names.proofs.Joined.{one_address, one_by, one_place}
 use Rattle.law_names.proofs.Neighbours as neighbours
 use Rattle.ctl_core.specs.Behind.{behind, dps_behind, dps_left, hosts_behind, is_still, is_unlike, learned_behind, neighbours_left, ports_left, stands_at}
 

@@ -1,5 +1,5 @@
 -- One more is named, or isn't.
-use Rattle.std.proofs.Common.{◌≡◌, ◌<◌, ℕ, Bool, true, false, cond, not, List, [], ◌∷◌, ◌++◌, Option, Some, None, drop, get_or, length, map, filter, ◌+◌, refl, sym, ap, ◌∙◌, append_assoc}
+use Rattle.std.proofs.Common.{◌≡◌, ◌<◌, ℕ, Bool, true, false, cond, List, [], ◌∷◌, ◌++◌, Some, None, drop, get_or, length, map, filter, ◌+◌, refl, sym, ap, ◌∙◌, append_assoc}
 use Rattle.std.specs.Option.{option_map}
 use Rattle.std.proofs.lemmas.List.{at_drop_more}
 use Rattle.conf_types.specs.declared.change.Change.{Change}

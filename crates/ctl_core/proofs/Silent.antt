@@ -20,14 +20,11 @@ neither false b is = record { first = refl; second = is }
 module _ {A : Type 0} (test key : A → Bool) where
   not_found : (xs : List A) → list_any test xs ≡ false → (x : A) → find key xs ≡ Some x → test x ≡ false
   not_found [] none x is = absurd (none-some x is)
-  not_found (y ∷ ys) none x is = by (key y) is
+  not_found (y ∷ ys) none x is = by (key y) is (λ e. not_found ys (neither (test y) (list_any test ys) none).second x e)
     where
-      parts : IsNeither (test y) (list_any test ys)
-      parts = neither (test y) (list_any test ys) none
-
-      by : (b : Bool) → (if b then Some y else find key ys) ≡ Some x → test x ≡ false
-      by true e = ap test (sym (same_Some y x e)) ∙ parts.first
-      by false e = not_found ys parts.second x e
+      by : (b : Bool) → (if b then Some y else find key ys) ≡ Some x → (find key ys ≡ Some x → test x ≡ false) → test x ≡ false
+      by true e more = ap test (sym (same_Some y x e)) ∙ (neither (test y) (list_any test ys) none).first
+      by false e more = more e
 
 module _ (v : World) (none : list_any (is_silent v.moment) v.conns ≡ false) where
   falls_not : (number : ℕ) → falls_silent v number ≡ false

@@ -1,6 +1,5 @@
 use Rattle.std.proofs.Common.{◌≡◌, Some, sym, ap, subst, ◌∙◌}
 use Rattle.conf_types.specs.State.{State}
-use Rattle.ctl_world.specs.Connections.{change, with_heard}
 use Rattle.ctl_world.specs.Ends.{forget_lost}
 use Rattle.ctl_world.specs.World.{World, now}
 use Rattle.ctl_settle.specs.Touched.{MayDiffer}

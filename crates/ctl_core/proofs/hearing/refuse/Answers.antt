@@ -1,4 +1,4 @@
-use Rattle.std.proofs.Common.{◌≡◌, Some, subst, sym}
+use Rattle.std.proofs.Common.{Some, subst, sym}
 use Rattle.conf_types.specs.State.{State}
 use Rattle.switch_session.specs.declared.closing.Closing.TheVariants.{BadFrame}
 use Rattle.ctl_world.specs.World.{IsSound, World, now}
