@@ -40,7 +40,7 @@ use Rattle.law_runs.specs.Members.{all_joined}
 use Rattle.ctl_core.specs.declared.ends.Ends.{Ends}
 use Rattle.ctl_core.specs.declared.ends.Ends.TheVariants as ends
 use Rattle.ctl_core.specs.declared.found.Found.{Found}
-use Rattle.ctl_core.specs.declared.found.Found.TheVariants.{Nothing, Due, Heard, One, Named, Any}
+use Rattle.ctl_core.specs.declared.found.Found.TheVariants.{Nothing, Again, Due, Heard, One, Named, Any}
 use Rattle.ctl_core.specs.Found.{Bounds, Leaves, Tells, by_packet, by_parts, by_port, by_table, ends_of, is_touched}
 
 -- ---- the hosts that are known behind one that is heard
@@ -131,7 +131,7 @@ module _ (m : PacketIn) (dp : DpId) (w : World) where
     at_in None = inl refl
     at_in (Some port) = at_port port (parts m.payload)
 
-  told_found : IsTold (told_in m dp w) (by_packet m dp w)
+  pub told_found : IsTold (told_in m dp w) (by_packet m dp w)
   told_found = by (m.cookie == COOKIE && is_running (running w) dp && m.table == sources) refl
     where
       by : (b : Bool) → (m.cookie == COOKIE && is_running (running w) dp && m.table == sources) ≡ b → IsTold (if b then option_and_then (told_by m dp w) (in_port m.fields) else None) (by_packet m dp w)
@@ -180,6 +180,7 @@ module _ (m : PacketIn) (number : ℕ) (dp : DpId) (w : World) where
 
 abbrev names_of : Configuration → Found → List Change
 names_of conf Nothing = []
+names_of conf Again = []
 names_of conf Due = []
 names_of conf (Heard h) = host conf h ∷ []
 names_of conf (One c) = c ∷ []
@@ -238,13 +239,14 @@ table_touched table dp port vid frame w =
       ]
     ]
 
-pub packet_touched : (m : PacketIn) (dp : DpId) (w : World) → is_touched (by_packet m dp w) ≡ true
+packet_touched : (m : PacketIn) (dp : DpId) (w : World) → is_touched (by_packet m dp w) ≡ true
 packet_touched m dp w =
     option_touched (by_port m dp w) (in_port m.fields) (λ port. option_touched (by_parts m dp w port) (parts m.payload) (λ frame.
     option_touched (λ vid. by_table m.table dp port vid frame w) (counted_vid w.conf dp port frame) (λ vid. table_touched m.table dp port vid frame w)))
 
 tells_of : (w v : World) (found : Found) → is_touched found ≡ true → Names w v (names_of w.conf found) → Leaves w v (ends_of found) → Tells w v found
 tells_of w v Nothing none names leaves = absurd (cc)
+tells_of w v Again none names leaves = absurd (cc)
 tells_of w v Due some names leaves = (names, leaves)
 tells_of w v (Heard h) some names leaves = (names, leaves)
 tells_of w v (One c) some names leaves = (names, leaves)

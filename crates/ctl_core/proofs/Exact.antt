@@ -1,7 +1,7 @@
 -- What is compared behind a step names nothing but what differs.
-use Rattle.std.proofs.Common.{◌≡◌, ℕ, zero, suc, ◌==◌, ◌&&◌, Bool, true, false, not, List, [], ◌∷◌, ◌++◌, map, filter, is_some, Option, Some, None, refl, sym, ap, ◌∙◌, subst, eqb-true, eq-eqb, true≢false, arith}
+use Rattle.std.proofs.Common.{◌≡◌, zero, suc, ◌==◌, ◌&&◌, Bool, true, false, not, List, [], ◌∷◌, ◌++◌, filter, is_some, Option, Some, None, refl, sym, ap, ◌∙◌, subst, eqb-true, eq-eqb, true≢false, arith}
 use Rattle.std.specs.Prelude.{Contains}
-use Rattle.std.specs.List.{AllByRecursion, find, list_any}
+use Rattle.std.specs.List.{AllByRecursion, list_any}
 use Rattle.std.specs.Option.{option_and_then, option_eq, option_map, option_map_or}
 use Rattle.std.proofs.lemmas.Bool.{and_from, and_parts, or_left, or_right}
 use Rattle.net_base.specs.declared.address.Mac.{Mac}
@@ -33,7 +33,7 @@ not_left true is = absurd (true≢false (sym is))
 not_left false is = refl
 
 -- a member that passes makes any pass
-any_member : {A : Type 0} (test : A → Bool) (xs : List A) (x : A) → Contains xs x → test x ≡ true → list_any test xs ≡ true
+pub any_member : {A : Type 0} (test : A → Bool) (xs : List A) (x : A) → Contains xs x → test x ≡ true → list_any test xs ≡ true
 any_member test [] x (k, lt, is) passes = absurd (omega (arith, lt))
 any_member test (y ∷ ys) x (zero, lt, is) passes = or_left (test y) (list_any test ys) (ap test is ∙ passes)
 any_member test (y ∷ ys) x (suc k, lt, is) passes = or_right (test y) (list_any test ys) (any_member test ys x (k, omega (arith, lt), is) passes)

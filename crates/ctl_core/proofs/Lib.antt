@@ -1,6 +1,7 @@
 pub mod Behind
 pub mod Bounded
 pub mod Exact
+pub mod HeardAgain
 pub mod HeardOn
 pub mod InOrder
 pub mod NoneNew
@@ -10,6 +11,7 @@ pub mod PacketSteps
 pub mod Planned
 pub mod Pushed
 pub mod ReloadSteps
+pub mod Refreshed
 pub mod Rests
 pub mod SaidTables
 pub mod Settled
@@ -22,6 +24,7 @@ pub mod SoundSteps
 pub mod SoundTurns
 pub mod Stands
 pub mod Stays
+pub mod Still
 pub mod Telling
 pub mod Walk
 pub mod Soundness

@@ -1,6 +1,6 @@
 -- What may differ behind a frame or a moment is told.
-use Rattle.std.proofs.Common.{◌≡◌, ◌<◌, ◌==◌, ℕ, zero, suc, Bool, true, false, cond, ◌||◌, not, max, Option, Some, None, List, [], ◌∷◌, ◌++◌, filter, map, is_some, refl, inl, inr, sym, ap, subst, ◌∙◌, arith, true≢false, if◌then◌else◌}
-use Rattle.std.specs.Prelude.{◌⊎◌, Contains}
+use Rattle.std.proofs.Common.{◌≡◌, ◌<◌, ◌==◌, ℕ, zero, suc, Bool, true, false, cond, ◌||◌, not, max, Option, Some, None, List, [], ◌∷◌, ◌++◌, filter, map, refl, sym, ap, subst, ◌∙◌, arith, true≢false, if◌then◌else◌}
+use Rattle.std.specs.Prelude.{Contains}
 use Rattle.std.specs.List.{AllByRecursion}
 use Rattle.std.specs.Option.{option_map_or}
 use Rattle.std.proofs.lemmas.Bool.{and_parts}
@@ -26,11 +26,11 @@ use Rattle.ctl_world.specs.Connections.{change, conn_with, with_heard, with_said
 use Rattle.ctl_world.specs.Saying.{say, say_by}
 use Rattle.ctl_world.specs.Ends.{forget_lost}
 use Rattle.ctl_world.specs.World.{IsSound, World, now, runs}
-use Rattle.ctl_world.proofs.Faces.{alike_through, same_now}
+use Rattle.ctl_world.proofs.Faces.{alike_sound, alike_through, same_now}
 use Rattle.ctl_life.specs.Silence.{show}
 use Rattle.ctl_world.proofs.Numbered.{change_same}
 use Rattle.ctl_settle.specs.declared.plans.Held.{Held}
-use Rattle.ctl_settle.specs.Rest.{AreBounded, AreInOrder, rests_until}
+use Rattle.ctl_settle.specs.Rest.{AreBounded, rests_until}
 use Rattle.ctl_settle.specs.Touched.{AllFollow, AreAmong}
 use Rattle.ctl_settle.proofs.Following.{alike_names, any_follow, named_follow}
 use Rattle.ctl_settle.proofs.Until.{fresh_before, same_bounded}
@@ -42,13 +42,14 @@ use Rattle.ctl_settle.proofs.Names.{gone_named, join, kept_quiet, more_named, sa
 use Rattle.ctl_core.specs.declared.found.Found.{Found}
 use Rattle.ctl_core.specs.declared.ends.Ends.{Ends}
 use Rattle.ctl_core.specs.declared.ends.Ends.TheVariants as ends
-use Rattle.ctl_core.specs.declared.found.Found.TheVariants.{Nothing, Due, Heard, One, Named, Any}
+use Rattle.ctl_core.specs.declared.found.Found.TheVariants.{Nothing, Again, Due, Heard, One, Named, Any}
 use Rattle.ctl_core.specs.Hearing.{follow}
-use Rattle.ctl_core.specs.Found.{Leaves, Tells, ends_of, is_barrier_reply, is_reply, is_settled, is_touched, may_differ}
+use Rattle.ctl_core.specs.Found.{IsStill, Leaves, Tells, ends_of, is_barrier_reply, is_reply, is_settled, is_touched, may_differ}
 use Rattle.ctl_core.specs.Behind.{behind}
 use Rattle.ctl_core.specs.Turning.{aged, turned, turns}
 use Rattle.ctl_core.specs.Turns.{age}
 use Rattle.ctl_core.proofs.NoneNew.{NoneIsNew, behind_follow}
+use Rattle.ctl_core.proofs.Still.{alike_still, still_behind}
 
 -- ---- what was found
 
@@ -58,6 +59,7 @@ module _ (u w v : World) (alike : IsAlike u w) where
 
   pub tells_behind : (found : Found) → Tells u v found → Tells w v found
   tells_behind Nothing same = alike_through v u w same alike
+  tells_behind Again told = λ sound. still_behind u w v alike (told (alike_sound u w alike sound))
   tells_behind Due told = (join w u v [] [] (alike_names u w alike) told.0, leaves_behind ends.Later told.1)
   tells_behind (Heard h) told =
       (subst (λ conf. Names w v (host conf h ∷ [])) alike.conf (join w u v [] (host u.conf h ∷ []) (alike_names u w alike) told.0), leaves_behind (ends.But h) told.1)
@@ -66,36 +68,40 @@ module _ (u w v : World) (alike : IsAlike u w) where
       (told.0 ∙ alike.conf, subst (λ (s : State). AreAmong w.conf s (now v) may) (same_now u w alike) (subst (λ conf. AreAmong conf (now u) (now v) may) alike.conf told.1))
   tells_behind Any told = tt
 
-pub tells_follow : (w v : World) (found : Found) → Tells w v found → (held : List Held) → AllFollow w (Some []) held → AllFollow v (may_differ v.conf found) held
-tells_follow w v Nothing alike held all = named_follow w v [] (alike_names v w alike) held all
-tells_follow w v Due told held all = named_follow w v [] told.0 held all
-tells_follow w v (Heard h) told held all =
+pub tells_follow : (w v : World) (found : Found) → IsSound w → Tells w v found → (held : List Held) → AllFollow w (Some []) held → AllFollow v (may_differ v.conf found) held
+tells_follow w v Nothing sound alike held all = named_follow w v [] (alike_names v w alike) held all
+tells_follow w v Again sound told held all = named_follow w v [] (told sound).names held all
+tells_follow w v Due sound told held all = named_follow w v [] told.0 held all
+tells_follow w v (Heard h) sound told held all =
     subst (λ conf. AllFollow v (Some (host conf h ∷ [])) held) (sym (told.0).conf) (named_follow w v (host w.conf h ∷ []) told.0 held all)
-tells_follow w v (One c) told held all = named_follow w v (c ∷ []) told.0 held all
-tells_follow w v (Named None) told held all = any_follow v held
-tells_follow w v (Named (Some changes)) told held all = named_follow w v changes (record { conf = told.0; named = told.1 }) held all
-tells_follow w v Any told held all = any_follow v held
+tells_follow w v (One c) sound told held all = named_follow w v (c ∷ []) told.0 held all
+tells_follow w v (Named None) sound told held all = any_follow v held
+tells_follow w v (Named (Some changes)) sound told held all = named_follow w v changes (record { conf = told.0; named = told.1 }) held all
+tells_follow w v Any sound told held all = any_follow v held
 
 -- when the hosts' times end
-pub tells_bounds : (w v : World) (found : Found) → Tells w v found → Leaves w v (ends_of found)
-tells_bounds w v Nothing alike = λ until all. same_bounded v w until alike.conf alike.moment alike.hosts all
-tells_bounds w v Due told = told.1
-tells_bounds w v (Heard h) told = told.1
-tells_bounds w v (One c) told = told.1
-tells_bounds w v (Named may) told = λ until all. tt
-tells_bounds w v Any told = λ until all. tt
+pub tells_bounds : (w v : World) (found : Found) → IsSound w → Tells w v found → Leaves w v (ends_of found)
+tells_bounds w v Nothing sound alike = λ until all. same_bounded v w until alike.conf alike.moment alike.hosts all
+tells_bounds w v Again sound told = (told sound).leaves
+tells_bounds w v Due sound told = told.1
+tells_bounds w v (Heard h) sound told = told.1
+tells_bounds w v (One c) sound told = told.1
+tells_bounds w v (Named may) sound told = λ until all. tt
+tells_bounds w v Any sound told = λ until all. tt
 
--- where nothing was found
-pub tells_alike : (w v : World) (found : Found) → is_touched found ≡ false → Tells w v found → IsAlike v w
-tells_alike w v Nothing none alike = alike
-tells_alike w v Due none told = absurd (true≢false none)
-tells_alike w v (Heard h) none told = absurd (true≢false none)
-tells_alike w v (One c) none told = absurd (true≢false none)
-tells_alike w v (Named may) none told = absurd (true≢false none)
-tells_alike w v Any none told = absurd (true≢false none)
+-- where nothing was found, or a host that is known there
+pub tells_still : (w v : World) (found : Found) → is_touched found ≡ false → IsSound w → Tells w v found → IsStill w v
+tells_still w v Nothing none sound alike = alike_still v w alike
+tells_still w v Again none sound told = told sound
+tells_still w v Due none sound told = absurd (true≢false none)
+tells_still w v (Heard h) none sound told = absurd (true≢false none)
+tells_still w v (One c) none sound told = absurd (true≢false none)
+tells_still w v (Named may) none sound told = absurd (true≢false none)
+tells_still w v Any none sound told = absurd (true≢false none)
 
 pub nothing_follows : (w : World) (found : Found) → is_touched found ≡ false → (held : List Held) → AllFollow w (may_differ w.conf found) held → AllFollow w (Some []) held
 nothing_follows w Nothing none held all = all
+nothing_follows w Again none held all = all
 nothing_follows w Due none held all = absurd (true≢false none)
 nothing_follows w (Heard h) none held all = absurd (true≢false none)
 nothing_follows w (One c) none held all = absurd (true≢false none)

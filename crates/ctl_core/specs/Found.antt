@@ -1,10 +1,13 @@
 -- What may differ behind a frame, as the code tells it.
-use Rattle.std.specs.Prelude.{◌≡◌, ℕ, ◌==◌, ◌&&◌, min, Bool, true, false, if◌then◌else◌, Option, Some, None, [], ◌∷◌}
+use Rattle.std.specs.Prelude.{◌≡◌, ℕ, ◌==◌, ◌&&◌, min, nat_le, Bool, true, false, if◌then◌else◌, Some, None, [], ◌∷◌}
 use Rattle.std.specs.Option.{option_map_or}
 use Rattle.net_base.specs.declared.numbers.DpId.{DpId}
 use Rattle.conf_types.specs.declared.change.Change.TheVariants as change
+use Rattle.conf_types.specs.declared.state.HostRec.{HostRec}
 use Rattle.conf_types.specs.Configuration.{Configuration}
 use Rattle.conf_types.specs.Groups.{group_of}
+use Rattle.conf_types.specs.State.{is_fresh}
+use Rattle.host_learn.specs.Table.{host_of}
 use Rattle.of_match.specs.InPort.{in_port}
 use Rattle.of13_codec.specs.declared.message.Message.{Message}
 use Rattle.of13_codec.specs.declared.message.Message.TheVariants as messages
@@ -16,19 +19,21 @@ use Rattle.switch_session.specs.declared.state.Step.{Step}
 use Rattle.switch_session.specs.declared.state.Step.TheVariants as steps
 use Rattle.ctl_world.specs.declared.conns.Conn.{Conn}
 use Rattle.ctl_world.specs.Alike.{IsAlike}
-use Rattle.ctl_world.specs.World.{World, now, runs}
+use Rattle.ctl_world.specs.World.{IsSound, World, now, runs}
 use Rattle.ctl_packets.specs.Packets.{gateways, routes, sources}
 use Rattle.ctl_settle.specs.Rest.{AreBounded, host_until}
+use Rattle.ctl_settle.specs.Settling.{wanted}
 use Rattle.ctl_settle.specs.Touched.{AreAmong, MayDiffer}
 use Rattle.ctl_settle.specs.Names.{Names, host}
 use Rattle.ctl_core.specs.declared.ends.Ends.{Ends}
 use Rattle.ctl_core.specs.declared.ends.Ends.TheVariants as ends
 use Rattle.ctl_core.specs.declared.found.Found.{Found}
-use Rattle.ctl_core.specs.declared.found.Found.TheVariants.{Nothing, Due, Heard, One, Named, Any}
+use Rattle.ctl_core.specs.declared.found.Found.TheVariants.{Nothing, Again, Due, Heard, One, Named, Any}
 
 -- a settling looks at it
 abbrev pub is_touched : Found → Bool
 is_touched Nothing = false
+is_touched Again = false
 is_touched Due = true
 is_touched (Heard h) = true
 is_touched (One change) = true
@@ -37,6 +42,7 @@ is_touched Any = true
 
 abbrev pub may_differ : Configuration → Found → MayDiffer
 may_differ conf Nothing = Some []
+may_differ conf Again = Some []
 may_differ conf Due = Some []
 may_differ conf (Heard h) = Some (host conf h ∷ [])
 may_differ conf (One change) = Some (change ∷ [])
@@ -47,6 +53,7 @@ may_differ conf Any = None
 
 abbrev pub ends_of : Found → Ends
 ends_of Nothing = ends.Later
+ends_of Again = ends.Later
 ends_of Due = ends.Later
 ends_of (Heard h) = ends.But h
 ends_of (One change) = ends.Later
@@ -82,11 +89,35 @@ by_port m dp w port = option_map_or (by_parts m dp w port) (parts m.payload) Due
 abbrev pub by_packet : PacketIn → DpId → World → Found
 by_packet m dp w = option_map_or (by_port m dp w) (in_port m.fields) Due
 
+-- ---- hosts that are heard again
+
+-- a host that is known stands where one was heard, no later than that, and is fresh
+abbrev pub stands_fresh : Configuration → (moment : ℕ) → (heard known : HostRec) → Bool
+stands_fresh conf moment heard known =
+    known.dp.0 == heard.dp.0 && (known.port == heard.port && (nat_le known.learned.0 heard.learned.0 && is_fresh conf moment known))
+
+abbrev pub is_known_there : World → HostRec → Bool
+is_known_there w heard = option_map_or (stands_fresh w.conf w.moment.0 heard) (host_of w.conf w.hosts.hosts heard.dp heard.vid heard.mac.0) false
+
+-- such a host changes nothing that a settling looks at
+abbrev pub or_again : World → Found → Found
+or_again w (Heard h) = if is_known_there w h then Again else Heard h
+or_again w found = found
+
+-- all but the hosts looks the same to a settling; of these no more differs than when they were heard, none ends earlier, and
+-- each datapath is to have the entries that it was to have
+pub record IsStill (w v : World) : Type 0 where
+  pub alike : IsAlike (record v { hosts = w.hosts }) w
+  pub names : Names w v []
+  pub leaves : Leaves w v ends.Later
+  pub entries : (dp : DpId) → wanted v dp ≡ wanted w dp
+
 -- ---- what is told
 
 -- all that differs is told, and when the hosts' times end; behind nothing a settling finds the same
 abbrev pub Tells : World → World → Found → Type 0
 Tells w v Nothing = IsAlike v w
+Tells w v Again = IsSound w → IsStill w v
 Tells w v Due = Names w v [] × Leaves w v ends.Later
 Tells w v (Heard h) = Names w v (host w.conf h ∷ []) × Leaves w v (ends.But h)
 Tells w v (One change) = Names w v (change ∷ []) × Leaves w v ends.Later

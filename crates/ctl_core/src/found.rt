@@ -7,14 +7,14 @@ ghost use Rattle.conf_types.specs.Groups.{group_of};
 ghost use Rattle.pkt_view.specs.Frame.{shown};
 ghost use Rattle.neighbour_resolve.specs.Hearing.{heard_sender};
 ghost use Rattle.ctl_core.specs.declared.found.Found.TheVariants.{Due, One};
-ghost use Rattle.ctl_core.specs.Found.{by_packet, by_port, by_table, ends_of, is_touched, may_differ};
+ghost use Rattle.ctl_core.specs.Found.{by_packet, by_port, by_table, ends_of, is_known_there, is_touched, may_differ, or_again, stands_fresh};
 
 use crate::ends::Ends;
 use conf_types::{Change, Conf, HostRec};
 use ctl_settle::Touched;
 use ctl_world::World;
 use neighbour_resolve::{counted_vid, heard_sender};
-use net_base::{DpId, NoMemory, PortNo, Vid};
+use net_base::{DpId, Moment, NoMemory, PortNo, Vid};
 use of_match::in_port;
 use of13_codec::PacketIn;
 use pkt_view::{FrameView, view};
@@ -26,6 +26,8 @@ use std::alloc::Global;
 pub(crate) enum Found {
     /// All is as it was.
     Nothing,
+    /// A host was heard again where it stands and was fresh: at most the moment at which it was heard differs.
+    Again,
     /// The state is, but there may be something to say.
     Due,
     /// At most this host differs, which was heard.
@@ -52,7 +54,7 @@ impl Found {
         ensures { result ≡ is_touched self.now }
     {
         match self {
-            Found::Nothing => false,
+            Found::Nothing | Found::Again => false,
             Found::Due | Found::Heard(_) | Found::One(_) | Found::Named(_) | Found::Any => true,
         }
     }
@@ -62,7 +64,7 @@ impl Found {
         ensures { IfOk result (λ made. made ≡ may_differ conf.now self) }
     {
         match self {
-            Found::Nothing | Found::Due => Ok(Touched::nothing(alloc)),
+            Found::Nothing | Found::Again | Found::Due => Ok(Touched::nothing(alloc)),
             Found::Heard(host) => one(
                 alloc,
                 Change::Host {
@@ -82,7 +84,7 @@ impl Found {
         ensures { result ≡ ends_of self.now }
     {
         match self {
-            Found::Nothing | Found::Due | Found::One(_) => Ends::Later,
+            Found::Nothing | Found::Again | Found::Due | Found::One(_) => Ends::Later,
             Found::Heard(host) => Ends::But(*host),
             Found::Named(_) | Found::Any => Ends::Any,
         }
@@ -150,5 +152,41 @@ pub(crate) fn by_packet(world: &World, packet: &PacketIn, dp: DpId) -> Found
     match in_port(packet.fields.as_slice()) {
         Some(port) => by_port(world, packet, dp, port),
         None => Found::Due,
+    }
+}
+
+/// Whether a host that is known stands where one was heard, no later than that, and is fresh.
+fn stands_fresh(conf: &Conf, moment: Moment, heard: &HostRec, known: &HostRec) -> bool
+    ensures { result ≡ stands_fresh conf.now moment.0 heard.now known.now }
+{
+    known.dp == heard.dp
+        && known.port.get() == heard.port.get()
+        && known.learned.0 <= heard.learned.0
+        && conf.is_fresh(moment, known)
+}
+
+/// Whether the host that was heard is known there, and fresh.
+fn is_known_there(world: &World, heard: &HostRec) -> bool
+    ensures { result ≡ is_known_there world.now heard.now }
+{
+    match world.hosts.get(&world.conf, heard.dp, heard.vid, heard.mac) {
+        Some(known) => stands_fresh(&world.conf, world.moment, heard, known),
+        None => false,
+    }
+}
+
+/// The same, told more exactly where a host is heard again: what is known is that before it was heard.
+pub(crate) fn or_again(world: &World, found: Found) -> Found
+    ensures { result ≡ or_again world.now found }
+{
+    match found {
+        Found::Heard(host) => {
+            if is_known_there(world, &host) {
+                Found::Again
+            } else {
+                Found::Heard(host)
+            }
+        }
+        other => other,
     }
 }

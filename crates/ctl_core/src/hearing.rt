@@ -1,6 +1,6 @@
 //! What a frame does that a switch sent.
 
-ghost use Rattle.std.specs.Prelude.{◌≡◌, ◌||◌, false, true, IfOk, OnOk};
+ghost use Rattle.std.specs.Prelude.{◌≡◌, ◌||◌, false, IfOk, OnOk};
 ghost use Rattle.std.specs.Option.{option_map_or};
 ghost use Rattle.conf_types.specs.Valid.{IsValid};
 ghost use Rattle.switch_session.specs.declared.closing.Closing.TheVariants.{BadFrame};
@@ -19,7 +19,7 @@ ghost use Rattle.ctl_core.specs.Known.{HasSettled, IsEarly};
 
 use crate::before::Before;
 use crate::ends::Ends;
-use crate::found::{Found, by_packet};
+use crate::found::{Found, by_packet, or_again};
 use crate::gateways::begin;
 use crate::known::{Known, settle_anew, settle_where_due};
 use crate::laws::{
@@ -56,10 +56,10 @@ fn take_packet(
     dp: DpId,
 ) -> Result<Found, NoMemory>
     ensures done { OnOk result (world.new ≡ packet_in packet.now conn dp world.old) }
-    ensures told { IfOk result (λ found. is_touched found ≡ packet_changes packet.now dp world.old) }
+    ensures told { IfOk result (λ found. packet_changes packet.now dp world.old ≡ false → is_touched found ≡ false) }
     ensures tells { IfOk result (λ found. Tells world.old world.new found) }
 {
-    let found = by_packet(world, packet, dp);
+    let found = or_again(world, by_packet(world, packet, dp));
     if packet_in(alloc, world, packet, conn, dp)? {
         Ok(found)
     } else {
@@ -76,7 +76,7 @@ fn hear_packet(
     dp: Option<DpId>,
 ) -> Result<Found, NoMemory>
     ensures done { OnOk result (world.new ≡ packet message.now conn dp world.old) }
-    ensures told { IfOk result (λ found. is_touched found ≡ heard_packet_changes message.now dp world.old) }
+    ensures told { IfOk result (λ found. heard_packet_changes message.now dp world.old ≡ false → is_touched found ≡ false) }
     ensures tells { IfOk result (λ found. Tells world.old world.new found) }
 {
     alike_worlds_run_alike();
@@ -97,7 +97,7 @@ fn follow(
     dp: Option<DpId>,
 ) -> Result<Found, NoMemory>
     ensures done { OnOk result (world.new ≡ follow step message.now xid conn dp world.old) }
-    ensures told { IfOk result (λ found. is_touched found ≡ step_changes step message.now dp world.old) }
+    ensures told { IfOk result (λ found. step_changes step message.now dp world.old ≡ false → is_touched found ≡ false) }
     ensures tells { IfOk result (λ found. Tells world.old world.new found) }
 {
     alike_worlds_run_alike();
@@ -162,7 +162,6 @@ fn hear_change(
 ) -> Result<Found, NoMemory>
     requires { Changes message.now xid dp (conn_with world.old.conns conn) }
     ensures heard { OnOk result (world.new ≡ hear_message message.now xid conn world.old) }
-    ensures told { IfOk result (λ found. is_touched found ≡ true) }
     ensures tells { IfOk result (λ found. Tells world.old world.new found) }
 {
     let before = Before::of(alloc, world)?;
@@ -184,7 +183,7 @@ fn hear_message(
 ) -> Result<Found, NoMemory>
     requires { IsSound world.old }
     ensures heard { OnOk result (world.new ≡ hear_message message.now xid conn world.old) }
-    ensures told { IfOk result (λ found. is_touched found ≡ message_changes message.now xid conn world.old) }
+    ensures told { IfOk result (λ found. message_changes message.now xid conn world.old ≡ false → is_touched found ≡ false) }
     ensures tells { IfOk result (λ found. Tells world.old world.new found) }
 {
     alike_worlds_run_alike();
@@ -209,7 +208,7 @@ fn hear_message(
 fn hear_frame(alloc: Global, world: &mut World, frame: &[u8], conn: u32) -> Result<Found, NoMemory>
     requires { IsSound world.old }
     ensures heard { OnOk result (world.new ≡ hear_frame (says frame.now) conn world.old) }
-    ensures told { IfOk result (λ found. is_touched found ≡ frame_changes (says frame.now) conn world.old) }
+    ensures told { IfOk result (λ found. frame_changes (says frame.now) conn world.old ≡ false → is_touched found ≡ false) }
     ensures tells { IfOk result (λ found. Tells world.old world.new found) }
 {
     match read_message(alloc, frame)? {

@@ -69,8 +69,8 @@ pub(crate) fn settle_where_due<T: Tally>(
     requires follow { AllFollow known.old.world (may_differ known.old.world.conf found) known.old.plans }
     requires bounds { Bounds (ends_of found) known.old.until known.old.world }
     requires held { is_touched found ≡ false → AreHeld known.old.world known.old.plans }
-    requires rests { is_touched found ≡ false → RestsUntil known.old.until known.old.world }
-    requires until { is_touched found ≡ false → IsBound known.old.world known.old.until }
+    requires rests { is_touched found ≡ false → IsEarly known.old → RestsUntil known.old.until known.old.world }
+    requires until { is_touched found ≡ false → IsEarly known.old → IsBound known.old.world known.old.until }
     ensures settled { OnOk result (known.new.world ≡ settle known.old.world) }
     ensures rests { OnOk result (HasSettled known.new) }
     ensures left_out { is_touched found ≡ false → IsEarly known.old → T.count units.new ≡ T.count units.old }

@@ -46,7 +46,7 @@ returns-then-stays c =
       told =
           let same_state : leaves d.session.state m xid ≡ true = (rw at at (sym c.stays-stays.ensures.exact)) ∙ c.if-stays.true in
           rw at (rw same_state (IfOk-weaker c.follow.result _ _
-          (λ found is. is ∙ ap (λ s. step_changes s m d.dp v) step ∙ ap (step_changes (leads d.session.state m xid).1 m d.dp) (left ∙ put)) c.follow.ensures.told));
+          (λ found told same_step. told (ap (λ s. step_changes s m d.dp v) step ∙ ap (step_changes (leads d.session.state m xid).1 m d.dp) (left ∙ put) ∙ same_step)) c.follow.ensures.told));
     }
 
 second : (a b : Bool) → a ≡ false → (a || b) ≡ true → b ≡ true
@@ -71,7 +71,7 @@ returns c =
     record {
       heard = rw at (left ∙ sym (follow_settled (leads d.session.state m xid).1 m xid c.args.conn d.dp (forget_lost heard) settled ∙ lost));
       tells = subst (IsQuiet w) (sym left) (replied_quiet m xid c.args.conn w d at settled, λ until all. all);
-      told = rw at (rw other_state refl);
+      told = rw at (rw other_state (λ none. absurd (true≢false none)));
     }
 
 -- the state of the connection changes
@@ -96,5 +96,5 @@ returns-then-not-is_quiet c =
     record {
       heard = c.hear_change.ensures.heard;
       tells = c.hear_change.ensures.tells;
-      told = rw at (rw other_state c.hear_change.ensures.told);
+      told = rw at (rw other_state (IfOk-weaker c.hear_change.result _ _ (λ found tells none. absurd (true≢false none)) c.hear_change.ensures.tells));
     }
