@@ -54,13 +54,17 @@ none_awaited : (c : Conn) → runs c.session.state.stage ≡ true → not (waits
 none_awaited c works rests some =
     true≢false (sym rests ∙ ap (λ (b : Bool). not b) (ap (λ (b : Bool). b && is_some c.session.state.awaited) (ports_told c.session.state.stage works) ∙ some))
 
+-- what its connection was sent
+tables_on : (w : World) (id : DpId) (c : Conn) → is_running (running w) id ≡ true → conn_of w.conns id ≡ Some c → tables_of w id ≡ Some c.sent
+tables_on w id c works at = rw (works, at) refl
+
 module _ (w : World) (id : DpId) (rests : (c : Conn) → is_running (running w) id ≡ true → conn_of w.conns id ≡ Some c → (is_some c.session.state.awaited ≡ true) ⊎ (c.sent ≡ wanted w id)) where
   pub sent_cold : is_ready w id ≡ true → tables_of w id ≡ Some (wanted w id)
   sent_cold ready =
       let parts = and_parts (is_running (running w) id) (not (waits w id)) ready in
       let at = runs_on w id parts.0 in
       let idle : not (waits_on at.0) ≡ true = sym (ap (λ (o : Option Conn). not (option_map_or waits_on o false)) at.1) ∙ parts.1 in
-      let held : tables_of w id ≡ Some (at.0).sent = rw (parts.0, at.1) refl in
+      let held = tables_on w id at.0 parts.0 at.1 in
       elim (rests at.0 parts.0 at.1) [
         | inl awaited ↦ absurd (none_awaited at.0 at.2 idle awaited)
         | inr same ↦ held ∙ ap (λ (tables : List Entry). Some tables) same
