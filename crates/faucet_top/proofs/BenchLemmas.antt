@@ -1,12 +1,11 @@
 -- What a run of `bench` delivers.
-use Rattle.std.proofs.Common.{◌≡◌, ◌⊎◌, ℕ, inl, inr, List, [], Option, refl, sym, ap, ◌∙◌}
-use Rattle.fg_outside.specs.Wrote.{appended}
+use Rattle.std.proofs.Common.{◌≡◌, ℕ, inl, inr, List, [], Option, refl, sym, ap}
 use Rattle.fg_outside.proofs.SinkLemmas.{appended-nil, AppendsFront-none}
 use Rattle.bench_story.specs.declared.measuring.Measured.{Measured}
 use Rattle.bench_story.specs.Measured.{measured}
 use Rattle.faucet_top.specs.declared.deliver.Status.{Status}
 use Rattle.faucet_top.specs.declared.deliver.Status.TheVariants as statuses
-use Rattle.faucet_top.specs.Answer.{Answer, bench_answer, bench_line, out_of_memory}
+use Rattle.faucet_top.specs.Answer.{bench_answer, bench_line, out_of_memory}
 use Rattle.faucet_top.specs.Ends.{Ends}
 use Rattle.faucet_top.specs.Given.{Delivers, GivesBench}
 use Rattle.faucet_top.specs.Status.{number_of_status}

@@ -1,12 +1,11 @@
 -- What each status says of `trace` and `walk`, and the reply that was given.
-use Rattle.std.proofs.Common.{◌≡◌, ◌≢◌, ◌⊎◌, ℕ, ◌≤◌, inl, inr, List, [], ◌++◌, Option, Some, None, Result, Ok, Err, is_some, refl, sym, ap, subst, ◌∙◌, arith, true}
+use Rattle.std.proofs.Common.{◌≡◌, ◌≢◌, ◌⊎◌, ℕ, ◌≤◌, inl, inr, List, [], ◌++◌, Option, Some, None, Ok, Err, refl, sym, ap, subst, ◌∙◌, arith}
 use Rattle.std.specs.Prelude.{IsSome, IsTrue, ◌↔◌}
 use Rattle.fg_outside.specs.Contents.{Contents}
 use Rattle.fg_outside.specs.Counts.{Rose}
-use Rattle.fg_outside.specs.Wrote.{appended, AppendsFront}
+use Rattle.fg_outside.specs.Wrote.{appended}
 use Rattle.fg_outside.specs.declared.hub.Happening.{Happening}
 use Rattle.fg_outside.proofs.CountLemmas.{Rose-since}
-use Rattle.fg_outside.proofs.SinkLemmas.{appended-nil, AppendsFront-none}
 use Rattle.conf_types.specs.Configuration.{Configuration}
 use Rattle.conf_types.specs.Valid.{IsValid}
 use Rattle.conf_gather.specs.declared.refused.LoadRefused.{LoadRefused}
@@ -18,8 +17,6 @@ use Rattle.of_match.specs.declared.packet.Packet.{Packet}
 use Rattle.pkt_view.specs.Frame.{has_type}
 use Rattle.pkt_view.specs.Packets.{packet}
 use Rattle.law_stories.specs.Right.{IsRight}
-use Rattle.ctl_world.specs.World.{first}
-use Rattle.ctl_core.specs.Story.{behind}
 use Rattle.recording.specs.declared.refused.RecordRefused.{RecordRefused}
 use Rattle.recording.specs.Script.{IsStoryOf}
 use Rattle.hub_drive.specs.declared.replay.Replayed.{Replayed}
@@ -34,11 +31,10 @@ use Rattle.trace_story.specs.declared.showing.Shown.{Shown}
 use Rattle.trace_story.specs.declared.showing.Shown.TheVariants.{Lines, NotReady}
 use Rattle.trace_story.specs.Entry.{missing_in}
 use Rattle.trace_story.specs.Followed.{Follows}
-use Rattle.trace_story.specs.Shown.{shown}
 use Rattle.faucet_top.specs.declared.deliver.Status.{Status}
 use Rattle.faucet_top.specs.declared.deliver.Status.TheVariants as statuses
-use Rattle.faucet_top.specs.Answer.{Answer, Load, last_line, missing_answer, out_of_memory, refusal, shown_answer, unread as unread_answer}
-use Rattle.faucet_top.specs.Ends.{Ends, status_after}
+use Rattle.faucet_top.specs.Answer.{Answer, Load, missing_answer, out_of_memory, refusal, shown_answer, unread as unread_answer}
+use Rattle.faucet_top.specs.Ends.{Ends}
 use Rattle.faucet_top.specs.Follow.{GoesByRecording, IsCutShort, IsEntered, IsEnteredStatus, IsFollowStatus, IsFollowed, RepliesEntered, RepliesFollow, Traced, followed_answer}
 use Rattle.faucet_top.specs.Given.{Delivers, GivesFollow, IsLoadedStatus, Loads, NamesUnread, RepliesLoaded, StatusFor}
 use Rattle.faucet_top.specs.Serving.{HasFrame}
@@ -74,7 +70,7 @@ module _ (how : How) (contents : Option Contents) (absence fault : Type 0) (trac
 
   entered_inner : (conf : Configuration) (m : Option Missing) (a : Answer) → RepliesEntered how contents absence fault traced conf m a → IsInner a.status
   entered_inner conf (Some m) a is = subst (λ (b : Answer). IsInner b.status) (sym is) (missing_inner traced.config traced.dp traced.port m)
-  entered_inner conf None a (p, reads, end, follows, by_file, is) = subst (λ (b : Answer). IsInner b.status) (sym is) (end_inner conf p end follows)
+  entered_inner conf None a (p, reads, (end, follows, by_file, is)) = subst (λ (b : Answer). IsInner b.status) (sym is) (end_inner conf p end follows)
 
   pub follow_inner : (made : Load) (a : Answer) → RepliesFollow how contents absence fault traced made a → IsInner a.status
   follow_inner (Err why) a is = subst (λ (b : Answer). IsInner b.status) (sym is) (refusal_inner traced.config why)
@@ -92,7 +88,7 @@ module _ (how : How) (contents : Option Contents) (absence fault : Type 0) (trac
 
   entered_unread : (conf : Configuration) (m : Option Missing) (a : Answer) → RepliesEntered how contents absence fault traced conf m a → a.status ≡ 3 → absence ⊎ fault
   entered_unread conf (Some m) a is s = let at = two traced.config traced.dp traced.port m in let same = ap (λ (b : Answer). b.status) is in absurd (omega (arith, at, same, s))
-  entered_unread conf None a (p, reads, end, follows, by_file, is) s = end_unread conf p end follows (sym (ap (λ (b : Answer). b.status) is) ∙ s)
+  entered_unread conf None a (p, reads, (end, follows, by_file, is)) s = end_unread conf p end follows (sym (ap (λ (b : Answer). b.status) is) ∙ s)
 
   -- a file is missing, or a read failed, where the status says so
   pub follow_unread : (refused : List ℕ) (made : Load) (a : Answer) → Loads contents absence fault refused traced.config made → RepliesFollow how contents absence fault traced made a
@@ -158,7 +154,7 @@ module _ (how : How) (held : Contents) (absence fault : Type 0) (traced : Traced
   entered_told : (conf : Configuration) (m : Option Missing) (a : Answer) → RepliesEntered how (Some held) absence fault traced conf m a
       → StatusFor a.status (IsEnteredStatus how conf traced (held 0 traced.recording) m) fault
   entered_told conf (Some m) a is = inl (ap (λ (b : Answer). b.status) is ∙ two traced.config traced.dp traced.port m)
-  entered_told conf None a (p, reads, end, follows, by_file, is) =
+  entered_told conf None a (p, reads, (end, follows, by_file, is)) =
       subst (λ (b : Answer). StatusFor b.status (IsEnteredStatus how conf traced (held 0 traced.recording) None) fault) (sym is) (end_told conf p reads end follows by_file (held 0 traced.recording) refl)
 
   pub follow_told : (refused : List ℕ) (made : Load) (a : Answer) → Loads (Some held) absence fault refused traced.config made → RepliesFollow how (Some held) absence fault traced made a
@@ -182,7 +178,7 @@ module _ (how : How) (held : Contents) (absence fault : Type 0) (traced : Traced
         by (Some bytes) is = (bytes, is)
         by None is = absurd (elim (by_file.missing (file_is None is)) [ inl unread ↦ read unread | inr memory ↦ kept memory ])
 
-    entered_by : (conf : Configuration) (story : List Happening) (cut : Option RecordRefused) → loaded (held 0) traced.config ≡ Ok conf → missing_in conf traced.dp traced.port ≡ None
+    abbrev entered_by : (conf : Configuration) (story : List Happening) (cut : Option RecordRefused) → loaded (held 0) traced.config ≡ Ok conf → missing_in conf traced.dp traced.port ≡ None
         → (bytes : List ℕ) → held 0 traced.recording ≡ Some bytes → IsStoryOf bytes story (closed_in conf story) cut → IsEntered traced cut (held 0)
     entered_by conf story cut accepted enters bytes file told = record {
       conf = conf;
@@ -224,7 +220,7 @@ module _ (how : How) (held : Contents) (absence fault : Type 0) (traced : Traced
         → RepliesEntered how (Some held) absence fault traced conf m a → a.status ≡ n → (n ≡ 0) ⊎ (n ≡ 9) → o1 ≡ appended o0 a.out → e1 ≡ appended e0 a.err
         → (s : Shown) × ((shown_answer traced.config s).status ≡ n) × IsFollowed how traced (held 0) s o0 o1 e0 e1
     entered_shown conf (Some m) a n accepted enters is at either wrote said = absurd (neither 2 n (sym (ap (λ (b : Answer). b.status) is ∙ two traced.config traced.dp traced.port m) ∙ at) either (λ e. omega arith) (λ e. omega arith))
-    entered_shown conf None a n accepted enters (p, reads, end, follows, by_file, is) at either wrote said =
+    entered_shown conf None a n accepted enters (p, reads, (end, follows, by_file, is)) at either wrote said =
         end_shown conf p end n accepted enters reads follows by_file (sym (ap (λ (b : Answer). b.status) is) ∙ at) either
         (wrote ∙ ap (λ (b : Answer). appended o0 b.out) is) (said ∙ ap (λ (b : Answer). appended e0 b.err) is)
 
@@ -260,7 +256,7 @@ module _ (how : How) (held : Contents) (absence fault : Type 0) (traced : Traced
         → RepliesEntered how (Some held) absence fault traced conf m a → a.status ≡ 5 → o1 ≡ appended o0 a.out → e1 ≡ appended e0 a.err
         → (why : RecordRefused) × IsCutShort traced why (held 0) o0 o1 e0 e1
     entered_cut conf (Some m) a accepted enters is at wrote said = let two_is = two traced.config traced.dp traced.port m in let same = ap (λ (b : Answer). b.status) is in absurd (omega (arith, two_is, same, at))
-    entered_cut conf None a accepted enters (p, reads, end, follows, by_file, is) at wrote said =
+    entered_cut conf None a accepted enters (p, reads, (end, follows, by_file, is)) at wrote said =
         end_cut conf p end accepted enters follows by_file (sym (ap (λ (b : Answer). b.status) is) ∙ at)
         (wrote ∙ ap (λ (b : Answer). appended o0 b.out) is) (said ∙ ap (λ (b : Answer). appended e0 b.err) is)
 
@@ -274,8 +270,8 @@ module _ (how : How) (held : Contents) (absence fault : Type 0) (traced : Traced
 
 -- a frame whose EtherType is there has a packet
 pub packet_is : (frame : List ℕ) (p : Option Packet) → p ≡ packet frame → IsSome p ↔ IsTrue (has_type frame) → IsTrue (has_type frame) → p ≡ None → ⊥
-packet_is frame (Some p) is there typed none = absurd cc
-packet_is frame None is there typed none = absurd cc
+packet_is frame (Some p) is with_type typed none = absurd cc
+packet_is frame None is with_type typed none = absurd (cc (with_type.1 typed))
 
 -- what was counted by a part of a call was counted by the whole
 module _ (how : How) (contents : Option Contents) (recording : List ℕ) (a0 a1 a2 f0 f1 f2 : ℕ) (le_a : a0 ≤ a1) (le_f : f0 ≤ f1) where
@@ -305,10 +301,7 @@ module _ (how : How) (contents : Option Contents) (a0 a1 a2 f0 f1 f2 : ℕ) (le_
       subst (λ (m : Option Missing). RepliesEntered how contents (Rose a0 a2) (Rose f0 f2) traced conf m (followed_answer traced.config traced.recording end)) (sym none) (
         p,
         reads,
-        end,
-        follows_since how contents traced.recording a0 a1 a2 f0 f1 f2 le_a le_f conf traced.dp traced.port p end follows,
-        file_since how contents traced.recording a0 a1 a2 f0 f1 f2 le_a le_f end by_file,
-        refl,
+        (end, follows_since how contents traced.recording a0 a1 a2 f0 f1 f2 le_a le_f conf traced.dp traced.port p end follows, file_since how contents traced.recording a0 a1 a2 f0 f1 f2 le_a le_f end by_file, refl),
       ),
     ),
     delivers,
@@ -316,20 +309,20 @@ module _ (how : How) (contents : Option Contents) (a0 a1 a2 f0 f1 f2 : ℕ) (le_
 
 module _ (how : How) (contents : Option Contents) (absence fault : Type 0) (refused : List ℕ) (traced : Traced) (o e0 e1 : Option (List ℕ)) (m n0 n1 : ℕ) (ended : Status) where
   -- of one that hasn't it
-  pub missing_given : (conf : Configuration) → ((held : Contents) → contents ≡ Some held → loaded (held 0) traced.config ≡ Ok conf) → (missing : Missing) → Some missing ≡ missing_in conf traced.dp traced.port
-      → Ends statuses.Refused (missing_answer traced.config traced.dp traced.port missing).err e0 e1 n0 n1 ended → GivesFollow how contents absence fault refused traced (number_of_status ended) o o e0 e1 m m n0 n1
-  missing_given conf told missing is ends = (
-    missing_answer traced.config traced.dp traced.port missing,
+  pub missing_given : (conf : Configuration) → ((held : Contents) → contents ≡ Some held → loaded (held 0) traced.config ≡ Ok conf) → (lacks : Missing) → Some lacks ≡ missing_in conf traced.dp traced.port
+      → Ends statuses.Refused (missing_answer traced.config traced.dp traced.port lacks).err e0 e1 n0 n1 ended → GivesFollow how contents absence fault refused traced (number_of_status ended) o o e0 e1 m m n0 n1
+  missing_given conf told lacks is ends = (
+    missing_answer traced.config traced.dp traced.port lacks,
     inl (
       Ok conf,
       accepted_loads loaded contents absence fault refused traced.config conf told,
-      subst (λ (x : Option Missing). RepliesEntered how contents absence fault traced conf x (missing_answer traced.config traced.dp traced.port missing)) is refl,
+      subst (λ (x : Option Missing). RepliesEntered how contents absence fault traced conf x (missing_answer traced.config traced.dp traced.port lacks)) is refl,
     ),
-    said_missing missing ends,
+    said_missing lacks ends,
   )
     where
-      said_missing : (missing : Missing) → Ends statuses.Refused (missing_answer traced.config traced.dp traced.port missing).err e0 e1 n0 n1 ended
-          → Delivers (missing_answer traced.config traced.dp traced.port missing) (number_of_status ended) o o e0 e1 m m n0 n1
+      said_missing : (lacks : Missing) → Ends statuses.Refused (missing_answer traced.config traced.dp traced.port lacks).err e0 e1 n0 n1 ended
+          → Delivers (missing_answer traced.config traced.dp traced.port lacks) (number_of_status ended) o o e0 e1 m m n0 n1
       said_missing missing.Dp ends = line_delivered [] o o e0 e1 m m n0 n1 (missing_answer traced.config traced.dp traced.port missing.Dp) statuses.Refused ended refl refl ends
       said_missing missing.Port ends = line_delivered [] o o e0 e1 m m n0 n1 (missing_answer traced.config traced.dp traced.port missing.Port) statuses.Refused ended refl refl ends
 
@@ -366,7 +359,7 @@ module _ (config recording : List ℕ) (o0 o1 e0 e1 : Option (List ℕ)) (m0 m1 
         | inr front ↦ absurd (four_isnt_three (sym front.0 ∙ ap number_of_status is))
       ]
     where
-      four_isnt_three : 4 ≡ 3 → ⊥
+      four_isnt_three : ◌≡◌ {A = ℕ} 4 3 → ⊥
       four_isnt_three e = omega (arith, e)
 
   -- another end is no read that failed

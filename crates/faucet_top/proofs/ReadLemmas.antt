@@ -1,8 +1,8 @@
 -- A read that failed ends the run with its status, or with that of a failed write.
-use Rattle.std.proofs.Common.{◌≡◌, ◌≢◌, ◌⊎◌, ℕ, inl, inr, List, [], ◌++◌, Option, Some, None, Result, Err, IsErrOf, refl, sym, ap, subst, ◌∙◌, arith}
+use Rattle.std.proofs.Common.{◌≡◌, ◌≢◌, ℕ, inl, inr, List, [], ◌++◌, Option, Some, None, Result, Err, IsErrOf, refl, sym, ap, ◌∙◌, arith}
 use Rattle.fg_outside.specs.Contents.{Contents}
 use Rattle.fg_outside.specs.Wrote.{appended}
-use Rattle.fg_outside.proofs.SinkLemmas.{appended-append, appended-nil}
+use Rattle.fg_outside.proofs.SinkLemmas.{appended-append}
 use Rattle.conf_gather.specs.declared.refused.LoadRefused.{LoadRefused}
 use Rattle.conf_gather.specs.declared.refused.LoadRefused.TheVariants.{Read, Yaml, Conf, IncludeTwice, IncludeDepth, Absent, Memory}
 use Rattle.conf_gather.specs.Gathered.{Held}

@@ -1,5 +1,5 @@
 -- From what serving came to, to the reply that was given.
-use Rattle.std.proofs.Common.{◌≡◌, ◌≢◌, ℕ, ◌+◌, ◌-◌, ◌^◌, ◌≤◌, min, ◌⊎◌, inl, inr, List, [], ◌++◌, length, take, drop, Option, Some, None, Result, Ok, Err, IsErrOf, refl, sym, ap, subst, ◌∙◌}
+use Rattle.std.proofs.Common.{◌≡◌, ◌≢◌, ℕ, ◌+◌, ◌-◌, ◌^◌, ◌≤◌, min, ◌⊎◌, List, [], length, take, drop, Option, Some, Result, Ok, Err, refl, sym, ap, subst, ◌∙◌}
 use Rattle.std.proofs.lemmas.List.{take-append-drop}
 use Rattle.fg_outside.specs.Contents.{Contents}
 use Rattle.fg_outside.specs.Counts.{Rose}
@@ -24,8 +24,7 @@ use Rattle.hub_drive.specs.declared.drive.Drove.TheVariants as drove
 use Rattle.ctl_drive.specs.Driving.{lines_of}
 use Rattle.ctl_serve.specs.Served.{Served, ServedPart, ServesTo}
 use Rattle.faucet_top.specs.declared.deliver.Status.{Status}
-use Rattle.faucet_top.specs.declared.deliver.Status.TheVariants as statuses
-use Rattle.faucet_top.specs.Answer.{Answer, Load, served_line}
+use Rattle.faucet_top.specs.Answer.{Load, served_line}
 use Rattle.faucet_top.specs.Ends.{Ends, status_served}
 use Rattle.faucet_top.specs.Given.{BreaksOff, Delivers}
 use Rattle.faucet_top.specs.Serving.{ServesUntil, served_answer}

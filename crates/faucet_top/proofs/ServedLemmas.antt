@@ -1,14 +1,12 @@
 -- What each status says of `serve`, and of whatever the words ask for.
-use Rattle.std.proofs.Common.{◌≡◌, ◌==◌, ℕ, ◌⊎◌, cond, inl, inr, List, ◌++◌, Option, Some, None, Ok, Err, refl, sym, ap, subst, ◌∙◌, arith}
+use Rattle.std.proofs.Common.{◌≡◌, ℕ, ◌⊎◌, inl, inr, List, Option, Some, None, Ok, Err, refl, sym, ap, subst, ◌∙◌, arith}
 use Rattle.fg_outside.specs.Contents.{Contents}
 use Rattle.fg_outside.specs.Counts.{Rose}
 use Rattle.fg_outside.specs.HubStep.{HubStep}
-use Rattle.fg_outside.specs.Wrote.{appended}
 use Rattle.fg_outside.specs.declared.hub.Happening.{Happening}
 use Rattle.fg_outside.proofs.SinkLemmas.{appended-nil}
 use Rattle.conf_types.specs.Configuration.{Configuration}
 use Rattle.conf_types.specs.Valid.{IsValid}
-use Rattle.conf_gather.specs.declared.refused.LoadRefused.{LoadRefused}
 use Rattle.conf_gather.specs.Gathered.{Held}
 use Rattle.conf_load.specs.Loaded.{loaded}
 use Rattle.command_line.specs.declared.meaning.Job.{Job}
@@ -31,18 +29,18 @@ use Rattle.hub_drive.specs.declared.drive.Drove.{Drove}
 use Rattle.hub_drive.specs.declared.drive.Drove.TheVariants as drove
 use Rattle.ctl_drive.specs.Driving.{lines_of}
 use Rattle.ctl_serve.specs.Served.{Ended, Served}
-use Rattle.faucet_top.specs.Answer.{Answer, GaugeLoad, Load, out_of_memory, refusal}
+use Rattle.faucet_top.specs.Answer.{Answer, GaugeLoad, Load, out_of_memory}
 use Rattle.trace_story.specs.declared.showing.How.{How}
 use Rattle.trace_story.specs.declared.showing.How.TheVariants as hows
 use Rattle.trace_story.specs.declared.showing.Shown.TheVariants.{Lines, NotReady}
 use Rattle.faucet_top.specs.Ends.{status_served}
 use Rattle.faucet_top.specs.Follow.{IsCutShort, IsFollowed, Traced, job_for}
-use Rattle.faucet_top.specs.Given.{AreAccepted, BreaksOff, Delivers, Gives, IsLoadedStatus, IsMeasured, IsOpened, IsReplayed, IsServeStatus, IsStatusOf, IsWatched, Loads, StatusFor}
+use Rattle.faucet_top.specs.Given.{AreAccepted, Delivers, Gives, IsLoadedStatus, IsMeasured, IsOpened, IsReplayed, IsServeStatus, IsStatusOf, IsWatched, Loads, StatusFor}
 use Rattle.faucet_top.specs.Any.{GivesAny}
 use Rattle.faucet_top.specs.Serving.{IsItsEnd, IsLocal, IsServed, RepliesServe, ServesUntil, UnservedAnswer, served_answer}
 use Rattle.faucet_top.specs.Watching.{IsHubWatched}
 use Rattle.faucet_top.specs.Status.{number_of_status}
-use Rattle.faucet_top.proofs.RefusalLemmas.{refusal_inner, refusal_not, refusal_unread}
+use Rattle.faucet_top.proofs.RefusalLemmas.{refusal_not, refusal_unread}
 use Rattle.faucet_top.proofs.ReplayLemmas.{refusal_told}
 use Rattle.faucet_top.proofs.EndLemmas.{Broke, Whole, delivered_fault, delivered_kept, delivered_status, its_end_not_four, its_end_not_refused, number_served, same_end, served_not, unfailed_not_four}
 use Rattle.faucet_top.proofs.TopLemmas as by
@@ -384,17 +382,17 @@ module _ {H F : Type 0} (may : H → HubStep → H → Type 0) (contents : F →
     module _ (valid : (held : Held) (name : List ℕ) (conf : Configuration) → loaded held name ≡ Ok conf → IsValid conf)
         (right : (conf : Configuration) (story : List Happening) → IsValid conf → IsRight conf story) where
       module _ (how : How) (traced : Traced) (held : Contents) (is : job ≡ Some (job_for how traced)) (told_so : contents files0 ≡ Some held) where
-        ours : Ours job
-        ours = ours_where (subst (λ (j : Option Job). IsLocal j) (sym is) (job_local how traced))
+        ours_then : Ours job
+        ours_then = ours_where (subst (λ (j : Option Job). IsLocal j) (sym is) (job_local how traced))
 
         pub frame_followed : status ≡ 0 → (lines : List ℕ) × IsFollowed how traced (held 0) (Lines lines) o0 o1 e0 e1
-        frame_followed s = by.frame_followed job (contents files0) absence fault refused status o0 o1 e0 e1 m0 m1 n0 n1 ours valid right how traced held is told_so s
+        frame_followed s = by.frame_followed job (contents files0) absence fault refused status o0 o1 e0 e1 m0 m1 n0 n1 ours_then valid right how traced held is told_so s
 
         pub frame_waits : status ≡ 9 → (name : List ℕ) × IsFollowed how traced (held 0) (NotReady name) o0 o1 e0 e1
-        frame_waits s = by.frame_waits job (contents files0) absence fault refused status o0 o1 e0 e1 m0 m1 n0 n1 ours valid right how traced held is told_so s
+        frame_waits s = by.frame_waits job (contents files0) absence fault refused status o0 o1 e0 e1 m0 m1 n0 n1 ours_then valid right how traced held is told_so s
 
         pub frame_cut : status ≡ 5 → (why : RecordRefused) × IsCutShort traced why (held 0) o0 o1 e0 e1
-        frame_cut s = by.frame_cut job (contents files0) absence fault refused status o0 o1 e0 e1 m0 m1 n0 n1 ours valid right how traced held is told_so s
+        frame_cut s = by.frame_cut job (contents files0) absence fault refused status o0 o1 e0 e1 m0 m1 n0 n1 ours_then valid right how traced held is told_so s
 
       pub replayed : (config recording : List ℕ) (held : Contents) → job ≡ Some (Replay config recording) → contents files0 ≡ Some held → status ≡ 0 → IsReplayed config recording None (held 0) o0 o1 e0 e1
       replayed config recording held is told_so s =

@@ -1,5 +1,5 @@
 -- From what a run of Gauge on a hub wrote to the reply to `gauge-serve`, and from that to what its status says.
-use Rattle.std.proofs.Common.{◌≡◌, ◌≢◌, ℕ, ◌≤◌, ◌⊎◌, inl, inr, List, [], ◌∷◌, ◌++◌, Option, Some, None, unwrap_or, Result, Ok, Err, refl, sym, ap, subst, ◌∙◌, arith}
+use Rattle.std.proofs.Common.{◌≡◌, ◌≢◌, ℕ, ◌≤◌, ◌⊎◌, inl, inr, List, [], ◌++◌, Option, Some, unwrap_or, Ok, Err, refl, sym, ap, subst, ◌∙◌, arith}
 use Rattle.std.proofs.lemmas.List.{append-nil}
 use Rattle.fg_outside.specs.Contents.{Contents}
 use Rattle.fg_outside.specs.Counts.{Rose}
@@ -7,7 +7,6 @@ use Rattle.fg_outside.specs.declared.hub.Happening.{Happening}
 use Rattle.fg_outside.specs.declared.hub.Turn.TheVariants as turns
 use Rattle.fg_outside.specs.HubStep.{HubStep, Leads, next, story, turned}
 use Rattle.fg_outside.specs.Wrote.{appended, AppendsFront}
-use Rattle.conf_gather.specs.declared.refused.LoadRefused.{LoadRefused}
 use Rattle.gauge_conf.specs.declared.gauge.GaugeConf.{GaugeConf}
 use Rattle.gauge_load.specs.Loaded.{gauge_of}
 use Rattle.gauge_poll.specs.Monitoring.{Monitor, begun, lines_of as gauge_lines}
@@ -20,7 +19,7 @@ use Rattle.hub_drive.proofs.Deeds.{whole_happened}
 use Rattle.ctl_serve.specs.Served.{Ended, last_call}
 use Rattle.gauge_drive.specs.Gauge.{joined, monitor}
 use Rattle.faucet_top.specs.declared.deliver.Status.{Status}
-use Rattle.faucet_top.specs.Answer.{Answer, GaugeLoad, out_of_memory, refusal, served_line}
+use Rattle.faucet_top.specs.Answer.{Answer, GaugeLoad, out_of_memory, served_line}
 use Rattle.faucet_top.specs.Ends.{Ends, status_served}
 use Rattle.faucet_top.specs.Given.{Delivers, GaugeLoads, IsLoadedStatus, IsServeStatus, StatusFor}
 use Rattle.faucet_top.specs.Serving.{IsItsEnd}

@@ -1,5 +1,5 @@
 -- The reply to `trace` and `walk`.
-use Rattle.std.specs.Prelude.{◌≡◌, ℕ, ◌-◌, ◌^◌, ◌<◌, ◌⊎◌, List, [], ◌++◌, length, Option, Some, None, Result, Ok, Err}
+use Rattle.std.specs.Prelude.{◌≡◌, ℕ, ◌-◌, ◌^◌, ◌<◌, ◌⊎◌, List, [], length, Option, Some, None, Ok, Err}
 use Rattle.fg_outside.specs.Contents.{Contents, Tells}
 use Rattle.fg_outside.specs.declared.hub.Happening.{Happening}
 use Rattle.fg_outside.specs.Wrote.{appended}
@@ -15,7 +15,6 @@ use Rattle.recording.specs.Script.{IsStoryOf, IsStorySoFar}
 use Rattle.ctl_world.specs.World.{first}
 use Rattle.ctl_core.specs.Story.{behind}
 use Rattle.law_stories.specs.Right.{IsRight}
-use Rattle.hub_drive.specs.declared.replay.Replayed.{Replayed}
 use Rattle.hub_drive.specs.declared.replay.Replayed.TheVariants as replayed
 use Rattle.hub_drive.specs.Driving.{IsFront}
 use Rattle.ctl_drive.specs.Replay.{closed_in}

@@ -1,5 +1,5 @@
 -- The reply to `serve`, and what becomes of the hub that was handed in.
-use Rattle.std.specs.Prelude.{◌≡◌, ◌⊎◌, ℕ, IsTrue, List, [], ◌++◌, Option, Some, None, Result, Ok, Err, length}
+use Rattle.std.specs.Prelude.{◌≡◌, ◌⊎◌, ℕ, IsTrue, List, [], ◌++◌, Option, Some, None, Ok, Err, length}
 use Rattle.fg_outside.specs.Contents.{Contents}
 use Rattle.fg_outside.specs.declared.hub.Happening.{Happening}
 use Rattle.fg_outside.specs.HubStep.{HubStep}

@@ -1,4 +1,4 @@
-use Rattle.std.proofs.Common.{◌≡◌, None, Some, sym, ap, ◌∙◌, refl, arith}
+use Rattle.std.proofs.Common.{◌≡◌, None, Some, sym, ◌∙◌, arith}
 use Rattle.std.proofs.lemmas.Grind.{common_steps}
 use Rattle.conf_gather.specs.declared.refused.LoadRefused.TheVariants.{Read}
 use Rattle.conf_load.specs.Loaded.{loaded}
@@ -43,7 +43,9 @@ returns-in-Some-clause-no_read_fault g c = λ unread written below. c.in-Ok.ensu
 -- ---- the packet of the frame
 
 pub unreachable-requires : goal.unreachable-requires
-unreachable-requires g c = packet_is c.args.asked.now.frame.now None (rw c.as_slice.ensures at c.in-Ok-None.ensures.packet) (rw c.as_slice.ensures at c.in-Ok-None.ensures.none) c.requires.typed refl
+unreachable-requires g c =
+    let none : c.in-Ok-None.field-0 ≡ None = grind (arith, common_steps) in
+    packet_is c.args.asked.now.frame.now c.in-Ok-None.field-0 (rw c.as_slice.ensures at c.in-Ok-None.ensures.packet) (rw c.as_slice.ensures at c.in-Ok-None.ensures.none) c.requires.typed none
 
 pub returns-in-Err-packet_of-clause-gives : goal.returns-in-Err-packet_of-clause-gives
 returns-in-Err-packet_of-clause-gives g c =
@@ -61,10 +63,11 @@ pub returns-clause-gives : goal.returns-clause-gives
 returns-clause-gives g c =
     let asked = c.args.asked.now in
     let none : missing_in c.in-Ok.conf asked.dp.now asked.port ≡ None = grind (arith, common_steps) in
+    let some : c.in-Ok-Some.field-0 ≡ Some c.in-Ok-Some.packet = grind (arith, common_steps) in
     let files = c.in-Ok.ensures.files in
     let did = c.follow-followed.ensures in
     followed_given asked.how (g.F.Files.contents c.args.files) _ _ _ _ _ _ files.counted_absences files.counted_faults _ (traced_in asked) _ _ _ _ _ _ _ _ _ c.in-Ok.conf c.in-Ok-Some.packet c.follow-followed.result.0
-    (rw c.as_str-config.ensures at c.in-Ok.ensures.told) none (rw c.as_slice.ensures at (sym c.in-Ok-Some.ensures.packet)) (rw files.same_contents at did.follows)
+    (rw c.as_str-config.ensures at c.in-Ok.ensures.told) none (sym (rw c.as_slice.ensures at c.in-Ok-Some.ensures.packet) ∙ some) (rw files.same_contents at did.follows)
     (record { missing = rw files.same_contents at did.missing; there = rw files.same_contents at did.back.there }) c.deliver_followed.ensures.answer
 
 pub returns-clause-named : goal.returns-clause-named

@@ -34,7 +34,7 @@ returns-in-Ok-Some-clause-named g c =
     let some : meaning c.args.words.now ≡ Some c.in-Ok-Some.job = grind (arith, common_steps) in
     rw some c.do_any.ensures.named
 
-pub do_any-requires-frame : goal.do_any-requires-frame
-do_any-requires-frame g c =
+pub do_any-requires : goal.do_any-requires
+do_any-requires g c =
     let some : meaning c.args.words.now ≡ Some c.in-Ok-Some.job = grind (arith, common_steps) in
-    has_frame c.args.words.now c.in-Ok-Some.job (c.words_ask_for_what_is_written.ensures.asked c.args.words.now c.in-Ok-Some.job some)
+    record { frame = has_frame c.args.words.now c.in-Ok-Some.job (c.words_ask_for_what_is_written.ensures.asked c.args.words.now c.in-Ok-Some.job some) }

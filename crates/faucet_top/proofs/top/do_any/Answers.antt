@@ -1,7 +1,5 @@
-use Rattle.std.proofs.Common.{◌≡◌, ◌⊎◌, ℕ, inl, inr, List, Some, ap, sym, ◌∙◌}
+use Rattle.std.proofs.Common.{Some, ap, sym, ◌∙◌}
 use Rattle.command_line.specs.declared.meaning.Job.{Job}
-use Rattle.command_line.specs.declared.meaning.Job.TheVariants.{Gauge, GaugeServe, Replay, Serve}
-use Rattle.command_line.specs.declared.values.Listen.{Listen}
 use Rattle.faucet_top.specs.Status.{number_of_status}
 use Rattle.faucet_top.proofs.ReadLemmas.{hub_fault_by_number}
 use Rattle.faucet_top.proofs.EndLemmas.{some_is}
@@ -50,11 +48,14 @@ pub returns-in-GaugeServe-clause-no_hub_fault : goal.returns-in-GaugeServe-claus
 returns-in-GaugeServe-clause-no_hub_fault g c = λ six four.
     c.watch_switches-status.ensures.no_hub_fault (λ is. six (c.number-in-GaugeServe.ensures ∙ ap number_of_status is)) (λ is. four (c.number-in-GaugeServe.ensures ∙ ap number_of_status is))
 
-pub local-status-requires-local : goal.local-status-requires-local
-local-status-requires-local g c = (
-  λ config events reload_ms listen is. c.in_default.not-Serve config events reload_ms listen (some_is is),
-  λ config events listen is. c.in_default.not-GaugeServe config events listen (some_is is),
-)
+pub local-status-requires : goal.local-status-requires
+local-status-requires g c = record {
+  local = (
+    λ config events reload_ms listen is. c.in_default.not-Serve config events reload_ms listen (some_is is),
+    λ config events listen is. c.in_default.not-GaugeServe config events listen (some_is is),
+  );
+  frame = c.requires.frame;
+}
 
 pub returns-in_default-clause-gives : goal.returns-in_default-clause-gives
 returns-in_default-clause-gives g c =

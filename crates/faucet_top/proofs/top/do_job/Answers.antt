@@ -1,7 +1,7 @@
-use Rattle.std.proofs.Common.{◌≡◌, ◌⊎◌, ℕ, inl, inr, List, Some, ap, ◌∙◌, arith}
+use Rattle.std.proofs.Common.{◌≡◌, Some, ap, ◌∙◌, arith}
 use Rattle.std.proofs.lemmas.Grind.{common_steps}
 use Rattle.command_line.specs.declared.meaning.Job.{Job}
-use Rattle.command_line.specs.declared.meaning.Job.TheVariants.{Bench, Check, Gauge, Plan, Replay}
+use Rattle.command_line.specs.declared.meaning.Job.TheVariants.{Check, Gauge, Plan, Replay}
 use Rattle.conf_gather.specs.declared.refused.LoadRefused.TheVariants.{Read}
 use Rattle.conf_load.specs.Loaded.{loaded}
 use Rattle.gauge_load.specs.Loaded.{gauge_of}
@@ -120,11 +120,11 @@ returns-in-Err-load_gauge-clause-named g c = λ reads unread below.
     refusal_named gauge_of _ _ _ _ c.in-Gauge.config _ _ _ _ c.deliver_refusal-in-Err-load_gauge.result unread c.in-Err-load_gauge.why
     (refused_loads gauge_of _ _ _ _ _ _ _ c.in-Err-load_gauge.why (rw c.as_str-in-Gauge.ensures at c.in-Err-load_gauge.ensures.told) c.in-Err-load_gauge.ensures.files) (rw c.as_str-in-Err-load_gauge.ensures at c.deliver_refusal-in-Err-load_gauge.ensures.ends)
 
-pub follow_frame-requires-typed : goal.follow_frame-requires-typed
-follow_frame-requires-typed g c = rw c.in-Trace.is at c.requires.frame
+pub follow_frame-requires : goal.follow_frame-requires
+follow_frame-requires g c = record { typed = rw c.in-Trace.is at c.requires.frame }
 
-pub follow_frame-in-Walk-requires-typed : goal.follow_frame-in-Walk-requires-typed
-follow_frame-in-Walk-requires-typed g c = rw c.in-Walk.is at c.requires.frame
+pub follow_frame-requires-in-Walk : goal.follow_frame-requires-in-Walk
+follow_frame-requires-in-Walk g c = record { typed = rw c.in-Walk.is at c.requires.frame }
 
 pub returns-in-Trace-clause-gives : goal.returns-in-Trace-clause-gives
 returns-in-Trace-clause-gives g c = rw c.in-Trace.is c.follow_frame.ensures.gives
