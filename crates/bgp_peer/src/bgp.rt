@@ -51,6 +51,13 @@ impl Bgp {
         Ok(sayings)
     }
 
+    /// The moment that was shown last, in milliseconds.
+    pub fn moment(&self) -> u64
+        ensures { (k : Behind) → StandsFor self.now k → result ≡ k.peer.moment.0 }
+    {
+        self.known.peer.moment.0
+    }
+
     /// The routes that the peer announced, by address and length.
     pub fn routes(&self) -> &[BgpRoute]
         ensures { (k : Behind) → StandsFor self.now k → result.now ≡ k.peer.routes }
