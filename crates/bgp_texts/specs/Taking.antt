@@ -1,9 +1,11 @@
 -- Which routes a configuration takes, and its text with them.
-use Rattle.std.specs.Prelude.{◌≡◌, ℕ, Bool, if◌then◌else◌, List, [], ◌∷◌, ◌++◌, fold, is_ok, Ok}
+use Rattle.std.specs.Prelude.{◌≡◌, ℕ, Bool, false, if◌then◌else◌, List, [], ◌∷◌, ◌++◌, fold, Option, Some, None, Result, is_ok, Ok, Err}
 use Rattle.yaml_tree.specs.declared.tree.Key.{Key}
 use Rattle.yaml_tree.specs.declared.tree.Tree.{Tree}
+use Rattle.yaml_subset.specs.declared.fault.YamlFault.{YamlFault}
 use Rattle.yaml_subset.specs.Grammar.{Reads}
 use Rattle.yaml_subset.specs.Printed.{printed}
+use Rattle.yaml_subset.specs.Reading.{read_of}
 use Rattle.conf_types.specs.Configuration.{Configuration}
 use Rattle.conf_check.specs.Accepted.{conf_of}
 use Rattle.bgp_routes.specs.declared.routes.BgpRoute.{BgpRoute}
@@ -32,6 +34,14 @@ tree_of vlan t routes = with_taken vlan (taken_of vlan t routes) t
 -- the text, in its one canonical form
 abbrev pub text_of : Key → Tree → List BgpRoute → List ℕ
 text_of vlan t routes = printed (tree_of vlan t routes)
+
+-- the text, where it gives a configuration
+abbrev pub gives : Result Tree YamlFault → Bool
+gives (Ok t) = is_accepted t
+gives (Err fault) = false
+
+abbrev pub text_given : Key → Tree → List BgpRoute → Option (List ℕ)
+text_given vlan t routes = let text = text_of vlan t routes in if gives (read_of text) then Some text else None
 
 -- a text gives a configuration
 pub record IsAccepted (text : List ℕ) : Type 0 where

@@ -1,15 +1,41 @@
 -- A document whose VLAN has further routes.
-use Rattle.std.specs.Prelude.{Bool, ◌&&◌, if◌then◌else◌, List, [], ◌∷◌, ◌++◌, codes, map}
-use Rattle.std.specs.List.{list_any}
+use Rattle.std.specs.Prelude.{ℕ, pos, Bool, false, ◌&&◌, if◌then◌else◌, List, [], ◌∷◌, ◌++◌, codes, map, Option}
+use Rattle.std.specs.List.{find, list_any}
+use Rattle.std.specs.Option.{option_map, option_map_or}
+use Rattle.std.specs.Ordering.{int_eq}
 use Rattle.yaml_tree.specs.declared.tree.Key.{Key}
 use Rattle.yaml_tree.specs.declared.tree.Pair.{Pair}
-use Rattle.yaml_tree.specs.declared.tree.Tree.{Tree}
+use Rattle.yaml_tree.specs.declared.tree.Key.TheVariants as keys
+use Rattle.yaml_tree.specs.declared.tree.Tree.{Tree, out-Tree}
+use Rattle.yaml_tree.specs.declared.tree.Tree.TheOpen.{Tree-F}
+use Rattle.yaml_tree.specs.declared.tree.Tree.TheOpen as open_tree
 use Rattle.yaml_tree.specs.declared.tree.Tree.TheVariants as tree
 use Rattle.yaml_subset.specs.Entries.{key_eq}
-use Rattle.conf_shape.specs.Reads.{entries_of, items_of}
+use Rattle.conf_shape.specs.Reads.{value_at, entries_of, entries_at, items_of}
 use Rattle.conf_shape.specs.Sections.{is_key}
 use Rattle.bgp_routes.specs.declared.routes.BgpRoute.{BgpRoute}
 use Rattle.bgp_texts.specs.Items.{entry, route_items}
+
+-- ---- the VLAN of a number
+
+abbrev pub is_number_in : ℕ → Tree-F Tree Pair → Bool
+is_number_in vid (open_tree.Int n) = int_eq n (pos vid)
+is_number_in vid _ = false
+
+abbrev pub is_number : ℕ → Tree → Bool
+is_number vid t = is_number_in vid (out-Tree t)
+
+-- its key is the number; or a name, and `vid` is
+abbrev pub has_number : ℕ → Key → List Pair → Bool
+has_number vid (keys.Int n) pairs = int_eq n (pos vid)
+has_number vid (keys.Text name) pairs = option_map_or (is_number vid) (value_at (codes "vid") pairs) false
+
+abbrev pub is_of_vlan : ℕ → Pair → Bool
+is_of_vlan vid p = has_number vid p.key (entries_of p.value)
+
+-- the key of the VLAN in the document
+abbrev pub vlan_key : ℕ → Tree → Option Key
+vlan_key vid t = option_map (λ p. p.key) (find (is_of_vlan vid) (entries_at (codes "vlans") (entries_of t)))
 
 -- ---- the entries of the VLAN
 

@@ -6,6 +6,8 @@ pub mod laws;
 mod taking;
 mod text;
 mod trees;
+mod vlan;
 
 pub use taking::Taken;
 pub use text::text_with;
+pub use vlan::vlan_key;

@@ -1,6 +1,6 @@
 ghost use Rattle.std.specs.Prelude.{◌≡◌, ℕ, List, true, false, IfOk, IfSome, IfNone, OnOk};
 ghost use Rattle.conf_check.specs.Accepted.{IsTextRefused};
-ghost use Rattle.bgp_texts.specs.Taking.{text_of, IsAccepted};
+ghost use Rattle.bgp_texts.specs.Taking.{text_of, text_given, IsAccepted};
 
 use crate::taking::{taken_of, with_taken};
 use bgp_routes::BgpRoute;
@@ -46,6 +46,7 @@ pub fn text_with(
 ) -> Result<Option<Bytes>, NoMemory>
     ensures text { IfOk result (λ made. IfSome made (λ text. text ≡ text_of vlan.now tree.now routes.now)) }
     ensures accepted { IfOk result (λ made. IfSome made (λ text. IsAccepted text)) }
+    ensures given { IfOk result (λ made. made ≡ text_given vlan.now tree.now routes.now) }
     ensures none { IfOk result (λ made. IfNone made (IsAccepted (text_of vlan.now tree.now routes.now) → ⊥)) }
 {
     let taken = taken_of(alloc, tree, vlan, routes)?;
