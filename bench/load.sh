@@ -1,6 +1,7 @@
 #!/usr/bin/env bash
 # Measures how many PACKET_INs a second `faucet serve` takes over loopback, beside Debian's ovs-testcontroller, a controller in C that
 # learns hosts: packets of known hosts on 1, 16 and 64 connections, and of new hosts on one, each batch that follows answered at once.
+# ovs-testcontroller takes 16 connections at most: beside 64 it is given these.
 # load.c plays the switches: an ECHO_REQUEST stands behind each hundred packets, and its reply says that they were taken. Each is run
 # SECONDS seconds, in turn, three times; the greatest figure of the three counts. Prints both, and the processor time of faucet for a
 # packet. Status 1 where faucet took fewer packets a second than ovs-testcontroller, or one of them ended. What it started it ends, by
@@ -47,10 +48,14 @@ start() {
 
 # one run: packets a second, and how many
 measure() {
-  local setup=none
-  if [ "$1" = faucet ]; then setup=barrier; fi
+  local setup=none connections=$2
+  if [ "$1" = faucet ]; then
+    setup=barrier
+  elif [ "$2" -gt 16 ]; then
+    connections=16
+  fi
   start "$1"
-  timeout $((60 + 2 * seconds)) "$work/load" 7663 "$2" "$seconds" 64 "$3" $setup >"$work/told"
+  timeout $((60 + 2 * seconds)) "$work/load" 7663 "$connections" "$seconds" 64 "$3" $setup >"$work/told"
   ticks=$(awk '{print $14 + $15}' "/proc/$running/stat")
   kill "$running"
   wait "$running" 2>/dev/null || :
