@@ -202,6 +202,7 @@ def ring():
 
 def one_switch(runs):
     runs.put("# `trace` and `walk` of one switch: what it sends, and whether it is ready")
+    runs.put("no files")
     one = quick()
     runs.file("t.yaml", one.text())
     open_one = lambda: Recording().opens(1, 1, [1, 2])
