@@ -13,34 +13,34 @@ use Rattle.net_base.specs.Address.{decimal, ip4_text, net4_text, IsPair, SpellsB
 use Rattle.net_base.specs.AddressReading.{◌>>=◌, IsMac, hex_of, digit_of, first_digit_of, pair_at, next_at, spelled_mac, number_of, number_up_to, cut_at, ip4_of, net4_of}
 use Rattle.net_base.proofs.Cut.{cut_at_mark, cut_past, equal_at}
 
-bind_ok : {A B : Type 0} (r : Option A) (f : A → Option B) (y : B) → (r >>= f) ≡ Some y → (x : A) × (r ≡ Some x) × (f x ≡ Some y)
+pub bind_ok : {A B : Type 0} (r : Option A) (f : A → Option B) (y : B) → (r >>= f) ≡ Some y → (x : A) × (r ≡ Some x) × (f x ≡ Some y)
 bind_ok None f y h = absurd (cc)
 bind_ok (Some x) f y h = (x, refl, h)
 
-chosen : {A : Type 0} (b : Bool) (x y z : A) → cond b x y ≡ z → ((b ≡ true) × (x ≡ z)) ⊎ ((b ≡ false) × (y ≡ z))
+pub chosen : {A : Type 0} (b : Bool) (x y z : A) → cond b x y ≡ z → ((b ≡ true) × (x ≡ z)) ⊎ ((b ≡ false) × (y ≡ z))
 chosen true x y z h = inl (refl, h)
 chosen false x y z h = inr (refl, h)
 
-both : (a b : Bool) → a && b ≡ true → (a ≡ true) × (b ≡ true)
+pub both : (a b : Bool) → a && b ≡ true → (a ≡ true) × (b ≡ true)
 both true b h = (refl, h)
 both false b h = absurd (cc)
 
-no_more : (m n : ℕ) → n ≤ m → nat_lt m n ≡ false
+pub no_more : (m n : ℕ) → n ≤ m → nat_lt m n ≡ false
 no_more m n h = grind (arith, nat_tests)
 
-at_below : (m n : ℕ) → m < n → nat_lt m n ≡ true
+pub at_below : (m n : ℕ) → m < n → nat_lt m n ≡ true
 at_below m n h = grind (arith, nat_tests)
 
-at_most : (m n : ℕ) → m ≤ n → nat_le m n ≡ true
+pub at_most : (m n : ℕ) → m ≤ n → nat_le m n ≡ true
 at_most m n h = grind (arith, nat_tests)
 
-is_most : (m n : ℕ) → nat_le m n ≡ true → m ≤ n
+pub is_most : (m n : ℕ) → nat_le m n ≡ true → m ≤ n
 is_most m n h = grind (arith, nat_tests)
 
-in_range : (lo hi c : ℕ) → lo ≤ c → c ≤ hi → is_in_range lo hi c ≡ true
+pub in_range : (lo hi c : ℕ) → lo ≤ c → c ≤ hi → is_in_range lo hi c ≡ true
 in_range lo hi c h k = rw (at_most lo c h, at_most c hi k) refl
 
-range_in : (lo hi c : ℕ) → is_in_range lo hi c ≡ true → (lo ≤ c) × (c ≤ hi)
+pub range_in : (lo hi c : ℕ) → is_in_range lo hi c ≡ true → (lo ≤ c) × (c ≤ hi)
 range_in lo hi c h = let k = both (nat_le lo c) (nat_le c hi) h in (is_most lo c k.0, is_most c hi k.1)
 
 -- decimal numbers
@@ -118,7 +118,7 @@ three_again : (n h t o : ℕ) → n ≡ 100 * h + 10 * t + o → 1 ≤ h → h <
 unfolding number_of
 three_again n h t o e a b c d = rw (first_again h a b, digit_again t c, digit_again o d) (ap (λ (x : ℕ). Some x) (sym e))
 
-less_or_not : (m n : ℕ) → (m < n) ⊎ (n ≤ m)
+pub less_or_not : (m n : ℕ) → (m < n) ⊎ (n ≤ m)
 less_or_not m n = elim (nat_lt m n) as (λ v. nat_lt m n ≡ v → (m < n) ⊎ (n ≤ m)) [ true ↦ λ e. inl (grind (arith, nat_tests)) | false ↦ λ e. inr (grind (arith, nat_tests)) ] refl
 
 number_again : (n : ℕ) → n < 256 → number_of (decimal n) ≡ Some n
@@ -135,7 +135,7 @@ number_again n h = elim (less_or_not n 10) [
   ]
 ]
 
-up_to_ok : (most : ℕ) (bs : List ℕ) (n : ℕ) → number_up_to most bs ≡ Some n → (bs ≡ decimal n) × (n ≤ most)
+pub up_to_ok : (most : ℕ) (bs : List ℕ) (n : ℕ) → number_up_to most bs ≡ Some n → (bs ≡ decimal n) × (n ≤ most)
 unfolding number_up_to
 up_to_ok most bs n h =
     let r = bind_ok (number_of bs) (λ m. cond (nat_le m most) (Some m) None) n h in
@@ -144,7 +144,7 @@ up_to_ok most bs n h =
       | inr p ↦ absurd (cc (p.1))
     ]
 
-up_to_again : (most n : ℕ) → n ≤ most → most < 256 → number_up_to most (decimal n) ≡ Some n
+pub up_to_again : (most n : ℕ) → n ≤ most → most < 256 → number_up_to most (decimal n) ≡ Some n
 unfolding number_up_to
 up_to_again most n h k = rw (number_again n (omega arith), at_most n most h) refl
 
@@ -152,11 +152,11 @@ up_to_again most n h k = rw (number_again n (omega arith), at_most n most h) ref
 abbrev pub Free : ℕ → List ℕ → Type 0
 Free mark bs = AllByRecursion (λ b. ¬ (b ≡ mark)) bs
 
-free_append : (mark : ℕ) (xs ys : List ℕ) → Free mark xs → Free mark ys → Free mark (xs ++ ys)
+pub free_append : (mark : ℕ) (xs ys : List ℕ) → Free mark xs → Free mark ys → Free mark (xs ++ ys)
 free_append mark [] ys h k = k
 free_append mark (x ∷ xs) ys h k = (h.0, free_append mark xs ys h.1 k)
 
-decimal_free : (mark n : ℕ) → mark < 48 → Free mark (decimal n)
+pub decimal_free : (mark n : ℕ) → mark < 48 → Free mark (decimal n)
 decimal_free mark n h = elim (less_or_not n 10) [
   | inl p ↦ subst (Free mark) (sym (one_digit n p)) (λ e. absurd (omega arith), tt)
   | inr p ↦ elim (less_or_not n 100) [
@@ -165,11 +165,11 @@ decimal_free mark n h = elim (less_or_not n 10) [
   ]
 ]
 
-cut_again : (mark : ℕ) (front rest : List ℕ) → Free mark front → cut_at mark (front ++ mark ∷ rest) ≡ Some (front, rest)
+pub cut_again : (mark : ℕ) (front rest : List ℕ) → Free mark front → cut_at mark (front ++ mark ∷ rest) ≡ Some (front, rest)
 cut_again mark [] rest h = cut_at_mark mark mark rest refl
 cut_again mark (b ∷ bs) rest h = cut_past mark b (bs ++ mark ∷ rest) h.0 ∙ ap (λ r. r >>= (λ cut. Some (b ∷ cut.0, cut.1))) (cut_again mark bs rest h.1)
 
-cut_ok : (mark : ℕ) (bs : List ℕ) (x : List ℕ × List ℕ) → cut_at mark bs ≡ Some x → bs ≡ x.0 ++ mark ∷ x.1
+pub cut_ok : (mark : ℕ) (bs : List ℕ) (x : List ℕ × List ℕ) → cut_at mark bs ≡ Some x → bs ≡ x.0 ++ mark ∷ x.1
 cut_ok mark [] x h = absurd (cc)
 cut_ok mark (b ∷ bs) x h = elim (chosen (b == mark) (Some ([], bs)) (cut_at mark bs >>= λ cut. Some (b ∷ cut.0, cut.1)) (Some x) h) [
   | inl p ↦ let e : ([], bs) ≡ x = cc (p.1) in subst (λ (y : List ℕ × List ℕ). b ∷ bs ≡ y.0 ++ mark ∷ y.1) e (ap (λ k. k ∷ bs) (equal_at b mark p.0))
@@ -282,13 +282,13 @@ net4_ok text x h =
     subst (λ (y : ℕ × ℕ). (text ≡ net4_text y.0 y.1) × (y.0 < 2 ^ 32) × (y.1 ≤ 32)) e (net4_is text p.0.0 p.0.1 i.0 l.0 (cut_ok 47 text p.0 p.1) ki.0 kl.0, ki.1, kl.1)
 
 -- Ethernet addresses
-hex_ok : (b n : ℕ) → hex_of b ≡ Some n → IsTrue (is_ascii_hexdigit b) × (digit_value b ≡ n)
+pub hex_ok : (b n : ℕ) → hex_of b ≡ Some n → IsTrue (is_ascii_hexdigit b) × (digit_value b ≡ n)
 hex_ok b n h = elim (chosen (is_ascii_hexdigit b) (Some (digit_value b)) None (Some n) h) [
   | inl p ↦ (p.0, cc (p.1))
   | inr p ↦ absurd (cc (p.1))
 ]
 
-hex_again : (b : ℕ) → IsTrue (is_ascii_hexdigit b) → hex_of b ≡ Some (digit_value b)
+pub hex_again : (b : ℕ) → IsTrue (is_ascii_hexdigit b) → hex_of b ≡ Some (digit_value b)
 hex_again b h = rw h refl
 
 pair_ok : (bs : List ℕ) (x : ℕ × List ℕ) → pair_at bs ≡ Some x → (a b : ℕ) × (bs ≡ a ∷ b ∷ x.1) × IsPair a b x.0
@@ -394,7 +394,7 @@ or_true : (b : Bool) → b || true ≡ true
 or_true true = refl
 or_true false = refl
 
-char_hex : (d : ℕ) → d < 16 → IsTrue (is_ascii_hexdigit (digit_char d)) × (digit_value (digit_char d) ≡ d)
+pub char_hex : (d : ℕ) → d < 16 → IsTrue (is_ascii_hexdigit (digit_char d)) × (digit_value (digit_char d) ≡ d)
 char_hex d h = elim (less_or_not d 10) [
   | inl p ↦
       let e : digit_char d ≡ 48 + d = rw (at_below d 10 p) refl in
@@ -445,14 +445,14 @@ at_each : (b : ℕ) → b < 128 → (i : ℕ) → get_or (b ∷ []) i 0 < 128
 at_each b h zero = h
 at_each b h (suc i) = omega arith
 
-one_utf8 : (b : ℕ) → b < 128 → IsUtf8 (b ∷ [])
+pub one_utf8 : (b : ℕ) → b < 128 → IsUtf8 (b ∷ [])
 one_utf8 b h = IsUtf8-from_ascii (b ∷ []) (at_each b h)
 
-ascii_utf8 : (bs : List ℕ) → AllByRecursion (λ b. b < 128) bs → IsUtf8 bs
+pub ascii_utf8 : (bs : List ℕ) → AllByRecursion (λ b. b < 128) bs → IsUtf8 bs
 ascii_utf8 [] h = IsUtf8-nil
 ascii_utf8 (b ∷ bs) h = IsUtf8-append (b ∷ []) bs (one_utf8 b h.0) (ascii_utf8 bs h.1)
 
-decimal_utf8 : (n : ℕ) → n < 256 → IsUtf8 (decimal n)
+pub decimal_utf8 : (n : ℕ) → n < 256 → IsUtf8 (decimal n)
 decimal_utf8 n h = elim (less_or_not n 10) [
   | inl p ↦ rw (one_digit n p) (ascii_utf8 ((48 + n) ∷ []) (omega arith, tt))
   | inr p ↦ elim (less_or_not n 100) [
@@ -486,7 +486,7 @@ ip4_utf8 n h =
 pub net4_utf8 : (n len : ℕ) → n < 2 ^ 32 → len < 256 → IsUtf8 (net4_text n len)
 net4_utf8 n len h k = IsUtf8-append (ip4_text n) (47 ∷ decimal len) (ip4_utf8 n h) (IsUtf8-append (47 ∷ []) (decimal len) (one_utf8 47 slash_ascii) (decimal_utf8 len k))
 
-char_ascii : (d : ℕ) → d < 16 → digit_char d < 128
+pub char_ascii : (d : ℕ) → d < 16 → digit_char d < 128
 char_ascii d h = elim (less_or_not d 10) [
   | inl p ↦ let e : digit_char d ≡ 48 + d = rw (at_below d 10 p) refl in omega (arith, e)
   | inr p ↦ let e : digit_char d ≡ 87 + d = rw (no_more d 10 p) refl in omega (arith, e)

@@ -1,5 +1,10 @@
 pub mod Addresses
 pub mod Cut
+pub mod Gap
+pub mod Groups
+pub mod Joined
 pub mod Macs
 pub mod Prefixes
+pub mod Printed6
 pub mod Rows
+pub mod Sums

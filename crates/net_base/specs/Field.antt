@@ -11,8 +11,16 @@ exact id value = record { id = id; value = value; mask = all_ones id }
 abbrev pub bits : FieldId → ℕ → Field
 bits id value = record { id = id; value = value; mask = value }
 
--- the field has the bits of an IPv4 prefix, len of 32, whatever the host bits are (RFC 4632, 3.1)
+-- the field has the first bits, len of them, of an address of so many bits, whatever the others are
+abbrev pub prefix_in : ℕ → FieldId → ℕ → ℕ → Field
+prefix_in width id address len =
+    let size = 2 ^ (width - len) in
+    record { id = id; value = address / size * size; mask = 2 ^ width - size }
+
+-- an IPv4 prefix, len of 32 (RFC 4632, 3.1)
 abbrev pub prefix : FieldId → ℕ → ℕ → Field
-prefix id ip len =
-    let size = 2 ^ (32 - len) in
-    record { id = id; value = ip / size * size; mask = 2 ^ 32 - size }
+prefix = prefix_in 32
+
+-- an IPv6 prefix, len of 128 (RFC 4291, 2.3)
+abbrev pub prefix6 : FieldId → ℕ → ℕ → Field
+prefix6 = prefix_in 128

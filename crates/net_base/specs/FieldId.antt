@@ -1,12 +1,12 @@
 use Rattle.std.specs.Prelude.{ℕ, ◌+◌, ◌-◌, ◌*◌, ◌^◌, ◌<◌, ◌≤◌, Bool, true, false, List, [], ◌∷◌}
 use Rattle.net_base.specs.declared.field.FieldId.{FieldId}
-use Rattle.net_base.specs.declared.field.FieldId.TheVariants.{InPort, EthDst, EthSrc, EthType, VlanVid, VlanPcp, IpProto, Ipv4Src, Ipv4Dst, TcpSrc, TcpDst, UdpSrc, UdpDst, Icmpv4Type, Icmpv4Code, ArpOp, ArpSpa, ArpTpa}
+use Rattle.net_base.specs.declared.field.FieldId.TheVariants.{InPort, EthDst, EthSrc, EthType, VlanVid, VlanPcp, IpProto, Ipv4Src, Ipv4Dst, TcpSrc, TcpDst, UdpSrc, UdpDst, Icmpv4Type, Icmpv4Code, ArpOp, ArpSpa, ArpTpa, Ipv6Src, Ipv6Dst, Icmpv6Type, Icmpv6Code, Ipv6NdTarget}
 use Rattle.net_base.specs.declared.field.FieldRow.{FieldRow}
 use Rattle.net_base.specs.declared.field.Prerequisite.{Prerequisite}
-use Rattle.net_base.specs.declared.field.Prerequisite.TheVariants.{Tagged, Exactly}
+use Rattle.net_base.specs.declared.field.Prerequisite.TheVariants.{Tagged, Exactly, Either}
 
 -- of a field its number, how many bits and how many bytes a value takes, whether a mask may leave
--- bits out, and what the match that it stands in has to have: one of these, or nothing
+-- bits out, and what the match that it stands in has to have: each of these
 pub record Row : Type 0 where
   pub number : ℕ
   pub bits : ℕ
@@ -30,22 +30,27 @@ row_of EthSrc = row 4 48 6 true []
 row_of EthType = row 5 16 2 false []
 row_of VlanVid = row 6 (12 + 1) 2 true []
 row_of VlanPcp = row 7 3 1 false (Tagged ∷ [])
-row_of IpProto = row 10 8 1 false (Exactly EthType 0x0800 ∷ [])
+row_of IpProto = row 10 8 1 false (Either EthType 0x0800 0x86dd ∷ [])
 row_of Ipv4Src = row 11 32 4 true (Exactly EthType 0x0800 ∷ [])
 row_of Ipv4Dst = row 12 32 4 true (Exactly EthType 0x0800 ∷ [])
 row_of TcpSrc = row 13 16 2 false (Exactly IpProto 6 ∷ [])
 row_of TcpDst = row 14 16 2 false (Exactly IpProto 6 ∷ [])
 row_of UdpSrc = row 15 16 2 false (Exactly IpProto 17 ∷ [])
 row_of UdpDst = row 16 16 2 false (Exactly IpProto 17 ∷ [])
-row_of Icmpv4Type = row 19 8 1 false (Exactly IpProto 1 ∷ [])
-row_of Icmpv4Code = row 20 8 1 false (Exactly IpProto 1 ∷ [])
+row_of Icmpv4Type = row 19 8 1 false (Exactly EthType 0x0800 ∷ Exactly IpProto 1 ∷ [])
+row_of Icmpv4Code = row 20 8 1 false (Exactly EthType 0x0800 ∷ Exactly IpProto 1 ∷ [])
 row_of ArpOp = row 21 16 2 false (Exactly EthType 0x0806 ∷ [])
 row_of ArpSpa = row 22 32 4 true (Exactly EthType 0x0806 ∷ [])
 row_of ArpTpa = row 23 32 4 true (Exactly EthType 0x0806 ∷ [])
+row_of Ipv6Src = row 26 128 16 true (Exactly EthType 0x86dd ∷ [])
+row_of Ipv6Dst = row 27 128 16 true (Exactly EthType 0x86dd ∷ [])
+row_of Icmpv6Type = row 29 8 1 false (Exactly EthType 0x86dd ∷ Exactly IpProto 58 ∷ [])
+row_of Icmpv6Code = row 30 8 1 false (Exactly EthType 0x86dd ∷ Exactly IpProto 58 ∷ [])
+row_of Ipv6NdTarget = row 31 128 16 false (Exactly EthType 0x86dd ∷ Exactly IpProto 58 ∷ Either Icmpv6Type 135 136 ∷ [])
 
 -- every field, by number
 abbrev pub all_fields : List FieldId
-all_fields = InPort ∷ EthDst ∷ EthSrc ∷ EthType ∷ VlanVid ∷ VlanPcp ∷ IpProto ∷ Ipv4Src ∷ Ipv4Dst ∷ TcpSrc ∷ TcpDst ∷ UdpSrc ∷ UdpDst ∷ Icmpv4Type ∷ Icmpv4Code ∷ ArpOp ∷ ArpSpa ∷ ArpTpa ∷ []
+all_fields = InPort ∷ EthDst ∷ EthSrc ∷ EthType ∷ VlanVid ∷ VlanPcp ∷ IpProto ∷ Ipv4Src ∷ Ipv4Dst ∷ TcpSrc ∷ TcpDst ∷ UdpSrc ∷ UdpDst ∷ Icmpv4Type ∷ Icmpv4Code ∷ ArpOp ∷ ArpSpa ∷ ArpTpa ∷ Ipv6Src ∷ Ipv6Dst ∷ Icmpv6Type ∷ Icmpv6Code ∷ Ipv6NdTarget ∷ []
 
 abbrev pub number_of : FieldId → ℕ
 number_of id = (row_of id).number

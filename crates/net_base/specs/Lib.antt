@@ -1,4 +1,6 @@
 pub mod Address
+pub mod Address6
+pub mod Address6Reading
 pub mod AddressReading
 pub mod Field
 pub mod FieldId

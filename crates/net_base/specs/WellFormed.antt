@@ -1,34 +1,31 @@
 -- Matches that a switch accepts (OpenFlow 1.3, 7.2.3).
-use Rattle.std.specs.Prelude.{◌<◌, ◌≤◌, Bool, true, ◌==◌, ◌&&◌, not, List, [], ◌∷◌, IsTrue}
-use Rattle.std.specs.List.{AllByRecursion, list_any}
+use Rattle.std.specs.Prelude.{◌<◌, ◌≤◌, Bool, ◌==◌, ◌&&◌, ◌||◌, not, List, [], ◌∷◌, IsTrue}
+use Rattle.std.specs.List.{AllByRecursion, list_all, list_any}
 use Rattle.net_base.specs.declared.field.Field.{Field}
 use Rattle.net_base.specs.declared.field.FieldId.{FieldId}
 use Rattle.net_base.specs.declared.field.FieldId.TheVariants.{VlanVid}
 use Rattle.net_base.specs.FieldId.{number_of, prerequisites_of, all_ones}
 use Rattle.net_base.specs.declared.field.Prerequisite.{Prerequisite}
-use Rattle.net_base.specs.declared.field.Prerequisite.TheVariants.{Tagged, Exactly}
+use Rattle.net_base.specs.declared.field.Prerequisite.TheVariants.{Tagged, Exactly, Either}
 
 -- it is the field with this name, with no bit masked out
 abbrev pub is_whole : FieldId → Field → Bool
 is_whole id f = number_of f.id == number_of id && f.mask == all_ones id
 
 -- the field is the one that is asked for: a VLAN identifier that isn't 0, whatever its mask, or a
--- field with just this value, no bit masked out
+-- field with just this value, or with one of these two, no bit masked out
 abbrev pub meets : Prerequisite → Field → Bool
 meets Tagged f = number_of f.id == number_of VlanVid && not (f.value == 0)
 meets (Exactly id value) f = is_whole id f && f.value == value
+meets (Either id value other) f = is_whole id f && ((f.value == value) || (f.value == other))
 
-abbrev pub meets_one : List Prerequisite → Field → Bool
-meets_one asked f = list_any (λ p. meets p f) asked
+-- the match has a field that is the one asked for
+abbrev pub is_met : List Field → Prerequisite → Bool
+is_met fields asked = list_any (meets asked) fields
 
--- the match has one of the fields that are asked for, where any is
-abbrev pub has_one : List Prerequisite → List Field → Bool
-has_one [] fields = true
-has_one (p ∷ asked) fields = list_any (meets_one (p ∷ asked)) fields
-
--- the match has what the field asks for
+-- the match has each of those that the field asks for
 abbrev pub has_prerequisite : FieldId → List Field → Bool
-has_prerequisite id fields = has_one (prerequisites_of id) fields
+has_prerequisite id fields = list_all (is_met fields) (prerequisites_of id)
 
 -- the value and the mask have as many bytes as the field
 pub record Fits (f : Field) : Type 0 where

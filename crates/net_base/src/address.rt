@@ -126,7 +126,7 @@ fn append_ip4(out: &mut Text, ip: u32) -> Result<(), NoMemory>
 }
 
 /// The value of a hexadecimal digit.
-fn hex_digit(b: u8) -> Option<u8>
+pub(crate) fn hex_digit(b: u8) -> Option<u8>
     ensures { IsRead result (hex_of b) }
 {
     match b {

@@ -31,7 +31,8 @@ pub fn put_decimal(buffer: &mut [u8], at: usize, n: u8) -> usize
     }
 }
 
-fn hex_char(digit: u8) -> u8
+/// The lower-case digit of a number below 16.
+pub fn hex_char(digit: u8) -> u8
     requires { digit < 16 }
     ensures { result ≡ digit_char digit }
 {

@@ -1,10 +1,11 @@
 ghost use Rattle.std.specs.Prelude.{◌≡◌, IfSome, IfNone};
 ghost use Rattle.net_base.specs.declared.field.FieldId.{FieldId};
 ghost use Rattle.net_base.specs.FieldId.{seen_row, row_of, all_fields, number_of, bits_of, byte_len_of, may_be_masked, prerequisites_of, all_ones};
-ghost use Rattle.net_base.specs.Field.{exact, bits, prefix};
+ghost use Rattle.net_base.specs.Field.{exact, bits, prefix, prefix6};
 
 use crate::items::Items;
 use crate::net4::Net4;
+use crate::net6::Net6;
 use crate::try_copy::{NoMemory, TryCopy};
 use std::alloc::Global;
 
@@ -29,6 +30,11 @@ pub enum FieldId {
     ArpOp,
     ArpSpa,
     ArpTpa,
+    Ipv6Src,
+    Ipv6Dst,
+    Icmpv6Type,
+    Icmpv6Code,
+    Ipv6NdTarget,
 }
 
 /// What a field of a match may ask of the match that it stands in (OpenFlow 1.3, 7.2.3.6).
@@ -37,7 +43,16 @@ pub enum Prerequisite {
     /// A VLAN identifier that isn't 0, whatever its mask.
     Tagged,
     /// The field with just this value, no bit of it masked out.
-    Exactly { id: FieldId, value: u128 },
+    Exactly {
+        id: FieldId,
+        value: u128,
+    },
+    /// The field with one of these two values, no bit of it masked out.
+    Either {
+        id: FieldId,
+        value: u128,
+        other: u128,
+    },
 }
 
 /// A row of the table of fields (OpenFlow 1.3, 7.2.3.7, table 12).
@@ -51,7 +66,7 @@ pub struct FieldRow {
     pub byte_len: usize,
     /// Whether a mask may leave out bits of a value.
     pub may_be_masked: bool,
-    /// What the match has to have: one of these, or nothing where there are none.
+    /// What the match has to have: each of these.
     pub prerequisites: &'static [Prerequisite],
 }
 
@@ -76,21 +91,44 @@ macro_rules! exactly {
     };
 }
 
+macro_rules! either {
+    ($id:ident, $value:literal, $other:literal) => {
+        Prerequisite::Either {
+            id: FieldId::$id,
+            value: $value,
+            other: $other,
+        }
+    };
+}
+
 // The headers that fields ask for.
 const TAG: [Prerequisite; 1] = [Prerequisite::Tagged];
 
+const IP: [Prerequisite; 1] = [either!(EthType, 0x0800, 0x86dd)];
+
 const IPV4: [Prerequisite; 1] = [exactly!(EthType, 0x0800)];
 
-const ARP: [Prerequisite; 1] = [exactly!(EthType, 0x0806)];
+const IPV6: [Prerequisite; 1] = [exactly!(EthType, 0x86dd)];
 
-const ICMPV4: [Prerequisite; 1] = [exactly!(IpProto, 1)];
+const ARP: [Prerequisite; 1] = [exactly!(EthType, 0x0806)];
 
 const TCP: [Prerequisite; 1] = [exactly!(IpProto, 6)];
 
 const UDP: [Prerequisite; 1] = [exactly!(IpProto, 17)];
 
+const ICMPV4: [Prerequisite; 2] = [exactly!(EthType, 0x0800), exactly!(IpProto, 1)];
+
+const ICMPV6: [Prerequisite; 2] = [exactly!(EthType, 0x86dd), exactly!(IpProto, 58)];
+
+// A solicitation for a neighbour, or an advertisement of one (RFC 4861, 4.3 and 4.4).
+const NEIGHBOUR: [Prerequisite; 3] = [
+    exactly!(EthType, 0x86dd),
+    exactly!(IpProto, 58),
+    either!(Icmpv6Type, 135, 136),
+];
+
 /// Every field, by number.
-const ALL_FIELDS: [FieldId; 18] = [
+const ALL_FIELDS: [FieldId; 23] = [
     FieldId::InPort,
     FieldId::EthDst,
     FieldId::EthSrc,
@@ -109,6 +147,11 @@ const ALL_FIELDS: [FieldId; 18] = [
     FieldId::ArpOp,
     FieldId::ArpSpa,
     FieldId::ArpTpa,
+    FieldId::Ipv6Src,
+    FieldId::Ipv6Dst,
+    FieldId::Icmpv6Type,
+    FieldId::Icmpv6Code,
+    FieldId::Ipv6NdTarget,
 ];
 
 /// Every field, by number.
@@ -130,7 +173,7 @@ impl FieldId {
             FieldId::EthType => row!(5, 16, 2, false, &[]),
             FieldId::VlanVid => row!(6, 12 + 1, 2, true, &[]),
             FieldId::VlanPcp => row!(7, 3, 1, false, &TAG),
-            FieldId::IpProto => row!(10, 8, 1, false, &IPV4),
+            FieldId::IpProto => row!(10, 8, 1, false, &IP),
             FieldId::Ipv4Src => row!(11, 32, 4, true, &IPV4),
             FieldId::Ipv4Dst => row!(12, 32, 4, true, &IPV4),
             FieldId::TcpSrc => row!(13, 16, 2, false, &TCP),
@@ -142,6 +185,11 @@ impl FieldId {
             FieldId::ArpOp => row!(21, 16, 2, false, &ARP),
             FieldId::ArpSpa => row!(22, 32, 4, true, &ARP),
             FieldId::ArpTpa => row!(23, 32, 4, true, &ARP),
+            FieldId::Ipv6Src => row!(26, 128, 16, true, &IPV6),
+            FieldId::Ipv6Dst => row!(27, 128, 16, true, &IPV6),
+            FieldId::Icmpv6Type => row!(29, 8, 1, false, &ICMPV6),
+            FieldId::Icmpv6Code => row!(30, 8, 1, false, &ICMPV6),
+            FieldId::Ipv6NdTarget => row!(31, 128, 16, false, &NEIGHBOUR),
         }
     }
 
@@ -173,8 +221,7 @@ impl FieldId {
         self.row().may_be_masked
     }
 
-    /// What the field asks of the match that it stands in: one of these, or nothing where there
-    /// are none.
+    /// What the field asks of the match that it stands in: each of these.
     pub fn prerequisites(self) -> &'static [Prerequisite]
         ensures { result.now ≡ prerequisites_of self }
     {
@@ -233,6 +280,22 @@ impl Field {
             id,
             value: u128::from(net.ip.0) / size * size,
             mask: 0x1_0000_0000 - size,
+        }
+    }
+
+    /// The same of an IPv6 network.
+    #[tactic(auto, using(crate::proofs::Prefixes::no_prefix))]
+    pub fn prefix6(id: FieldId, net: Net6) -> Field
+        ensures { result ≡ prefix6 id net.ip.0 net.len }
+    {
+        if net.len == 0 {
+            return Field::bits(id, 0);
+        }
+        let size = 1_u128 << (128 - net.len);
+        Field {
+            id,
+            value: net.ip.0 / size * size,
+            mask: u128::MAX - (size - 1),
         }
     }
 

@@ -1,6 +1,6 @@
 ghost use Rattle.std.specs.Prelude.{◌≡◌, ◌<◌, ◌↔◌, IsTrue};
-ghost use Rattle.std.specs.List.{AllByRecursion, list_any};
-ghost use Rattle.net_base.specs.WellFormed.{is_whole, meets, meets_one, has_one, has_prerequisite, Fits, AreAscending, IsWellFormed};
+ghost use Rattle.std.specs.List.{AllByRecursion, list_all, list_any};
+ghost use Rattle.net_base.specs.WellFormed.{is_whole, meets, is_met, has_prerequisite, Fits, AreAscending, IsWellFormed};
 ghost use Rattle.net_base.specs.FieldId.{number_of};
 
 use crate::field::{Field, FieldId, Prerequisite};
@@ -21,38 +21,26 @@ fn meets(asked: Prerequisite, field: &Field) -> bool
             field.id.number() == FieldId::VlanVid.number() && field.value != 0
         }
         Prerequisite::Exactly { id, value } => is_whole(id, field) && field.value == value,
+        Prerequisite::Either { id, value, other } => {
+            is_whole(id, field) && (field.value == value || field.value == other)
+        }
     }
 }
 
-// Whether a field is one of those that are asked for.
-fn meets_one(asked: &[Prerequisite], field: &Field) -> bool
-    ensures { result ≡ meets_one asked.now field.now }
+// Whether some field is the one that is asked for.
+fn is_met(fields: &[Field], asked: Prerequisite) -> bool
+    ensures { result ≡ is_met fields.now asked }
 {
-    asked.iter().any(|asked| meets(*asked, field))
+    fields.iter().any(|field| meets(asked, field))
 }
 
-// Whether some field is one of those that are asked for.
-fn any_meets(asked: &[Prerequisite], fields: &[Field]) -> bool
-    ensures { result ≡ list_any (meets_one asked.now) fields.now }
-{
-    fields.iter().any(|field| meets_one(asked, field))
-}
-
-// Whether the match has one of the fields that are asked for, where any is.
-fn has_one(asked: &[Prerequisite], fields: &[Field]) -> bool
-    ensures { result ≡ has_one asked.now fields.now }
-{
-    match asked {
-        [] => true,
-        [_, ..] => any_meets(asked, fields),
-    }
-}
-
-/// Whether a match has what a field asks for.
+/// Whether a match has each of those that a field asks for.
 pub fn has_prerequisite(id: FieldId, fields: &[Field]) -> bool
     ensures { result ≡ has_prerequisite id fields.now }
 {
-    has_one(id.prerequisites(), fields)
+    id.prerequisites()
+        .iter()
+        .all(|asked| is_met(fields, *asked))
 }
 
 // Whether value and mask have no more bytes than the field.

@@ -1,6 +1,6 @@
 //! A field of a match: its name, its value, and its mask where it has one.
 
-use net_base::{Field, FieldId, Ip4, Mac, NoMemory, Text};
+use net_base::{Field, FieldId, Ip4, Ip6, Mac, NoMemory, Text};
 use std::alloc::Global;
 use std::fmt::Write;
 
@@ -25,6 +25,11 @@ fn name_of(id: FieldId) -> &'static str {
         FieldId::ArpOp => "arp_op",
         FieldId::ArpSpa => "arp_spa",
         FieldId::ArpTpa => "arp_tpa",
+        FieldId::Ipv6Src => "ipv6_src",
+        FieldId::Ipv6Dst => "ipv6_dst",
+        FieldId::Icmpv6Type => "icmpv6_type",
+        FieldId::Icmpv6Code => "icmpv6_code",
+        FieldId::Ipv6NdTarget => "ipv6_nd_target",
     }
 }
 
@@ -37,6 +42,13 @@ pub fn put_mac(alloc: Global, out: &mut String, mac: Mac) -> Result<(), NoMemory
 
 /// An IPv4 address, as it is written.
 pub fn put_ip4(alloc: Global, out: &mut String, ip: Ip4) -> Result<(), NoMemory> {
+    let mut text = Text::new(alloc);
+    ip.print(&mut text)?;
+    out.push_str(text.as_str())
+}
+
+/// An IPv6 address, as it is written.
+fn put_ip6(alloc: Global, out: &mut String, ip: Ip6) -> Result<(), NoMemory> {
     let mut text = Text::new(alloc);
     ip.print(&mut text)?;
     out.push_str(text.as_str())
@@ -63,6 +75,9 @@ fn put_value(alloc: Global, out: &mut String, id: FieldId, value: u128) -> Resul
         FieldId::EthDst | FieldId::EthSrc => put_mac(alloc, out, Mac::of_value(value)),
         FieldId::Ipv4Src | FieldId::Ipv4Dst | FieldId::ArpSpa | FieldId::ArpTpa => {
             put_address(alloc, out, value)
+        }
+        FieldId::Ipv6Src | FieldId::Ipv6Dst | FieldId::Ipv6NdTarget => {
+            put_ip6(alloc, out, Ip6(value))
         }
         FieldId::VlanVid => put_vlan(out, value),
         FieldId::EthType => write!(out, "{value:#06x}"),
