@@ -2,16 +2,17 @@
 use Rattle.std.specs.Prelude.{ℕ, ◌-◌, ◌%◌, ◌^◌, false, ◌==◌, nat_lt, if◌then◌else◌, List, [], ◌∷◌, ◌++◌, Option, Some, None, option_and_then}
 use Rattle.std.specs.Option.{option_map, option_map_or}
 use Rattle.net_base.specs.Address.{mac_of}
+use Rattle.net_base.specs.declared.address6.Ip6.{Ip6}
 use Rattle.net_base.specs.declared.field.FieldId.{FieldId}
-use Rattle.net_base.specs.declared.field.FieldId.TheVariants.{EthDst, EthSrc, EthType, VlanVid, VlanPcp, IpProto, Ipv4Src, Ipv4Dst, TcpSrc, TcpDst, UdpSrc, UdpDst, Icmpv4Type, Icmpv4Code, ArpOp, ArpSpa, ArpTpa}
+use Rattle.net_base.specs.declared.field.FieldId.TheVariants.{EthDst, EthSrc, EthType, VlanVid, VlanPcp, IpProto, Ipv4Src, Ipv4Dst, TcpSrc, TcpDst, UdpSrc, UdpDst, Icmpv4Type, Icmpv4Code, ArpOp, ArpSpa, ArpTpa, Ipv6Src, Ipv6Dst, Icmpv6Type, Icmpv6Code, Ipv6NdTarget}
 use Rattle.of_match.specs.declared.action.TheConstants.{IN_PORT}
 use Rattle.of_match.specs.declared.action.Action.{Action}
 use Rattle.of_match.specs.declared.action.Action.TheVariants.{Output, PushVlan, PopVlan, DecTtl, Set}
 use Rattle.of_match.specs.declared.packet.Tag.{Tag}
 use Rattle.of_match.specs.declared.packet.L4.{L4}
-use Rattle.of_match.specs.declared.packet.L4.TheVariants.{Tcp, Udp, Icmp}
+use Rattle.of_match.specs.declared.packet.L4.TheVariants.{Tcp, Udp, Icmp, Icmp6}
 use Rattle.of_match.specs.declared.packet.Upper.{Upper}
-use Rattle.of_match.specs.declared.packet.Upper.TheVariants.{None as NoUpper, Arp, V4}
+use Rattle.of_match.specs.declared.packet.Upper.TheVariants.{None as NoUpper, Arp, V4, V6}
 use Rattle.of_match.specs.declared.packet.Packet.{Packet}
 use Rattle.of_match.specs.declared.packet.Sent.{Sent}
 use Rattle.of_match.specs.declared.packet.Acted.{Acted}
@@ -29,6 +30,10 @@ abbrev pub set_tags : FieldId → ℕ → List Tag → List Tag
 set_tags id v [] = []
 set_tags id v (tag ∷ tags) = set_tag id v tag ∷ tags
 
+-- a target, if there is one
+abbrev pub set_target : ℕ → Option Ip6 → Option Ip6
+set_target v target = option_map (λ ip. record { 0 = v % 2 ^ 128 }) target
+
 -- the transport header; one that lacks the field stays as it is
 abbrev pub set_l4 : FieldId → ℕ → L4 → L4
 set_l4 TcpSrc v (Tcp src dst) = Tcp (v % 2 ^ 16) dst
@@ -37,6 +42,9 @@ set_l4 UdpSrc v (Udp src dst) = Udp (v % 2 ^ 16) dst
 set_l4 UdpDst v (Udp src dst) = Udp src (v % 2 ^ 16)
 set_l4 Icmpv4Type v (Icmp kind code) = Icmp (v % 2 ^ 8) code
 set_l4 Icmpv4Code v (Icmp kind code) = Icmp kind (v % 2 ^ 8)
+set_l4 Icmpv6Type v (Icmp6 kind code target) = Icmp6 (v % 2 ^ 8) code target
+set_l4 Icmpv6Code v (Icmp6 kind code target) = Icmp6 kind (v % 2 ^ 8) target
+set_l4 Ipv6NdTarget v (Icmp6 kind code target) = Icmp6 kind code (set_target v target)
 set_l4 id v l4 = l4
 
 -- the headers behind the EtherType; those that lack the field stay as they are
@@ -48,6 +56,10 @@ set_upper IpProto v (V4 src dst proto ttl l4) = V4 src dst (v % 2 ^ 8) ttl l4
 set_upper Ipv4Src v (V4 src dst proto ttl l4) = V4 (record { 0 = v % 2 ^ 32 }) dst proto ttl l4
 set_upper Ipv4Dst v (V4 src dst proto ttl l4) = V4 src (record { 0 = v % 2 ^ 32 }) proto ttl l4
 set_upper id v (V4 src dst proto ttl l4) = V4 src dst proto ttl (set_l4 id v l4)
+set_upper IpProto v (V6 src dst proto hops l4) = V6 src dst (v % 2 ^ 8) hops l4
+set_upper Ipv6Src v (V6 src dst proto hops l4) = V6 (record { 0 = v % 2 ^ 128 }) dst proto hops l4
+set_upper Ipv6Dst v (V6 src dst proto hops l4) = V6 src (record { 0 = v % 2 ^ 128 }) proto hops l4
+set_upper id v (V6 src dst proto hops l4) = V6 src dst proto hops (set_l4 id v l4)
 set_upper id v upper = upper
 
 -- a field of the packet; the port that it came in by is none
@@ -69,11 +81,12 @@ abbrev pub popped : List Tag → List Tag
 popped [] = []
 popped (tag ∷ tags) = tags
 
--- DEC_NW_TTL: one less, unless there is no TTL or it is 0 or 1
+-- DEC_NW_TTL: one less of the TTL or hop limit, unless there is none or it is 0 or 1
 abbrev pub lowered : Upper → Option Upper
 lowered NoUpper = None
 lowered (Arp op spa tpa) = None
 lowered (V4 src dst proto ttl l4) = if nat_lt ttl 2 then None else Some (V4 src dst proto (ttl - 1) l4)
+lowered (V6 src dst proto hops l4) = if nat_lt hops 2 then None else Some (V6 src dst proto (hops - 1) l4)
 
 -- the packet that an action leaves, or none where the packet ends
 abbrev pub left_by : Action → Packet → Option Packet

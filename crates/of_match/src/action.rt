@@ -19,7 +19,7 @@ pub enum Action {
     PushVlan(u16),
     /// Takes the outermost tag off.
     PopVlan,
-    /// Lowers the TTL by one.
+    /// Lowers the TTL or hop limit by one.
     DecTtl,
     /// Sets a header field to the value of this one.
     Set(Field),

@@ -1,8 +1,8 @@
 ghost use Rattle.std.specs.Prelude.{◌≡◌};
-ghost use Rattle.of_match.specs.Hit.{vid_value, pcp_value, l4_value, upper_value, value_of, agrees, hits};
+ghost use Rattle.of_match.specs.Hit.{vid_value, pcp_value, target_value, l4_value, upper_value, value_of, agrees, hits};
 
 use crate::packet::{L4, Packet, Tag, Upper};
-use net_base::{Field, FieldId, PortNo};
+use net_base::{Field, FieldId, Ip6, PortNo};
 
 // 0x1000 and the identifier of the outermost tag, or 0.
 fn vid_value(tags: &[Tag]) -> u128
@@ -24,6 +24,16 @@ fn pcp_value(tags: &[Tag]) -> Option<u128>
     }
 }
 
+// The address of a target, where there is one.
+fn target_value(target: Option<Ip6>) -> Option<u128>
+    ensures { result ≡ target_value target }
+{
+    match target {
+        Some(ip) => Some(ip.0),
+        None => None,
+    }
+}
+
 // What a transport header has of a field.
 fn l4_value(id: FieldId, l4: L4) -> Option<u128>
     ensures { result ≡ l4_value id l4 }
@@ -35,6 +45,9 @@ fn l4_value(id: FieldId, l4: L4) -> Option<u128>
         (FieldId::UdpDst, L4::Udp { dst, .. }) => Some(u128::from(dst)),
         (FieldId::Icmpv4Type, L4::Icmp { kind, .. }) => Some(u128::from(kind)),
         (FieldId::Icmpv4Code, L4::Icmp { code, .. }) => Some(u128::from(code)),
+        (FieldId::Icmpv6Type, L4::Icmp6 { kind, .. }) => Some(u128::from(kind)),
+        (FieldId::Icmpv6Code, L4::Icmp6 { code, .. }) => Some(u128::from(code)),
+        (FieldId::Ipv6NdTarget, L4::Icmp6 { target, .. }) => target_value(target),
         _ => None,
     }
 }
@@ -61,6 +74,18 @@ fn upper_value(id: FieldId, upper: Upper) -> Option<u128>
             FieldId::IpProto => Some(u128::from(proto)),
             FieldId::Ipv4Src => Some(u128::from(src.0)),
             FieldId::Ipv4Dst => Some(u128::from(dst.0)),
+            _ => l4_value(id, l4),
+        },
+        Upper::V6 {
+            src,
+            dst,
+            proto,
+            l4,
+            ..
+        } => match id {
+            FieldId::IpProto => Some(u128::from(proto)),
+            FieldId::Ipv6Src => Some(src.0),
+            FieldId::Ipv6Dst => Some(dst.0),
             _ => l4_value(id, l4),
         },
     }

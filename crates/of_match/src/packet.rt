@@ -1,6 +1,6 @@
 ghost use Rattle.std.specs.Prelude.{◌≡◌, IfOk};
 
-use net_base::{Bytes, Ip4, Items, Mac, NoMemory, TryCopy};
+use net_base::{Bytes, Ip4, Ip6, Items, Mac, NoMemory, TryCopy};
 use std::alloc::Global;
 
 /// A VLAN tag (IEEE 802.1Q, 9.3).
@@ -31,11 +31,27 @@ pub enum L4 {
     /// Nothing, as in a later fragment.
     None,
     /// The ports of TCP (RFC 9293, 3.1).
-    Tcp { src: u16, dst: u16 },
+    Tcp {
+        src: u16,
+        dst: u16,
+    },
     /// The ports of UDP (RFC 768).
-    Udp { src: u16, dst: u16 },
+    Udp {
+        src: u16,
+        dst: u16,
+    },
     /// The type and the code of ICMP (RFC 792).
-    Icmp { kind: u8, code: u8 },
+    Icmp {
+        kind: u8,
+        code: u8,
+    },
+    /// The type and the code of ICMPv6 (RFC 4443, 2.1), and the target of a message that solicits a
+    /// neighbour or advertises one (RFC 4861, 4.3 and 4.4).
+    Icmp6 {
+        kind: u8,
+        code: u8,
+        target: Option<Ip6>,
+    },
 }
 
 /// What of a packet's headers behind the EtherType can be matched.
@@ -55,6 +71,14 @@ pub enum Upper {
         dst: Ip4,
         proto: u8,
         ttl: u8,
+        l4: L4,
+    },
+    /// IPv6 (RFC 8200, 3), its protocol being the type of the header that follows.
+    V6 {
+        src: Ip6,
+        dst: Ip6,
+        proto: u8,
+        hops: u8,
         l4: L4,
     },
 }

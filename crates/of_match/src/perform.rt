@@ -1,9 +1,9 @@
 ghost use Rattle.std.specs.Prelude.{◌≡◌, [], ◌∷◌, ◌++◌, ◌%◌, ◌^◌, IfOk, OnOk, Some, None, if◌then◌else◌};
-ghost use Rattle.of_match.specs.Act.{set_tag, set_tags, set_l4, set_upper, set_value, pushed, popped, lowered, left_by, output, sends_of, act_left, act_sends, act};
+ghost use Rattle.of_match.specs.Act.{set_tag, set_tags, set_target, set_l4, set_upper, set_value, pushed, popped, lowered, left_by, output, sends_of, act_left, act_sends, act};
 
 use crate::action::{Action, IN_PORT};
 use crate::packet::{Acted, L4, Packet, Sent, Sents, Tag, Tags, Upper};
-use net_base::{FieldId, Ip4, Mac, NoMemory, PortNo, TryCopy};
+use net_base::{FieldId, Ip4, Ip6, Mac, NoMemory, PortNo, TryCopy};
 use std::alloc::Global;
 
 // The low 8 bits.
@@ -27,6 +27,23 @@ fn low_32(value: u128) -> u32
     (value % 0x1_0000_0000) as u32
 }
 
+// The address in the low 128 bits, which are all.
+#[tactic(auto, using(crate::proofs::Bits::all_bits))]
+fn low_128(value: u128) -> u128
+    ensures { result ≡ value % 2 ^ 128 }
+{
+    value
+}
+
+// Sets the address of a target, if there is one.
+fn set_target(value: u128, target: &mut Option<Ip6>)
+    ensures { target.new ≡ set_target value target.old }
+{
+    if let Some(ip) = target {
+        *ip = Ip6(low_128(value));
+    }
+}
+
 // Sets a field of the transport header, if it has the field.
 fn set_l4(id: FieldId, value: u128, l4: &mut L4)
     ensures { l4.new ≡ set_l4 id value l4.old }
@@ -38,6 +55,9 @@ fn set_l4(id: FieldId, value: u128, l4: &mut L4)
         (FieldId::UdpDst, L4::Udp { dst, .. }) => *dst = low_16(value),
         (FieldId::Icmpv4Type, L4::Icmp { kind, .. }) => *kind = low_8(value),
         (FieldId::Icmpv4Code, L4::Icmp { code, .. }) => *code = low_8(value),
+        (FieldId::Icmpv6Type, L4::Icmp6 { kind, .. }) => *kind = low_8(value),
+        (FieldId::Icmpv6Code, L4::Icmp6 { code, .. }) => *code = low_8(value),
+        (FieldId::Ipv6NdTarget, L4::Icmp6 { target, .. }) => set_target(value, target),
         _ => {}
     }
 }
@@ -53,7 +73,11 @@ fn set_upper(id: FieldId, value: u128, upper: &mut Upper)
         (FieldId::IpProto, Upper::V4 { proto, .. }) => *proto = low_8(value),
         (FieldId::Ipv4Src, Upper::V4 { src, .. }) => *src = Ip4(low_32(value)),
         (FieldId::Ipv4Dst, Upper::V4 { dst, .. }) => *dst = Ip4(low_32(value)),
+        (FieldId::IpProto, Upper::V6 { proto, .. }) => *proto = low_8(value),
+        (FieldId::Ipv6Src, Upper::V6 { src, .. }) => *src = Ip6(low_128(value)),
+        (FieldId::Ipv6Dst, Upper::V6 { dst, .. }) => *dst = Ip6(low_128(value)),
         (_, Upper::V4 { l4, .. }) => set_l4(id, value, l4),
+        (_, Upper::V6 { l4, .. }) => set_l4(id, value, l4),
         _ => {}
     }
 }
@@ -121,13 +145,17 @@ fn pop_tag(tags: &mut Tags)
     }
 }
 
-// Lowers the TTL by one; `false` where there is none, or it is 0 or 1.
+// Lowers the TTL or hop limit by one; `false` where there is none, or it is 0 or 1.
 fn lower_ttl(upper: &mut Upper) -> bool
     ensures { lowered upper.old ≡ (if result then Some upper.new else None) }
 {
     match upper {
         Upper::V4 { ttl, .. } if *ttl >= 2 => {
             *ttl -= 1;
+            true
+        }
+        Upper::V6 { hops, .. } if *hops >= 2 => {
+            *hops -= 1;
             true
         }
         _ => false,
@@ -199,7 +227,7 @@ pub(crate) fn act_into(
 
 /// Does the actions in order to a packet that came in by a port: what they send, and the packet
 /// that is left. A field or a tag that the packet lacks is neither set nor taken off, and a
-/// packet without a TTL, or with one of 0 or 1, ends where the TTL is to be lowered.
+/// packet without a TTL or hop limit, or with one of 0 or 1, ends where it is to be lowered.
 pub fn act(
     alloc: Global,
     actions: &[Action],
