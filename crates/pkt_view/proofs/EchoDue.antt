@@ -15,7 +15,7 @@ use Rattle.pkt_view.proofs.Spelled.{not_true, number_back, number_back_4, two_by
 use Rattle.pkt_view.proofs.UpperLaws.{byte_here, upper_stands_there, ipv4_is_read}
 use Rattle.pkt_view.specs.Numbers.{number_at, number}
 use Rattle.pkt_view.specs.Checksum.{internet_checksum}
-use Rattle.pkt_view.specs.Frame.{UpperParts, Unknown, Arp, V4, upper_parts}
+use Rattle.pkt_view.specs.Frame.{UpperParts, Unknown, Arp, V4, V6, upper_parts}
 use Rattle.pkt_view.specs.Replies.{untagged, total_len, longest, carries_icmp, icmp_of, is_echo_request, with_checksum, reply_start, exchanged, reply_header, reply_icmp, is_echo_due, echo_upper}
 use Rattle.pkt_view.specs.Layouts.{IsHeader, IsUpper, Echo, whole_len, header_of, message_of, IsEcho, IsEchoRequest, Answers}
 
@@ -112,14 +112,15 @@ request_there from header body h all all_body due =
     let kinds = and_left _ _ asked in
     (not_true (is_group from) (and_left _ _ front), request_of header body h all all_body (eqb-true _ 1 (and_right _ _ two)) (eqb-true _ 0 (and_right _ _ three)) (leb-true _ _ (and_right _ _ four)) (leb-true _ _ (and_right _ _ five)) (leb-true _ _ (and_right _ _ six)) (eqb-true _ 0 (and_right _ _ seven)) (eqb-true _ 8 (and_left _ _ kinds)) (eqb-true _ 0 (and_right _ _ kinds)) (eqb-true _ 0 (and_right _ _ asked)))
 
-due_of : (due : Bool) (frame : List ℕ) → IsSome (cond due (Some frame) None) → due ≡ true
+pub due_of : (due : Bool) (frame : List ℕ) → IsSome (cond due (Some frame) None) → due ≡ true
 due_of true frame some = refl
 due_of false frame some = absurd (cc some)
 
-only_to : (src from : Mac) (eth_type : ℕ) (payload : List ℕ) (u : UpperParts) → All (λ b. b < 256) payload → IsUpper eth_type payload u → IsSome (echo_upper src from u) → (eth_type ≡ 0x0800) × (is_group from ≡ false) × IsEchoRequest payload
-only_to src from eth_type payload Unknown all there some = absurd (cc some)
-only_to src from eth_type payload (Arp op sha spa tha tpa) all there some = absurd (cc some)
-only_to src from eth_type payload (V4 header body) all there some =
+only_to : (src from : Mac) (payload : List ℕ) (u : UpperParts) → All (λ b. b < 256) payload → IsUpper 0x0800 payload u → IsSome (echo_upper src from u) → (is_group from ≡ false) × IsEchoRequest payload
+only_to src from payload Unknown all there some = absurd (cc some)
+only_to src from payload (Arp op sha spa tha tpa) all there some = absurd (cc some)
+only_to src from payload (V6 header body) all there some = absurd (omega (arith, there.0))
+only_to src from payload (V4 header body) all there some =
     let row : payload ≡ header ++ body = there.2 in
     let whole : All (λ b. b < 256) (header ++ body) = subst (All (λ b. b < 256)) row all in
     let front : All (λ b. b < 256) header = subst (All (λ b. b < 256)) (take-append_seam header body) (All-take (λ b. b < 256) (length header) (header ++ body) whole) in
@@ -127,7 +128,7 @@ only_to src from eth_type payload (V4 header body) all there some =
     let found = request_there from header body there.1 front rest (due_of _ _ some) in
     let e : Echo = found.1.0 in
     let padding : List ℕ = found.1.1 in
-    (there.0, found.0, (e, padding, found.1.2, row ∙ (λ i. found.1.3 i ++ found.1.4 i) ∙ sym (append_assoc (header_of e) (message_of 8 e) padding)))
+    (found.0, (e, padding, found.1.2, row ∙ (λ i. found.1.3 i ++ found.1.4 i) ∙ sym (append_assoc (header_of e) (message_of 8 e) padding)))
 
 -- ---- to each echo request
 
@@ -215,7 +216,7 @@ answer_message : (e : Echo) → reply_icmp (message_of 8 e) ≡ message_of 0 (an
 unfolding reply_icmp with_checksum number message_answer
 answer_message e = refl
 
-sum_fits : (bytes : List ℕ) → internet_checksum bytes < 2 ^ 16
+pub sum_fits : (bytes : List ℕ) → internet_checksum bytes < 2 ^ 16
 unfolding internet_checksum
 sum_fits bytes = omega arith
 
@@ -263,9 +264,21 @@ request_is_answered src from e padding one fit =
 
 -- ---- both ways
 
-answered_is_some : (o : Option (List ℕ)) (frame : List ℕ) → o ≡ Some frame → IsSome o
+pub answered_is_some : (o : Option (List ℕ)) (frame : List ℕ) → o ≡ Some frame → IsSome o
 answered_is_some o frame e = subst IsSome (sym e) refl
 
-pub due_to_requests : (src from : Mac) (eth_type : ℕ) (payload : List ℕ) → All (λ b. b < 256) payload → IsSome (echo_upper src from (upper_parts eth_type payload)) ↔ ((eth_type ≡ 0x0800) × (is_group from ≡ false) × IsEchoRequest payload)
-due_to_requests src from eth_type payload all =
-    (only_to src from eth_type payload (upper_parts eth_type payload) all (upper_stands_there eth_type payload all), λ asked. let r = asked.2 in answered_is_some _ _ ((λ i. echo_upper src from (upper_parts (asked.0 i) (r.3 i))) ∙ answered src from r.0 r.1 asked.1 r.2))
+pub due_to_requests : (src from : Mac) (payload : List ℕ) → All (λ b. b < 256) payload → IsSome (echo_upper src from (upper_parts 0x0800 payload)) ↔ ((is_group from ≡ false) × IsEchoRequest payload)
+due_to_requests src from payload all = (
+  only_to src from payload (upper_parts 0x0800 payload) all (upper_stands_there 0x0800 payload all),
+  λ asked. let r = asked.1 in answered_is_some _ _ (ap (λ (p : List ℕ). echo_upper src from (upper_parts 0x0800 p)) r.3 ∙ answered src from r.0 r.1 asked.0 r.2),
+)
+
+-- what is neither IPv4 nor IPv6 has no answer
+none_to : (src from : Mac) (eth_type : ℕ) (payload : List ℕ) (u : UpperParts) → IsUpper eth_type payload u → ¬ (eth_type ≡ 0x0800) → ¬ (eth_type ≡ 0x86dd) → echo_upper src from u ≡ None
+none_to src from eth_type payload Unknown there no_ipv4 no_ipv6 = refl
+none_to src from eth_type payload (Arp op sha spa tha tpa) there no_ipv4 no_ipv6 = refl
+none_to src from eth_type payload (V4 header body) there no_ipv4 no_ipv6 = absurd (no_ipv4 there.0)
+none_to src from eth_type payload (V6 header body) there no_ipv4 no_ipv6 = absurd (no_ipv6 there.0)
+
+pub due_to_no_other : (src from : Mac) (eth_type : ℕ) (payload : List ℕ) → All (λ b. b < 256) payload → ¬ (eth_type ≡ 0x0800) → ¬ (eth_type ≡ 0x86dd) → echo_upper src from (upper_parts eth_type payload) ≡ None
+due_to_no_other src from eth_type payload all = none_to src from eth_type payload (upper_parts eth_type payload) (upper_stands_there eth_type payload all)

@@ -1,7 +1,9 @@
 pub mod Choice
+pub mod Echo6Due
 pub mod EchoDue
 pub mod EchoLaws
 pub mod FieldLaws
+pub mod Lengths
 pub mod MadeFrames
 pub mod PortLaws
 pub mod Shapes

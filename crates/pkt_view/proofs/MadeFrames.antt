@@ -1,5 +1,5 @@
 -- The frames that are made are read as they are made.
-use Rattle.std.proofs.Common.{◌≡◌, ℕ, suc, ◌+◌, ◌-◌, ◌*◌, ◌/◌, ◌%◌, ◌<◌, ◌^◌, ◌&&◌, ◌==◌, Bool, true, false, cond, not, nat_le, List, [], ◌∷◌, ◌++◌, length, take, drop, inl, inr, refl, sym, ap, subst, ◌∙◌, arith, append-nil, append_assoc, length-append, Some, None}
+use Rattle.std.proofs.Common.{◌≡◌, ℕ, suc, ◌+◌, ◌-◌, ◌*◌, ◌/◌, ◌%◌, ◌<◌, ◌^◌, ◌&&◌, ◌||◌, ◌==◌, Bool, true, false, cond, not, nat_le, List, [], ◌∷◌, ◌++◌, length, take, drop, inl, inr, refl, sym, ap, subst, ◌∙◌, arith, append-nil, append_assoc, length-append, Some, None}
 use Rattle.std.specs.List.{AllByRecursion, flat_map}
 use Rattle.std.proofs.lemmas.List.{drop-drop}
 use Rattle.std.proofs.Math.Seq.{take-append_seam, drop-append_seam}
@@ -8,15 +8,20 @@ use Rattle.byteorder.specs.Numbers.{big_number-reads_back}
 use Rattle.net_base.specs.declared.address.Mac.{Mac}
 use Rattle.net_base.specs.declared.address.Ip4.{Ip4}
 use Rattle.of_match.specs.declared.packet.Tag.{Tag}
-use Rattle.of_match.specs.Shaped.{IsTag, IsIp4}
+use Rattle.net_base.specs.declared.address6.Ip6.{Ip6}
+use Rattle.of_match.specs.declared.packet.L4.TheVariants.{Icmp6}
+use Rattle.of_match.specs.declared.packet.Upper.TheVariants.{V6 as V6Part}
+use Rattle.of_match.specs.Shaped.{IsTag, IsIp4, IsIp6}
 use Rattle.pkt_view.proofs.Choice.{and_both, if_true}
 use Rattle.pkt_view.proofs.Tags.{front_more, front_end}
-use Rattle.pkt_view.proofs.UpperLaws.{by_six, arp_of_packet}
+use Rattle.pkt_view.proofs.Sums.{right_checksum}
+use Rattle.pkt_view.proofs.UpperLaws.{by_six, arp_of_packet, ipv6_is_read}
 use Rattle.pkt_view.specs.Numbers.{number_at, number}
-use Rattle.pkt_view.specs.Frame.{Arp, is_tag_type, tag_count, type_place, upper_parts, parts_with, parts}
-use Rattle.pkt_view.specs.Packets.{tag_of, tags_of}
-use Rattle.pkt_view.specs.Replies.{untagged, arp_packet, arp_request, arp_reply, broadcast, not_known}
-use Rattle.pkt_view.specs.Layouts.{tag_bytes, frame_of, parts_of, ShowsArp}
+use Rattle.pkt_view.specs.Checksum.{internet_checksum}
+use Rattle.pkt_view.specs.Frame.{Arp, V6, is_tag_type, tag_count, type_place, upper_parts, parts_with, parts}
+use Rattle.pkt_view.specs.Packets.{tag_of, tags_of, next_of, upper_of}
+use Rattle.pkt_view.specs.Replies.{untagged, arp_packet, arp_request, arp_reply, broadcast, not_known, with_checksum, header6, pseudo, checksum6, message6, frame6, solicited, solicited_mac, nd_solicit, nd_advert}
+use Rattle.pkt_view.specs.Layouts.{tag_bytes, frame_of, parts_of, ShowsArp, IsHeader6, ShowsNeighbour}
 
 -- ---- tags
 
@@ -151,3 +156,103 @@ request_is_read src spa tpa len spa_fits tpa_fits =
 pub reply_is_read : (src : Mac) (spa : Ip4) (dst : Mac) (tpa : Ip4) → length src.0 ≡ 6 → IsIp4 spa → length dst.0 ≡ 6 → IsIp4 tpa → ShowsArp (arp_reply src spa dst tpa) dst 2 src spa dst tpa
 reply_is_read src spa dst tpa src_len spa_fits dst_len tpa_fits =
     shown_arp dst 2 src spa dst tpa dst_len (omega arith) src_len spa_fits dst_len tpa_fits
+
+-- ---- the checksum of a message
+
+regroup : (p k n r : List ℕ) → p ++ (k ++ n ++ r) ≡ p ++ k ++ n ++ r
+regroup p k n r = sym (append_assoc p (k ++ n) r) ∙ ap (λ (w : List ℕ). w ++ r) (sym (append_assoc p k n))
+
+same_len : (kind sum : ℕ) (rest : List ℕ) → length ((kind ∷ 0 ∷ []) ++ number 2 sum ++ rest) ≡ length ((kind ∷ 0 ∷ []) ++ number 2 0 ++ rest)
+unfolding number
+same_len kind sum rest = refl
+
+pseudo_len : (source destination : List ℕ) (len kind : ℕ) → length source ≡ 16 → length destination ≡ 16 → length (pseudo source destination len ++ kind ∷ 0 ∷ []) % 2 ≡ 0
+unfolding number
+pseudo_len source destination len kind s d =
+    let tail : List ℕ = 0 ∷ 0 ∷ 0 ∷ 58 ∷ [] in
+    omega (arith, length-append (pseudo source destination len) (kind ∷ 0 ∷ []), length-append (source ++ destination ++ number 4 len) tail, length-append (source ++ destination) (number 4 len), length-append source destination, s, d)
+
+pub message_right : (source destination : List ℕ) (kind : ℕ) (rest : List ℕ) → length source ≡ 16 → length destination ≡ 16 → checksum6 source destination (message6 source destination kind rest) ≡ 0
+unfolding checksum6 message6 with_checksum
+message_right source destination kind rest s d =
+    let k : List ℕ = kind ∷ 0 ∷ [] in
+    let unsummed : List ℕ = k ++ number 2 0 ++ rest in
+    let p : List ℕ = pseudo source destination (length unsummed) in
+    let sum : ℕ = internet_checksum (p ++ unsummed) in
+    let inner : sum ≡ internet_checksum (p ++ k ++ number 2 0 ++ rest) = ap internet_checksum (regroup p k (number 2 0) rest) in
+    ap (λ (n : ℕ). internet_checksum (pseudo source destination n ++ (k ++ number 2 sum ++ rest))) (same_len kind sum rest)
+    ∙ ap internet_checksum (regroup p k (number 2 sum) rest)
+    ∙ ap (λ (n : ℕ). internet_checksum (p ++ k ++ number 2 n ++ rest)) inner
+    ∙ right_checksum (p ++ k) rest (pseudo_len source destination (length unsummed) kind s d)
+
+-- ---- messages between neighbours
+
+len_16 : (n : ℕ) → length (number 16 n) ≡ 16
+unfolding number
+len_16 n = refl
+
+solicited_len : (target : Ip6) → length (solicited target) ≡ 16
+unfolding number
+solicited_len target = refl
+
+header_of_message : (len hops source : ℕ) (to : List ℕ) → length to ≡ 16 → IsHeader6 (header6 len hops (number 16 source) to)
+unfolding number
+header_of_message len hops source to long =
+    record { class = 0; more = (0 ∷ 0 ∷ 0 ∷ []) ++ number 2 len ++ (58 ∷ hops ∷ []) ++ number 16 source ++ to; first = refl; fits = omega arith; long = omega (arith, long) }
+
+neighbour_upper : (source : Ip6) (to : List ℕ) (kind : ℕ) (a b c d : ℕ) (target : Ip6) (option e f g h i j : ℕ) → IsIp6 source → IsIp6 target → length to ≡ 16
+    → ((sum : ℕ) → next_of 58 ((kind ∷ 0 ∷ []) ++ number 2 sum ++ ((a ∷ b ∷ c ∷ d ∷ []) ++ number 16 target.0 ++ (option ∷ 1 ∷ []) ++ e ∷ f ∷ g ∷ h ∷ i ∷ j ∷ [])) ≡ Icmp6 kind 0 (Some target))
+    → upper_of (V6 (header6 32 255 (number 16 source.0) to) (message6 (number 16 source.0) to kind ((a ∷ b ∷ c ∷ d ∷ []) ++ number 16 target.0 ++ (option ∷ 1 ∷ []) ++ e ∷ f ∷ g ∷ h ∷ i ∷ j ∷ [])))
+    ≡ V6Part source (record { 0 = number_at 16 0 to }) 58 255 (Icmp6 kind 0 (Some target))
+unfolding number number_at message6
+neighbour_upper source to kind a b c d target option e f g h i j source_fits target_fits long read =
+    let back : number_at 16 8 (header6 32 255 (number 16 source.0) to) ≡ source.0 = big_number-reads_back 16 source.0 to source_fits in
+    let rest : List ℕ = (a ∷ b ∷ c ∷ d ∷ []) ++ number 16 target.0 ++ (option ∷ 1 ∷ []) ++ e ∷ f ∷ g ∷ h ∷ i ∷ j ∷ [] in
+    let sum : ℕ = checksum6 (number 16 source.0) to ((kind ∷ 0 ∷ []) ++ number 2 0 ++ rest) in
+    λ x. V6Part (record { 0 = back x }) (record { 0 = number_at 16 0 to }) 58 255 (read sum x)
+
+target_read : (kind : ℕ) (sum a b c d : ℕ) (target : Ip6) (option e f g h i j : ℕ) → ((kind == 135) || (kind == 136)) ≡ true → IsIp6 target
+    → next_of 58 ((kind ∷ 0 ∷ []) ++ number 2 sum ++ ((a ∷ b ∷ c ∷ d ∷ []) ++ number 16 target.0 ++ (option ∷ 1 ∷ []) ++ e ∷ f ∷ g ∷ h ∷ i ∷ j ∷ [])) ≡ Icmp6 kind 0 (Some target)
+unfolding next_of number number_at
+target_read kind sum a b c d target option e f g h i j shown fits =
+    let tail : List ℕ = (option ∷ 1 ∷ []) ++ e ∷ f ∷ g ∷ h ∷ i ∷ j ∷ [] in
+    let body : List ℕ = (kind ∷ 0 ∷ []) ++ number 2 sum ++ ((a ∷ b ∷ c ∷ d ∷ []) ++ number 16 target.0 ++ tail) in
+    let back : number_at 16 8 body ≡ target.0 = big_number-reads_back 16 target.0 tail fits in
+    ap (Icmp6 kind 0) (if_true _ _ _ (and_both _ _ shown refl) ∙ (λ x. Some (record { 0 = back x })))
+
+mac_len : (target : Ip6) → length (solicited_mac target).0 ≡ 6
+unfolding number
+mac_len target = refl
+
+message_ends : (s t : List ℕ) (kind a b c d : ℕ) (target : Ip6) (tail : List ℕ) → drop 24 (message6 s t kind ((a ∷ b ∷ c ∷ d ∷ []) ++ number 16 target.0 ++ tail)) ≡ tail
+unfolding message6 number
+message_ends s t kind a b c d target tail = refl
+
+shown_neighbour : (dst : Mac) (e f g h i j : ℕ) (source : Ip6) (to : List ℕ) (kind a b c d : ℕ) (target : Ip6) (option : ℕ) → length dst.0 ≡ 6 → length to ≡ 16 → IsIp6 source → IsIp6 target → ((kind == 135) || (kind == 136)) ≡ true
+    → ShowsNeighbour (frame6 dst (record { 0 = e ∷ f ∷ g ∷ h ∷ i ∷ j ∷ [] }) 255 (number 16 source.0) to kind ((a ∷ b ∷ c ∷ d ∷ []) ++ number 16 target.0 ++ (option ∷ 1 ∷ []) ++ e ∷ f ∷ g ∷ h ∷ i ∷ j ∷ []))
+    dst (record { 0 = e ∷ f ∷ g ∷ h ∷ i ∷ j ∷ [] }) source to kind target option
+unfolding number
+shown_neighbour dst e f g h i j source to kind a b c d target option dst_len long source_fits target_fits shown =
+    let src : Mac = record { 0 = e ∷ f ∷ g ∷ h ∷ i ∷ j ∷ [] } in
+    let rest : List ℕ = (a ∷ b ∷ c ∷ d ∷ []) ++ number 16 target.0 ++ (option ∷ 1 ∷ []) ++ src.0 in
+    let header : List ℕ = header6 32 255 (number 16 source.0) to in
+    let message : List ℕ = message6 (number 16 source.0) to kind rest in
+    let upper : upper_parts 0x86dd (header ++ message) ≡ V6 header message = ipv6_is_read header message (header_of_message 32 255 source.0 to long) in
+    record {
+      header = header;
+      message = message;
+      read = untagged_is_read dst src 0x86dd (header ++ message) dst_len refl (omega arith) refl ∙ (λ x. Some (record { dst = dst; src = src; tags = []; eth_type = 0x86dd; payload = header ++ message; upper = upper x }));
+      upper = neighbour_upper source to kind a b c d target option e f g h i j source_fits target_fits long (λ sum. target_read kind sum a b c d target option e f g h i j shown target_fits);
+      right = message_right (number 16 source.0) to kind rest (len_16 source.0) long;
+      ends = message_ends (number 16 source.0) to kind a b c d target (option ∷ 1 ∷ e ∷ f ∷ g ∷ h ∷ i ∷ j ∷ []);
+    }
+
+pub solicitation_is_read : (src : Mac) (spa target : Ip6) → length src.0 ≡ 6 → IsIp6 spa → IsIp6 target → ShowsNeighbour (nd_solicit src spa target) (solicited_mac target) src spa (solicited target) 135 target 1
+solicitation_is_read src spa target len spa_fits target_fits =
+    let P : List ℕ → Type 0 = λ l. ShowsNeighbour (nd_solicit (record { 0 = l }) spa target) (solicited_mac target) (record { 0 = l }) spa (solicited target) 135 target 1 in
+    by_six P (λ e f g h i j. shown_neighbour (solicited_mac target) e f g h i j spa (solicited target) 135 0 0 0 0 target 1 (mac_len target) (solicited_len target) spa_fits target_fits refl) src.0 len
+
+pub advertisement_is_read : (src : Mac) (spa : Ip6) (dst : Mac) (to : Ip6) → length src.0 ≡ 6 → IsIp6 spa → length dst.0 ≡ 6 → ShowsNeighbour (nd_advert src spa dst to) dst src spa (number 16 to.0) 136 spa 2
+advertisement_is_read src spa dst to len spa_fits dst_len =
+    let P : List ℕ → Type 0 = λ l. ShowsNeighbour (nd_advert (record { 0 = l }) spa dst to) dst (record { 0 = l }) spa (number 16 to.0) 136 spa 2 in
+    by_six P (λ e f g h i j. shown_neighbour dst e f g h i j spa (number 16 to.0) 136 0xe0 0 0 0 spa 2 dst_len (len_16 to.0) spa_fits spa_fits refl) src.0 len

@@ -1,18 +1,19 @@
 -- What a transport header begins with is spelled by what is read of it, and read as it is spelled.
-use Rattle.std.proofs.Common.{◌≡◌, ℕ, ◌*◌, ◌/◌, ◌%◌, ◌^◌, ◌<◌, ◌≤◌, ◌==◌, ◌&&◌, nat_le, List, [], ◌∷◌, ◌++◌, length, take, drop, slice_index, refl, sym, ap, ◌∙◌, arith}
+use Rattle.std.proofs.Common.{◌≡◌, ℕ, ◌*◌, ◌/◌, ◌%◌, ◌^◌, ◌<◌, ◌≤◌, ◌==◌, ◌&&◌, ◌||◌, ◌⊎◌, inl, inr, true, false, nat_le, Some, None, List, [], ◌∷◌, ◌++◌, length, take, drop, slice_index, refl, sym, ap, ◌∙◌, arith}
 use Rattle.std.specs.Prelude.{All}
-use Rattle.std.proofs.lemmas.Bool.{eqb-true, leb-true, le-leb, eq-eqb}
+use Rattle.std.proofs.lemmas.Bool.{eqb-true, leb-true, le-leb, eq-eqb, ne_eqb}
 use Rattle.std.proofs.lemmas.List.{length-take-le}
 use Rattle.byteorder.specs.Numbers.{big_number-reads_back}
 use Rattle.of_match.specs.declared.packet.L4.{L4}
-use Rattle.of_match.specs.declared.packet.L4.TheVariants.{Tcp, Udp, Icmp}
-use Rattle.pkt_view.proofs.Choice.{by_if, and_left, and_right, if_true}
+use Rattle.of_match.specs.declared.packet.L4.TheVariants.{None as NoL4, Tcp, Udp, Icmp, Icmp6}
+use Rattle.pkt_view.proofs.Choice.{by_if, and_left, and_right, or_cases, if_true, if_false}
 use Rattle.pkt_view.proofs.Shapes.{fits_2}
 use Rattle.pkt_view.proofs.Spelled.{number_back, two_bytes, joined}
 use Rattle.pkt_view.proofs.UpperLaws.{by_six, byte_here}
 use Rattle.pkt_view.specs.Numbers.{number_at, number}
-use Rattle.pkt_view.specs.Packets.{l4_in, l4_of}
-use Rattle.pkt_view.specs.Layouts.{IsFirstOf, HasPorts, IsL4}
+use Rattle.net_base.specs.declared.address6.Ip6.{Ip6}
+use Rattle.pkt_view.specs.Packets.{has_target, target_of, l4_in, l4_of, next_of}
+use Rattle.pkt_view.specs.Layouts.{IsFirstOf, HasPorts, IsL4, IsTarget, IsMessage, IsNext, targeted}
 
 -- ---- what is read stands there
 
@@ -110,3 +111,63 @@ icmp_in kind code more = if_true _ _ _ (le-leb 2 (length (kind ∷ code ∷ more
 
 pub icmp_is_read : (header : List ℕ) (kind code : ℕ) (more : List ℕ) → IsFirstOf 1 header → l4_of header (kind ∷ code ∷ more) ≡ Icmp kind code
 icmp_is_read header kind code more f = first_read 1 header (kind ∷ code ∷ more) f ∙ icmp_in kind code more
+
+-- ---- behind an IPv6 header
+
+target_there : (body : List ℕ) → IsTarget body (slice_index body 0) (target_of body)
+target_there body =
+    let kind = slice_index body 0 in
+    by_if (IsTarget body kind) (has_target body) _ _
+    (λ e. let k = and_left ((kind == 135) || (kind == 136)) _ e in (
+      elim (or_cases (kind == 135) (kind == 136) k) [ inl a ↦ inl (eqb-true kind 135 a) | inr b ↦ inr (eqb-true kind 136 b) ],
+      leb-true 24 (length body) (and_right ((kind == 135) || (kind == 136)) _ e),
+      refl,
+    ))
+    (λ _. tt)
+
+message_there : (body : List ℕ) → 2 ≤ length body → IsMessage body (slice_index body 0) (slice_index body 1) (target_of body)
+message_there body long = record { more = drop 2 body; row = kind_there body long; there = target_there body }
+
+others_there : (proto : ℕ) (body : List ℕ) → All (λ b. b < 256) body → (proto == 1) ≡ false → IsNext proto body (l4_in proto body)
+others_there proto body all other =
+    let P : L4 → Type 0 = IsNext proto body in
+    by_if P ((proto == 6) && nat_le 4 (length body)) _ _ (λ e. (eqb-true proto 6 (and_left (proto == 6) _ e), ports_there body all (leb-true 4 (length body) (and_right (proto == 6) _ e))))
+    (λ _. by_if P ((proto == 17) && nat_le 4 (length body)) _ _ (λ e. (eqb-true proto 17 (and_left (proto == 17) _ e), ports_there body all (leb-true 4 (length body) (and_right (proto == 17) _ e))))
+    (λ _. by_if P ((proto == 1) && nat_le 2 (length body)) _ _ (λ e. let one = and_left (proto == 1) _ e in absurd (cc (one, other))) (λ _. tt)))
+
+pub next_there : (proto : ℕ) (body : List ℕ) → All (λ b. b < 256) body → IsNext proto body (next_of proto body)
+unfolding next_of
+next_there proto body all =
+    let P : L4 → Type 0 = IsNext proto body in
+    by_if P (proto == 58) _ _ (λ e. by_if P (nat_le 2 (length body)) _ _ (λ long. (eqb-true proto 58 e, message_there body (leb-true 2 (length body) long))) (λ _. tt))
+    (λ _. by_if P (proto == 1) _ _ (λ _. tt) (others_there proto body all))
+
+pub tcp_in_ipv6 : (body : List ℕ) (src dst : ℕ) → HasPorts body src dst → next_of 6 body ≡ Tcp src dst
+unfolding next_of
+tcp_in_ipv6 body src dst p = ap (l4_in 6) p.row ∙ tcp_in src dst p.more p.fits.0 p.fits.1
+
+pub udp_in_ipv6 : (body : List ℕ) (src dst : ℕ) → HasPorts body src dst → next_of 17 body ≡ Udp src dst
+unfolding next_of
+udp_in_ipv6 body src dst p = ap (l4_in 17) p.row ∙ udp_in src dst p.more p.fits.0 p.fits.1
+
+pub plain_message : (kind code : ℕ) (more : List ℕ) → ¬ (kind ≡ 135) → ¬ (kind ≡ 136) → next_of 58 (kind ∷ code ∷ more) ≡ Icmp6 kind code None
+unfolding next_of
+plain_message kind code more no_solicitation no_advertisement =
+    let body = kind ∷ code ∷ more in
+    let none : has_target body ≡ false = (λ i. (ne_eqb kind 135 no_solicitation i || ne_eqb kind 136 no_advertisement i) && nat_le 24 (length body)) in
+    if_true _ _ _ (le-leb 2 (length body) (omega arith)) ∙ ap (Icmp6 kind code) (if_false _ _ _ none)
+
+pub icmp_in_ipv6 : (body : List ℕ) → next_of 1 body ≡ NoL4
+unfolding next_of
+icmp_in_ipv6 body = refl
+
+asked_or_told : (kind : ℕ) → (kind ≡ 135) ⊎ (kind ≡ 136) → ((kind == 135) || (kind == 136)) ≡ true
+asked_or_told kind k = elim k [ inl e ↦ ap (λ n. (n == 135) || (n == 136)) e | inr e ↦ ap (λ n. (n == 135) || (n == 136)) e ]
+
+pub targeted_is_read : (kind code sum flags : ℕ) (target : Ip6) (more : List ℕ) → (kind ≡ 135) ⊎ (kind ≡ 136) → target.0 < 2 ^ 128 → next_of 58 (targeted kind code sum flags target more) ≡ Icmp6 kind code (Some target)
+unfolding next_of number number_at
+targeted_is_read kind code sum flags target more k fits =
+    let body = targeted kind code sum flags target more in
+    let there : has_target body ≡ true = (λ i. asked_or_told kind k i && le-leb 24 (length body) (omega arith) i) in
+    let back : number_at 16 8 body ≡ target.0 = big_number-reads_back 16 target.0 more fits in
+    if_true _ _ _ (le-leb 2 (length body) (omega arith)) ∙ ap (Icmp6 kind code) (if_true _ _ _ there ∙ (λ i. Some (record { 0 = back i })))

@@ -1,5 +1,5 @@
 -- The packet of a frame is shaped.
-use Rattle.std.proofs.Common.{◌≡◌, ℕ, zero, suc, ◌<◌, ◌≤◌, get_or, get_or-drop, length-drop, ◌+◌, ◌*◌, ◌-◌, ◌%◌, ◌^◌, ◌&&◌, ◌==◌, Bool, true, false, List, [], ◌∷◌, take, drop, length, refl, sym, ap, subst, ◌∙◌, arith, inl, inr, IfSome, Option, Some, None, nat_le, slice_index}
+use Rattle.std.proofs.Common.{◌≡◌, ℕ, zero, suc, ◌<◌, ◌≤◌, get_or, get_or-drop, length-drop, ◌+◌, ◌*◌, ◌-◌, ◌%◌, ◌^◌, ◌&&◌, ◌||◌, ◌==◌, Bool, true, false, List, [], ◌∷◌, take, drop, length, refl, sym, ap, subst, ◌∙◌, arith, inl, inr, IfSome, Option, Some, None, nat_le, slice_index}
 use Rattle.std.specs.List.{AllByRecursion}
 use Rattle.std.proofs.lemmas.List.{length-take-le}
 use Rattle.std.proofs.lemmas.Bool.{eqb-true, leb-true}
@@ -8,9 +8,11 @@ use Rattle.net_base.specs.Address.{IsSixBytes}
 use Rattle.pkt_view.proofs.Choice.{by_if, and_left, or_cases}
 use Rattle.pkt_view.proofs.Tags.{front_more, front_end, front_short}
 use Rattle.pkt_view.specs.Numbers.{number_at}
-use Rattle.pkt_view.specs.Frame.{UpperParts, FrameParts, header_len, is_tag_type, tag_count, type_place, has_type, is_arp, is_ipv4, upper_parts, parts_with, parts}
-use Rattle.pkt_view.specs.Packets.{tag_of, tags_of, l4_in, l4_of, upper_of, packet_of_parts, packet}
-use Rattle.of_match.specs.Shaped.{IsTag, AgreesWithProto, AgreesWithType, FitsL4, FitsUpper, IsShaped}
+use Rattle.pkt_view.specs.Frame.{UpperParts, FrameParts, header_len, is_tag_type, tag_count, type_place, has_type, is_arp, is_ipv4, is_ipv6, upper_parts, parts_with, parts}
+use Rattle.pkt_view.specs.Packets.{tag_of, tags_of, l4_in, l4_of, has_target, target_of, next_of, upper_of, packet_of_parts, packet}
+use Rattle.of_match.specs.declared.packet.L4.{L4}
+use Rattle.of_match.specs.Shaped.{IsTag, AgreesWithProto, AgreesWithKind, AgreesWithNext, AgreesWithType, FitsTarget, FitsL4, FitsUpper, IsShaped}
+use Rattle.byteorder.specs.Numbers.{big_from-lt}
 
 -- ---- bytes, and the numbers that stand in them
 
@@ -42,6 +44,10 @@ fits_4 at xs all =
     let c = behind at xs all 2 in
     let d = behind at xs all 3 in
     omega (arith, a, b, c, d)
+
+pub fits_16 : (at : ℕ) (xs : List ℕ) → AreBytes xs → number_at 16 at xs < 2 ^ 128
+unfolding number_at
+fits_16 at xs all = big_from-lt 0 16 (drop at xs) (behind at xs all)
 
 pub six : (at : ℕ) (xs : List ℕ) → at + 6 ≤ length xs → AreBytes xs → IsSixBytes (take 6 (drop at xs))
 six at xs within all =
@@ -104,11 +110,32 @@ unfolding l4_of
 l4_of_agrees header body =
     by_if (AgreesWithProto (slice_index header 9)) (number_at 2 6 header % 2 ^ 13 == 0) _ _ (λ _. l4_agrees (slice_index header 9) body) (λ _. tt)
 
+target_agrees : (body : List ℕ) → AgreesWithKind (slice_index body 0) (target_of body)
+target_agrees body =
+    let kind = slice_index body 0 in
+    by_if (AgreesWithKind kind) (has_target body) _ _
+    (λ e. elim (or_cases (kind == 135) (kind == 136) (and_left ((kind == 135) || (kind == 136)) _ e)) [ inl a ↦ inl (eqb-true kind 135 a) | inr b ↦ inr (eqb-true kind 136 b) ])
+    (λ _. tt)
+
+-- neither ICMP nor ICMPv6
+ports_agree : (proto : ℕ) (body : List ℕ) → (proto == 1) ≡ false → AgreesWithNext proto (l4_in proto body)
+ports_agree proto body other =
+    by_if (AgreesWithNext proto) ((proto == 6) && nat_le 4 (length body)) _ _ (λ e. eqb-true proto 6 (and_left (proto == 6) _ e))
+    (λ _. by_if (AgreesWithNext proto) ((proto == 17) && nat_le 4 (length body)) _ _ (λ e. eqb-true proto 17 (and_left (proto == 17) _ e))
+    (λ _. by_if (AgreesWithNext proto) ((proto == 1) && nat_le 2 (length body)) _ _ (λ e. let one = and_left (proto == 1) _ e in absurd (cc (one, other))) (λ _. tt)))
+
+next_agrees : (proto : ℕ) (body : List ℕ) → AgreesWithNext proto (next_of proto body)
+unfolding next_of
+next_agrees proto body =
+    let P : L4 → Type 0 = AgreesWithNext proto in
+    by_if P (proto == 58) _ _ (λ e. by_if P (nat_le 2 (length body)) _ _ (λ _. (eqb-true proto 58 e, target_agrees body)) (λ _. tt))
+    (λ _. by_if P (proto == 1) _ _ (λ _. tt) (ports_agree proto body))
+
 upper_agrees : (eth_type : ℕ) (payload : List ℕ) → AgreesWithType eth_type (upper_of (upper_parts eth_type payload))
 unfolding upper_parts
 upper_agrees eth_type payload =
     let P : UpperParts → Type 0 = λ u. AgreesWithType eth_type (upper_of u) in
-    by_if P (is_arp eth_type payload) _ _ (λ e. eqb-true eth_type 0x0806 (and_left _ _ (and_left _ _ (and_left _ _ (and_left _ _ (and_left _ _ e)))))) (λ _. by_if P (is_ipv4 eth_type payload) _ _ (λ e. (eqb-true eth_type 0x0800 (and_left _ _ (and_left _ _ (and_left _ _ (and_left _ _ e)))), l4_of_agrees (take (header_len payload) payload) (drop (header_len payload) payload))) (λ _. tt))
+    by_if P (is_arp eth_type payload) _ _ (λ e. eqb-true eth_type 0x0806 (and_left _ _ (and_left _ _ (and_left _ _ (and_left _ _ (and_left _ _ e)))))) (λ _. by_if P (is_ipv4 eth_type payload) _ _ (λ e. (eqb-true eth_type 0x0800 (and_left _ _ (and_left _ _ (and_left _ _ (and_left _ _ e)))), l4_of_agrees (take (header_len payload) payload) (drop (header_len payload) payload))) (λ _. by_if P (is_ipv6 eth_type payload) _ _ (λ e. (eqb-true eth_type 0x86dd (and_left _ _ (and_left _ _ e)), next_agrees (slice_index (take 40 payload) 6) (drop 40 payload))) (λ _. tt)))
 
 l4_fits : (proto : ℕ) (body : List ℕ) → AreBytes body → FitsL4 (l4_in proto body)
 l4_fits proto body all =
@@ -121,6 +148,15 @@ unfolding l4_of
 l4_of_fits header body all =
     by_if FitsL4 (number_at 2 6 header % 2 ^ 13 == 0) _ _ (λ _. l4_fits (slice_index header 9) body all) (λ _. tt)
 
+target_fits : (body : List ℕ) → AreBytes body → FitsTarget (target_of body)
+target_fits body all = by_if FitsTarget (has_target body) _ _ (λ _. fits_16 8 body all) (λ _. tt)
+
+next_fits : (proto : ℕ) (body : List ℕ) → AreBytes body → FitsL4 (next_of proto body)
+unfolding next_of
+next_fits proto body all =
+    by_if FitsL4 (proto == 58) _ _ (λ _. by_if FitsL4 (nat_le 2 (length body)) _ _ (λ _. (all 0, all 1, target_fits body all)) (λ _. tt))
+    (λ _. by_if FitsL4 (proto == 1) _ _ (λ _. tt) (λ _. l4_fits proto body all))
+
 upper_fits : (eth_type : ℕ) (payload : List ℕ) → AreBytes payload → FitsUpper (upper_of (upper_parts eth_type payload))
 unfolding upper_parts
 upper_fits eth_type payload all =
@@ -130,7 +166,9 @@ upper_fits eth_type payload all =
     by_if P (is_arp eth_type payload) _ _ (λ _. (fits_2 6 payload all, fits_4 14 payload all, fits_4 24 payload all))
     (λ _. by_if P (is_ipv4 eth_type payload) _ _
     (λ _. (fits_4 12 header bytes, fits_4 16 header bytes, bytes 9, bytes 8, l4_of_fits header (drop (header_len payload) payload) (behind (header_len payload) payload all)))
-    (λ _. tt))
+    (λ _. by_if P (is_ipv6 eth_type payload) _ _
+    (λ _. let header6 = take 40 payload in let bytes6 = front 40 payload all in (fits_16 8 header6 bytes6, fits_16 24 header6 bytes6, bytes6 6, bytes6 7, next_fits (slice_index header6 6) (drop 40 payload) (behind 40 payload all)))
+    (λ _. tt)))
 
 -- ---- the whole
 

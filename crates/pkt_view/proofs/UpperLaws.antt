@@ -1,5 +1,5 @@
 -- What stands behind an EtherType is spelled by what is read of it, and read as it is spelled.
-use Rattle.std.proofs.Common.{◌≡◌, ℕ, zero, suc, ◌+◌, ◌*◌, ◌/◌, ◌%◌, ◌^◌, ◌<◌, ◌≤◌, true, nat_le, List, [], ◌∷◌, ◌++◌, length, take, drop, get_or, slice_index, refl, sym, ap, subst, ◌∙◌, arith, length-append}
+use Rattle.std.proofs.Common.{◌≡◌, ℕ, zero, suc, ◌+◌, ◌*◌, ◌/◌, ◌%◌, ◌^◌, ◌<◌, ◌≤◌, true, false, nat_le, List, [], ◌∷◌, ◌++◌, length, take, drop, get_or, slice_index, refl, sym, ap, subst, ◌∙◌, arith, length-append}
 use Rattle.std.specs.Prelude.{All}
 use Rattle.std.proofs.lemmas.Bool.{eqb-true, leb-true, le-leb, eq-eqb}
 use Rattle.std.proofs.lemmas.List.{take-append-drop, length-take-le}
@@ -7,13 +7,13 @@ use Rattle.std.proofs.Math.Seq.{take-append_seam, drop-append_seam}
 use Rattle.byteorder.specs.Numbers.{big_number-reads_back}
 use Rattle.net_base.specs.declared.address.Mac.{Mac}
 use Rattle.net_base.specs.declared.address.Ip4.{Ip4}
-use Rattle.pkt_view.proofs.Choice.{by_if, and_left, and_right, and_both, if_true}
+use Rattle.pkt_view.proofs.Choice.{by_if, and_left, and_right, and_both, if_true, if_false}
 use Rattle.pkt_view.proofs.Shapes.{fits_2, fits_4, six}
 use Rattle.pkt_view.proofs.Spelled.{number_back, number_back_4, two_bytes, joined}
 use Rattle.pkt_view.specs.Numbers.{number_at, number, mac_at, ip4_at}
-use Rattle.pkt_view.specs.Frame.{UpperParts, Arp, V4, is_arp, is_ipv4, header_len, upper_parts}
+use Rattle.pkt_view.specs.Frame.{UpperParts, Arp, V4, V6, is_arp, is_ipv4, is_ipv6, header_len, upper_parts}
 use Rattle.pkt_view.specs.Replies.{arp_packet}
-use Rattle.pkt_view.specs.Layouts.{IsArp, IsHeader, IsUpper}
+use Rattle.pkt_view.specs.Layouts.{IsArp, IsHeader, IsHeader6, IsUpper}
 
 -- what holds of any six bytes, one by one, holds of a list of six
 pub by_six : (P : List ℕ → Type 0) → ((a b c d x y : ℕ) → P (a ∷ b ∷ c ∷ d ∷ x ∷ y ∷ [])) → (xs : List ℕ) → length xs ≡ 6 → P xs
@@ -136,10 +136,43 @@ ipv4_is_read header body h =
     let P : List ℕ → Type 0 = λ l. upper_parts 0x0800 (l ++ body) ≡ V4 l body in
     subst P (sym h.first) (ipv4_of_bytes h.words h.more body (sym (ap length h.first) ∙ h.long) h.least h.most)
 
+-- ---- IPv6
+
+header6_there : (payload : List ℕ) → 40 ≤ length payload → slice_index payload 0 / 16 ≡ 6 → IsHeader6 (take 40 payload)
+header6_there [] long version = absurd (omega (arith, long))
+header6_there (b ∷ more) long version =
+    let byte : b ≡ 6 * 16 + b % 16 = omega (arith, version) in
+    record { class = b % 16; more = take 39 more; first = λ i. byte i ∷ take 39 more; fits = omega arith; long = length-take-le 40 (b ∷ more) long }
+
+ipv6_there : (eth_type : ℕ) (payload : List ℕ) → is_ipv6 eth_type payload ≡ true → (eth_type ≡ 0x86dd) × IsHeader6 (take 40 payload) × (payload ≡ take 40 payload ++ drop 40 payload)
+ipv6_there eth_type payload shown =
+    let two = and_left _ _ shown in
+    (eqb-true eth_type 0x86dd (and_left _ _ two), header6_there payload (leb-true 40 (length payload) (and_right _ _ two)) (eqb-true _ 6 (and_right _ _ shown)), sym (take-append-drop 40 payload))
+
+ipv6_of_bytes : (class : ℕ) (more body : List ℕ) → suc (length more) ≡ 40 → class < 16 → upper_parts 0x86dd (((6 * 16 + class) ∷ more) ++ body) ≡ V6 ((6 * 16 + class) ∷ more) body
+unfolding upper_parts
+ipv6_of_bytes class more body long fits =
+    let header = (6 * 16 + class) ∷ more in
+    let payload = header ++ body in
+    let len : 40 ≡ length header = omega (arith, long) in
+    let whole : length payload ≡ length header + length body = length-append header body in
+    let shown : is_ipv6 0x86dd payload ≡ true = and_both _ _ (le-leb 40 (length payload) (omega (arith, whole, len))) (eq-eqb _ 6 (omega (arith, fits))) in
+    if_true _ _ _ shown ∙ ap (λ (n : ℕ). V6 (take n payload) (drop n payload)) len ∙ (λ i. V6 (take-append_seam header body i) (drop-append_seam header body i))
+
+pub ipv6_is_read : (header body : List ℕ) → IsHeader6 header → upper_parts 0x86dd (header ++ body) ≡ V6 header body
+ipv6_is_read header body h =
+    let P : List ℕ → Type 0 = λ l. upper_parts 0x86dd (l ++ body) ≡ V6 l body in
+    subst P (sym h.first) (ipv6_of_bytes h.class h.more body (sym (ap length h.first) ∙ h.long) h.fits)
+
 -- ---- either
 
 pub upper_stands_there : (eth_type : ℕ) (payload : List ℕ) → All (λ b. b < 256) payload → IsUpper eth_type payload (upper_parts eth_type payload)
 unfolding upper_parts
 upper_stands_there eth_type payload all =
     let P : UpperParts → Type 0 = IsUpper eth_type payload in
-    by_if P (is_arp eth_type payload) _ _ (arp_there eth_type payload all) (λ _. by_if P (is_ipv4 eth_type payload) _ _ (ipv4_there eth_type payload) (λ _. tt))
+    by_if P (is_arp eth_type payload) _ _ (arp_there eth_type payload all) (λ _. by_if P (is_ipv4 eth_type payload) _ _ (ipv4_there eth_type payload) (λ _. by_if P (is_ipv6 eth_type payload) _ _ (ipv6_there eth_type payload) (λ _. tt)))
+
+-- a packet that is one of IPv6, and none before it, is read as one
+pub ipv6_parts : (eth_type : ℕ) (payload : List ℕ) → is_arp eth_type payload ≡ false → is_ipv4 eth_type payload ≡ false → is_ipv6 eth_type payload ≡ true → V6 (take 40 payload) (drop 40 payload) ≡ upper_parts eth_type payload
+unfolding upper_parts
+ipv6_parts eth_type payload arp ipv4 ipv6 = sym (if_false _ _ _ arp ∙ if_false _ _ _ ipv4 ∙ if_true _ _ _ ipv6)

@@ -1,19 +1,20 @@
 -- The parts of an Ethernet frame (IEEE 802.3, 3.1.1 and 3.2; IEEE 802.1Q, 9.3).
-use Rattle.std.specs.Prelude.{ℕ, suc, ◌≤◌, ◌+◌, ◌-◌, ◌*◌, ◌/◌, ◌%◌, Bool, ◌==◌, ◌&&◌, ◌||◌, not, nat_le, if◌then◌else◌, List, ◌∷◌, Option, Some, None, length, take, drop, slice_index}
+use Rattle.std.specs.Prelude.{◌≡◌, ℕ, suc, ◌≤◌, ◌+◌, ◌-◌, ◌*◌, ◌/◌, ◌%◌, Bool, ◌==◌, ◌&&◌, ◌||◌, not, nat_le, if◌then◌else◌, List, ◌∷◌, Option, Some, None, length, take, drop, slice_index}
 use Rattle.net_base.specs.declared.address.Mac.{Mac}
 use Rattle.net_base.specs.declared.address.Ip4.{Ip4}
-use Rattle.of_match.specs.declared.ether_type.TheConstants.{ARP, IPV4, SERVICE_TAG, VLAN_TAG}
+use Rattle.of_match.specs.declared.ether_type.TheConstants.{ARP, IPV4, IPV6, SERVICE_TAG, VLAN_TAG}
 use Rattle.pkt_view.specs.declared.frame.FrameView.{FrameView}
 use Rattle.pkt_view.specs.declared.frame.UpperView.{UpperView}
-use Rattle.pkt_view.specs.declared.frame.UpperView.TheVariants.{None as NoView, Arp as ArpView, V4 as V4View}
+use Rattle.pkt_view.specs.declared.frame.UpperView.TheVariants.{None as NoView, Arp as ArpView, V4 as V4View, V6 as V6View}
 use Rattle.pkt_view.specs.Numbers.{number_at, mac_at, ip4_at}
 
 -- what stands behind the EtherType, as far as it is known: an ARP packet's operation and its sender's
--- and target's addresses, or an IPv4 header and what follows it
+-- and target's addresses, or a header of IPv4 or IPv6 and what follows it
 pub data UpperParts : Type 0 where
   Unknown : UpperParts
   Arp : ℕ → Mac → Ip4 → Mac → Ip4 → UpperParts
   V4 : List ℕ → List ℕ → UpperParts
+  V6 : List ℕ → List ℕ → UpperParts
 
 -- the parts of a frame, the tags as their bytes
 pub record FrameParts : Type 0 where
@@ -29,15 +30,17 @@ abbrev pub shown_upper : UpperView → UpperParts
 shown_upper NoView = Unknown
 shown_upper (ArpView op sha spa tha tpa) = Arp op sha spa tha tpa
 shown_upper (V4View header body) = V4 header.now body.now
+shown_upper (V6View header body) = V6 header.now body.now
 
 abbrev pub shown : FrameView → FrameParts
 shown v = record { dst = v.dst; src = v.src; tags = v.tags.now; eth_type = v.eth_type; payload = v.payload.now; upper = shown_upper v.upper }
 
--- an IPv4 header has its fixed part (RFC 791, 3.1)
+-- an IPv4 header has its fixed part (RFC 791, 3.1), and one of IPv6 its 40 bytes (RFC 8200, 3)
 abbrev pub HasFixedPart : UpperParts → Type 0
 HasFixedPart Unknown = Unit {0}
 HasFixedPart (Arp op sha spa tha tpa) = Unit {0}
 HasFixedPart (V4 header body) = 20 ≤ length header
+HasFixedPart (V6 header body) = length header ≡ 40
 
 -- ---- Ethernet
 
@@ -74,11 +77,16 @@ abbrev pub is_ipv4 : ℕ → List ℕ → Bool
 is_ipv4 eth_type payload =
     (eth_type == IPV4) && nat_le 20 (length payload) && (slice_index payload 0 / 16 == 4) && nat_le 20 (header_len payload) && nat_le (header_len payload) (length payload)
 
+-- an IPv6 packet whose header is there (RFC 8200, 3)
+abbrev pub is_ipv6 : ℕ → List ℕ → Bool
+is_ipv6 eth_type payload = (eth_type == IPV6) && nat_le 40 (length payload) && (slice_index payload 0 / 16 == 6)
+
 unfoldable pub upper_parts : ℕ → List ℕ → UpperParts
 upper_parts eth_type payload =
     if is_arp eth_type payload
     then Arp (number_at 2 6 payload) (mac_at 8 payload) (ip4_at 14 payload) (mac_at 18 payload) (ip4_at 24 payload)
-    else (if is_ipv4 eth_type payload then V4 (take (header_len payload) payload) (drop (header_len payload) payload) else Unknown)
+    else (if is_ipv4 eth_type payload then V4 (take (header_len payload) payload) (drop (header_len payload) payload)
+    else (if is_ipv6 eth_type payload then V6 (take 40 payload) (drop 40 payload) else Unknown))
 
 -- ---- the whole
 

@@ -1,12 +1,13 @@
--- The frames that ask for an address, and that answer ARP and ICMP echo requests.
+-- The frames that ask for an address, and that answer ARP and ICMP echo requests, of IPv4 and of IPv6.
 use Rattle.std.specs.Prelude.{ℕ, ◌+◌, ◌-◌, ◌%◌, ◌^◌, Bool, ◌==◌, ◌&&◌, not, nat_le, if◌then◌else◌, List, [], ◌∷◌, ◌++◌, Option, Some, None, length, take, drop, slice_index}
 use Rattle.net_base.specs.declared.address.Mac.{Mac}
 use Rattle.net_base.specs.declared.address.Ip4.{Ip4}
+use Rattle.net_base.specs.declared.address6.Ip6.{Ip6}
 use Rattle.net_base.specs.Address.{is_group}
-use Rattle.of_match.specs.declared.ether_type.TheConstants.{ARP, IPV4}
+use Rattle.of_match.specs.declared.ether_type.TheConstants.{ARP, IPV4, IPV6}
 use Rattle.pkt_view.specs.Numbers.{number_at, number}
 use Rattle.pkt_view.specs.Checksum.{internet_checksum}
-use Rattle.pkt_view.specs.Frame.{UpperParts, Unknown, Arp, V4, FrameParts}
+use Rattle.pkt_view.specs.Frame.{UpperParts, Unknown, Arp, V4, V6, FrameParts}
 
 -- a frame without tags (IEEE 802.3, 3.1.1): destination, source, type, and what it carries
 abbrev pub untagged : Mac → Mac → ℕ → List ℕ → List ℕ
@@ -85,12 +86,110 @@ echo_frame src dst header icmp = untagged dst src IPV4 (reply_header header (len
 abbrev pub is_echo_due : Mac → List ℕ → List ℕ → Bool
 is_echo_due from header body = not (is_group from) && carries_icmp header body && is_echo_request (icmp_of header body)
 
+-- the answer to what lies behind an IPv4 header
+abbrev pub echo4_upper : Mac → Mac → List ℕ → List ℕ → Option (List ℕ)
+echo4_upper src from header body = if is_echo_due from header body then Some (echo_frame src from header (icmp_of header body)) else None
+
+-- ---- IPv6 (RFC 8200, 3) and ICMPv6 (RFC 4443, 2)
+
+-- the bytes of an address
+abbrev pub ip6_bytes : Ip6 → List ℕ
+ip6_bytes ip = number 16 ip.0
+
+-- a header: version 6, traffic class and flow label 0; the length of what follows; ICMPv6; the hop limit;
+-- source and destination
+abbrev pub header6 : ℕ → ℕ → List ℕ → List ℕ → List ℕ
+header6 len hops source destination = (0x60 ∷ 0 ∷ 0 ∷ 0 ∷ []) ++ number 2 len ++ (58 ∷ hops ∷ []) ++ source ++ destination
+
+-- what stands before a message of such a length in the sum of its checksum (RFC 8200, 8.1)
+abbrev pub pseudo : List ℕ → List ℕ → ℕ → List ℕ
+pseudo source destination len = source ++ destination ++ number 4 len ++ (0 ∷ 0 ∷ 0 ∷ 58 ∷ [])
+
+-- the checksum of a message, which is 0 where the message holds its own
+unfoldable pub checksum6 : List ℕ → List ℕ → List ℕ → ℕ
+checksum6 source destination message = internet_checksum (pseudo source destination (length message) ++ message)
+
+-- a message of code 0 whose checksum counts as 0: its type, and what follows
+abbrev pub unsummed : ℕ → List ℕ → List ℕ
+unsummed kind rest = (kind ∷ 0 ∷ []) ++ number 2 0 ++ rest
+
+-- the same with its checksum
+unfoldable pub message6 : List ℕ → List ℕ → ℕ → List ℕ → List ℕ
+message6 source destination kind rest = (kind ∷ 0 ∷ []) ++ number 2 (checksum6 source destination (unsummed kind rest)) ++ rest
+
+-- an untagged frame of a message
+abbrev pub frame6 : Mac → Mac → ℕ → List ℕ → List ℕ → ℕ → List ℕ → List ℕ
+frame6 dst src hops source destination kind rest =
+    untagged dst src IPV6 (header6 (4 + length rest) hops source destination ++ message6 source destination kind rest)
+
+-- ---- asking for a neighbour, and answering (RFC 4861, 4.3, 4.4 and 4.6.1)
+
+-- the group of those whose address ends as this one (RFC 4291, 2.7.1), and its Ethernet address (RFC 2464, 7)
+abbrev pub solicited : Ip6 → List ℕ
+solicited target = (0xff ∷ 0x02 ∷ 0 ∷ 0 ∷ 0 ∷ 0 ∷ 0 ∷ 0 ∷ 0 ∷ 0 ∷ 0 ∷ 1 ∷ 0xff ∷ []) ++ number 3 target.0
+
+abbrev pub solicited_mac : Ip6 → Mac
+solicited_mac target = record { 0 = (0x33 ∷ 0x33 ∷ 0xff ∷ []) ++ number 3 target.0 }
+
+-- a solicitation (135): four bytes of zeros, the target, and the sender's Ethernet address (option 1, of 8
+-- bytes)
+abbrev pub nd_solicit : Mac → Ip6 → Ip6 → List ℕ
+nd_solicit src spa target =
+    frame6 (solicited_mac target) src 255 (ip6_bytes spa) (solicited target) 135 ((0 ∷ 0 ∷ 0 ∷ 0 ∷ []) ++ ip6_bytes target ++ (1 ∷ 1 ∷ []) ++ src.0)
+
+-- an advertisement (136): from a router, solicited, in place of what was known; the target, which is the
+-- sender, and its Ethernet address (option 2)
+abbrev pub nd_advert : Mac → Ip6 → Mac → Ip6 → List ℕ
+nd_advert src spa dst to =
+    frame6 dst src 255 (ip6_bytes spa) (ip6_bytes to) 136 ((0xe0 ∷ 0 ∷ 0 ∷ 0 ∷ []) ++ ip6_bytes spa ++ (2 ∷ 1 ∷ []) ++ src.0)
+
+-- ---- ICMPv6 echo (RFC 4443, 4.1 and 4.2)
+
+-- the length of what follows an IPv6 header, source and destination
+abbrev pub payload_len : List ℕ → ℕ
+payload_len header = number_at 2 4 header
+
+abbrev pub source6 : List ℕ → List ℕ
+source6 header = take 16 (drop 8 header)
+
+abbrev pub destination6 : List ℕ → List ℕ
+destination6 header = take 16 (drop 24 header)
+
+-- a whole message of ICMPv6 of at least 8 bytes, and no more than is answered; bytes past its length are
+-- padding
+unfoldable pub carries_icmp6 : List ℕ → List ℕ → Bool
+carries_icmp6 header body =
+    (length header == 40) && (slice_index header 6 == 58) && nat_le 8 (payload_len header) && nat_le (payload_len header) (length body) && nat_le (payload_len header) longest
+
+abbrev pub message_in : List ℕ → List ℕ → List ℕ
+message_in header body = take (payload_len header) body
+
+-- an echo request (128) of code 0 with a right checksum
+unfoldable pub is_echo6_request : List ℕ → List ℕ → Bool
+is_echo6_request header message =
+    (slice_index message 0 == 128) && (slice_index message 1 == 0) && (checksum6 (source6 header) (destination6 header) message == 0)
+
+abbrev pub is_echo6_due : Mac → List ℕ → List ℕ → Bool
+is_echo6_due from header body = not (is_group from) && carries_icmp6 header body && is_echo6_request header (message_in header body)
+
+-- the reply (129): source and destination exchanged, hop limit 64, and identifier, sequence number and data
+-- as they came
+abbrev pub echo6_frame : Mac → Mac → List ℕ → List ℕ → List ℕ
+echo6_frame src dst header message = frame6 dst src 64 (destination6 header) (source6 header) 129 (drop 4 message)
+
+-- the answer to what lies behind an IPv6 header
+abbrev pub echo6_upper : Mac → Mac → List ℕ → List ℕ → Option (List ℕ)
+echo6_upper src from header body =
+    if is_echo6_due from header body then Some (echo6_frame src from header (message_in header body)) else None
+
+-- ---- either of them
+
 -- the answer to a frame, sent from src
 abbrev pub echo_upper : Mac → Mac → UpperParts → Option (List ℕ)
 echo_upper src from Unknown = None
 echo_upper src from (Arp op sha spa tha tpa) = None
-echo_upper src from (V4 header body) =
-    if is_echo_due from header body then Some (echo_frame src from header (icmp_of header body)) else None
+echo_upper src from (V4 header body) = echo4_upper src from header body
+echo_upper src from (V6 header body) = echo6_upper src from header body
 
 abbrev pub echo_reply : Mac → FrameParts → Option (List ℕ)
 echo_reply src request = echo_upper src request.src request.upper

@@ -1,8 +1,9 @@
 ghost use Rattle.std.specs.Prelude.{◌≡◌, ◌+◌, ◌≤◌, ◌<◌, ◌^◌, ◌++◌, length, IsTrue, IfOk, OnOk};
 ghost use Rattle.pkt_view.specs.Frame.{shown};
-ghost use Rattle.pkt_view.specs.Replies.{total_len, carries_icmp, icmp_of, is_echo_request, is_echo_due, with_checksum, reply_header, reply_icmp, echo_frame, echo_reply};
+ghost use Rattle.pkt_view.specs.Replies.{total_len, carries_icmp, icmp_of, is_echo_request, is_echo_due, with_checksum, reply_header, reply_icmp, echo_frame, echo4_upper, echo_reply};
 
 use crate::bytes::{put_u16, u16_at};
+use crate::echo6::echo6_reply;
 use crate::frame::{FrameView, UpperView};
 use crate::sum::checksum;
 use net_base::{Bytes, Mac, NoMemory};
@@ -114,12 +115,35 @@ fn echo_frame(
     Ok(frame)
 }
 
-/// The untagged frame that answers an echo request (RFC 792), sent from `src`.
+// The frame that answers an echo request in IPv4.
+fn echo4_reply(
+    alloc: Global,
+    src: Mac,
+    dst: Mac,
+    header: &[u8],
+    body: &[u8],
+) -> Result<Option<Bytes>, NoMemory>
+    ensures { IfOk result (λ frame. frame ≡ echo4_upper src dst header.now body.now) }
+{
+    if dst.is_group() || !carries_icmp(header, body) {
+        return Ok(None);
+    }
+    let icmp = &body[..u16_at(header, 2) as usize - header.len()];
+    if !is_echo_request(icmp) {
+        return Ok(None);
+    }
+    Ok(Some(echo_frame(alloc, src, dst, header, icmp)?))
+}
+
+/// The untagged frame that answers an echo request of ICMP (RFC 792) or ICMPv6 (RFC 4443, 4.1), sent
+/// from `src`.
 ///
 /// `None` exactly where no answer is due: unless the source is no group address, the IPv4 packet is
 /// whole, no fragment, at most 65,400 bytes long and under a right header checksum, and its ICMP part
-/// is an echo request of code 0 with a right checksum. The destination address is not looked at, nor
-/// are the tags. Bytes behind the total length are padding, and are not sent back.
+/// is an echo request of code 0 with a right checksum; or what lies behind an IPv6 header is a whole
+/// ICMPv6 echo request of code 0, 8 to 65,400 bytes long, with a right checksum. The destination
+/// address is not looked at, nor are the tags. Bytes behind the length that the header tells are
+/// padding, and are not sent back.
 pub fn echo_reply(
     alloc: Global,
     src: Mac,
@@ -127,15 +151,9 @@ pub fn echo_reply(
 ) -> Result<Option<Bytes>, NoMemory>
     ensures { IfOk result (λ frame. frame ≡ echo_reply src (shown request.now)) }
 {
-    let UpperView::V4 { header, body } = request.upper else {
-        return Ok(None);
-    };
-    if request.src.is_group() || !carries_icmp(header, body) {
-        return Ok(None);
+    match request.upper {
+        UpperView::V4 { header, body } => echo4_reply(alloc, src, request.src, header, body),
+        UpperView::V6 { header, body } => echo6_reply(alloc, src, request.src, header, body),
+        _ => Ok(None),
     }
-    let icmp = &body[..u16_at(header, 2) as usize - header.len()];
-    if !is_echo_request(icmp) {
-        return Ok(None);
-    }
-    Ok(Some(echo_frame(alloc, src, request.src, header, icmp)?))
 }

@@ -1,10 +1,10 @@
-ghost use Rattle.std.specs.Prelude.{◌≡◌, ◌*◌, ◌≤◌, ◌↔◌, length, IsTrue, IsSome, IfSome};
+ghost use Rattle.std.specs.Prelude.{◌≡◌, ◌*◌, ◌≤◌, ◌↔◌, length, take, drop, IsTrue, IsSome, IfSome};
 ghost use Rattle.std.specs.Option.{option_map};
-ghost use Rattle.pkt_view.specs.Frame.{shown, shown_upper, is_tag_type, tag_count, is_arp, header_len, is_ipv4, upper_parts, HasFixedPart, has_type, parts};
+ghost use Rattle.pkt_view.specs.Frame.{V6, shown, shown_upper, is_tag_type, tag_count, is_arp, header_len, is_ipv4, is_ipv6, upper_parts, HasFixedPart, has_type, parts};
 
 use crate::bytes::{ip4_at, mac_at, u16_at};
 use net_base::{Ip4, Mac};
-use of_match::ether_type::{ARP, IPV4, SERVICE_TAG, VLAN_TAG};
+use of_match::ether_type::{ARP, IPV4, IPV6, SERVICE_TAG, VLAN_TAG};
 
 /// What lies behind a frame's EtherType.
 #[derive(Clone, Copy, Debug)]
@@ -22,6 +22,12 @@ pub enum UpperView<'a> {
     },
     /// IPv4 (RFC 791, 3.1): the header with its options, and all that follows it.
     V4 {
+        header: &'a [u8],
+        body: &'a [u8],
+    },
+    /// IPv6 (RFC 8200, 3): the header of 40 bytes, and all that follows it. Headers of extensions
+    /// aren't gone through.
+    V6 {
         header: &'a [u8],
         body: &'a [u8],
     },
@@ -80,6 +86,25 @@ fn is_ipv4(eth_type: u16, payload: &[u8]) -> bool
     payload[0] / 16 == 4 && header_len >= 20 && header_len <= payload.len()
 }
 
+fn is_ipv6(eth_type: u16, payload: &[u8]) -> bool
+    ensures value { result ≡ is_ipv6 eth_type payload.now }
+    ensures long { IsTrue result → 40 ≤ length payload.now }
+{
+    eth_type == IPV6 && payload.len() >= 40 && payload[0] / 16 == 6
+}
+
+// Of an IPv6 packet its header and what follows it.
+fn ipv6_view(payload: &[u8]) -> UpperView<'_>
+    requires { 40 ≤ length payload.now }
+    ensures parts { shown_upper result ≡ V6 (take 40 payload.now) (drop 40 payload.now) }
+    ensures header { HasFixedPart (shown_upper result) }
+{
+    UpperView::V6 {
+        header: &payload[..40],
+        body: &payload[40..],
+    }
+}
+
 #[tactic(auto, unfolding(crate::specs::Frame::upper_parts))]
 fn upper_of(eth_type: u16, payload: &[u8]) -> UpperView<'_>
     ensures parts { shown_upper result ≡ upper_parts eth_type payload.now }
@@ -99,6 +124,8 @@ fn upper_of(eth_type: u16, payload: &[u8]) -> UpperView<'_>
             header: &payload[..header_len],
             body: &payload[header_len..],
         }
+    } else if is_ipv6(eth_type, payload) {
+        ipv6_view(payload)
     } else {
         UpperView::None
     }

@@ -1,16 +1,18 @@
-ghost use Rattle.std.specs.Prelude.{◌≡◌, ◌≤◌, ◌++◌, length, take, drop, ◌↔◌, IsTrue, IsSome, IfOk, IfSome, OnOk};
+ghost use Rattle.std.specs.Prelude.{◌≡◌, ◌≤◌, ◌++◌, length, slice_index, take, drop, ◌↔◌, IsTrue, IsSome, IfOk, IfSome, OnOk};
 ghost use Rattle.pkt_view.specs.Frame.{shown, shown_upper, HasFixedPart, has_type};
-ghost use Rattle.pkt_view.specs.Packets.{tag_of, tags_of, l4_in, l4_of, l4_len, upper_of, rest_of, packet_of_parts, packet};
+ghost use Rattle.pkt_view.specs.Packets.{tag_of, tags_of, l4_in, l4_of, has_target, target_of, icmp6_in, next_of, has_named_target, l4_len, next_rest, upper_of, rest_of, packet_of_parts, packet};
 ghost use Rattle.of_match.specs.Shaped.{IsShaped};
 
-use crate::bytes::{ip4_at, u16_at};
+use crate::bytes::{ip4_at, ip6_at, u16_at};
 use crate::frame::{FrameView, UpperView, view};
-use net_base::{Bytes, Mac, NoMemory};
+use net_base::{Bytes, Ip6, Mac, NoMemory};
 use of_match::{L4, Packet, Tag, Tags, Upper};
 use std::alloc::Global;
 
-// The numbers of protocols (RFC 790).
+// The numbers of protocols (RFC 790; RFC 4443, 1).
 const ICMP: u8 = 1;
+
+const ICMPV6: u8 = 58;
 
 const TCP: u8 = 6;
 
@@ -67,6 +69,19 @@ fn l4_in(proto: u8, body: &[u8]) -> L4
     }
 }
 
+// Whether a target is there.
+fn has_named_target(l4: L4) -> bool
+    ensures { result ≡ has_named_target l4 }
+{
+    match l4 {
+        L4::Icmp6 {
+            target: Some(_),
+            ..
+        } => true,
+        _ => false,
+    }
+}
+
 // The same where the packet is no later fragment.
 #[tactic(auto, unfolding(crate::specs::Packets::l4_of))]
 fn l4_of(header: &[u8], body: &[u8]) -> L4
@@ -80,13 +95,62 @@ fn l4_of(header: &[u8], body: &[u8]) -> L4
     }
 }
 
+// Whether a message of ICMPv6 solicits a neighbour or advertises one, and has a target.
+fn has_target(body: &[u8]) -> bool
+    requires { 2 ≤ length body.now }
+    ensures value { result ≡ has_target body.now }
+    ensures long { IsTrue result → 24 ≤ length body.now }
+{
+    (body[0] == 135 || body[0] == 136) && body.len() >= 24
+}
+
+// The target of such a message.
+fn target_of(body: &[u8]) -> Option<Ip6>
+    requires { 2 ≤ length body.now }
+    ensures { result ≡ target_of body.now }
+{
+    if has_target(body) {
+        Some(ip6_at(body, 8))
+    } else {
+        None
+    }
+}
+
+// What a message of ICMPv6 begins with.
+fn icmp6_in(body: &[u8]) -> L4
+    ensures { result ≡ icmp6_in body.now }
+{
+    if body.len() < 2 {
+        return L4::None;
+    }
+    L4::Icmp6 {
+        kind: body[0],
+        code: body[1],
+        target: target_of(body),
+    }
+}
+
+// What stands behind an IPv6 header.
+#[tactic(auto, unfolding(crate::specs::Packets::next_of))]
+fn next_of(proto: u8, body: &[u8]) -> L4
+    ensures { result ≡ next_of proto body.now }
+{
+    if proto == ICMPV6 {
+        icmp6_in(body)
+    } else if proto == ICMP {
+        L4::None
+    } else {
+        l4_in(proto, body)
+    }
+}
+
 fn l4_len(l4: L4) -> usize
     ensures { result ≡ l4_len l4 }
 {
     match l4 {
         L4::None => 0,
         L4::Tcp { .. } | L4::Udp { .. } => 4,
-        L4::Icmp { .. } => 2,
+        L4::Icmp { .. } | L4::Icmp6 { .. } => 2,
     }
 }
 
@@ -104,6 +168,13 @@ fn upper_of(upper: &UpperView<'_>) -> Upper
             ttl: header[8],
             l4: l4_of(header, body),
         },
+        UpperView::V6 { header, body } => Upper::V6 {
+            src: ip6_at(header, 8),
+            dst: ip6_at(header, 24),
+            proto: header[6],
+            hops: header[7],
+            l4: next_of(header[6], body),
+        },
     }
 }
 
@@ -116,6 +187,7 @@ fn rest_of(alloc: Global, payload: &[u8], upper: &UpperView<'_>) -> Result<Bytes
         UpperView::None => Bytes::from_slice(alloc, payload),
         UpperView::Arp { sha, tha, .. } => arp_rest(alloc, payload, sha, tha),
         UpperView::V4 { header, body } => ipv4_rest(alloc, header, body),
+        UpperView::V6 { header, body } => ipv6_rest(alloc, header, body),
     }
 }
 
@@ -138,6 +210,22 @@ fn ipv4_rest(alloc: Global, header: &[u8], body: &[u8]) -> Result<Bytes, NoMemor
     let mut rest = Bytes::from_slice(alloc, &header[..8])?;
     rest.append(&header[20..])?;
     rest.append(behind(body, l4_len(l4_of(header, body))))?;
+    Ok(rest)
+}
+
+// Of an IPv6 packet: what comes before the protocol, and what is no matched part behind the header.
+fn ipv6_rest(alloc: Global, header: &[u8], body: &[u8]) -> Result<Bytes, NoMemory>
+    requires { length header.now ≡ 40 }
+    ensures { IfOk result (λ rest. rest ≡ take 6 header.now ++ next_rest (next_of (slice_index header.now 6) body.now) body.now) }
+{
+    let mut rest = Bytes::from_slice(alloc, &header[..6])?;
+    let l4 = next_of(header[6], body);
+    if has_named_target(l4) {
+        rest.append(first(behind(body, 2), 6))?;
+        rest.append(behind(body, 24))?;
+    } else {
+        rest.append(behind(body, l4_len(l4)))?;
+    }
     Ok(rest)
 }
 

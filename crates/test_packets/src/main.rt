@@ -7,7 +7,7 @@ mod flows;
 mod frames;
 
 use flows::{change, write_act, write_hits, write_run, write_tables};
-use frames::write_frame;
+use frames::{write_frame, write_neighbour};
 use net_base::NoMemory;
 use of_match::Tables;
 use std::alloc::Global;
@@ -20,7 +20,8 @@ struct Bench {
     tables: Tables,
 }
 
-/// Writes what becomes of the flow tables, or of a packet in them; `false` where the kind is none of these.
+/// Writes what becomes of the flow tables, or of a packet in them, or the frames of neighbours; `false` where the
+/// kind is none of these.
 fn write_flows(
     out: &mut String,
     alloc: Global,
@@ -33,6 +34,7 @@ fn write_flows(
         "hits" => write_hits(out, alloc, &mut words)?,
         "act" => write_act(out, alloc, &mut words)?,
         "run" => write_run(out, alloc, tables, &mut words)?,
+        "solicit" | "advert" => write_neighbour(out, alloc, kind, &mut words)?,
         "add" | "delete" | "clear" => {
             change(alloc, tables, kind, &mut words)?;
             write_tables(out, alloc, tables)?;
