@@ -1,5 +1,5 @@
 -- Fields in ascending order stay as they are, and what a field asks for stands before it.
-use Rattle.std.proofs.Common.{◌≡◌, ℕ, suc, ◌≤◌, ◌<◌, Bool, true, false, ◌||◌, eqb, ltb, List, [], ◌∷◌, ◌++◌, length, Some, None, refl, sym, ap, ◌∙◌, arith}
+use Rattle.std.proofs.Common.{◌≡◌, ℕ, suc, ◌≤◌, ◌<◌, Bool, true, false, ◌&&◌, ◌||◌, eqb, ltb, List, [], ◌∷◌, ◌++◌, length, Some, None, refl, sym, ap, ◌∙◌, arith}
 use Rattle.std.specs.List.{AllByRecursion, list_any, list_all, position_or_len}
 use Rattle.std.proofs.lemmas.Bool.{le-ltb, ltb-true, ne_eqb, and_parts, and_left, or_from, cond-false}
 use Rattle.std.proofs.lemmas.List.Folds.{list_any-append}
@@ -8,8 +8,8 @@ use Rattle.net_base.specs.declared.field.FieldId.{FieldId}
 use Rattle.net_base.specs.declared.field.FieldId.TheVariants.{VlanVid}
 use Rattle.net_base.specs.FieldId.{number_of, prerequisites_of}
 use Rattle.net_base.specs.declared.field.Prerequisite.{Prerequisite}
-use Rattle.net_base.specs.declared.field.Prerequisite.TheVariants.{Tagged, Exactly}
-use Rattle.net_base.specs.WellFormed.{is_whole, meets, meets_one, has_one, has_prerequisite}
+use Rattle.net_base.specs.declared.field.Prerequisite.TheVariants.{Tagged, Exactly, Either}
+use Rattle.net_base.specs.WellFormed.{is_whole, meets, is_met, has_prerequisite}
 use Rattle.net_base.proofs.Rows.{every_field}
 use Rattle.of_wire.specs.Spelling.{placed, placed_at, first_above, stands}
 
@@ -60,6 +60,7 @@ stands_not id (g ∷ fields) h = or_from _ _ (ne_eqb _ _ (λ e. omega (arith, e,
 abbrev asked : Prerequisite → ℕ
 asked Tagged = number_of VlanVid
 asked (Exactly id value) = number_of id
+asked (Either id value other) = number_of id
 
 not_whole : (id : FieldId) (f : Field) → number_of id < number_of f.id → is_whole id f ≡ false
 not_whole id f h = and_left (eqb (number_of f.id) (number_of id)) _ (ne_eqb _ _ (λ e. omega (arith, e, h)))
@@ -67,29 +68,28 @@ not_whole id f h = and_left (eqb (number_of f.id) (number_of id)) _ (ne_eqb _ _ 
 meets_not : (p : Prerequisite) (f : Field) → asked p < number_of f.id → meets p f ≡ false
 meets_not Tagged f h = and_left (eqb (number_of f.id) (number_of VlanVid)) _ (ne_eqb _ _ (λ e. omega (arith, e, h)))
 meets_not (Exactly id value) f h = and_left (is_whole id f) _ (not_whole id f h)
+meets_not (Either id value other) f h = and_left (is_whole id f) _ (not_whole id f h)
 
 -- all that is asked for has a number below this one
 abbrev are_below : ℕ → List Prerequisite → Bool
 are_below n ps = list_all (λ p. ltb (asked p) n) ps
 
-one_not : (ps : List Prerequisite) (n : ℕ) (f : Field) → are_below n ps ≡ true → n ≤ number_of f.id → meets_one ps f ≡ false
-one_not [] n f low h = refl
-one_not (p ∷ ps) n f low h =
-    let parts = and_parts (ltb (asked p) n) (are_below n ps) low in
-    let less = ltb-true (asked p) n parts.0 in
-    or_from _ _ (meets_not p f (omega (arith, less, h))) (one_not ps n f parts.1 h)
-
-none_meets : (ps : List Prerequisite) (n : ℕ) (fields : List Field) → are_below n ps ≡ true → AreFrom n fields → list_any (meets_one ps) fields ≡ false
-none_meets ps n [] low h = refl
-none_meets ps n (g ∷ fields) low h = or_from _ _ (one_not ps n g low h.0) (none_meets ps n fields low h.1)
+none_meets : (p : Prerequisite) (n : ℕ) (fields : List Field) → asked p < n → AreFrom n fields → list_any (meets p) fields ≡ false
+none_meets p n [] low h = refl
+none_meets p n (g ∷ fields) low h = or_from _ _ (meets_not p g (omega (arith, low, h.0))) (none_meets p n fields low h.1)
 
 or_left_is : (a b : Bool) → (a || b) ≡ true → b ≡ false → a ≡ true
 or_left_is true b e k = refl
 or_left_is false b e k = sym k ∙ e
 
-met_before : (ps : List Prerequisite) (n : ℕ) (before rest : List Field) → are_below n ps ≡ true → AreFrom n rest → has_one ps (before ++ rest) ≡ true → has_one ps before ≡ true
+met_before : (ps : List Prerequisite) (n : ℕ) (before rest : List Field) → are_below n ps ≡ true → AreFrom n rest → list_all (is_met (before ++ rest)) ps ≡ true → list_all (is_met before) ps ≡ true
 met_before [] n before rest low h e = refl
-met_before (p ∷ ps) n before rest low h e = or_left_is _ _ (sym (list_any-append (meets_one (p ∷ ps)) before rest) ∙ e) (none_meets (p ∷ ps) n rest low h)
+met_before (p ∷ ps) n before rest low h e =
+    let lows = and_parts (ltb (asked p) n) (are_below n ps) low in
+    let met = and_parts (is_met (before ++ rest) p) (list_all (is_met (before ++ rest)) ps) e in
+    let first : is_met before p ≡ true = or_left_is _ _ (sym (list_any-append (meets p) before rest) ∙ met.0) (none_meets p n rest (ltb-true (asked p) n lows.0) h) in
+    let more : list_all (is_met before) ps ≡ true = met_before ps n before rest lows.1 h met.1 in
+    λ i. first i && more i
 
 -- what a field asks for has a lower number, so it stands before it
 pub prerequisite_before : (id : FieldId) (before rest : List Field) → AreFrom (number_of id) rest → has_prerequisite id (before ++ rest) ≡ true → has_prerequisite id before ≡ true

@@ -1,13 +1,13 @@
 -- Fields in ascending order of their numbers, and what stands before a field.
-use Rattle.std.proofs.Common.{◌≡◌, ℕ, Bool, true, false, ◌||◌, List, [], ◌∷◌, ◌++◌, take, drop, Option, Some, None, refl, sym, ap, ◌∙◌}
-use Rattle.std.specs.List.{list_any}
+use Rattle.std.proofs.Common.{◌≡◌, ℕ, Bool, true, false, ◌&&◌, ◌||◌, List, [], ◌∷◌, ◌++◌, take, drop, Option, Some, None, refl, sym, ap, ◌∙◌}
+use Rattle.std.specs.List.{list_all, list_any}
 use Rattle.std.proofs.lemmas.List.{take-append-drop}
 use Rattle.std.proofs.lemmas.List.Folds.{list_any-append}
 use Rattle.net_base.specs.declared.field.Field.{Field}
 use Rattle.net_base.specs.declared.field.FieldId.{FieldId}
 use Rattle.net_base.specs.FieldId.{number_of, prerequisites_of}
 use Rattle.net_base.specs.declared.field.Prerequisite.{Prerequisite}
-use Rattle.net_base.specs.WellFormed.{meets_one, has_one, has_prerequisite}
+use Rattle.net_base.specs.WellFormed.{meets, is_met, has_prerequisite}
 use Rattle.of_wire.specs.Spelling.{placed, placed_at, first_above, stands, known, in_order, in_order_onto}
 
 or_last : (a b c : Bool) → (a || (b || c)) ≡ ((a || c) || b)
@@ -46,12 +46,15 @@ any_in_order p fs = any_onto p [] fs
 pub stands_in_order : (id : FieldId) (fs : List Field) → stands id (in_order fs) ≡ stands id fs
 stands_in_order id fs = any_in_order _ fs
 
-one_in_order : (asked : List Prerequisite) (fs : List Field) → has_one asked (in_order fs) ≡ has_one asked fs
-one_in_order [] fs = refl
-one_in_order (p ∷ asked) fs = any_in_order (meets_one (p ∷ asked)) fs
+all_in_order : (asked : List Prerequisite) (fs : List Field) → list_all (is_met (in_order fs)) asked ≡ list_all (is_met fs) asked
+all_in_order [] fs = refl
+all_in_order (p ∷ asked) fs =
+    let first : is_met (in_order fs) p ≡ is_met fs p = any_in_order (meets p) fs in
+    let more = all_in_order asked fs in
+    λ i. first i && more i
 
 pub prerequisites_in_order : (id : FieldId) (fs : List Field) → has_prerequisite id (in_order fs) ≡ has_prerequisite id fs
-prerequisites_in_order id fs = one_in_order (prerequisites_of id) fs
+prerequisites_in_order id fs = all_in_order (prerequisites_of id) fs
 
 onto_push : (acc fs : List Field) (f : Field) → in_order_onto acc (fs ++ f ∷ []) ≡ placed f (in_order_onto acc fs)
 onto_push acc [] f = refl
