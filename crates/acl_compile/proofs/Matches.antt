@@ -12,10 +12,10 @@ use Rattle.net_base.specs.declared.field.Field.{Field}
 use Rattle.net_base.specs.declared.field.FieldId.{FieldId}
 use Rattle.net_base.specs.declared.field.FieldId.TheVariants.{InPort, VlanVid}
 use Rattle.net_base.specs.declared.field.Prerequisite.{Prerequisite}
-use Rattle.net_base.specs.declared.field.Prerequisite.TheVariants.{Tagged, Exactly}
+use Rattle.net_base.specs.declared.field.Prerequisite.TheVariants.{Tagged, Exactly, Either}
 use Rattle.net_base.specs.FieldId.{number_of, bits_of, may_be_masked, prerequisites_of, all_ones}
 use Rattle.net_base.specs.Numbers.{IsVid, IsPortNo}
-use Rattle.net_base.specs.WellFormed.{AreAscending, IsWellFormed, meets, meets_one, has_one, has_prerequisite}
+use Rattle.net_base.specs.WellFormed.{AreAscending, IsWellFormed, is_whole, meets, is_met, has_prerequisite}
 use Rattle.net_base.proofs.Rows.{every_field}
 use Rattle.of_match.proofs.AfterOrder.{all_pass}
 use Rattle.conf_types.specs.RuleFields.{IsNumber, IsMasked, IsPrefix, IsAddress, MayAskBits, MayAsk}
@@ -71,13 +71,17 @@ asks_no_port InPort f h = absurd h
 asks_no_port id f h = lit< tt
 
 -- what a field asks for stays met where a field is added
-still_asked : (asked : List Prerequisite) (g : Field) (fields : List Field) → has_one asked fields ≡ true → has_one asked (g ∷ fields) ≡ true
+still_asked : (asked : List Prerequisite) (g : Field) (fields : List Field) → list_all (is_met fields) asked ≡ true → list_all (is_met (g ∷ fields)) asked ≡ true
 still_asked [] g fields h = refl
-still_asked (p ∷ asked) g fields h = either (meets_one (p ∷ asked) g) h
+still_asked (p ∷ asked) g fields h =
+    let parts = and_parts (is_met fields p) (list_all (is_met fields) asked) h in
+    let first : is_met (g ∷ fields) p ≡ true = either (meets p g) (is_met fields p) parts.0 in
+    let more : list_all (is_met (g ∷ fields)) asked ≡ true = still_asked asked g fields parts.1 in
+    λ i. first i && more i
   where
-    either : (b : Bool) → list_any (meets_one (p ∷ asked)) fields ≡ true → (b || list_any (meets_one (p ∷ asked)) fields) ≡ true
-    either true e = refl
-    either false e = e
+    either : (a b : Bool) → b ≡ true → (a || b) ≡ true
+    either true b e = refl
+    either false b e = e
 
 pub with_port : (number : ℕ) (rule : Rule) → IsPortNo number → IsRule rule → AreFields (in_port number ∷ rule.fields)
 with_port number rule port h =
@@ -109,26 +113,10 @@ ascending_joined g (f ∷ more) others h low k = (
 abbrev is_other : Prerequisite → Bool
 is_other Tagged = true
 is_other (Exactly id value) = nat_lt (number_of id) 6 || nat_lt 6 (number_of id)
+is_other (Either id value other) = nat_lt (number_of id) 6 || nat_lt 6 (number_of id)
 
 asks_others : (id : FieldId) → list_all is_other (prerequisites_of id) ≡ true
 asks_others id = every_field (λ id. list_all is_other (prerequisites_of id)) refl id
-
--- one of several is met where the first is, or one of the others
-or_swap : (a b c d : Bool) → ((a || b) || (c || d)) ≡ ((a || c) || (b || d))
-or_swap true b c d = refl
-or_swap false true true d = refl
-or_swap false true false d = refl
-or_swap false false c d = refl
-
-met_apart : (p : Prerequisite) (asked : List Prerequisite) (fields : List Field) → list_any (meets_one (p ∷ asked)) fields ≡ (list_any (meets p) fields || list_any (meets_one asked) fields)
-met_apart p asked [] = refl
-met_apart p asked (f ∷ fields) =
-    ap (λ b. (meets p f || meets_one asked f) || b) (met_apart p asked fields)
-    ∙ or_swap (meets p f) (meets_one asked f) (list_any (meets p) fields) (list_any (meets_one asked) fields)
-
-none_meets : (fields : List Field) → list_any (meets_one []) fields ≡ false
-none_meets [] = refl
-none_meets (f ∷ fields) = none_meets fields
 
 module _ (vid : ℕ) (fields : List Field) where
   abbrev low : Field → Bool
@@ -154,38 +142,36 @@ module _ (vid : ℕ) (fields : List Field) where
   either_is false true c x h e = or_right x c e
   either_is false false c x h e = absurd (cc)
 
-  same_number : (id : FieldId) (value : ℕ) (f : Field) → meets (Exactly id value) f ≡ true → number_of f.id ≡ number_of id
-  same_number id value f h = eqb-true (number_of f.id) (number_of id) (and_parts (number_of f.id == number_of id) (f.mask == all_ones id) (and_parts (number_of f.id == number_of id && f.mask == all_ones id) (f.value == value) h).0).0
+  whole_number : (id : FieldId) (f : Field) (b : Bool) → (is_whole id f && b) ≡ true → number_of f.id ≡ number_of id
+  whole_number id f b h = eqb-true (number_of f.id) (number_of id) (and_parts (number_of f.id == number_of id) (f.mask == all_ones id) (and_parts (is_whole id f) b h).0).0
 
-  among_one : (p : Prerequisite) → is_other p ≡ true → list_any (meets p) fields ≡ true → list_any (meets p) (with_vid vid fields) ≡ true
-  among_one Tagged other h =
-      list_any-append (meets Tagged) (filter low fields) (vid_field vid ∷ filter high fields)
-      ∙ ap (λ b. list_any (meets Tagged) (filter low fields) || (b || list_any (meets Tagged) (filter high fields))) is_tag
-      ∙ or_right (list_any (meets Tagged) (filter low fields)) true refl
-  among_one (Exactly id value) other h =
-      let test = meets (Exactly id value) in
-      let before : list_any test (filter low fields) ≡ (nat_lt (number_of id) 6 && list_any test fields) = any-filter_same test low (nat_lt (number_of id) 6) (λ f is. ap (λ n. nat_lt n 6) (same_number id value f is)) fields in
-      let behind : list_any test (filter high fields) ≡ (nat_lt 6 (number_of id) && list_any test fields) = any-filter_same test high (nat_lt 6 (number_of id)) (λ f is. ap (λ n. nat_lt 6 n) (same_number id value f is)) fields in
+  -- a test that fields of one number alone pass is passed as before, where that isn't the tag's number
+  among_named : (test : Field → Bool) (id : FieldId) → ((f : Field) → test f ≡ true → number_of f.id ≡ number_of id) → (nat_lt (number_of id) 6 || nat_lt 6 (number_of id)) ≡ true
+      → list_any test fields ≡ true → list_any test (with_vid vid fields) ≡ true
+  among_named test id same other h =
+      let before : list_any test (filter low fields) ≡ (nat_lt (number_of id) 6 && list_any test fields) = any-filter_same test low (nat_lt (number_of id) 6) (λ f is. ap (λ n. nat_lt n 6) (same f is)) fields in
+      let behind : list_any test (filter high fields) ≡ (nat_lt 6 (number_of id) && list_any test fields) = any-filter_same test high (nat_lt 6 (number_of id)) (λ f is. ap (λ n. nat_lt 6 n) (same f is)) fields in
       list_any-append test (filter low fields) (vid_field vid ∷ filter high fields)
       ∙ ap (λ b. b || (test (vid_field vid) || list_any test (filter high fields))) before
       ∙ ap (λ b. (nat_lt (number_of id) 6 && list_any test fields) || (test (vid_field vid) || b)) behind
       ∙ either_is (nat_lt (number_of id) 6) (nat_lt 6 (number_of id)) (list_any test fields) (test (vid_field vid)) other h
 
-  among_any : (asked : List Prerequisite) → list_all is_other asked ≡ true → list_any (meets_one asked) fields ≡ true → list_any (meets_one asked) (with_vid vid fields) ≡ true
-  among_any [] other h = absurd (true≢false (sym h ∙ none_meets fields))
-  among_any (p ∷ asked) other h =
-      let others = and_parts (is_other p) (list_all is_other asked) other in
-      met_apart p asked (with_vid vid fields)
-      ∙ by (among_one p others.0) (among_any asked others.1) (or_cases (list_any (meets p) fields) (list_any (meets_one asked) fields) (sym (met_apart p asked fields) ∙ h))
-    where
-      by : (list_any (meets p) fields ≡ true → list_any (meets p) (with_vid vid fields) ≡ true) → (list_any (meets_one asked) fields ≡ true → list_any (meets_one asked) (with_vid vid fields) ≡ true)
-          → (list_any (meets p) fields ≡ true) ⊎ (list_any (meets_one asked) fields ≡ true) → (list_any (meets p) (with_vid vid fields) || list_any (meets_one asked) (with_vid vid fields)) ≡ true
-      by first more (inl this) = ap (λ b. b || list_any (meets_one asked) (with_vid vid fields)) (first this)
-      by first more (inr that) = or_right (list_any (meets p) (with_vid vid fields)) _ (more that)
+  among_one : (p : Prerequisite) → is_other p ≡ true → is_met fields p ≡ true → is_met (with_vid vid fields) p ≡ true
+  among_one Tagged other h =
+      list_any-append (meets Tagged) (filter low fields) (vid_field vid ∷ filter high fields)
+      ∙ ap (λ b. list_any (meets Tagged) (filter low fields) || (b || list_any (meets Tagged) (filter high fields))) is_tag
+      ∙ or_right (list_any (meets Tagged) (filter low fields)) true refl
+  among_one (Exactly id value) other h = among_named (meets (Exactly id value)) id (λ f is. whole_number id f (f.value == value) is) other h
+  among_one (Either id value second) other h = among_named (meets (Either id value second)) id (λ f is. whole_number id f ((f.value == value) || (f.value == second)) is) other h
 
-  among : (asked : List Prerequisite) → list_all is_other asked ≡ true → has_one asked fields ≡ true → has_one asked (with_vid vid fields) ≡ true
+  among : (asked : List Prerequisite) → list_all is_other asked ≡ true → list_all (is_met fields) asked ≡ true → list_all (is_met (with_vid vid fields)) asked ≡ true
   among [] other h = refl
-  among (p ∷ asked) other h = among_any (p ∷ asked) other h
+  among (p ∷ asked) other h =
+      let others = and_parts (is_other p) (list_all is_other asked) other in
+      let parts = and_parts (is_met fields p) (list_all (is_met fields) asked) h in
+      let first : is_met (with_vid vid fields) p ≡ true = among_one p others.0 parts.0 in
+      let more : list_all (is_met (with_vid vid fields)) asked ≡ true = among asked others.1 parts.1 in
+      λ i. first i && more i
 
   all_passing : (P : Field → Type 0) (p : Field → Bool) → ((f : Field) → p f ≡ true → P f) → AllByRecursion P (filter p fields)
   all_passing P p h = all_from {P = λ (f : Field). p f ≡ true} {Q = P} (λ f is. h f is) (filter p fields) (all_pass p fields)

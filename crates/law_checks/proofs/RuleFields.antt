@@ -1,14 +1,15 @@
 -- A rule that is in range and lacks no field is valid: its fields make a match.
-use Rattle.std.specs.Prelude.{◌≡◌, ℕ, ◌+◌, ◌-◌, ◌^◌, ◌<◌, ◌≤◌, ◌==◌, Bool, true, false, List, [], ◌∷◌, map, Option, Some, None, IfSome, IsTrue, nat_lt}
-use Rattle.std.specs.List.{AllByRecursion, flat_map}
+use Rattle.std.specs.Prelude.{◌≡◌, ℕ, ◌+◌, ◌-◌, ◌^◌, ◌<◌, ◌≤◌, ◌==◌, ◌&&◌, Bool, true, false, List, [], ◌∷◌, map, Option, Some, None, IfSome, IsTrue, nat_lt}
+use Rattle.std.specs.List.{AllByRecursion, flat_map, list_all}
 use Rattle.std.proofs.Common.{refl, sym, subst, arith, lit≤}
+use Rattle.std.proofs.lemmas.Bool.{and_parts}
 use Rattle.std.proofs.lemmas.Nat.{and_le_r, pow_pos}
 use Rattle.net_base.specs.declared.field.Field.{Field}
 use Rattle.net_base.specs.declared.field.FieldId.{FieldId}
 use Rattle.net_base.specs.declared.field.FieldId.TheVariants.{InPort, VlanVid}
 use Rattle.net_base.specs.declared.field.Prerequisite.{Prerequisite}
 use Rattle.net_base.specs.FieldId.{number_of, bits_of, may_be_masked, prerequisites_of, all_ones}
-use Rattle.net_base.specs.WellFormed.{Fits, AreAscending, has_prerequisite, has_one, meets_one}
+use Rattle.net_base.specs.WellFormed.{Fits, AreAscending, has_prerequisite, is_met, meets}
 use Rattle.conf_types.specs.declared.acl.Rule.{Rule}
 use Rattle.conf_types.specs.Lists.{EachBefore}
 use Rattle.conf_types.specs.RuleFields.{MayAsk, MayAskBits, IsNumber, IsMasked, IsPrefix, IsAddress}
@@ -66,9 +67,14 @@ ascending (f ∷ fs) r = (r.0, ascending fs r.1)
 pub same_asked : (fs gs : List Field) → ((f : Field) → IsIn fs f → IsIn gs f) → (id : FieldId) → has_prerequisite id fs ≡ true → has_prerequisite id gs ≡ true
 same_asked fs gs also id = by (prerequisites_of id)
   where
-    by : (asked : List Prerequisite) → has_one asked fs ≡ true → has_one asked gs ≡ true
+    by : (asked : List Prerequisite) → list_all (is_met fs) asked ≡ true → list_all (is_met gs) asked ≡ true
     by [] is = refl
-    by (p ∷ asked) is = let m = some_of (meets_one (p ∷ asked)) fs is in any_by (meets_one (p ∷ asked)) gs m.0 (also m.0 m.1) m.2
+    by (p ∷ asked) is =
+        let parts = and_parts (is_met fs p) (list_all (is_met fs) asked) is in
+        let m = some_of (meets p) fs parts.0 in
+        let first : is_met gs p ≡ true = any_by (meets p) gs m.0 (also m.0 m.1) m.2 in
+        let more : list_all (is_met gs) asked ≡ true = by asked parts.1 in
+        λ i. first i && more i
 
 abbrev pub HasWhatItAsks : Rule → Type 0
 HasWhatItAsks rule = AllByRecursion (λ f. IsTrue (has_prerequisite f.id rule.fields)) rule.fields
