@@ -24,7 +24,7 @@ use Rattle.host_learn.proofs.Lists.{found_passes}
 use Rattle.of_match.specs.InPort.{in_port}
 use Rattle.of13_codec.specs.declared.packet_in.PacketIn.{PacketIn}
 use Rattle.flow_messages.specs.declared.messages.TheConstants.{COOKIE}
-use Rattle.pkt_view.specs.Frame.{FrameParts, UpperParts, Unknown, Arp, V4, parts}
+use Rattle.pkt_view.specs.Frame.{FrameParts, UpperParts, Unknown, Arp, V4, V6, parts}
 use Rattle.neighbour_resolve.specs.declared.hearing.Sender.{Sender}
 use Rattle.neighbour_resolve.specs.Answers.{answer}
 use Rattle.neighbour_resolve.specs.Counted.{counted_vid}
@@ -108,6 +108,7 @@ module _ (dp : DpId) (w : World) (runs : is_running (running w) dp ≡ true) (so
   sender_address : (vid : ℕ) (from : Mac) (upper : UpperParts) (s : Sender) → upper_sender w.conf vid from upper ≡ Some s → is_neighbour_address (vips_of w.conf vid) s.ip.0 ≡ true
   sender_address vid from Unknown s is = absurd (cc)
   sender_address vid from (V4 header body) s is = absurd (cc)
+  sender_address vid from (V6 header body) s is = absurd (cc)
   sender_address vid from (Arp op sha spa tha tpa) s is =
       let address : Bool = is_neighbour_address (vips_of w.conf vid) spa.0 in
       elim (cases_Bool (address && not (is_group sha) && is_same sha.0 from.0)) [

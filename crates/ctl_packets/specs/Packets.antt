@@ -22,7 +22,7 @@ use Rattle.of13_codec.specs.declared.packet_in.PacketIn.{PacketIn}
 use Rattle.flow_messages.specs.declared.messages.TheConstants.{COOKIE}
 use Rattle.plan_base.specs.declared.table.Table.TheVariants.{Ipv4Route, Source, Vip}
 use Rattle.plan_base.specs.Entries.{table_number}
-use Rattle.pkt_view.specs.Frame.{FrameParts, UpperParts, Unknown, Arp, V4, parts}
+use Rattle.pkt_view.specs.Frame.{FrameParts, UpperParts, Unknown, Arp, V4, V6, parts}
 use Rattle.pkt_view.specs.Numbers.{ip4_at}
 use Rattle.neighbour_resolve.specs.declared.asks.Outgoing.{Outgoing}
 use Rattle.neighbour_resolve.specs.declared.answers.Reply.{Reply}
@@ -74,6 +74,7 @@ abbrev pub destination : UpperParts → Option Ip4
 destination Unknown = None
 destination (Arp op sha spa tha tpa) = None
 destination (V4 header body) = Some (ip4_at 16 header)
+destination (V6 header body) = None
 
 abbrev pub glean_at : DpId → FrameParts → World → Vlan → World
 glean_at dp frame w v =

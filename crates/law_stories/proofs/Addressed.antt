@@ -62,7 +62,7 @@ use Rattle.neighbour_resolve.specs.Kept.{last_of_each, may_stay, regrouped}
 use Rattle.neighbour_resolve.specs.Table.{Table as Neighbours, after_told, gives_way, neighbours_after, stays, unresolved}
 use Rattle.neighbour_resolve.specs.Table as table
 use Rattle.of_match.proofs.AfterOrder.{all_append, all_filter}
-use Rattle.pkt_view.specs.Frame.{UpperParts, Unknown, Arp, V4}
+use Rattle.pkt_view.specs.Frame.{UpperParts, Unknown, Arp, V4, V6}
 use Rattle.ctl_world.specs.Connections.{has_number, without}
 use Rattle.ctl_core.specs.Hearing.{want_gateways, want_routes}
 use Rattle.ctl_core.proofs.Walk.{Setup, Steps, either, heard_kept, pass_kept, reload_kept, wants_by, with_any}
@@ -173,6 +173,7 @@ learn_addressed dp port vid mac six w known =
 sender_six : (conf : Configuration) (vid : ℕ) (src : Mac) → IsSixBytes src.0 → (upper : UpperParts) → IfSome (upper_sender conf vid src upper) (λ s. IsSixBytes s.mac.0)
 sender_six conf vid src six Unknown = tt
 sender_six conf vid src six (V4 header payload) = tt
+sender_six conf vid src six (V6 header payload) = tt
 sender_six conf vid src six (Arp op sha spa tha tpa) = by (is_neighbour_address (vips_of conf vid) spa.0 && not (is_group sha)) (is_same sha.0 src.0) refl
   where
     by : (b same : Bool) → is_same sha.0 src.0 ≡ same → IfSome {T = Sender} (if b && same then Some (record { ip = spa; mac = sha }) else None) (λ s. IsSixBytes s.mac.0)

@@ -10,7 +10,7 @@ use Rattle.conf_types.specs.declared.vlan.Vlan.{Vlan}
 use Rattle.conf_types.specs.Configuration.{Configuration, vlan_with}
 use Rattle.conf_types.specs.Networks.{is_vip}
 use Rattle.conf_types.specs.Routing.{routing_set, vips_of}
-use Rattle.pkt_view.specs.Frame.{FrameParts, UpperParts, Unknown, Arp, V4}
+use Rattle.pkt_view.specs.Frame.{FrameParts, UpperParts, Unknown, Arp, V4, V6}
 use Rattle.pkt_view.specs.Numbers.{ip4_at}
 use Rattle.pkt_view.specs.Replies.{arp_reply, echo_reply}
 use Rattle.neighbour_resolve.specs.declared.answers.Reply.{Reply}
@@ -37,6 +37,7 @@ abbrev pub upper_answer : Configuration → Vlan → FrameParts → UpperParts �
 upper_answer conf vlan frame Unknown = Nothing
 upper_answer conf vlan frame (Arp op sha spa tha tpa) = arp_answer vlan frame.src op spa tpa
 upper_answer conf vlan frame (V4 header body) = echo_answer conf vlan frame header
+upper_answer conf vlan frame (V6 header body) = Nothing
 
 -- a frame from a group address gets no answer
 abbrev pub answer_in : Configuration → FrameParts → Vlan → Reply

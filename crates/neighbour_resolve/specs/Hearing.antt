@@ -6,7 +6,7 @@ use Rattle.conf_types.specs.Configuration.{Configuration}
 use Rattle.conf_types.specs.Lists.{is_same}
 use Rattle.conf_types.specs.Networks.{is_neighbour_address}
 use Rattle.conf_types.specs.Routing.{vips_of}
-use Rattle.pkt_view.specs.Frame.{FrameParts, UpperParts, Unknown, Arp, V4}
+use Rattle.pkt_view.specs.Frame.{FrameParts, UpperParts, Unknown, Arp, V4, V6}
 use Rattle.neighbour_resolve.specs.declared.hearing.Sender.{Sender}
 
 -- the sender of an ARP packet (RFC 826), of either operation: its address is a neighbour's of the VLAN, and its
@@ -16,6 +16,7 @@ upper_sender conf vid from Unknown = None
 upper_sender conf vid from (Arp op sha spa tha tpa) =
     if is_neighbour_address (vips_of conf vid) spa.0 && not (is_group sha) && is_same sha.0 from.0 then Some (record { ip = spa; mac = sha }) else None
 upper_sender conf vid from (V4 header body) = None
+upper_sender conf vid from (V6 header body) = None
 
 abbrev pub heard_sender : Configuration → (vid : ℕ) → FrameParts → Option Sender
 heard_sender conf vid frame = upper_sender conf vid frame.src frame.upper

@@ -100,7 +100,7 @@ fn answer_in(
                 echo_answer(alloc, conf, vlan, frame, header)
             }
         }
-        UpperView::None => Ok(Reply::Nothing),
+        UpperView::V6 { .. } | UpperView::None => Ok(Reply::Nothing),
     }
 }
 
