@@ -30,7 +30,7 @@ use Rattle.packet_way.specs.declared.source.Heard.TheVariants as heard_case
 use Rattle.packet_way.specs.declared.routes.Routed.{Routed}
 use Rattle.packet_way.specs.declared.routes.Routed.TheVariants.{GoesOn, ToController, Ends}
 use Rattle.packet_way.specs.Admission.{admitted_to, tagged_with}
-use Rattle.packet_way.specs.Description.{sent_onward, leaving, leaving_in, behind_routing, by_routing, behind_source, in_vlan, admitted, from_edge, from_stack, from_port, sends}
+use Rattle.packet_way.specs.Description.{sent_onward, leaving, leaving_in, behind_routing, by_routing, behind_source, in_vlan, admitted, from_edge, is_bare_lldp, from_stack, from_port, sends}
 use Rattle.packet_way.specs.Drops.{is_dropped}
 use Rattle.packet_way.specs.Known.{stack_of, host_with, onward_to, onward}
 use Rattle.packet_way.specs.Leaving.{copies, to_controller}
@@ -206,7 +206,9 @@ module _ (conf : Configuration) (now : State) (hosts : List HostRec) (valid : Is
 
   from_stack_same : (d : Dp) (p : Packet) (i : Port) → from_stack conf later d p i ≡ from_stack conf now d p i
   unfolding from_stack
-  from_stack_same d p i = some_same (λ tag. leaving_in conf later d i.no tag.vid p) (λ tag. leaving_in conf now d i.no tag.vid p) (outermost p.tags) (λ tag. leaving_in_same d i.no tag.vid p)
+  from_stack_same d p i =
+      ap (λ (rest : List Sent). cond (is_bare_lldp p) (to_controller p) rest)
+      (some_same (λ tag. leaving_in conf later d i.no tag.vid p) (λ tag. leaving_in conf now d i.no tag.vid p) (outermost p.tags) (λ tag. leaving_in_same d i.no tag.vid p))
 
   from_port_same : (d : Dp) (p : Packet) (i : Port) → from_port conf later d p i ≡ from_port conf now d p i
   from_port_same d p i =

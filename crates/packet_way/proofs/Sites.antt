@@ -31,7 +31,7 @@ use Rattle.packet_way.specs.declared.source.Heard.TheVariants as heard_case
 use Rattle.packet_way.specs.declared.routes.Routed.{Routed}
 use Rattle.packet_way.specs.declared.routes.Routed.TheVariants.{GoesOn, ToController, Ends}
 use Rattle.packet_way.specs.Admission.{admitted_to, is_tagged, with_tag, tagged_with}
-use Rattle.packet_way.specs.Description.{sent_onward, leaving, leaving_in, behind_routing, by_routing, behind_source, in_vlan, admitted, from_edge, from_stack, from_port}
+use Rattle.packet_way.specs.Description.{sent_onward, leaving, leaving_in, behind_routing, by_routing, behind_source, in_vlan, admitted, from_edge, is_bare_lldp, from_stack, from_port}
 use Rattle.packet_way.specs.Drops.{is_dropped}
 use Rattle.packet_way.specs.Flood.{is_flooded, gets_flood, flooded}
 use Rattle.packet_way.specs.Known.{stack_of, host_with, onward_to, onward, to_port, to_hop}
@@ -223,7 +223,7 @@ tagged_source vid p = elim (is_tagged p.tags) as (λ b. (cond b p (with_tag vid 
 
 module _ (R : ℕ → List Sent → Type 0) (j : Joins R) (conf : Configuration) (now : State) (d : Dp) (i : Port) (s : Sites R j conf now d i.no) (p : Packet) (learned by_vip : ℕ)
     (learns : (x : Packet) → is_group p.src ≡ false → R learned (to_controller x))
-    (routes : (v : Vlan) (x : Packet) → Contains conf.vlans v → (length v.vips == 0) ≡ false → R by_vip (to_controller x)) where
+    (routes : (v : Vlan) (x : Packet) → Contains conf.vlans v → (length v.vips == 0) ≡ false → R by_vip (to_controller x)) (told : (x : Packet) → R (learned + by_vip) (to_controller x)) where
   in_vlan_all : (v : Vlan) (x : Packet) → Contains conf.vlans v → x.src ≡ p.src → R (learned + by_vip) (in_vlan conf now d i v x)
   unfolding in_vlan
   in_vlan_all v x c same =
@@ -262,8 +262,9 @@ module _ (R : ℕ → List Sent → Type 0) (j : Joins R) (conf : Configuration)
   from_stack_all : R (learned + by_vip) (from_stack conf now d p i)
   unfolding from_stack
   from_stack_all =
+      if_true R j (learned + by_vip) (is_bare_lldp p) (to_controller p) (option_map_or (λ tag. leaving_in conf now d i.no tag.vid p) (outermost p.tags) []) (λ bare. told p) (λ other.
       if_some R j (learned + by_vip) (λ tag. leaving_in conf now d i.no tag.vid p) (outermost p.tags) (λ tag is.
-      j.more 0 (learned + by_vip) (leaving_in conf now d i.no tag.vid p) (omega arith) (leaving_in_all R j conf now d i.no s p learned by_vip learns routes tag.vid p))
+      j.more 0 (learned + by_vip) (leaving_in conf now d i.no tag.vid p) (omega arith) (leaving_in_all R j conf now d i.no s p learned by_vip learns routes tag.vid p)))
 
   pub from_port_all : R (learned + by_vip) (from_port conf now d p i)
   from_port_all =

@@ -1,18 +1,23 @@
 -- What a datapath sends, by the port that a packet came in by.
-use Rattle.std.proofs.Common.{◌≡◌, ◌∙◌, ℕ, true, false, Option, Some, None, List, [], ap, subst, refl, sym, inl, inr, ◌⊎◌}
+use Rattle.std.proofs.Common.{◌≡◌, ◌∙◌, ℕ, ◌==◌, ◌&&◌, not, Bool, true, false, Option, Some, None, List, [], ◌∷◌, ap, subst, refl, sym, inl, inr, ◌⊎◌}
 use Rattle.std.specs.Option.{option_map_or, option_and_then}
 use Rattle.std.proofs.lemmas.Bool.{cases_Bool}
 use Rattle.std.proofs.lemmas.List.{append-nil}
+use Rattle.std.proofs.lemmas.Option.{none-some}
 use Rattle.net_base.specs.declared.numbers.DpId.{DpId}
 use Rattle.of_match.specs.declared.packet.Packet.{Packet}
 use Rattle.of_match.specs.declared.packet.Sent.{Sent}
+use Rattle.of_match.specs.declared.packet.Tag.{Tag}
+use Rattle.of_match.specs.declared.ether_type.TheConstants.{LLDP}
+use Rattle.of_match.specs.Hit.{outermost}
 use Rattle.conf_types.specs.declared.datapath.Dp.{Dp}
 use Rattle.conf_types.specs.declared.datapath.Port.{Port}
 use Rattle.conf_types.specs.Configuration.{Configuration, dp_with, port_with, port_at}
 use Rattle.conf_types.specs.Membership.{is_stack, is_accepting}
 use Rattle.conf_types.specs.State.{State}
 use Rattle.packet_way.specs.Verdict.{acl_sends, is_allowed}
-use Rattle.packet_way.specs.Description.{from_edge, from_port, sends}
+use Rattle.packet_way.specs.Admission.{is_tagged}
+use Rattle.packet_way.specs.Description.{from_edge, is_bare_lldp, from_port, sends}
 use Rattle.packet_way.proofs.Ports.{At}
 
 module _ (conf : Configuration) (now : State) (p : Packet) where
@@ -50,3 +55,15 @@ module _ (conf : Configuration) (now : State) (p : Packet) where
             | inr accepting ↦ subst P (sym (silent stack accepting)) nothing
           ]
         ]
+
+-- a packet with a tag is no bare LLDP
+pub not_bare : (p : Packet) (tag : Tag) → outermost p.tags ≡ Some tag → is_bare_lldp p ≡ false
+not_bare p tag outer = by p.tags refl
+  where
+    off : (b : Bool) → (b && false) ≡ false
+    off true = refl
+    off false = refl
+
+    by : (ts : List Tag) → p.tags ≡ ts → is_bare_lldp p ≡ false
+    by [] e = absurd (none-some tag (sym (ap outermost e) ∙ outer))
+    by (first ∷ tags) e = ap (λ ts. p.eth_type == LLDP && not (is_tagged ts)) e ∙ off (p.eth_type == LLDP)

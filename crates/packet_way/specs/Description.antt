@@ -1,9 +1,10 @@
 -- The way of every packet through a datapath, as the configuration describes it: what is sent, in no
 -- particular order. Each step says what it sends and hands the packet to the next.
-use Rattle.std.specs.Prelude.{ℕ, List, [], ◌++◌, if◌then◌else◌}
+use Rattle.std.specs.Prelude.{ℕ, ◌==◌, ◌&&◌, not, Bool, List, [], ◌++◌, if◌then◌else◌}
 use Rattle.std.specs.Option.{option_and_then, option_map_or}
 use Rattle.net_base.specs.declared.numbers.DpId.{DpId}
 use Rattle.of_match.specs.Hit.{outermost}
+use Rattle.of_match.specs.declared.ether_type.TheConstants.{LLDP}
 use Rattle.of_match.specs.declared.packet.Packet.{Packet}
 use Rattle.of_match.specs.declared.packet.Sent.{Sent}
 use Rattle.stack_paths.specs.Stack.{Stack}
@@ -21,7 +22,7 @@ use Rattle.packet_way.specs.declared.routes.Routed.TheVariants.{GoesOn, ToContro
 use Rattle.packet_way.specs.Leaving.{copies, to_controller}
 use Rattle.packet_way.specs.Verdict.{acl_sends, is_allowed}
 use Rattle.packet_way.specs.Drops.{is_dropped}
-use Rattle.packet_way.specs.Admission.{admitted_to, tagged_with}
+use Rattle.packet_way.specs.Admission.{admitted_to, is_tagged, tagged_with}
 use Rattle.packet_way.specs.Source.{heard}
 use Rattle.packet_way.specs.Routes.{route_list, routed}
 use Rattle.packet_way.specs.declared.known.Onward.{Onward}
@@ -74,9 +75,15 @@ from_edge conf now d p i =
     acl_sends conf d i.acls i.no p
     ++ (if is_allowed conf i.acls i.no p then (if is_dropped conf d p then [] else option_map_or (admitted conf now d i p) (option_and_then (vlan_with conf.vlans) (admitted_to i p)) []) else [])
 
--- from another datapath of the stack a packet comes with the tag of its VLAN
+-- LLDP without a tag, by which the ends of a link tell of themselves (IEEE 802.1AB, 6)
+abbrev pub is_bare_lldp : Packet → Bool
+is_bare_lldp p = p.eth_type == LLDP && not (is_tagged p.tags)
+
+-- such a packet from another datapath of the stack is the controller's alone; any other comes with the tag of
+-- its VLAN
 unfoldable pub from_stack : Configuration → State → Dp → Packet → Port → List Sent
-from_stack conf now d p i = option_map_or (λ tag. leaving_in conf now d i.no tag.vid p) (outermost p.tags) []
+from_stack conf now d p i =
+    if is_bare_lldp p then to_controller p else option_map_or (λ tag. leaving_in conf now d i.no tag.vid p) (outermost p.tags) []
 
 -- the port: only an enabled end of a stack link, and an edge port that isn't output-only, take packets in
 abbrev pub from_port : Configuration → State → Dp → Packet → Port → List Sent

@@ -5,7 +5,8 @@ use Rattle.of_match.specs.declared.packet.Packet.{Packet}
 use Rattle.conf_types.specs.declared.datapath.Dp.{Dp}
 use Rattle.conf_types.specs.Configuration.{Configuration}
 use Rattle.conf_types.specs.State.{is_gateway_address}
-use Rattle.packet_way.specs.declared.drops.TheConstants.{BROADCAST, LLDP, PVST_GROUP, BRIDGE_GROUP}
+use Rattle.packet_way.specs.declared.drops.TheConstants.{BROADCAST, PVST_GROUP, BRIDGE_GROUP}
+use Rattle.of_match.specs.declared.ether_type.TheConstants.{LLDP}
 
 -- what bridges say to each other: IEEE 802.1D's, and Cisco's
 abbrev pub is_of_bridges : Packet → Bool

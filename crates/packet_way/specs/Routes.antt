@@ -12,7 +12,7 @@ use Rattle.of_match.specs.declared.packet.L4.TheVariants.{Icmp}
 use Rattle.of_match.specs.declared.packet.Packet.{Packet}
 use Rattle.of_match.specs.declared.packet.Tag.{Tag}
 use Rattle.of_match.specs.declared.packet.Upper.{Upper}
-use Rattle.of_match.specs.declared.packet.Upper.TheVariants.{Arp, V4}
+use Rattle.of_match.specs.declared.packet.Upper.TheVariants.{Arp, V4, V6}
 use Rattle.conf_types.specs.declared.state.NeighRec.{NeighRec}
 use Rattle.conf_types.specs.declared.vlan.Route.{Route}
 use Rattle.conf_types.specs.declared.vlan.Vlan.{Vlan}
@@ -95,9 +95,10 @@ abbrev pub is_arp_for : List Net4 → Upper → Bool
 is_arp_for vips (Arp op spa tpa) = is_vip vips tpa.0
 is_arp_for vips upper = false
 
--- one hop less to live; with 0 or 1 left it ends (RFC 1812, 5.3.1)
+-- one hop less to live; with 0 or 1 left it ends (RFC 1812, 5.3.1; RFC 8200, 3)
 abbrev pub hop_less : Upper → Option Upper
 hop_less (V4 src dst proto ttl l4) = if nat_lt ttl 2 then None else Some (V4 src dst proto (ttl - 1) l4)
+hop_less (V6 src dst proto hops l4) = if nat_lt hops 2 then None else Some (V6 src dst proto (hops - 1) l4)
 hop_less upper = None
 
 -- the outermost tag names another VLAN, and keeps its other parts

@@ -6,7 +6,7 @@ use Rattle.net_base.specs.declared.address.Mac.{Mac}
 use Rattle.net_base.specs.declared.net4.Net4.{Net4}
 use Rattle.net_base.specs.Field.{exact}
 use Rattle.net_base.specs.declared.field.FieldId.TheVariants.{EthType}
-use Rattle.of_match.specs.declared.ether_type.TheConstants.{ARP, IPV4, VLAN_TAG}
+use Rattle.of_match.specs.declared.ether_type.TheConstants.{ARP, IPV4, LLDP, VLAN_TAG}
 use Rattle.of_match.specs.declared.packet.L4.{L4}
 use Rattle.of_match.specs.declared.packet.L4.TheVariants as l4
 use Rattle.of_match.specs.declared.packet.Packet.{Packet}
@@ -49,6 +49,10 @@ tag vid = record { tpid = VLAN_TAG; pcp = 0; dei = false; vid = vid }
 -- a frame of type 0x0801, with nothing behind it
 abbrev pub frame : Mac → Mac → List Tag → Packet
 frame dst src tags = record { dst = dst; src = src; tags = tags; eth_type = 0x0801; upper = upper.None; rest = [] }
+
+-- LLDP from station 1 to 01:80:c2:00:00:0e, where the next bridge listens (IEEE 802.1AB, 7.1)
+abbrev pub lldp : List Tag → Packet
+lldp tags = record (frame (record { 0 = 1 ∷ 0x80 ∷ 0xc2 ∷ 0 ∷ 0 ∷ 0x0e ∷ [] }) (station 1) tags) { eth_type = LLDP }
 
 -- ---- two native ports and a tagged one in VLAN 100, and nothing learned
 

@@ -4,7 +4,7 @@ ghost use Rattle.conf_types.specs.Configuration.{vlan_with};
 ghost use Rattle.packet_way.specs.Admission.{admitted_to};
 ghost use Rattle.packet_way.specs.Known.{stack_of};
 ghost use Rattle.packet_way.specs.Present.{state_of};
-ghost use Rattle.packet_way.specs.Description.{sent_onward, leaving, leaving_in, behind_routing, by_routing, behind_source, in_vlan, admitted, from_edge, from_stack, from_port, sends};
+ghost use Rattle.packet_way.specs.Description.{sent_onward, leaving, leaving_in, behind_routing, by_routing, behind_source, in_vlan, admitted, from_edge, is_bare_lldp, from_stack, from_port, sends};
 
 use crate::admission::{admitted_to, tagged_with};
 use crate::drops::is_dropped;
@@ -17,6 +17,7 @@ use crate::source::{Heard, hear};
 use crate::verdict::{is_allowed, push_acl_sends};
 use conf_types::{Conf, Dp, Port, Vlan};
 use net_base::{DpId, NoMemory, PortNo};
+use of_match::ether_type::LLDP;
 use of_match::{Packet, Sents};
 use stack_paths::Paths;
 use std::alloc::Global;
@@ -37,6 +38,16 @@ fn admitting_vlan<'a>(conf: &'a Conf, port: &Port, packet: &Packet) -> Option<&'
     match admitted_to(port, packet) {
         Some(vid) => find_vlan(conf, vid.get()),
         None => None,
+    }
+}
+
+/// Whether it is LLDP without a tag.
+fn is_bare_lldp(packet: &Packet) -> bool
+    ensures { result ≡ is_bare_lldp packet.now }
+{
+    match packet.tags.as_slice() {
+        [] => packet.eth_type == LLDP,
+        [_, ..] => false,
     }
 }
 
@@ -192,6 +203,9 @@ impl<'a> Ingress<'a> {
     fn push_from_stack(&self, out: &mut Sents, packet: &Packet) -> Result<(), NoMemory>
         ensures { OnOk result (out.new ≡ out.old ++ from_stack self.now.conf.now (state_of self.now.learned.now) self.now.dp.now packet.now self.now.port.now) }
     {
+        if is_bare_lldp(packet) {
+            return push_to_controller(self.alloc, out, packet);
+        }
         match packet.tags.as_slice() {
             [] => Ok(()),
             [tag, ..] => self.push_leaving_in(out, tag.vid, packet),

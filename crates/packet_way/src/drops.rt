@@ -3,12 +3,10 @@ ghost use Rattle.packet_way.specs.Drops.{is_of_bridges, is_dropped};
 
 use conf_types::{Conf, Dp};
 use of_match::Packet;
+use of_match::ether_type::LLDP;
 
 /// Ethernet's broadcast address.
 pub const BROADCAST: u128 = 0xffff_ffff_ffff;
-
-/// The EtherType of LLDP.
-pub const LLDP: u16 = 0x88cc;
 
 /// Where Cisco's bridges speak their per-VLAN spanning tree protocol.
 pub const PVST_GROUP: u128 = 0x0100_0ccc_cccd;

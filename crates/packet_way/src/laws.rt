@@ -18,10 +18,10 @@ ghost use Rattle.conf_types.specs.declared.state.UpRec.{UpRec};
 ghost use Rattle.conf_types.specs.declared.vlan.Vlan.{Vlan};
 ghost use Rattle.conf_types.specs.State.{State, IsValidState};
 ghost use Rattle.conf_types.specs.Valid.{IsValid};
-ghost use Rattle.packet_way.specs.Description.{leaving, sends};
+ghost use Rattle.packet_way.specs.Description.{is_bare_lldp, leaving, sends};
 ghost use Rattle.packet_way.specs.Flood.{gets_flood, flooded};
 ghost use Rattle.packet_way.specs.Known.{stack_of};
-ghost use Rattle.packet_way.specs.Leaving.{without_tag};
+ghost use Rattle.packet_way.specs.Leaving.{to_controller, without_tag};
 ghost use Rattle.packet_way.specs.Verdict.{is_allowed, acl_sends};
 
 /// The datapaths of a configuration with the stack links that are up are a stack, so that what
@@ -74,7 +74,8 @@ pub fn nothing_goes_back_without_hairpin()
 {}
 
 /// The controller gets at most two copies of a packet: one from which it learns the source, and one by
-/// routing. A group address is no source to learn, and without a VIP nothing is routed.
+/// routing. A group address is no source to learn, and without a VIP nothing is routed. LLDP from an
+/// end of a stack link is the controller's alone.
 pub fn the_controller_gets_one_copy_by_the_source_and_one_by_routing()
     ensures both { (conf : Configuration) (now : State) (id : DpId) (port : ℕ) (p : Packet)
         → IsValid conf → count_by (λ s. s.port == CONTROLLER) (sends conf now id port p) ≤ 2 }
@@ -82,6 +83,8 @@ pub fn the_controller_gets_one_copy_by_the_source_and_one_by_routing()
         → IsValid conf → is_group p.src ≡ true → count_by (λ s. s.port == CONTROLLER) (sends conf now id port p) ≤ 1 }
     ensures learned { (conf : Configuration) (now : State) (id : DpId) (port : ℕ) (p : Packet)
         → IsValid conf → All (λ v. v.vips ≡ []) conf.vlans → count_by (λ s. s.port == CONTROLLER) (sends conf now id port p) ≤ 1 }
+    ensures told { (conf : Configuration) (now : State) (id : DpId) (port : ℕ) (i : Port) (p : Packet)
+        → port_at conf id port ≡ Some i → is_stack i ≡ true → is_bare_lldp p ≡ true → sends conf now id port p ≡ to_controller p }
 {}
 
 /// Of a flood a port that mirrors none gets one copy, if it is to get floods, and else none. No edge

@@ -15,7 +15,7 @@ mod source;
 mod verdict;
 pub mod worked;
 
-pub use drops::{BRIDGE_GROUP, BROADCAST, LLDP, PVST_GROUP};
+pub use drops::{BRIDGE_GROUP, BROADCAST, PVST_GROUP};
 pub use known::{Onward, host_with};
 pub use now::Now;
 pub use paths::make_paths;

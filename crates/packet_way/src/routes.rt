@@ -313,6 +313,24 @@ fn hop_less(upper: Upper) -> Option<Upper>
                 l4,
             })
         }
+        Upper::V6 {
+            src,
+            dst,
+            proto,
+            hops,
+            l4,
+        } => {
+            if hops < 2 {
+                return None;
+            }
+            Some(Upper::V6 {
+                src,
+                dst,
+                proto,
+                hops: hops - 1,
+                l4,
+            })
+        }
         _ => None,
     }
 }

@@ -7,7 +7,7 @@ ghost use Rattle.of_match.specs.declared.action.TheConstants.{CONTROLLER};
 ghost use Rattle.conf_types.specs.Worked.{dp, station, gateway, ip, edge, datapath, vlan};
 ghost use Rattle.packet_way.specs.Description.{sends};
 ghost use Rattle.packet_way.specs.Leaving.{sent};
-ghost use Rattle.packet_way.specs.Worked.{LengthsFit, broadcast, bridges, cisco_bridges, tag, frame, plain, nothing_learned, mirrored, settled, two_ports, two_vlans, one_neighbour, v4, udp, ping, arp, two_routes, two_gateways, ring, ring_with, all_up, link_down, host, learned, ruled};
+ghost use Rattle.packet_way.specs.Worked.{lldp, LengthsFit, broadcast, bridges, cisco_bridges, tag, frame, plain, nothing_learned, mirrored, settled, two_ports, two_vlans, one_neighbour, v4, udp, ping, arp, two_routes, two_gateways, ring, ring_with, all_up, link_down, host, learned, ruled};
 
 /// Ports 1 and 2 are native in a VLAN and port 3 is tagged there, and nothing is learned: to a station
 /// that isn't known a packet goes to all others and to the controller. A tag with identifier 0 is a
@@ -116,7 +116,7 @@ pub fn the_longest_prefix_whose_gateway_is_known()
 {}
 
 /// A ring of three datapaths, of which the first is the root. While its link to the second is down,
-/// packets for the second's hosts go through the third.
+/// packets for the second's hosts go through the third. LLDP from a stack port is the controller's alone.
 pub fn a_ring_of_three()
     ensures near { sends ring (ring_with all_up) (dp 1) 1 (frame (station 2) (station 1) [])
         ≡ sent 2 (frame (station 2) (station 1) (tag 100 ∷ [])) ∷ [] }
@@ -134,6 +134,9 @@ pub fn a_ring_of_three()
         ≡ sent 1 (frame broadcast (station 1) []) ∷ sent 3 (frame broadcast (station 1) (tag 100 ∷ [])) ∷ [] }
     ensures no_tag { sends ring (ring_with all_up) (dp 2) 2 (frame broadcast (station 1) []) ≡ [] }
     ensures no_vlan { sends ring (ring_with all_up) (dp 2) 2 (frame broadcast (station 1) (tag 200 ∷ [])) ≡ [] }
+    ensures lldp { sends ring (ring_with all_up) (dp 2) 2 (lldp []) ≡ sent CONTROLLER (lldp []) ∷ [] }
+    ensures lldp_with_a_tag { sends ring (ring_with all_up) (dp 2) 2 (lldp (tag 200 ∷ [])) ≡ [] }
+    ensures lldp_at_an_edge { sends ring (ring_with all_up) (dp 2) 1 (lldp []) ≡ [] }
 {}
 
 /// The first rule that hits decides: IPv4 goes to port 3 alone, which the rule names twice beside the

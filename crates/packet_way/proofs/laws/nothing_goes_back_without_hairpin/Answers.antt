@@ -43,7 +43,7 @@ module _ (conf : Configuration) (now : State) (valid : IsValid conf) (id : DpId)
   no_controller x = alone IsElsewhere CONTROLLER x (λ e. let most = (port_of conf valid id d dp_is i in_ports).number.most in omega (arith, e, most))
 
   all_elsewhere : (p : Packet) → All IsElsewhere (from_port conf now d p i)
-  all_elsewhere p = from_port_all (Each IsElsewhere) (each_joins IsElsewhere) conf now d i elsewhere p 0 0 (λ x single. no_controller x) (λ v x c vips. no_controller x)
+  all_elsewhere p = from_port_all (Each IsElsewhere) (each_joins IsElsewhere) conf now d i elsewhere p 0 0 (λ x single. no_controller x) (λ v x c vips. no_controller x) (λ x. no_controller x)
 
 pub returns : goal.returns
 returns c = λ conf now id port i p valid is no_hairpin.

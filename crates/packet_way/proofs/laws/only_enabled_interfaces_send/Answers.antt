@@ -76,7 +76,7 @@ module _ (conf : Configuration) (now : State) (valid : IsValid conf) (state : Is
   controlled x = alone (Leaves conf id) CONTROLLER x (inl refl)
 
   all_leave : (p : Packet) → All (Leaves conf id) (from_port conf now d p i)
-  all_leave p = from_port_all (Each (Leaves conf id)) (each_joins (Leaves conf id)) conf now d i each p 0 0 (λ x single. controlled x) (λ v x c vips. controlled x)
+  all_leave p = from_port_all (Each (Leaves conf id)) (each_joins (Leaves conf id)) conf now d i each p 0 0 (λ x single. controlled x) (λ v x c vips. controlled x) (λ x. controlled x)
 
 pub returns : goal.returns
 returns c = λ conf now id port p valid state.

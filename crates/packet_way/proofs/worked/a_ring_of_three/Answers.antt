@@ -19,4 +19,7 @@ returns c = record {
   flood_goes_around = refl;
   no_tag = refl;
   no_vlan = refl;
+  lldp = refl;
+  lldp_with_a_tag = refl;
+  lldp_at_an_edge = refl;
 }
