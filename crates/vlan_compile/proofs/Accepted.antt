@@ -23,19 +23,20 @@ use Rattle.conf_types.specs.Valid.{IsValid}
 use Rattle.conf_types.proofs.Found.{all_found}
 use Rattle.plan_base.specs.Accepted.{IsFlowEntry}
 use Rattle.plan_base.specs.declared.table.Table.TheVariants as table
-use Rattle.plan_base.specs.Fields.{in_port, eth_dst, eth_src, group_dst, vid_field, untagged}
+use Rattle.of_match.specs.declared.ether_type.TheConstants.{LLDP}
+use Rattle.plan_base.specs.Fields.{in_port, eth_type, eth_dst, eth_src, group_dst, vid_field, untagged}
 use Rattle.plan_base.specs.Actions.{out, to_ingress, to_controller, push_tag, set_vid}
 use Rattle.plan_base.specs.Entries.{leads_to}
 use Rattle.plan_base.specs.Sending.{mirrored, copied, sent}
 use Rattle.plan_base.proofs.Each.{all_from, all_append, all_map, all_filter, all_flat_map, all_contains}
 use Rattle.plan_base.proofs.Accepted.{is_out, is_to_controller, is_to_ingress, is_push_tag, is_set_vid, are_mirrored, are_copied, are_sent, are_instrs, made_of}
-use Rattle.plan_base.proofs.MatchFields.{is_in_port, is_eth_dst, is_eth_src, is_group_dst, is_vid_field, is_untagged, AreFields, are_fields}
+use Rattle.plan_base.proofs.MatchFields.{is_in_port, is_eth_type, is_eth_dst, is_eth_src, is_group_dst, is_vid_field, is_untagged, AreFields, are_fields}
 use Rattle.vlan_compile.specs.declared.flood.Flood.{Flood}
 use Rattle.vlan_compile.specs.declared.flood.Flood.TheVariants.{Group, Unicast}
 use Rattle.vlan_compile.specs.declared.flood.Ingress.{Ingress}
 use Rattle.vlan_compile.specs.declared.flood.Ingress.TheVariants.{Any, At}
 use Rattle.vlan_compile.specs.Vlans.{native_vlan, tagged_vlans, vlans_of}
-use Rattle.vlan_compile.specs.Admissions.{next_in, from_stack, without_tag, with_tag, from_stacks, from_edges, admissions}
+use Rattle.vlan_compile.specs.Admissions.{next_in, lldp_heard, from_stack, without_tag, with_tag, from_stacks, from_edges, admissions}
 use Rattle.vlan_compile.specs.Sources.{heard_copies, at_its_port, elsewhere, sources}
 use Rattle.vlan_compile.specs.Misses.{has_host, is_full, missed, miss, misses}
 use Rattle.vlan_compile.specs.Destinations.{sent_back, from_its_port, to_its_port, over_stack, at_port, destinations}
@@ -78,6 +79,10 @@ module _ (vid : ℕ) (is_vid : IsVid vid) where
 by_port_untagged : (port : ℕ) → IsPortNo port → AreFields (in_port port ∷ untagged ∷ [])
 by_port_untagged port is_port = are_fields _ ((lit< tt, tt), (tt, tt)) (is_in_port port is_port, (is_untagged, tt)) (refl, (refl, tt))
 
+by_port_lldp : (port : ℕ) → IsPortNo port → AreFields (in_port port ∷ eth_type LLDP ∷ untagged ∷ [])
+by_port_lldp port is_port =
+    are_fields _ ((lit< tt, (lit< tt, tt)), ((lit< tt, tt), (tt, tt))) (is_in_port port is_port, (is_eth_type LLDP (lit< tt), (is_untagged, tt))) (refl, (refl, (refl, tt)))
+
 -- ---- lists with conditions
 
 pub all_if : {X : Type 0} (P : X → Type 0) (b : Bool) (xs : List X) → AllByRecursion P xs → AllByRecursion P (cond b xs [])
@@ -98,6 +103,9 @@ module _ (conf : Configuration) (valid : IsValid conf) (d : Dp) (of_conf : Conta
     is_number : IsPortNo i.no
     is_number = all_contains (λ (p : Port). IsPortNo p.no) d.ports numbers i of_dp
 
+    lldp_heard_accepted : IsFlowEntry (lldp_heard i)
+    lldp_heard_accepted = made_of table.Admission 40 _ _ (lit< tt) (by_port_lldp i.no is_number) (are_instrs (to_controller ∷ []) None (is_to_controller, tt))
+
     from_stack_accepted : (v : Vlan) → IsVid v.vid → IsFlowEntry (from_stack i v)
     from_stack_accepted v vid = made_of table.Admission 40 _ _ (lit< tt) (by_port_vid v.vid vid i.no is_number) (are_instrs [] (Some table.Destination) tt)
 
@@ -114,8 +122,8 @@ module _ (conf : Configuration) (valid : IsValid conf) (d : Dp) (of_conf : Conta
     pub admissions_accepted : AllByRecursion IsFlowEntry (admissions conf d i)
     admissions_accepted =
         all_append IsFlowEntry (from_stacks conf i) (from_edges conf d i)
-        (all_if IsFlowEntry (is_stack i) (map (from_stack i) conf.vlans)
-        (all_map (from_stack i) IsFlowEntry conf.vlans (all_from {P = λ (v : Vlan). IsVid v.vid} {Q = λ (v : Vlan). IsFlowEntry (from_stack i v)} from_stack_accepted conf.vlans (vlans_numbered conf valid))))
+        (all_if IsFlowEntry (is_stack i) (lldp_heard i ∷ map (from_stack i) conf.vlans)
+        (lldp_heard_accepted, all_map (from_stack i) IsFlowEntry conf.vlans (all_from {P = λ (v : Vlan). IsVid v.vid} {Q = λ (v : Vlan). IsFlowEntry (from_stack i v)} from_stack_accepted conf.vlans (vlans_numbered conf valid))))
         (all_if IsFlowEntry (is_accepting i) (option_to_list (option_map (without_tag d i) (native_vlan conf i)) ++ map (with_tag d i) (tagged_vlans conf i))
         (all_append IsFlowEntry (option_to_list (option_map (without_tag d i) (native_vlan conf i))) (map (with_tag d i) (tagged_vlans conf i))
         (all_option (without_tag d i) IsFlowEntry (native_vlan conf i) (λ v e. without_tag_accepted v (native_numbered conf valid i v e)))

@@ -1,5 +1,5 @@
 -- No two entries of an interface, of a host or of a VLAN have one key.
-use Rattle.std.proofs.Common.{◌≡◌, ℕ, ◌+◌, ◌<◌, ◌==◌, Bool, true, false, cond, Option, Some, None, List, [], ◌∷◌, ◌++◌, map, filter, refl, sym, ap, ◌∙◌, arith, lit<}
+use Rattle.std.proofs.Common.{◌≡◌, ℕ, ◌+◌, ◌<◌, ◌==◌, Bool, true, false, cond, Option, Some, None, List, [], ◌∷◌, ◌++◌, length, map, filter, refl, sym, ap, ◌∙◌, arith, lit<}
 use Rattle.std.specs.Prelude.{Contains, option_to_list}
 use Rattle.std.specs.List.{AllByRecursion, filter_map, cons_option}
 use Rattle.std.specs.Option.{option_map, option_map_or, option_and_then}
@@ -24,7 +24,7 @@ use Rattle.vlan_compile.specs.declared.flood.Flood.TheVariants.{Group, Unicast}
 use Rattle.vlan_compile.specs.declared.flood.Ingress.{Ingress}
 use Rattle.vlan_compile.specs.declared.flood.Ingress.TheVariants.{Any, At}
 use Rattle.vlan_compile.specs.Vlans.{native_vlan, tagged_vlans, vlans_of}
-use Rattle.vlan_compile.specs.Admissions.{from_stack, without_tag, with_tag, from_stacks, from_edges, admissions}
+use Rattle.vlan_compile.specs.Admissions.{lldp_heard, from_stack, without_tag, with_tag, from_stacks, from_edges, admissions}
 use Rattle.vlan_compile.specs.Sources.{at_its_port, elsewhere, sources}
 use Rattle.vlan_compile.specs.Misses.{miss, misses}
 use Rattle.vlan_compile.specs.Destinations.{from_its_port, to_its_port, over_stack, at_port, destinations}
@@ -66,6 +66,9 @@ Differ e f = e.key ≡ f.key → ⊥
 
 by_priority : (e f : Entry) → (e.key.priority ≡ f.key.priority → ⊥) → Differ e f
 by_priority e f ne same = ne (ap (λ (k : Key). k.priority) same)
+
+by_length : (e f : Entry) → (length e.key.fields ≡ length f.key.fields → ⊥) → Differ e f
+by_length e f ne same = ne (ap (λ (k : Key). length k.fields) same)
 
 first_of_fields : (e f : Entry) (a c : Field) (more less : List Field) → e.key.fields ≡ a ∷ more → f.key.fields ≡ c ∷ less → (a.value ≡ c.value → ⊥) → Differ e f
 first_of_fields e f a c more less p q ne same =
@@ -116,10 +119,12 @@ module _ (conf : Configuration) (valid : IsValid conf) (d : Dp) (of_conf : Conta
 
   stacks_differ : HaveDistinctKeys (from_stacks conf i)
   stacks_differ =
-      before_if Differ (is_stack i) (map (from_stack i) conf.vlans)
-      (before_map (from_stack i) Differ conf.vlans
-      (before_from {R = λ (v w : Vlan). v.vid < w.vid} {S = λ (v w : Vlan). Differ (from_stack i v) (from_stack i w)}
-      (λ v w lt. second_of_fields (from_stack i v) (from_stack i w) _ _ _ _ refl refl (λ same. omega (arith, same, lt))) conf.vlans valid.vlans.in_order))
+      before_if Differ (is_stack i) (lldp_heard i ∷ map (from_stack i) conf.vlans) (
+        all_map (from_stack i) (Differ (lldp_heard i)) conf.vlans (always {P = λ (v : Vlan). Differ (lldp_heard i) (from_stack i v)} (λ v. by_length (lldp_heard i) (from_stack i v) (λ same. omega (arith, same))) conf.vlans),
+        before_map (from_stack i) Differ conf.vlans
+            (before_from {R = λ (v w : Vlan). v.vid < w.vid} {S = λ (v w : Vlan). Differ (from_stack i v) (from_stack i w)}
+            (λ v w lt. second_of_fields (from_stack i v) (from_stack i w) _ _ _ _ refl refl (λ same. omega (arith, same, lt))) conf.vlans valid.vlans.in_order),
+      )
 
   -- without a tag, and with one
   native_differs : (o : Option Vlan) → AllByRecursion (λ e. AllByRecursion (Differ e) (map (with_tag d i) (tagged_vlans conf i))) (option_to_list (option_map (without_tag d i) o))
@@ -149,7 +154,7 @@ module _ (conf : Configuration) (valid : IsValid conf) (d : Dp) (of_conf : Conta
   HasPriority n e = e.key.priority ≡ n
 
   stacks_at_40 : AllByRecursion (HasPriority 40) (from_stacks conf i)
-  stacks_at_40 = all_if (HasPriority 40) (is_stack i) (map (from_stack i) conf.vlans) (all_map (from_stack i) (HasPriority 40) conf.vlans (always {P = λ (v : Vlan). HasPriority 40 (from_stack i v)} (λ v. refl) conf.vlans))
+  stacks_at_40 = all_if (HasPriority 40) (is_stack i) (lldp_heard i ∷ map (from_stack i) conf.vlans) (refl, all_map (from_stack i) (HasPriority 40) conf.vlans (always {P = λ (v : Vlan). HasPriority 40 (from_stack i v)} (λ v. refl) conf.vlans))
 
   native_at_20 : (o : Option Vlan) → AllByRecursion (HasPriority 20) (option_to_list (option_map (without_tag d i) o) ++ map (with_tag d i) (tagged_vlans conf i))
   native_at_20 None = all_map (with_tag d i) (HasPriority 20) (tagged_vlans conf i) (always {P = λ (v : Vlan). HasPriority 20 (with_tag d i v)} (λ v. refl) (tagged_vlans conf i))

@@ -2,6 +2,7 @@
 use Rattle.std.specs.Prelude.{ℕ, ◌==◌, Some, None, List, [], ◌∷◌, ◌++◌, length, map, option_to_list, if◌then◌else◌}
 use Rattle.std.specs.Option.{option_map}
 use Rattle.of_match.specs.declared.entry.Entry.{Entry}
+use Rattle.of_match.specs.declared.ether_type.TheConstants.{LLDP}
 use Rattle.conf_types.specs.declared.datapath.Dp.{Dp}
 use Rattle.conf_types.specs.declared.datapath.Port.{Port}
 use Rattle.conf_types.specs.declared.vlan.Vlan.{Vlan}
@@ -9,8 +10,8 @@ use Rattle.conf_types.specs.Configuration.{Configuration}
 use Rattle.conf_types.specs.Membership.{is_stack, is_accepting}
 use Rattle.plan_base.specs.declared.table.Table.{Table}
 use Rattle.plan_base.specs.declared.table.Table.TheVariants.{Admission, VlanAcl, Source, Destination}
-use Rattle.plan_base.specs.Fields.{in_port, vid_field, untagged}
-use Rattle.plan_base.specs.Actions.{push_tag, set_vid}
+use Rattle.plan_base.specs.Fields.{in_port, eth_type, vid_field, untagged}
+use Rattle.plan_base.specs.Actions.{push_tag, set_vid, to_controller}
 use Rattle.plan_base.specs.Entries.{leads_to, entry}
 use Rattle.plan_base.specs.Sending.{mirrored}
 use Rattle.vlan_compile.specs.Vlans.{native_vlan, tagged_vlans}
@@ -19,6 +20,10 @@ use Rattle.vlan_compile.specs.Vlans.{native_vlan, tagged_vlans}
 -- datapath with an edge port of the VLAN, and the port that admits is one.
 abbrev pub next_in : Vlan → Table
 next_in v = if length v.acls == 0 then Source else VlanAcl
+
+-- priority 40: LLDP without a tag from another datapath of the stack is the controller's alone
+abbrev pub lldp_heard : Port → Entry
+lldp_heard i = entry Admission 40 (in_port i.no ∷ eth_type LLDP ∷ untagged ∷ []) (leads_to (to_controller ∷ []) None)
 
 -- priority 40: what comes from another datapath of the stack has the tag of its VLAN; there its source
 -- was heard and it was routed
@@ -35,9 +40,9 @@ abbrev pub with_tag : Dp → Port → Vlan → Entry
 with_tag d i v =
     entry Admission 20 (in_port i.no ∷ vid_field v.vid ∷ []) (leads_to (mirrored d i.no) (Some (next_in v)))
 
--- an enabled end of a stack link admits every VLAN of the configuration
+-- an enabled end of a stack link hands LLDP on, and admits every VLAN of the configuration
 abbrev pub from_stacks : Configuration → Port → List Entry
-from_stacks conf i = if is_stack i then map (from_stack i) conf.vlans else []
+from_stacks conf i = if is_stack i then lldp_heard i ∷ map (from_stack i) conf.vlans else []
 
 -- an edge port that takes packets in admits its native VLAN and its tagged ones
 abbrev pub from_edges : Configuration → Dp → Port → List Entry

@@ -2,14 +2,16 @@ ghost use Rattle.std.specs.Prelude.{◌≡◌, ◌++◌, map, IfOk, OnOk};
 ghost use Rattle.conf_types.specs.Count.{counted};
 ghost use Rattle.plan_base.specs.Sending.{mirrored};
 ghost use Rattle.vlan_compile.specs.Vlans.{tagged_vlans};
-ghost use Rattle.vlan_compile.specs.Admissions.{next_in, from_stack, without_tag, with_tag, from_stacks, from_edges, admissions};
+ghost use Rattle.vlan_compile.specs.Admissions.{next_in, lldp_heard, from_stack, without_tag, with_tag, from_stacks, from_edges, admissions};
 
 use crate::vlans::native_vlan;
 use conf_types::{Conf, Dp, Port, Tally, Vlan};
 use net_base::{NoMemory, PortNo, TryCopy, Vid};
+use of_match::ether_type::LLDP;
 use of_match::{Actions, Entries, Entry};
 use plan_base::{
-    Table, in_port, leads_to, make_entry, push_mirrored, push_tag, set_vid, untagged, vid_field,
+    Table, eth_type, in_port, leads_to, make_entry, push_mirrored, push_tag, set_vid,
+    to_controller, untagged, vid_field,
 };
 use std::alloc::Global;
 
@@ -22,6 +24,16 @@ fn next_in(vlan: &Vlan) -> Table
     } else {
         Table::VlanAcl
     }
+}
+
+pub(crate) fn make_lldp_heard(alloc: Global, port: &Port) -> Result<Entry, NoMemory>
+    ensures { IfOk result (λ made. made ≡ lldp_heard port.now) }
+{
+    let fields = [in_port(port.no), eth_type(LLDP), untagged()];
+    let mut actions = Actions::new(alloc);
+    actions.push(to_controller())?;
+    let instrs = leads_to(alloc, actions, None)?;
+    make_entry(alloc, Table::Admission, 40, &fields, instrs)
 }
 
 pub(crate) fn make_from_stack(alloc: Global, port: &Port, vlan: &Vlan) -> Result<Entry, NoMemory>
@@ -107,8 +119,8 @@ fn push_with_tags(
 }
 
 /// The flow entries of table 1 for an interface of a datapath: which VLAN admits a packet that comes in
-/// by it, at priority 20, and every VLAN at an end of a stack link, at priority 40. One unit of work is
-/// counted.
+/// by it, at priority 20, and at an end of a stack link, at priority 40, every VLAN, and LLDP without a
+/// tag, which the controller gets. One unit of work is counted.
 pub fn admit_entries<T: Tally>(
     alloc: Global,
     conf: &Conf,
@@ -122,6 +134,7 @@ pub fn admit_entries<T: Tally>(
     units.tick();
     let mut made = Entries::new(alloc);
     if port.is_stack() {
+        made.push(make_lldp_heard(alloc, port)?)?;
         push_from_stacks(alloc, &mut made, conf.vlans().as_slice(), port)?;
     }
     if port.is_accepting() {
