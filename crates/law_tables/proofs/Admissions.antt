@@ -6,11 +6,12 @@ use Rattle.std.specs.Option.{option_map, option_map_or}
 use Rattle.std.proofs.lemmas.Bool.{and_parts}
 use Rattle.std.proofs.lemmas.List.{append-nil}
 use Rattle.std.proofs.lemmas.Option.{same_Some, none-some}
-use Rattle.net_base.specs.declared.field.FieldId.TheVariants.{InPort, VlanVid}
+use Rattle.net_base.specs.declared.field.FieldId.TheVariants.{InPort, EthType, VlanVid}
 use Rattle.net_base.specs.declared.field.Field.{Field}
 use Rattle.net_base.specs.Numbers.{IsVid}
 use Rattle.of_match.specs.declared.action.Action.{Action}
 use Rattle.of_match.specs.declared.entry.Entry.{Entry}
+use Rattle.of_match.specs.declared.ether_type.TheConstants.{LLDP}
 use Rattle.of_match.specs.declared.packet.Packet.{Packet}
 use Rattle.of_match.specs.declared.packet.Sent.{Sent}
 use Rattle.of_match.specs.declared.packet.Tag.{Tag}
@@ -24,16 +25,19 @@ use Rattle.conf_types.specs.declared.vlan.Vlan.{Vlan}
 use Rattle.conf_types.specs.Configuration.{Configuration, vlan_with}
 use Rattle.conf_types.specs.Membership.{is_stack, is_edge, is_accepting, is_native_in, mirrors_of}
 use Rattle.conf_types.specs.State.{State}
-use Rattle.packet_way.specs.Admission.{tagged_with, with_tag as tag_put}
+use Rattle.packet_way.specs.Admission.{is_tagged, tagged_with, with_tag as tag_put}
+use Rattle.packet_way.specs.Description.{is_bare_lldp}
 use Rattle.packet_way.specs.Drops.{is_dropped}
-use Rattle.packet_way.specs.Leaving.{copies}
+use Rattle.packet_way.specs.Leaving.{copies, to_controller}
+use Rattle.packet_way.proofs.Taking.{not_bare}
 use Rattle.plan_base.specs.declared.table.Table.TheVariants as table
+use Rattle.plan_base.specs.Actions as action
 use Rattle.plan_base.specs.Actions.{push_tag, set_vid}
 use Rattle.plan_base.specs.Entries.{table_number, leads_to, entry}
-use Rattle.plan_base.specs.Fields.{in_port, vid_field, untagged}
+use Rattle.plan_base.specs.Fields.{in_port, eth_type, vid_field, untagged}
 use Rattle.plan_base.specs.Sending.{mirrored}
 use Rattle.acl_compile.specs.Slices.{port_acl}
-use Rattle.vlan_compile.specs.Admissions.{admissions, from_stacks, from_edges, from_stack, without_tag, with_tag, next_in}
+use Rattle.vlan_compile.specs.Admissions.{admissions, from_stacks, from_edges, lldp_heard, from_stack, without_tag, with_tag, next_in}
 use Rattle.vlan_compile.specs.Misses.{misses}
 use Rattle.vlan_compile.specs.Vlans.{native_vlan, tagged_vlans}
 use Rattle.law_runs.specs.Decided.{Does, Follows, IsDecided, decided, none_takes}
@@ -41,7 +45,7 @@ use Rattle.law_runs.specs.Members.{in_front, behind, in_mapped, in_flat, in_then
 use Rattle.law_runs.specs.Order.{same_self, same_equal}
 use Rattle.law_runs.specs.Outputs.{sends_joined, left_joined}
 use Rattle.law_runs.specs.Runs.{missed, stopped, went}
-use Rattle.plan_units.specs.Agrees.{by_port, in_vlan, without_a_tag, names_vlan}
+use Rattle.plan_units.specs.Agrees.{by_port, of_type, in_vlan, without_a_tag, names_vlan}
 use Rattle.plan_units.specs.Copies.{outs_send, outs_leave, mirrors_go_out}
 use Rattle.plan_units.specs.Facts.{found, none_found, some_passes, none_passes, one_port, port_number, vlan_in, one_vlan, vlan_number}
 use Rattle.plan_units.specs.Fixed.{drops, from_group, passes, fixed}
@@ -93,7 +97,7 @@ module _ (conf : Configuration) (now : State) (d : Dp) (setting : IsSetting conf
         let P : Entry → Type 0 = λ e. taken e ≡ false in
         let not_here : (fields : List Field) → (agrees (in_port j.no) (value_of InPort port p) && hits fields port p) ≡ false = λ fields. ap (λ b. b && hits fields port p) apart in
         all_joined P (from_stacks conf j) (from_edges conf d j)
-        (all_if P (is_stack j) (map (from_stack j) conf.vlans) [] (λ is. all_mapped P (from_stack j) conf.vlans (all_by (λ w. P (from_stack j w)) conf.vlans (λ w c. not_here (vid_field w.vid ∷ [])))) (λ is. tt))
+        (all_if P (is_stack j) (lldp_heard j ∷ map (from_stack j) conf.vlans) [] (λ is. (not_here (eth_type LLDP ∷ untagged ∷ []), all_mapped P (from_stack j) conf.vlans (all_by (λ w. P (from_stack j w)) conf.vlans (λ w c. not_here (vid_field w.vid ∷ []))))) (λ is. tt))
         (all_if P (is_accepting j) _ [] (λ is.
         all_joined P (option_to_list (option_map (without_tag d j) (native_vlan conf j))) (map (with_tag d j) (tagged_vlans conf j)) (one (native_vlan conf j) not_here) (all_mapped P (with_tag d j) (tagged_vlans conf j) (all_by (λ w. P (with_tag d j w)) (tagged_vlans conf j) (λ w c. not_here (vid_field w.vid ∷ [])))))
         (λ is. tt))
@@ -129,6 +133,21 @@ module _ (conf : Configuration) (now : State) (d : Dp) (setting : IsSetting conf
         by : (ts : List Tag) → p.tags ≡ ts → p.tags ≡ []
         by [] e = e
         by (tag ∷ tags) e = absurd (true≢false (sym hit ∙ has_tag tag tags e))
+
+    -- LLDP without a tag, and no other, agrees with what its entry asks
+    and_true : (b : Bool) → (b && true) ≡ b
+    and_true true = refl
+    and_true false = refl
+
+    bare_is : (ts : List Tag) → (vid_value ts == 0) ≡ not (is_tagged ts)
+    bare_is [] = refl
+    bare_is (tag ∷ tags) = ne_eqb (0x1000 + tag.vid) 0 (λ e. omega (arith, e))
+
+    lldp_hit : (agrees (eth_type LLDP) (value_of EthType port p) && (agrees untagged (value_of VlanVid port p) && true)) ≡ is_bare_lldp p
+    lldp_hit =
+        let by_type = of_type port p shaped LLDP (omega arith) in
+        let by_tags = and_true (agrees untagged (value_of VlanVid port p)) ∙ without_a_tag port p shaped ∙ bare_is p.tags in
+        λ x. by_type x && by_tags x
 
     record HasTag (w : Vlan) : Type 0 where
       tag : Tag
@@ -170,11 +189,14 @@ module _ (conf : Configuration) (now : State) (d : Dp) (setting : IsSetting conf
             by_tag accepting w tag (admits_tagged conf i p w tag.tag tag.tags n tag.is c is tag.same)
 
     -- and of each that takes it from the stack
-    of_stacks : (Q : Entry → Type 0) → (is_stack i ≡ true → (w : Vlan) → Contains conf.vlans w → HasTag w → Q (from_stack i w)) → AllByRecursion (λ e. taken e ≡ true → Q e) (from_stacks conf i)
-    of_stacks Q by_tag =
-        all_if P (is_stack i) (map (from_stack i) conf.vlans) [] (λ is. all_mapped P (from_stack i) conf.vlans (all_by (λ w. P (from_stack i w)) conf.vlans (λ w c hit.
-        let parts = and_parts (agrees (in_port i.no) (value_of InPort port p)) (agrees (vid_field w.vid) (value_of VlanVid port p) && true) hit in
-        by_tag is w c (tag_is w (sym (tag_hit w (vlan_number conf setting.valid d setting.is_dp w c)) ∙ (and_parts (agrees (vid_field w.vid) (value_of VlanVid port p)) true parts.1).0))))) (λ is. tt)
+    of_stacks : (Q : Entry → Type 0) → (is_stack i ≡ true → is_bare_lldp p ≡ true → Q (lldp_heard i)) → (is_stack i ≡ true → (w : Vlan) → Contains conf.vlans w → HasTag w → Q (from_stack i w)) → AllByRecursion (λ e. taken e ≡ true → Q e) (from_stacks conf i)
+    of_stacks Q bare by_tag =
+        all_if P (is_stack i) (lldp_heard i ∷ map (from_stack i) conf.vlans) [] (λ is. (
+          (λ hit. bare is (sym lldp_hit ∙ (and_parts (agrees (in_port i.no) (value_of InPort port p)) (agrees (eth_type LLDP) (value_of EthType port p) && (agrees untagged (value_of VlanVid port p) && true)) hit).1)),
+          all_mapped P (from_stack i) conf.vlans (all_by (λ w. P (from_stack i w)) conf.vlans (λ w c hit.
+              let parts = and_parts (agrees (in_port i.no) (value_of InPort port p)) (agrees (vid_field w.vid) (value_of VlanVid port p) && true) hit in
+              by_tag is w c (tag_is w (sym (tag_hit w (vlan_number conf setting.valid d setting.is_dp w c)) ∙ (and_parts (agrees (vid_field w.vid) (value_of VlanVid port p)) true parts.1).0)))),
+        )) (λ is. tt)
       where
         P : Entry → Type 0
         P e = taken e ≡ true → Q e
@@ -210,18 +232,38 @@ module _ (conf : Configuration) (now : State) (d : Dp) (setting : IsSetting conf
           record {
             by = from_stack i v;
             within = behind (fixed conf d) _ (from_stack i v) (in_front (flat_map (of_port conf now d) d.ports) _ (from_stack i v) (in_flat (of_port conf now d) d.ports i (from_stack i v) came.within
-                (behind (port_acl conf d i) (admissions conf d i ++ misses conf d i now.hosts) (from_stack i v) (in_front (admissions conf d i) _ (from_stack i v) (in_front (from_stacks conf i) (from_edges conf d i) (from_stack i v) (in_then (is_stack i) (map (from_stack i) conf.vlans) [] (from_stack i v) stack (in_mapped (from_stack i) conf.vlans v v_in)))))));
+                (behind (port_acl conf d i) (admissions conf d i ++ misses conf d i now.hosts) (from_stack i v) (in_front (admissions conf d i) _ (from_stack i v) (in_front (from_stacks conf i) (from_edges conf d i) (from_stack i v) (in_then (is_stack i) (lldp_heard i ∷ map (from_stack i) conf.vlans) [] (from_stack i v) stack (behind (lldp_heard i ∷ []) (map (from_stack i) conf.vlans) (from_stack i v) (in_mapped (from_stack i) conf.vlans v v_in))))))));
             hit = rw (of_port_no i came.within ∙ eq-eqb port i.no (sym came.is)) (rw (tag_hit v (vlan_number conf setting.valid d setting.is_dp v v_in) ∙ names_vlan p tag v.vid outer ∙ eq-eqb tag.vid v.vid same) refl);
             all = followed 1 port p 40 [] (Some (7, p)) (plan conf now d) (at_1 (Part 40 [] (Some (7, p)))
                 (all_drops conf d (Part 40 [] (Some (7, p))) (λ priority field least most hit le. absurd (omega (arith, most, le))))
-                (own (λ e. 40 ≤ e.key.priority → Does 1 port p [] (Some (7, p)) e) (of_stacks (λ e. 40 ≤ e.key.priority → Does 1 port p [] (Some (7, p)) e) (λ s w c t le. (same_self [], refl)))
+                (own (λ e. 40 ≤ e.key.priority → Does 1 port p [] (Some (7, p)) e) (of_stacks (λ e. 40 ≤ e.key.priority → Does 1 port p [] (Some (7, p)) e) (λ s bare le. absurd (true≢false (sym bare ∙ not_bare p tag outer))) (λ s w c t le. (same_self [], refl)))
                 (of_edges (λ e. 40 ≤ e.key.priority → Does 1 port p [] (Some (7, p)) e) (λ accepting w none a le. absurd (omega (arith, le))) (λ accepting w t a le. absurd (omega (arith, le))))));
           }
 
-      other_stack : option_and_then (λ (tag : Tag). vlan_with conf.vlans tag.vid) (outermost p.tags) ≡ None → Sends conf now d 1 port p []
-      other_stack none =
+      -- LLDP without a tag is the controller's alone
+      told : Does 1 port p (to_controller p) None (lldp_heard i)
+      told = let to_it : act_sends (action.to_controller ∷ []) port p ≡ to_controller p = rw came.no_controller refl in (same_equal (act_sends (action.to_controller ∷ []) port p) (to_controller p) to_it, refl)
+
+      abbrev Told : Entry → Type 0
+      Told e = 40 ≤ e.key.priority → Does 1 port p (to_controller p) None e
+
+      bare_stack : is_bare_lldp p ≡ true → Sends conf now d 1 port p (to_controller p)
+      bare_stack bare =
+          stopped (plan conf now d) port 1 p (to_controller p) (decided 1 port p (plan conf now d) (to_controller p) None (record {
+            by = lldp_heard i;
+            within = behind (fixed conf d) _ (lldp_heard i) (in_front (flat_map (of_port conf now d) d.ports) _ (lldp_heard i) (in_flat (of_port conf now d) d.ports i (lldp_heard i) came.within
+                (behind (port_acl conf d i) (admissions conf d i ++ misses conf d i now.hosts) (lldp_heard i) (in_front (admissions conf d i) _ (lldp_heard i) (in_front (from_stacks conf i) (from_edges conf d i) (lldp_heard i) (in_then (is_stack i) (lldp_heard i ∷ map (from_stack i) conf.vlans) [] (lldp_heard i) stack (head_of (lldp_heard i) (map (from_stack i) conf.vlans))))))));
+            hit = rw (of_port_no i came.within ∙ eq-eqb port i.no (sym came.is)) (lldp_hit ∙ bare);
+            all = followed 1 port p 40 (to_controller p) None (plan conf now d) (at_1 (Part 40 (to_controller p) None)
+                (all_drops conf d (Part 40 (to_controller p) None) (λ priority field least most hit le. absurd (omega (arith, most, le))))
+                (own Told (of_stacks Told (λ s is le. told) (λ s w c t le. absurd (true≢false (sym bare ∙ not_bare p t.tag (ap outermost t.is)))))
+                (of_edges Told (λ accepting w none a le. absurd (omega (arith, le))) (λ accepting w t a le. absurd (omega (arith, le))))));
+          }))
+
+      other_stack : is_bare_lldp p ≡ false → option_and_then (λ (tag : Tag). vlan_with conf.vlans tag.vid) (outermost p.tags) ≡ None → Sends conf now d 1 port p []
+      other_stack other none =
           ends dropped_end (own (Does 1 port p [] None)
-          (of_stacks (Does 1 port p [] None) (λ s w c t. absurd (none-some w (sym none ∙ ap (λ ts. option_and_then (λ (tag : Tag). vlan_with conf.vlans tag.vid) (outermost ts)) t.is ∙ ap (vlan_with conf.vlans) t.same ∙ there w c))))
+          (of_stacks (Does 1 port p [] None) (λ s bare. absurd (true≢false (sym bare ∙ other))) (λ s w c t. absurd (none-some w (sym none ∙ ap (λ ts. option_and_then (λ (tag : Tag). vlan_with conf.vlans tag.vid) (outermost ts)) t.is ∙ ap (vlan_with conf.vlans) t.same ∙ there w c))))
           (of_edges (Does 1 port p [] None) (λ accepting w n a. absurd (stack_apart i stack accepting)) (λ accepting w t a. absurd (stack_apart i stack accepting))))
         where
           there : (w : Vlan) → Contains conf.vlans w → vlan_with conf.vlans w.vid ≡ Some w
@@ -237,7 +279,7 @@ module _ (conf : Configuration) (now : State) (d : Dp) (setting : IsSetting conf
 
     module _ (accepting : is_accepting i ≡ true) where
       not_stack : (Q : Entry → Type 0) → AllByRecursion (λ e. taken e ≡ true → Q e) (from_stacks conf i)
-      not_stack Q = of_stacks Q (λ stack w c t. absurd (stack_apart i stack accepting))
+      not_stack Q = of_stacks Q (λ stack bare. absurd (stack_apart i stack accepting)) (λ stack w c t. absurd (stack_apart i stack accepting))
 
       drops_it : is_dropped conf d p ≡ true → Sends conf now d 1 port p []
       drops_it is =
@@ -374,7 +416,8 @@ module _ (conf : Configuration) (now : State) (d : Dp) (setting : IsSetting conf
   pub law : AdmissionLaw conf now d
   law = record {
     stack = λ port p i v shaped is_port stack is_vlan is_in rest more. went (plan conf now d) port 1 p [] 7 p rest (decided 1 port p (plan conf now d) [] (Some (7, p)) (in_stack port p shaped i is_port stack v is_vlan is_in.0 is_in.1 is_in.2)) more;
-    stack_other = λ port p i shaped is_port stack none. other_stack port p shaped i is_port stack none;
+    stack_lldp = λ port p i shaped is_port stack bare. bare_stack port p shaped i is_port stack bare;
+    stack_other = λ port p i shaped is_port stack other none. other_stack port p shaped i is_port stack other none;
     dropped = λ port p i shaped is_port accepting is. drops_it port p shaped i is_port accepting is;
     kept_out = λ port p i shaped is_port accepting kept none. kept_out port p shaped i is_port accepting none;
     lands = λ port p i v shaped is_port accepting is. lands port p shaped i is_port accepting v is;

@@ -18,7 +18,8 @@ use Rattle.conf_types.specs.Configuration.{Configuration}
 use Rattle.conf_types.specs.Lists.{is_same}
 use Rattle.conf_types.specs.State.{is_gateway_address}
 use Rattle.conf_types.specs.Valid.{IsValid, IsVlan}
-use Rattle.packet_way.specs.declared.drops.TheConstants.{BROADCAST, LLDP, PVST_GROUP, BRIDGE_GROUP}
+use Rattle.of_match.specs.declared.ether_type.TheConstants.{LLDP}
+use Rattle.packet_way.specs.declared.drops.TheConstants.{BROADCAST, PVST_GROUP, BRIDGE_GROUP}
 use Rattle.packet_way.specs.Drops.{is_dropped, is_of_bridges}
 use Rattle.plan_base.specs.Fields.{eth_src, eth_type}
 use Rattle.law_runs.specs.Members.{of_all, all_by, all_joined, all_mapped, all_if}

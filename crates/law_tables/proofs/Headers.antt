@@ -10,12 +10,12 @@ use Rattle.net_base.specs.declared.field.FieldId.TheVariants.{VlanVid, IpProto, 
 use Rattle.net_base.specs.declared.net4.Net4.{Net4}
 use Rattle.net_base.specs.Address.{IsSixBytes, mac_value, mac_of}
 use Rattle.of_match.specs.declared.packet.L4.{L4}
-use Rattle.of_match.specs.declared.packet.L4.TheVariants.{None as NoL4, Tcp, Udp, Icmp}
+use Rattle.of_match.specs.declared.packet.L4.TheVariants.{None as NoL4, Tcp, Udp, Icmp, Icmp6}
 use Rattle.of_match.specs.declared.packet.Packet.{Packet}
 use Rattle.of_match.specs.declared.packet.Sent.{Sent}
 use Rattle.of_match.specs.declared.packet.Tag.{Tag}
 use Rattle.of_match.specs.declared.packet.Upper.{Upper}
-use Rattle.of_match.specs.declared.packet.Upper.TheVariants.{None as NoUpper, Arp, V4}
+use Rattle.of_match.specs.declared.packet.Upper.TheVariants.{None as NoUpper, Arp, V4, V6}
 use Rattle.of_match.specs.Act.{act_sends, act_left, left_by, set_tags, set_upper, set_l4, lowered}
 use Rattle.of_match.specs.Hit.{agrees, upper_value, l4_value, outermost}
 use Rattle.of_match.specs.Shaped.{IsTag, AgreesWithType, FitsUpper}
@@ -34,21 +34,31 @@ both false b ea eb = absurd (true≢false (sym ea))
 
 -- ---- IPv4
 
+no_ipv4 : (l4 : L4) → l4_value Ipv4Dst l4 ≡ None
+no_ipv4 NoL4 = refl
+no_ipv4 (Tcp src dst) = refl
+no_ipv4 (Udp src dst) = refl
+no_ipv4 (Icmp kind code) = refl
+no_ipv4 (Icmp6 kind code target) = refl
+
 pub dst_value : (upper : Upper) → upper_value Ipv4Dst upper ≡ destination upper
 dst_value NoUpper = refl
 dst_value (Arp op spa tpa) = refl
 dst_value (V4 src dst proto ttl l4) = refl
+dst_value (V6 src dst proto hops l4) = no_ipv4 l4
 
 pub dst_fits : (upper : Upper) → FitsUpper upper → (ip : ℕ) → destination upper ≡ Some ip → ip < 2 ^ 32
 dst_fits NoUpper f ip is = absurd (none-some ip is)
 dst_fits (Arp op spa tpa) f ip is = absurd (none-some ip is)
+dst_fits (V6 src dst proto hops l4) f ip is = absurd (none-some ip is)
 dst_fits (V4 src dst proto ttl l4) f ip is = subst (λ n. n < 2 ^ 32) (same_Some dst.0 ip is) f.1
 
--- without a destination there is no hop left
-pub no_hop : (upper : Upper) → destination upper ≡ None → hop_less upper ≡ None
-no_hop NoUpper is = refl
-no_hop (Arp op spa tpa) is = refl
-no_hop (V4 src dst proto ttl l4) is = absurd (none-some dst.0 (sym is))
+-- behind the type of IPv4, without a destination there is no hop left
+pub no_hop : (upper : Upper) (number : ℕ) → AgreesWithType number upper → number ≡ 0x0800 → destination upper ≡ None → hop_less upper ≡ None
+no_hop NoUpper number a ipv4 is = refl
+no_hop (Arp op spa tpa) number a ipv4 is = refl
+no_hop (V4 src dst proto ttl l4) number a ipv4 is = absurd (none-some dst.0 (sym is))
+no_hop (V6 src dst proto hops l4) number a ipv4 is = absurd (let ipv6 = a.0 in omega (arith, ipv6, ipv4))
 
 -- ---- ARP for a VIP
 
@@ -57,6 +67,7 @@ no_arp NoL4 = refl
 no_arp (Tcp src dst) = refl
 no_arp (Udp src dst) = refl
 no_arp (Icmp kind code) = refl
+no_arp (Icmp6 kind code target) = refl
 
 -- a packet that agrees with the field of a VIP asks for it
 pub asks : (vips : List Net4) (upper : Upper) → FitsUpper upper → (vip : Net4) → Contains vips vip → vip.ip.0 < 2 ^ 32 → agrees (arp_tpa vip.ip.0) (upper_value ArpTpa upper) ≡ true → is_arp_for vips upper ≡ true
@@ -65,6 +76,7 @@ asks vips (Arp op spa tpa) f vip c fits hit =
     let e = eqb-true tpa.0 vip.ip.0 (sym (agrees_exact ArpTpa vip.ip.0 tpa.0 f.2 fits) ∙ hit) in
     any_true (λ (x : Net4). x.ip.0 == tpa.0) vips vip c (eq-eqb vip.ip.0 tpa.0 (sym e))
 asks vips (V4 src dst proto ttl l4) f vip c fits hit = absurd (true≢false (sym hit ∙ ap (agrees (arp_tpa vip.ip.0)) (no_arp l4)))
+asks vips (V6 src dst proto hops l4) f vip c fits hit = absurd (true≢false (sym hit ∙ ap (agrees (arp_tpa vip.ip.0)) (no_arp l4)))
 
 pub record Asked (vips : List Net4) (upper : Upper) : Type 0 where
   pub vip : Net4
@@ -81,12 +93,14 @@ asked_for vips (Arp op spa tpa) f is =
       asked = λ fits. agrees_exact ArpTpa (x.0).ip.0 tpa.0 f.2 fits ∙ eq-eqb tpa.0 (x.0).ip.0 (sym (eqb-true (x.0).ip.0 tpa.0 (x.1).passes));
     }
 asked_for vips (V4 src dst proto ttl l4) f is = absurd (true≢false (sym is))
+asked_for vips (V6 src dst proto hops l4) f is = absurd (true≢false (sym is))
 
 -- ARP has its own type
 pub arp_type : (vips : List Net4) (upper : Upper) (number : ℕ) → AgreesWithType number upper → is_arp_for vips upper ≡ true → number ≡ 0x0806
 arp_type vips NoUpper number a is = absurd (true≢false (sym is))
 arp_type vips (Arp op spa tpa) number a is = a
 arp_type vips (V4 src dst proto ttl l4) number a is = absurd (true≢false (sym is))
+arp_type vips (V6 src dst proto hops l4) number a is = absurd (true≢false (sym is))
 
 -- ---- echo requests
 
@@ -99,18 +113,26 @@ echoes (Arp op spa tpa) f is = absurd (true≢false (sym is))
 echoes (V4 src dst proto ttl NoL4) f is = absurd (true≢false (sym (and_parts (proto == 1) false is).1))
 echoes (V4 src dst proto ttl (Tcp from to)) f is = absurd (true≢false (sym (and_parts (proto == 1) false is).1))
 echoes (V4 src dst proto ttl (Udp from to)) f is = absurd (true≢false (sym (and_parts (proto == 1) false is).1))
+echoes (V4 src dst proto ttl (Icmp6 kind code target)) f is = absurd (true≢false (sym (and_parts (proto == 1) false is).1))
+echoes (V6 src dst proto hops l4) f is = absurd (true≢false (sym is))
 echoes (V4 src dst proto ttl (Icmp kind code)) f is =
     let x = and_parts (proto == 1) (kind == 8) is in
     let l = f.4 in
     (agrees_exact IpProto 1 proto f.2 (omega arith) ∙ x.0, agrees_exact Icmpv4Type 8 kind l.0 (omega arith) ∙ x.1)
 
-pub is_echo : (upper : Upper) → FitsUpper upper → AgreesEcho upper → is_echo_request upper ≡ true
-is_echo NoUpper f a = absurd (true≢false (sym a.0))
-is_echo (Arp op spa tpa) f a = absurd (true≢false (sym a.0))
-is_echo (V4 src dst proto ttl NoL4) f a = absurd (true≢false (sym a.1))
-is_echo (V4 src dst proto ttl (Tcp from to)) f a = absurd (true≢false (sym a.1))
-is_echo (V4 src dst proto ttl (Udp from to)) f a = absurd (true≢false (sym a.1))
-is_echo (V4 src dst proto ttl (Icmp kind code)) f a =
+pub is_echo : (upper : Upper) (number : ℕ) → AgreesWithType number upper → FitsUpper upper → AgreesEcho upper → is_echo_request upper ≡ true
+is_echo NoUpper number own f a = absurd (true≢false (sym a.0))
+is_echo (Arp op spa tpa) number own f a = absurd (true≢false (sym a.0))
+is_echo (V4 src dst proto ttl NoL4) number own f a = absurd (true≢false (sym a.1))
+is_echo (V4 src dst proto ttl (Tcp from to)) number own f a = absurd (true≢false (sym a.1))
+is_echo (V4 src dst proto ttl (Udp from to)) number own f a = absurd (true≢false (sym a.1))
+is_echo (V4 src dst proto ttl (Icmp6 kind code target)) number own f a = absurd (true≢false (sym a.1))
+is_echo (V6 src dst proto hops NoL4) number own f a = absurd (true≢false (sym a.1))
+is_echo (V6 src dst proto hops (Tcp from to)) number own f a = absurd (true≢false (sym a.1))
+is_echo (V6 src dst proto hops (Udp from to)) number own f a = absurd (true≢false (sym a.1))
+is_echo (V6 src dst proto hops (Icmp kind code)) number own f a = absurd own.1
+is_echo (V6 src dst proto hops (Icmp6 kind code target)) number own f a = absurd (true≢false (sym a.1))
+is_echo (V4 src dst proto ttl (Icmp kind code)) number own f a =
     let l = f.4 in
     both (proto == 1) (kind == 8) (sym (agrees_exact IpProto 1 proto f.2 (omega arith)) ∙ a.0) (sym (agrees_exact Icmpv4Type 8 kind l.0 (omega arith)) ∙ a.1)
 
@@ -120,18 +142,21 @@ pub lowered_is : (upper : Upper) → lowered upper ≡ hop_less upper
 lowered_is NoUpper = refl
 lowered_is (Arp op spa tpa) = refl
 lowered_is (V4 src dst proto ttl l4) = refl
+lowered_is (V6 src dst proto hops l4) = refl
 
 same_l4 : (n : ℕ) (l4 : L4) → set_l4 VlanVid n l4 ≡ l4
 same_l4 n NoL4 = refl
 same_l4 n (Tcp src dst) = refl
 same_l4 n (Udp src dst) = refl
 same_l4 n (Icmp kind code) = refl
+same_l4 n (Icmp6 kind code target) = refl
 
 -- a tag's field is in no other header
 same_upper : (n : ℕ) (upper : Upper) → set_upper VlanVid n upper ≡ upper
 same_upper n NoUpper = refl
 same_upper n (Arp op spa tpa) = refl
 same_upper n (V4 src dst proto ttl l4) = ap (V4 src dst proto ttl) (same_l4 n l4)
+same_upper n (V6 src dst proto hops l4) = ap (V6 src dst proto hops) (same_l4 n l4)
 
 -- the outermost tag names the VLAN
 tags_moved : (vid : ℕ) → vid < 2 ^ 12 → (tags : List Tag) → set_tags VlanVid (0x1000 + vid) tags ≡ moved_to vid tags
@@ -180,6 +205,11 @@ upper_fits number (V4 src dst proto ttl l4) upper is a f = by (nat_lt ttl 2) is
     by : (b : Bool) → (if b then None else Some (V4 src dst proto (ttl - 1) l4)) ≡ Some upper → AgreesWithType number upper × FitsUpper upper
     by true is = absurd (none-some upper is)
     by false is = let less = f.3 in subst (λ x. AgreesWithType number x × FitsUpper x) (same_Some (V4 src dst proto (ttl - 1) l4) upper is) (a, (f.0, f.1, f.2, omega (arith, less), f.4))
+upper_fits number (V6 src dst proto hops l4) upper is a f = by (nat_lt hops 2) is
+  where
+    by : (b : Bool) → (if b then None else Some (V6 src dst proto (hops - 1) l4)) ≡ Some upper → AgreesWithType number upper × FitsUpper upper
+    by true is = absurd (none-some upper is)
+    by false is = let less = f.3 in subst (λ x. AgreesWithType number x × FitsUpper x) (same_Some (V6 src dst proto (hops - 1) l4) upper is) (a, (f.0, f.1, f.2, omega (arith, less), f.4))
 
 -- and of that VLAN
 pub moved_tag : (vid : ℕ) (tags : List Tag) (tag : Tag) → outermost tags ≡ Some tag → (t : Tag) × (outermost (moved_to vid tags) ≡ Some t) × (t.vid ≡ vid)

@@ -404,7 +404,7 @@ module _ (conf : Configuration) (now : State) (d : Dp) (setting : IsSetting conf
                     let a = echoes p.upper o.shaped.numbers is in
                     answered (echo_entry v) (in_last (echo_entry v) (0, omega arith, refl))
                     (hits_where (echo_entry v).key.fields port p (to_gateway ∙ own, (type_hit IPV4 (omega arith) ∙ is_ipv4, (own_vlan, (a.0, (a.1, tt)))))) (omega arith)
-                by false is = ended no_arp_type (λ h. true≢false (sym (is_echo p.upper o.shaped.numbers (agreed h)) ∙ is)) own
+                by false is = ended no_arp_type (λ h. true≢false (sym (is_echo p.upper p.eth_type o.shaped.upper o.shaped.numbers (agreed h)) ∙ is)) own
                   where
                     agreed : hits (echo_entry v).key.fields port p ≡ true → AgreesEcho p.upper
                     agreed h =
@@ -473,7 +473,7 @@ module _ (conf : Configuration) (now : State) (d : Dp) (setting : IsSetting conf
                 ends_there w s _ (of_neighbour n mac near six) is does = absurd (omega (arith, is))
                 ends_there w s _ (of_network vip c) is does = no_default conf now d setting v v_in w s vip c is
                 ends_there w s _ (of_route route mac c far six) is does =
-                    (does.0, does.1 ∙ ap (option_map (λ upper. (7, moved w.vid w.mac mac p upper))) (no_hop p.upper none))
+                    (does.0, does.1 ∙ ap (option_map (λ upper. (7, moved w.vid w.mac mac p upper))) (no_hop p.upper p.eth_type o.shaped.upper (eqb-true p.eth_type IPV4 is_ipv4) none))
 
             by_longest : (ip : ℕ) → destination p.upper ≡ Some ip → (b : Option RouteItem) → Chosen items ip b → Outcome (option_map_or (λ item. led_by item.to p) b routed_case.Ends)
             by_longest ip is None none = no_way (λ x c h. absurd (true≢false (sym (of_item x h) ∙ takes_held ip is x (is_item x c) ∙ of_all (λ y. item_holds ip y ≡ false) items none x c)))

@@ -7,11 +7,11 @@ use Rattle.std.proofs.lemmas.Option.{none-some}
 use Rattle.net_base.specs.declared.field.FieldId.TheVariants.{VlanVid}
 use Rattle.net_base.specs.Numbers.{IsVid}
 use Rattle.of_match.specs.declared.packet.L4.{L4}
-use Rattle.of_match.specs.declared.packet.L4.TheVariants.{None as NoL4, Tcp, Udp, Icmp}
+use Rattle.of_match.specs.declared.packet.L4.TheVariants.{None as NoL4, Tcp, Udp, Icmp, Icmp6}
 use Rattle.of_match.specs.declared.packet.Packet.{Packet}
 use Rattle.of_match.specs.declared.packet.Tag.{Tag}
 use Rattle.of_match.specs.declared.packet.Upper.{Upper}
-use Rattle.of_match.specs.declared.packet.Upper.TheVariants.{None as NoUpper, Arp, V4}
+use Rattle.of_match.specs.declared.packet.Upper.TheVariants.{None as NoUpper, Arp, V4, V6}
 use Rattle.of_match.specs.Act.{act_left, act_sends, set_upper, set_l4, set_tags, pushed}
 use Rattle.of_match.specs.Hit.{outermost}
 use Rattle.conf_types.specs.declared.datapath.Port.{Port}
@@ -27,16 +27,18 @@ use Rattle.plan_units.specs.Facts.{found}
 
 -- ---- what a new tag leaves
 
+same_l4 : (n : ℕ) (l4 : L4) → set_l4 VlanVid n l4 ≡ l4
+same_l4 n NoL4 = refl
+same_l4 n (Tcp s t) = refl
+same_l4 n (Udp s t) = refl
+same_l4 n (Icmp kind code) = refl
+same_l4 n (Icmp6 kind code target) = refl
+
 same_upper : (n : ℕ) (upper : Upper) → set_upper VlanVid n upper ≡ upper
 same_upper n NoUpper = refl
 same_upper n (Arp op spa tpa) = refl
-same_upper n (V4 src dst proto ttl l4) = ap (V4 src dst proto ttl) (same l4)
-  where
-    same : (l4 : L4) → set_l4 VlanVid n l4 ≡ l4
-    same NoL4 = refl
-    same (Tcp s t) = refl
-    same (Udp s t) = refl
-    same (Icmp kind code) = refl
+same_upper n (V4 src dst proto ttl l4) = ap (V4 src dst proto ttl) (same_l4 n l4)
+same_upper n (V6 src dst proto hops l4) = ap (V6 src dst proto hops) (same_l4 n l4)
 
 -- a packet without a tag goes on with one of the VLAN
 pub tag_left : (p : Packet) (vid : ℕ) → IsVid vid → p.tags ≡ [] → act_left (push_tag ∷ set_vid vid ∷ []) p ≡ Some (with_tag vid p)

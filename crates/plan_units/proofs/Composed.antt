@@ -23,10 +23,10 @@ use Rattle.packet_way.specs.declared.routes.Routed.TheVariants as routed_case
 use Rattle.packet_way.specs.declared.source.Heard.{Heard}
 use Rattle.packet_way.specs.declared.source.Heard.TheVariants as heard_case
 use Rattle.packet_way.specs.Admission.{admitted_to, tagged_with}
-use Rattle.packet_way.specs.Description.{sent_onward, leaving, leaving_in, behind_routing, by_routing, behind_source, in_vlan, admitted, from_edge, from_stack, from_port, sends}
+use Rattle.packet_way.specs.Description.{sent_onward, leaving, leaving_in, behind_routing, by_routing, behind_source, in_vlan, admitted, from_edge, is_bare_lldp, from_stack, from_port, sends}
 use Rattle.packet_way.specs.Drops.{is_dropped}
 use Rattle.packet_way.specs.Known.{stack_of, onward}
-use Rattle.packet_way.specs.Leaving.{copies}
+use Rattle.packet_way.specs.Leaving.{copies, to_controller}
 use Rattle.packet_way.specs.Routes.{route_list, routed}
 use Rattle.packet_way.specs.Source.{heard}
 use Rattle.packet_way.specs.Verdict.{acl_sends, is_allowed}
@@ -130,20 +130,24 @@ module _ (conf : Configuration) (now : State) (d : Dp) (laws : TableLaws conf no
   -- table 1, from an end of a stack link
   joins : (port : ℕ) (p : Packet) (i : Port) → IsShaped p → IsPort d port i → is_stack i ≡ true → i.no ≡ port → Just 1 port p (from_stack conf now d p i)
   unfolding from_stack
-  joins port p i shaped is_port stack number = by (outermost p.tags) refl
+  joins port p i shaped is_port stack number = bare (is_bare_lldp p) refl
     where
-      by : (o : Option Tag) → outermost p.tags ≡ o → Just 1 port p (option_map_or (λ tag. leaving_in conf now d i.no tag.vid p) o [])
-      by None is = laws.admission.stack_other port p i shaped is_port stack (ap (option_and_then (λ (tag : Tag). vlan_with conf.vlans tag.vid)) is)
-      by (Some tag) is = named (vlan_with conf.vlans tag.vid) refl
+      by : is_bare_lldp p ≡ false → (o : Option Tag) → outermost p.tags ≡ o → Just 1 port p (option_map_or (λ tag. leaving_in conf now d i.no tag.vid p) o [])
+      by other None is = laws.admission.stack_other port p i shaped is_port stack other (ap (option_and_then (λ (tag : Tag). vlan_with conf.vlans tag.vid)) is)
+      by other (Some tag) is = named (vlan_with conf.vlans tag.vid) refl
         where
           named : (w : Option Vlan) → vlan_with conf.vlans tag.vid ≡ w → Just 1 port p (option_map_or (λ v. leaving conf now d i.no v p) w [])
-          named None none = laws.admission.stack_other port p i shaped is_port stack (ap (option_and_then (λ (tag : Tag). vlan_with conf.vlans tag.vid)) is ∙ none)
+          named None none = laws.admission.stack_other port p i shaped is_port stack other (ap (option_and_then (λ (tag : Tag). vlan_with conf.vlans tag.vid)) is ∙ none)
           named (Some v) found =
               let same : v.vid ≡ tag.vid = eqb-true v.vid tag.vid (passes (λ w. w.vid == tag.vid) conf.vlans v found) in
               let is_vlan : vlan_with conf.vlans v.vid ≡ Some v = ap (vlan_with conf.vlans) same ∙ found in
               let inside : IsIn v.vid p = (tag, is, sym same) in
               let l : Leaves conf now d port p i v = record { shaped = shaped; is_port = is_port; takes_in = inl stack; is_vlan = is_vlan; is_in = inside } in
               laws.admission.stack port p i v shaped is_port stack is_vlan inside _ (subst (λ n. Just 7 port p (leaving conf now d n v p)) (sym number) (leaves port p i v l))
+
+      bare : (b : Bool) → is_bare_lldp p ≡ b → Just 1 port p (if b then to_controller p else option_map_or (λ tag. leaving_in conf now d i.no tag.vid p) (outermost p.tags) [])
+      bare true is = laws.admission.stack_lldp port p i shaped is_port stack is
+      bare false other = by other (outermost p.tags) refl
 
   pub whole : IsSetting conf now d → (port : ℕ) (p : Packet) → port < 2 ^ 32 → IsShaped p → Just 0 port p (sends conf now d.id port p)
   unfolding from_edge

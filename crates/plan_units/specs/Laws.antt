@@ -23,6 +23,7 @@ use Rattle.packet_way.specs.declared.known.Onward.TheVariants.{ByPort, OverStack
 use Rattle.packet_way.specs.declared.routes.Routed.TheVariants as routed_case
 use Rattle.packet_way.specs.declared.source.Heard.TheVariants as heard_case
 use Rattle.packet_way.specs.Admission.{admitted_to, tagged_with}
+use Rattle.packet_way.specs.Description.{is_bare_lldp}
 use Rattle.packet_way.specs.Drops.{is_dropped}
 use Rattle.packet_way.specs.Flood.{flooded}
 use Rattle.packet_way.specs.Known.{stack_of, onward, to_port, to_hop}
@@ -93,7 +94,9 @@ module _ (conf : Configuration) (now : State) (d : Dp) where
   pub record AdmissionLaw : Type 0 where
     pub stack : (port : ℕ) (p : Packet) (i : Port) (v : Vlan) → IsShaped p → IsPort d port i → is_stack i ≡ true → vlan_with conf.vlans v.vid ≡ Some v → IsIn v.vid p
         → (rest : List Sent) → Sends 7 port p rest → Sends 1 port p rest
-    pub stack_other : (port : ℕ) (p : Packet) (i : Port) → IsShaped p → IsPort d port i → is_stack i ≡ true → option_and_then (λ (tag : Tag). vlan_with conf.vlans tag.vid) (outermost p.tags) ≡ None → Sends 1 port p []
+    pub stack_lldp : (port : ℕ) (p : Packet) (i : Port) → IsShaped p → IsPort d port i → is_stack i ≡ true → is_bare_lldp p ≡ true → Sends 1 port p (to_controller p)
+    pub stack_other : (port : ℕ) (p : Packet) (i : Port) → IsShaped p → IsPort d port i → is_stack i ≡ true → is_bare_lldp p ≡ false → option_and_then (λ (tag : Tag). vlan_with conf.vlans tag.vid) (outermost p.tags) ≡ None
+        → Sends 1 port p []
     pub dropped : (port : ℕ) (p : Packet) (i : Port) → IsShaped p → IsPort d port i → is_accepting i ≡ true → is_dropped conf d p ≡ true → Sends 1 port p []
     pub kept_out : (port : ℕ) (p : Packet) (i : Port) → IsShaped p → IsPort d port i → is_accepting i ≡ true → is_dropped conf d p ≡ false → option_and_then (vlan_with conf.vlans) (admitted_to i p) ≡ None → Sends 1 port p []
     -- an admitted packet is one of the VLAN

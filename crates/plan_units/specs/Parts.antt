@@ -22,7 +22,8 @@ use Rattle.conf_types.specs.Configuration.{Configuration, port_with}
 use Rattle.conf_types.specs.Groups.{group_of}
 use Rattle.conf_types.specs.Membership.{is_stack, is_accepting, has_edge_member}
 use Rattle.conf_types.specs.State.{State, is_permanent}
-use Rattle.packet_way.specs.declared.drops.TheConstants.{BROADCAST, LLDP, PVST_GROUP, BRIDGE_GROUP}
+use Rattle.packet_way.specs.declared.drops.TheConstants.{BROADCAST, PVST_GROUP, BRIDGE_GROUP}
+use Rattle.of_match.specs.declared.ether_type.TheConstants.{LLDP}
 use Rattle.packet_way.specs.declared.routes.RouteItem.{RouteItem}
 use Rattle.packet_way.specs.Known.{stack_of}
 use Rattle.packet_way.specs.Routes.{route_list}
@@ -35,7 +36,7 @@ use Rattle.vlan_compile.specs.declared.flood.Flood.{Flood}
 use Rattle.vlan_compile.specs.declared.flood.Flood.TheVariants.{Group, Unicast}
 use Rattle.vlan_compile.specs.declared.flood.Ingress.{Ingress}
 use Rattle.vlan_compile.specs.declared.flood.Ingress.TheVariants.{Any, At}
-use Rattle.vlan_compile.specs.Admissions.{admissions, from_stacks, from_edges, from_stack, without_tag, with_tag}
+use Rattle.vlan_compile.specs.Admissions.{admissions, from_stacks, from_edges, lldp_heard, from_stack, without_tag, with_tag}
 use Rattle.vlan_compile.specs.Misses.{misses, miss}
 use Rattle.vlan_compile.specs.Sources.{sources, at_its_port, elsewhere}
 use Rattle.vlan_compile.specs.Destinations.{destinations, at_port, from_its_port, to_its_port, over_stack}
@@ -98,10 +99,10 @@ module _ (P : Entry → Type 0) where
   -- ---- table 1
 
   pub admissions_by : (conf : Configuration) (d : Dp) (i : Port)
-      → ((v : Vlan) → P (from_stack i v)) → ((v : Vlan) → native_vlan conf i ≡ Some v → P (without_tag d i v)) → ((v : Vlan) → P (with_tag d i v)) → Each (admissions conf d i)
-  admissions_by conf d i stack native tagged =
+      → P (lldp_heard i) → ((v : Vlan) → P (from_stack i v)) → ((v : Vlan) → native_vlan conf i ≡ Some v → P (without_tag d i v)) → ((v : Vlan) → P (with_tag d i v)) → Each (admissions conf d i)
+  admissions_by conf d i lldp stack native tagged =
       all_joined P (from_stacks conf i) (from_edges conf d i)
-      (when (is_stack i) (map (from_stack i) conf.vlans) (each_of (from_stack i) conf.vlans (λ v c. stack v)))
+      (when (is_stack i) (lldp_heard i ∷ map (from_stack i) conf.vlans) (lldp, each_of (from_stack i) conf.vlans (λ v c. stack v)))
       (when (is_accepting i) (option_to_list (option_map (without_tag d i) (native_vlan conf i)) ++ map (with_tag d i) (tagged_vlans conf i))
       (all_joined P (option_to_list (option_map (without_tag d i) (native_vlan conf i))) (map (with_tag d i) (tagged_vlans conf i))
       (of_one (without_tag d i) (native_vlan conf i) native) (each_of (with_tag d i) (tagged_vlans conf i) (λ v c. tagged v))))

@@ -38,7 +38,7 @@ pub vlan_acl_in : (conf : Configuration) (d : Dp) (v : Vlan) → StandIn 2 (vlan
 vlan_acl_in conf d v = vlan_acl_by (IsIn 2) conf d v (λ priority rule fields c is. refl) refl
 
 pub admissions_in : (conf : Configuration) (d : Dp) (i : Port) → StandIn 1 (admissions conf d i)
-admissions_in conf d i = admissions_by (IsIn 1) conf d i (λ v. refl) (λ v e. refl) (λ v. refl)
+admissions_in conf d i = admissions_by (IsIn 1) conf d i refl (λ v. refl) (λ v e. refl) (λ v. refl)
 
 pub misses_in : (conf : Configuration) (d : Dp) (i : Port) (hosts : List HostRec) → StandIn 3 (misses conf d i hosts)
 misses_in conf d i hosts = misses_by (IsIn 3) conf d i hosts (λ v. refl)
