@@ -11,7 +11,8 @@ use Rattle.conf_types.specs.declared.datapath.Dp.{Dp}
 use Rattle.conf_types.specs.declared.state.HostRec.{HostRec}
 use Rattle.conf_types.specs.Configuration.{Configuration}
 use Rattle.conf_types.specs.State.{State}
-use Rattle.packet_way.specs.declared.drops.TheConstants.{BROADCAST, LLDP, PVST_GROUP, BRIDGE_GROUP}
+use Rattle.packet_way.specs.declared.drops.TheConstants.{BROADCAST, PVST_GROUP, BRIDGE_GROUP}
+use Rattle.of_match.specs.declared.ether_type.TheConstants.{LLDP}
 use Rattle.packet_way.specs.Known.{stack_of}
 use Rattle.plan_base.specs.Accepted.{IsFlowEntry}
 use Rattle.plan_base.specs.declared.table.Table.{Table}

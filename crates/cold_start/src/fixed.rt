@@ -6,8 +6,9 @@ ghost use Rattle.plan_units.specs.Fixed.{drop, bridge_drops, lldp_drops, broadca
 
 use conf_types::{Conf, Dp, Vlan};
 use net_base::{Field, FieldId, Items, Mac, NoMemory};
+use of_match::ether_type::LLDP;
 use of_match::{Actions, Entries, Entry, Instrs};
-use packet_way::{BRIDGE_GROUP, BROADCAST, LLDP, PVST_GROUP};
+use packet_way::{BRIDGE_GROUP, BROADCAST, PVST_GROUP};
 use plan_base::{Table, eth_src, eth_type, group_src, leads_to, make_entry};
 use std::alloc::Global;
 

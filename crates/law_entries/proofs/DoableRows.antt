@@ -32,7 +32,8 @@ use Rattle.plan_base.specs.declared.table.Table.{Table}
 use Rattle.plan_base.specs.declared.table.Table.TheVariants as table
 use Rattle.plan_base.specs.Actions.{out, to_controller, to_ingress, push_tag, set_vid, set_eth_src, set_eth_dst, dec_ttl}
 use Rattle.plan_base.specs.Entries.{table_number, leads_to, entry}
-use Rattle.plan_base.specs.Fields.{in_port, eth_src, eth_dst, vid_field, untagged, group_src, ipv4_dst}
+use Rattle.of_match.specs.declared.ether_type.TheConstants.{LLDP}
+use Rattle.plan_base.specs.Fields.{in_port, eth_type, eth_src, eth_dst, vid_field, untagged, group_src, ipv4_dst}
 use Rattle.plan_base.specs.Sending.{mirrored, copied, sent}
 use Rattle.plan_base.proofs.Each.{all_filter_map}
 use Rattle.acl_compile.specs.declared.place.Place.{Place}
@@ -124,7 +125,7 @@ module _ (conf : Configuration) (d : Dp) where
 
     pub admissions_done : IsValid conf → AllByRecursion CanBeDone (admissions conf d i)
     admissions_done valid =
-        admissions_by CanBeDone conf d i (λ v. passes_on table.Admission 40 (in_port i.no ∷ vid_field v.vid ∷ []) table.Destination (omega arith))
+        admissions_by CanBeDone conf d i (handed table.Admission 40 (in_port i.no ∷ eth_type LLDP ∷ untagged ∷ [])) (λ v. passes_on table.Admission 40 (in_port i.no ∷ vid_field v.vid ∷ []) table.Destination (omega arith))
         (λ v e. without_tag_done v (native_numbered conf valid i v e)) with_tag_done
 
     -- ---- table 3

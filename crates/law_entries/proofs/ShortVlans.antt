@@ -17,13 +17,14 @@ use Rattle.conf_types.specs.State.{is_stale}
 use Rattle.plan_base.specs.declared.table.Table.TheVariants as table
 use Rattle.plan_base.specs.Actions.{out, to_controller, to_ingress, pop_tag, push_tag, set_vid}
 use Rattle.plan_base.specs.Entries.{leads_to}
-use Rattle.plan_base.specs.Fields.{in_port, eth_src, eth_dst, vid_field, untagged}
+use Rattle.of_match.specs.declared.ether_type.TheConstants.{LLDP}
+use Rattle.plan_base.specs.Fields.{in_port, eth_type, eth_src, eth_dst, vid_field, untagged}
 use Rattle.plan_base.specs.Sending.{mirrored, copied, sent}
 use Rattle.vlan_compile.specs.declared.flood.Flood.{Flood}
 use Rattle.vlan_compile.specs.declared.flood.Flood.TheVariants.{Group, Unicast}
 use Rattle.vlan_compile.specs.declared.flood.Ingress.{Ingress}
 use Rattle.vlan_compile.specs.declared.flood.Ingress.TheVariants.{Any, At}
-use Rattle.vlan_compile.specs.Admissions.{admissions, from_stack, without_tag, with_tag, next_in}
+use Rattle.vlan_compile.specs.Admissions.{admissions, lldp_heard, from_stack, without_tag, with_tag, next_in}
 use Rattle.vlan_compile.specs.Destinations.{from_its_port, to_its_port, destinations, sent_back}
 use Rattle.vlan_compile.specs.Floods.{floods, flood_entry, flood_actions, flood_priority, from_fields, to_fields, is_in, flooded, is_flooded, may_get, by_each, by_port, popped}
 use Rattle.vlan_compile.specs.Misses.{misses, miss, has_host, is_full}
@@ -79,11 +80,14 @@ module _ (d : Dp) (ports : length d.ports ≤ 256) (mirrors : AllByRecursion (λ
         let few = mirrored_few i here in
         short table.Admission 20 (in_port i.no ∷ vid_field v.vid ∷ []) (mirrored d i.no) (Some (next_in v)) (omega arith) (omega (arith, few))
 
+    lldp_heard_short : IsShort (lldp_heard i)
+    lldp_heard_short = short table.Admission 40 (in_port i.no ∷ eth_type LLDP ∷ untagged ∷ []) (to_controller ∷ []) None (omega arith) (omega arith)
+
     from_stack_short : (v : Vlan) → IsShort (from_stack i v)
     from_stack_short v = short table.Admission 40 (in_port i.no ∷ vid_field v.vid ∷ []) [] (Some table.Destination) (omega arith) (omega arith)
 
     pub admissions_short : AllByRecursion IsShort (admissions conf d i)
-    admissions_short = admissions_by IsShort conf d i from_stack_short (λ v e. without_tag_short v) with_tag_short
+    admissions_short = admissions_by IsShort conf d i lldp_heard_short from_stack_short (λ v e. without_tag_short v) with_tag_short
 
   -- ---- table 7
 

@@ -1,4 +1,5 @@
 -- The entries of admission, sources, destinations and floods.
+use Rattle.std.proofs.Common.{refl}
 use Rattle.std.specs.Prelude.{◌≡◌, ℕ, ◌==◌, ◌&&◌, not, Bool, true, false, List, [], ◌∷◌, ◌++◌, filter, Some, None, if◌then◌else◌}
 use Rattle.std.specs.List.{AllByRecursion}
 use Rattle.net_base.specs.declared.numbers.DpId.{DpId}
@@ -22,7 +23,7 @@ use Rattle.plan_base.proofs.Each.{all_from, all_filter}
 use Rattle.vlan_compile.specs.declared.flood.Flood.{Flood}
 use Rattle.vlan_compile.specs.declared.flood.Ingress.{Ingress}
 use Rattle.vlan_compile.specs.declared.flood.Ingress.TheVariants.{Any, At}
-use Rattle.vlan_compile.specs.Admissions.{admissions, from_stack, without_tag, with_tag, next_in}
+use Rattle.vlan_compile.specs.Admissions.{admissions, lldp_heard, from_stack, without_tag, with_tag, next_in}
 use Rattle.vlan_compile.specs.Destinations.{from_its_port, to_its_port, destinations, sent_back}
 use Rattle.vlan_compile.specs.Floods.{floods, flood_entry, flood_actions, is_in, is_flooded, flooded, may_get, by_each, by_port, popped}
 use Rattle.vlan_compile.specs.Misses.{misses, missed, has_host, is_full}
@@ -48,11 +49,14 @@ module _ (d : Dp) (numbers : AllByRecursion (λ (p : Port). IsPortNo p.no) d.por
     with_tag_whole : (v : Vlan) → SendsWhole (with_tag d i v)
     with_tag_whole v = led (mirrored d i.no) (Some (next_in v)) (mirrored_whole d numbers i.no)
 
+    lldp_heard_whole : SendsWhole (lldp_heard i)
+    lldp_heard_whole = led (to_controller ∷ []) None (refl, tt)
+
     from_stack_whole : (v : Vlan) → SendsWhole (from_stack i v)
     from_stack_whole v = led [] (Some table.Destination) tt
 
     pub admissions_whole : (conf : Configuration) → AllByRecursion SendsWhole (admissions conf d i)
-    admissions_whole conf = admissions_by SendsWhole conf d i from_stack_whole (λ v e. without_tag_whole v) with_tag_whole
+    admissions_whole conf = admissions_by SendsWhole conf d i lldp_heard_whole from_stack_whole (λ v e. without_tag_whole v) with_tag_whole
 
   -- ---- table 7
 

@@ -28,7 +28,7 @@ use Rattle.packet_way.specs.Known.{stack_of, onward}
 use Rattle.packet_way.specs.Leaving.{as_sent}
 use Rattle.packet_way.proofs.Members.{end_is}
 use Rattle.packet_way.proofs.Ports.{found, at_port, port_within, port_number}
-use Rattle.packet_way.proofs.Taking.{sends_from}
+use Rattle.packet_way.proofs.Taking.{not_bare, sends_from}
 use Rattle.plan_units.specs.Laws.{IsIn}
 use Rattle.law_trees.specs.Ways.{IsNoEnd}
 use Rattle.law_trees.proofs.Floods.{Place, size, size_some, along, along_none, beyond, brings, brought}
@@ -81,7 +81,7 @@ module _ (conf : Configuration) (now : State) (valid : IsValid conf) where
     unfolding from_stack
     over_stack e q e_is c stack =
         sends_from conf now y e.id q.no e q e_is (own conf valid now.ups e e_is q c)
-        ∙ rw stack (ap (λ o. option_map_or (λ (tag : Tag). leaving_in conf now e q.no tag.vid y) o []) in_vlan.1
+        ∙ rw (stack, not_bare y in_vlan.0 in_vlan.1) (ap (λ o. option_map_or (λ (tag : Tag). leaving_in conf now e q.no tag.vid y) o []) in_vlan.1
         ∙ ap (λ vid. leaving_in conf now e q.no vid y) in_vlan.2
         ∙ ap (λ o. option_map_or (λ (v : Vlan). leaving conf now e q.no v y) o []) w_is)
 

@@ -76,7 +76,7 @@ module _ (conf : Configuration) (now : State) (d : Dp) (i : Port) where
   port_owned : Owned (unit.Port i.no) (of_port conf now d i)
   port_owned =
       all_joined IsOfPort (port_acl conf d i) _ (port_acl_by IsOfPort conf d i (λ priority rule fields c is. at_port_rule d i.no priority rule fields is) refl refl)
-      (all_joined IsOfPort (admissions conf d i) _ (admissions_by IsOfPort conf d i (λ v. refl) (λ v e. refl) (λ v. refl)) (misses_by IsOfPort conf d i now.hosts (λ v. refl)))
+      (all_joined IsOfPort (admissions conf d i) _ (admissions_by IsOfPort conf d i refl (λ v. refl) (λ v e. refl) (λ v. refl)) (misses_by IsOfPort conf d i now.hosts (λ v. refl)))
 
 module _ (conf : Configuration) (now : State) (d : Dp) (v : Vlan) where
   abbrev IsOfVlan : Entry → Type 0
