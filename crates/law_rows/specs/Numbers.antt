@@ -32,6 +32,11 @@ in_vlan = record { tpid = 0x8100; pcp = 5; dei = true; vid = 100 }
 abbrev pub ipv4 : ℕ → L4 → Packet
 ipv4 proto l4 = tagged in_vlan 0x0800 (upper.V4 (record { 0 = 0x0a000001 }) (record { 0 = 0x0a000002 }) proto 64 l4)
 
+-- IPv6 from fd00::1 to fd00::2
+abbrev pub ipv6 : ℕ → L4 → Packet
+ipv6 proto l4 =
+    tagged in_vlan 0x86dd (upper.V6 (record { 0 = 0xfd000000000000000000000000000001 }) (record { 0 = 0xfd000000000000000000000000000002 }) proto 64 l4)
+
 -- an ARP reply of 10.0.0.1 for 10.0.0.2
 abbrev pub arp : Packet
 arp = tagged in_vlan 0x0806 (upper.Arp 2 (record { 0 = 0x0a000001 }) (record { 0 = 0x0a000002 }))

@@ -16,7 +16,8 @@ ghost use Rattle.law_rows.specs.Worked.{row, any_group_src, any_group_dst, nativ
 
 /// Table 1: what comes without a tag is copied to the mirror as it came, and only then gets its tag; a
 /// tagged packet goes on to table 2 in a VLAN with ACLs and to table 3 in any other; what comes over the
-/// stack goes on to table 7; a port that mirrors another takes nothing in.
+/// stack goes on to table 7, but for LLDP without a tag, which the controller alone gets; a port that
+/// mirrors another takes nothing in.
 pub fn admission()
     ensures native { admissions conf switch native_port
         ≡ row 1 20 (exact InPort 1 ∷ exact VlanVid 0 ∷ []) (Apply (Output 5 0 ∷ PushVlan 0x8100 ∷ Set (exact VlanVid 0x1064) ∷ []) ∷ Goto 3 ∷ [])
@@ -26,7 +27,8 @@ pub fn admission()
         ∷ row 1 20 (exact InPort 2 ∷ exact VlanVid 0x10c8 ∷ []) (Goto 2 ∷ [])
         ∷ [] }
     ensures stack { admissions conf switch stack_port
-        ≡ row 1 40 (exact InPort 4 ∷ exact VlanVid 0x1064 ∷ []) (Goto 7 ∷ [])
+        ≡ row 1 40 (exact InPort 4 ∷ exact EthType 0x88cc ∷ exact VlanVid 0 ∷ []) (Apply (Output 0xfffffffd 0xffff ∷ []) ∷ [])
+        ∷ row 1 40 (exact InPort 4 ∷ exact VlanVid 0x1064 ∷ []) (Goto 7 ∷ [])
         ∷ row 1 40 (exact InPort 4 ∷ exact VlanVid 0x10c8 ∷ []) (Goto 7 ∷ [])
         ∷ [] }
     ensures mirror { admissions conf switch mirror_port ≡ [] }
