@@ -41,19 +41,20 @@ fn put_tags(out: &mut Text, tags: &[Tag]) -> Result<(), NoMemory>
     }
 }
 
-/// Adds the time to live, or a dash where the packet has none.
+/// Adds the time to live or hop limit, or a dash where the packet has none.
 fn put_ttl(out: &mut Text, upper: &Upper) -> Result<(), NoMemory>
     ensures { OnOk result (out.new ≡ out.old ++ ttl_text upper.now) }
 {
     match upper {
         Upper::None | Upper::Arp { .. } => out.append("-"),
         Upper::V4 { ttl, .. } => out.append(Buffer::new().format(*ttl)),
+        Upper::V6 { hops, .. } => out.append(Buffer::new().format(*hops)),
     }
 }
 
 /// Adds the line of a packet that leaves by a port, with its end: the port's number, or `controller`; the VLANs of
 /// its tags with commas between, the outermost first, or `-`; its source and its destination; and its time to
-/// live, or `-` where it has none.
+/// live or hop limit, or `-` where it has none.
 pub fn put_sent(out: &mut Text, port: u32, packet: &Packet) -> Result<(), NoMemory>
     ensures { OnOk result (out.new ≡ out.old ++ sent_line port packet.now) }
 {

@@ -31,9 +31,10 @@ pub fn a_broadcast()
         ≡ codes "2 - 02:00:00:00:00:01 ff:ff:ff:ff:ff:ff -" ++ 10 ∷ [] }
 {}
 
-/// The outermost of two tags comes first, and an IPv4 packet has a time to live.
+/// The outermost of two tags comes first, an IPv4 packet has a time to live, and an IPv6 packet a hop limit.
 pub fn tags_and_lifetimes()
     ensures tags { tags_text (record { tpid = 34984; pcp = 7; dei = false; vid = 4094 } ∷ record { tpid = 33024; pcp = 0; dei = false; vid = 0 } ∷ []) ≡ codes "4094,0" }
     ensures ttl { ttl_text (upper.V4 (record { 0 = 0 }) (record { 0 = 1 }) 1 63 l4.None) ≡ codes "63" }
+    ensures hops { ttl_text (upper.V6 (record { 0 = 0 }) (record { 0 = 1 }) 58 255 l4.None) ≡ codes "255" }
     ensures arp { ttl_text (upper.Arp 1 (record { 0 = 0 }) (record { 0 = 1 })) ≡ codes "-" }
 {}

@@ -9,3 +9,7 @@ returns-clause-tags c = refl
 pub returns-clause-ttl : goal.returns-clause-ttl
 unfolding digits
 returns-clause-ttl c = refl
+
+pub returns-clause-hops : goal.returns-clause-hops
+unfolding digits
+returns-clause-hops c = refl
