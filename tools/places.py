@@ -115,6 +115,8 @@ def of_admission(places, dp, entry, has, port, vid, rule):
     drops = {32: "drop_lldp", 33: "drop_bpdu", 31: "drop_broadcast_source_address", 30: "drop_spoofed_faucet_mac"}
     if entry.priority in drops:
         return [places.drop_place(dp, drops[entry.priority])]
+    if entry.priority == 40 and "eth_type" in has:
+        return [places.interface_place(dp, port, "stack")]
     if entry.priority == 40:
         return [places.interface_place(dp, port, "stack"), places.vlan_place(vid)]
     return [places.interface_place(dp, port, "tagged_vlans" if vid else "native_vlan")]

@@ -15,12 +15,13 @@ use std::alloc::Global;
 use std::str::SplitWhitespace;
 use test_states::{NO_STATE, Units, frame_in, put_packet};
 
-/// Puts the port, the destination and the source, the VLANs of the tags, and the time to live.
+/// Puts the port, the destination and the source, the VLANs of the tags, and the time to live or hop limit.
 fn put_sent(alloc: Global, out: &mut String, sent: &Sent) -> Result<(), NoMemory> {
     write!(out, "\n    port {}: ", sent.port)?;
     put_packet(alloc, out, &sent.packet)?;
     match sent.packet.upper {
         Upper::V4 { ttl, .. } => write!(out, " ttl {ttl}"),
+        Upper::V6 { hops, .. } => write!(out, " hops {hops}"),
         _ => Ok(()),
     }
 }
