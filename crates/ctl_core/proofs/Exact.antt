@@ -54,7 +54,7 @@ its_place ups up within =
     any_member (λ (u : UpRec). u.dp.0 == up.dp.0 && u.port == up.port) ups up within (and_from (up.dp.0 == up.dp.0) (up.port == up.port) (eq-eqb up.dp.0 up.dp.0 refl) (eq-eqb up.port up.port refl))
 
 -- a neighbour is the one of its key
-own_mac : (ns : List NeighRec) → EachBefore (λ a b. IsSameNeighbour a b → ⊥) ns → (n : NeighRec) → Contains ns n → mac_of_neighbour ns n.group n.vid n.ip.0 ≡ n.mac
+pub own_mac : (ns : List NeighRec) → EachBefore (λ a b. IsSameNeighbour a b → ⊥) ns → (n : NeighRec) → Contains ns n → mac_of_neighbour ns n.group n.vid n.ip.0 ≡ n.mac
 own_mac ns apart n within =
     ap (λ (o : Option NeighRec). option_and_then (λ (m : NeighRec). m.mac) o)
     (is_found (neighbours.key n.group n.vid n.ip) ns n within
@@ -66,7 +66,7 @@ own_mac ns apart n within =
     apart_or_one (λ (a b : NeighRec). IsSameNeighbour a b → ⊥) ns apart m n cm within (λ ne. ne same)
     (λ ne. ne (record { groups = sym same.groups; vlans = sym same.vlans; ips = sym same.ips }))))
 
-mac_itself : (a : Option Mac) → option_eq is_one_address a a ≡ true
+pub mac_itself : (a : Option Mac) → option_eq is_one_address a a ≡ true
 mac_itself None = refl
 mac_itself (Some m) = equal_bytes m.0 m.0 refl
 

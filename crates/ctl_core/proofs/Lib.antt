@@ -1,6 +1,11 @@
+pub mod AllowedOn
+pub mod Allowing
 pub mod Behind
+pub mod Bound
 pub mod Bounded
+pub mod Calm
 pub mod Exact
+pub mod Exactly
 pub mod HeardAgain
 pub mod HeardOn
 pub mod InOrder
@@ -10,8 +15,8 @@ pub mod Ordered
 pub mod PacketSteps
 pub mod Planned
 pub mod Pushed
-pub mod ReloadSteps
 pub mod Refreshed
+pub mod ReloadSteps
 pub mod Rests
 pub mod SaidTables
 pub mod Settled
@@ -22,9 +27,13 @@ pub mod SoundGateways
 pub mod SoundReloads
 pub mod SoundSteps
 pub mod SoundTurns
+pub mod Soundness
+pub mod Spent
 pub mod Stands
 pub mod Stays
 pub mod Still
+pub mod StillDiffers
 pub mod Telling
+pub mod TurnedDiffer
+pub mod Unmoved
 pub mod Walk
-pub mod Soundness

@@ -1,13 +1,15 @@
 -- What rests, and stays settled, where nothing changes that a settling looks at.
 use Rattle.std.proofs.Common.{◌≡◌, ℕ, ◌<◌, ◌^◌, ◌-◌, max, List, [], Some, ◌∷◌, refl, inl, inr, sym, ap, ◌∙◌, subst, arith}
+use Rattle.std.specs.List.{AllByRecursion}
 use Rattle.net_base.specs.declared.numbers.Moment.{Moment}
 use Rattle.ctl_world.specs.declared.conns.Conn.{Conn}
 use Rattle.conf_types.specs.Configuration.{Configuration}
+use Rattle.conf_types.specs.State.{IsValidState, State}
 use Rattle.ctl_world.specs.Alike.{IsAlike, face}
 use Rattle.ctl_world.specs.Connections.{with_fed}
 use Rattle.ctl_world.specs.World.{IsSound, World, first}
 use Rattle.ctl_settle.specs.declared.plans.Held.{Held}
-use Rattle.ctl_settle.specs.Plans.{AreHeld}
+use Rattle.ctl_settle.specs.Plans.{AreCurrent, AreHeld}
 use Rattle.ctl_settle.specs.Rest.{AreInOrder, IsAtRest, IsBound, NoneIsOver, RestsUntil, rests_until}
 use Rattle.ctl_settle.specs.Settling.{settle}
 use Rattle.ctl_settle.specs.Touched.{AllFollow}
@@ -48,9 +50,15 @@ still_settled rests plans k v settled sound order alike = record {
   in_order = order;
   held = plans v k.world k.plans alike settled.held;
   follow = named_follow k.world v [] (alike_names v k.world alike) k.plans settled.follow;
+  states = subst (λ (conf : Configuration). AllByRecursion (λ h. IsValidState conf h.plan.state) k.plans) (sym alike.conf) settled.states;
   rests = rests k.until v k.world alike settled.rests;
   until = bound_alike v k.world k.until alike settled.until;
 }
+
+-- plans that were brought up to what is known and is sound
+pub current_states : (w : World) → IsSound w → (held : List Held) → AreCurrent w held → AllByRecursion (λ h. IsValidState w.conf h.plan.state) held
+current_states w sound [] all = tt
+current_states w sound (h ∷ hs) all = (subst (λ (s : State). IsValidState w.conf s) (sym all.0.1) sound.valid, current_states w sound hs all.1)
 
 -- ---- the clock
 
@@ -100,6 +108,7 @@ first_settled w conf held is none sound = record {
   in_order = subst AreInOrder (sym is) (record { numbers = tt; keys = tt });
   held = subst (λ (v : World). AreHeld v held) (sym is) (subst (AreHeld (first conf)) (sym none) (first_held conf));
   follow = subst (λ (hs : List Held). AllFollow w (Some []) hs) (sym none) tt;
+  states = subst (λ (hs : List Held). AllByRecursion (λ h. IsValidState w.conf h.plan.state) hs) (sym none) tt;
   rests = subst (RestsUntil (2 ^ 64 - 1)) (sym is) (first_rests (2 ^ 64 - 1) conf);
   until = let same : 2 ^ 64 - 1 ≡ rests_until w = ap rests_until (sym is) in record { least = omega (arith, same); ahead = inr same };
 }
@@ -111,6 +120,7 @@ unsaid_settled k settled = record {
   in_order = record { numbers = settled.in_order.numbers; keys = settled.in_order.keys };
   held = record { fit = settled.held.fit; there = settled.held.there; shut = settled.held.shut };
   follow = settled.follow;
+  states = settled.states;
   rests = λ m later before.
       let at = settled.rests m later before in
       (record { asks = at.0.asks; batches = at.0.batches }, at.1);

@@ -1,6 +1,7 @@
 pub mod Hearing
 pub mod Behind
 pub mod Found
+pub mod Told
 pub mod Known
 pub mod Reloading
 pub mod Settlings
@@ -9,3 +10,4 @@ pub mod Turning
 pub mod Turns
 pub mod Changes
 pub mod Waits
+pub mod Allowed

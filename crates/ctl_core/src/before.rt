@@ -82,7 +82,7 @@ fn find_neighbour(neighbours: &[NeighRec], group: DpId, vid: Vid, ip: Ip4) -> Op
 }
 
 /// The Ethernet address that a list tells of a neighbour.
-fn mac_of(neighbours: &[NeighRec], group: DpId, vid: Vid, ip: Ip4) -> Option<Mac>
+pub(crate) fn mac_of(neighbours: &[NeighRec], group: DpId, vid: Vid, ip: Ip4) -> Option<Mac>
     ensures { result ≡ mac_of_neighbour neighbours.now group vid ip.0 }
 {
     match find_neighbour(neighbours, group, vid, ip) {
@@ -91,7 +91,7 @@ fn mac_of(neighbours: &[NeighRec], group: DpId, vid: Vid, ip: Ip4) -> Option<Mac
     }
 }
 
-fn is_same(a: Mac, b: Mac) -> bool
+pub(crate) fn is_same(a: Mac, b: Mac) -> bool
     ensures { result ≡ is_same a.0 b.0 }
 {
     a == b

@@ -4,6 +4,8 @@ ghost use Rattle.std.specs.Option.{option_and_then, option_copied};
 ghost use Rattle.packet_way.specs.Present.{state_of};
 ghost use Rattle.ctl_world.specs.World.{first, is_at_work, now, running, ups, IsSound, World as Seen};
 ghost use Rattle.ctl_settle.specs.Rest.{rests_until};
+ghost use Rattle.cold_start.specs.Counts.{RisesAtMost};
+ghost use Rattle.ctl_core.specs.Allowed.{turn_allows};
 ghost use Rattle.ctl_core.specs.Changes.{latest, turn_changes};
 ghost use Rattle.ctl_core.specs.Known.{HasSettled};
 ghost use Rattle.ctl_core.specs.Turns.{turn};
@@ -108,6 +110,7 @@ impl Controller {
         ensures stays_spent { self.old ≡ None → self.new ≡ None }
         ensures spent_says_nothing { IfOk result (λ _. self.old ≡ None → ⊥) }
         ensures left_out { (w : Seen) → self.old ≡ Some w → turn_changes what.now w ≡ false → latest what.now w < rests_until w → T.count units.new ≡ T.count units.old }
+        ensures most { (w : Seen) → self.old ≡ Some w → RisesAtMost (turn_allows what.now w) (T.count units.old) (T.count units.new) }
     {
         if self.is_spent {
             return Err(AllocError);

@@ -1,6 +1,6 @@
 //! What a frame does that a switch sent.
 
-ghost use Rattle.std.specs.Prelude.{◌≡◌, ◌||◌, false, IfOk, OnOk};
+ghost use Rattle.std.specs.Prelude.{◌≡◌, ◌||◌, false, true, IfOk, OnOk};
 ghost use Rattle.std.specs.Option.{option_map_or};
 ghost use Rattle.conf_types.specs.Valid.{IsValid};
 ghost use Rattle.switch_session.specs.declared.closing.Closing.TheVariants.{BadFrame};
@@ -9,15 +9,19 @@ ghost use Rattle.ctl_world.specs.Ends.{close};
 ghost use Rattle.ctl_world.specs.Frames.{front};
 ghost use Rattle.ctl_world.specs.World.{IsSound};
 ghost use Rattle.ctl_settle.specs.Settling.{settle};
+ghost use Rattle.cold_start.specs.Counts.{RisesAtMost};
+ghost use Rattle.ctl_core.specs.Allowed.{frames_allow, next_allows, settling};
 ghost use Rattle.ctl_core.specs.Changes.{Changes, any_changes, frame_changes, heard_packet_changes, message_changes, next_changes, step_changes};
 ghost use Rattle.ctl_life.specs.Life.{echo, has_frame, read, says, tell_version, turn_away, unread};
 ghost use Rattle.ctl_packets.specs.Changes.{packet_changes};
 ghost use Rattle.ctl_packets.specs.Packets.{packet_in};
 ghost use Rattle.ctl_core.specs.Found.{Tells, is_barrier_reply, is_reply, is_touched};
+ghost use Rattle.ctl_core.specs.Told.{IsExact, is_calm};
 ghost use Rattle.ctl_core.specs.Hearing.{follow, hear_frame, hear_frames, hear_message, hear_next, packet};
 ghost use Rattle.ctl_core.specs.Known.{HasSettled, IsEarly};
 
 use crate::before::Before;
+use crate::compared::{address_of, exactly, place_of};
 use crate::ends::Ends;
 use crate::found::{Found, by_packet, or_again};
 use crate::gateways::begin;
@@ -29,7 +33,9 @@ use crate::setup::{introduce, unfit, wipe};
 use conf_types::{Conf, Tally};
 use ctl_life::{answer_echo, read_message, turn_away};
 use ctl_packets::packet_in;
-use ctl_settle::laws::{alike_worlds_have_the_same_plans, alike_worlds_rest_alike};
+use ctl_settle::laws::{
+    alike_worlds_have_the_same_plans, alike_worlds_rest_alike, what_asks_touch_was_known,
+};
 use ctl_world::laws::{
     a_sound_world_has_lost_nothing, alike_worlds_run_alike, forgetting_what_is_lost_makes_it_sound,
     such_changes_leave_it_sound, what_is_said_is_alike,
@@ -58,10 +64,13 @@ fn take_packet(
     ensures done { OnOk result (world.new ≡ packet_in packet.now conn dp world.old) }
     ensures told { IfOk result (λ found. packet_changes packet.now dp world.old ≡ false → is_touched found ≡ false) }
     ensures tells { IfOk result (λ found. Tells world.old world.new found) }
+    ensures exact { IfOk result (λ found. IsExact world.old world.new found) }
 {
     let found = or_again(world, by_packet(world, packet, dp));
+    let place = place_of(world, &found);
+    let address = address_of(world, &found);
     if packet_in(alloc, world, packet, conn, dp)? {
-        Ok(found)
+        Ok(exactly(alloc, world, found, place, address))
     } else {
         Ok(Found::Nothing)
     }
@@ -78,6 +87,7 @@ fn hear_packet(
     ensures done { OnOk result (world.new ≡ packet message.now conn dp world.old) }
     ensures told { IfOk result (λ found. heard_packet_changes message.now dp world.old ≡ false → is_touched found ≡ false) }
     ensures tells { IfOk result (λ found. Tells world.old world.new found) }
+    ensures exact { IfOk result (λ found. IsExact world.old world.new found) }
 {
     alike_worlds_run_alike();
     match (message, dp) {
@@ -99,6 +109,7 @@ fn follow(
     ensures done { OnOk result (world.new ≡ follow step message.now xid conn dp world.old) }
     ensures told { IfOk result (λ found. step_changes step message.now dp world.old ≡ false → is_touched found ≡ false) }
     ensures tells { IfOk result (λ found. Tells world.old world.new found) }
+    ensures exact { IfOk result (λ found. is_calm step ≡ true → IsExact world.old world.new found) }
 {
     alike_worlds_run_alike();
     match step {
@@ -163,6 +174,7 @@ fn hear_change(
     requires { Changes message.now xid dp (conn_with world.old.conns conn) }
     ensures heard { OnOk result (world.new ≡ hear_message message.now xid conn world.old) }
     ensures tells { IfOk result (λ found. Tells world.old world.new found) }
+    ensures exact { IfOk result (λ found. IsExact world.old world.new found) }
 {
     let before = Before::of(alloc, world)?;
     let step = world.conns.hear(conn, message, xid)?;
@@ -185,6 +197,7 @@ fn hear_message(
     ensures heard { OnOk result (world.new ≡ hear_message message.now xid conn world.old) }
     ensures told { IfOk result (λ found. message_changes message.now xid conn world.old ≡ false → is_touched found ≡ false) }
     ensures tells { IfOk result (λ found. Tells world.old world.new found) }
+    ensures exact { IfOk result (λ found. IsExact world.old world.new found) }
 {
     alike_worlds_run_alike();
     such_changes_leave_it_sound();
@@ -210,6 +223,7 @@ fn hear_frame(alloc: Global, world: &mut World, frame: &[u8], conn: u32) -> Resu
     ensures heard { OnOk result (world.new ≡ hear_frame (says frame.now) conn world.old) }
     ensures told { IfOk result (λ found. frame_changes (says frame.now) conn world.old ≡ false → is_touched found ≡ false) }
     ensures tells { IfOk result (λ found. Tells world.old world.new found) }
+    ensures exact { IfOk result (λ found. IsExact world.old world.new found) }
 {
     match read_message(alloc, frame)? {
         Some((message, xid)) => hear_message(alloc, world, &message, xid, conn),
@@ -251,6 +265,7 @@ fn hear_one<T: Tally>(
     ensures settled { OnOk result (HasSettled known.new) }
     ensures left_out { frame_changes (says frame.now) conn known.old.world ≡ false → IsEarly known.old → T.count units.new ≡ T.count units.old }
     ensures early { frame_changes (says frame.now) conn known.old.world ≡ false → IsEarly known.old → OnOk result (IsEarly known.new) }
+    ensures most { RisesAtMost (settling known.old.world (hear_frame (says frame.now) conn known.old.world)) (T.count units.old) (T.count units.new) }
 {
     a_frame_leaves_it_sound();
     what_happens_keeps_connections_in_order();
@@ -258,6 +273,7 @@ fn hear_one<T: Tally>(
     alike_worlds_rest_alike();
     alike_worlds_have_the_same_plans();
     a_configuration_is_valid(&known.world.conf);
+    what_asks_touch_was_known();
     let found = hear_frame(alloc, &mut known.world, frame, conn)?;
     settle_where_due(alloc, known, found, units)
 }
@@ -272,11 +288,13 @@ fn refuse<T: Tally>(
     requires { HasSettled known.old }
     ensures refused { OnOk result (known.new.world ≡ settle (close BadFrame conn known.old.world)) }
     ensures settled { OnOk result (HasSettled known.new) }
+    ensures most { RisesAtMost (settling known.old.world (close BadFrame conn known.old.world)) (T.count units.old) (T.count units.new) }
 {
     what_happens_keeps_connections_in_order();
     what_happens_keeps_the_plans();
     forgetting_what_is_lost_makes_it_sound();
     a_configuration_is_valid(&known.world.conf);
+    what_asks_touch_was_known();
     let before = Before::of(alloc, &known.world)?;
     known.world.close(alloc, Closing::BadFrame, conn)?;
     let touched = before.behind(alloc, &known.world)?;
@@ -297,6 +315,7 @@ fn hear_front<T: Tally>(
     ensures settled { OnOk result (HasSettled known.new) }
     ensures left_out { next_changes conn known.old.world ≡ false → IsEarly known.old → T.count units.new ≡ T.count units.old }
     ensures early { next_changes conn known.old.world ≡ false → IsEarly known.old → OnOk result (IsEarly known.new) }
+    ensures most { RisesAtMost (next_allows conn known.old.world) (T.count units.old) (T.count units.new) }
 {
     match read_front(alloc, known, conn)? {
         Front::Part => Ok(false),
@@ -323,6 +342,7 @@ pub(crate) fn hear_frames<T: Tally>(
     ensures heard { OnOk result (known.new.world ≡ hear_frames most conn known.old.world) }
     ensures settled { OnOk result (HasSettled known.new) }
     ensures left_out { any_changes most conn known.old.world ≡ false → IsEarly known.old → T.count units.new ≡ T.count units.old }
+    ensures most { RisesAtMost (frames_allow most conn known.old.world) (T.count units.old) (T.count units.new) }
 {
     for _ in 0..most {
         if !hear_front(alloc, known, conn, units)? {

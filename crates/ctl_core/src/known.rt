@@ -1,10 +1,15 @@
 //! What is known, and how long a settling has nothing to say of it.
 
 ghost use Rattle.std.specs.Prelude.{◌≡◌, false, OnOk};
+ghost use Rattle.std.specs.List.{AllByRecursion};
+ghost use Rattle.cold_start.specs.Counts.{RisesAtMost};
+ghost use Rattle.conf_types.specs.State.{IsValidState};
 ghost use Rattle.ctl_world.specs.World.{IsSound};
+ghost use Rattle.ctl_settle.specs.Asked.{with_asked};
+ghost use Rattle.ctl_settle.specs.Counted.{counted};
 ghost use Rattle.ctl_settle.specs.Plans.{AreHeld, Fit};
 ghost use Rattle.ctl_settle.specs.Rest.{AreInOrder, IsBound, RestsUntil};
-ghost use Rattle.ctl_settle.specs.Settling.{settle};
+ghost use Rattle.ctl_settle.specs.Settling.{ask_all, settle};
 ghost use Rattle.ctl_settle.specs.Touched.{AllFollow};
 ghost use Rattle.ctl_core.specs.Found.{Bounds, ends_of, is_touched, may_differ};
 ghost use Rattle.ctl_core.specs.Known.{HasSettled, IsEarly};
@@ -43,6 +48,7 @@ pub(crate) fn settle_anew<T: Tally>(
     requires bounds { Bounds ends known.old.until known.old.world }
     ensures settled { OnOk result (known.new.world ≡ settle known.old.world) }
     ensures rests { OnOk result (HasSettled known.new) }
+    ensures most { RisesAtMost (counted (ask_all known.old.world) (with_asked known.old.world touched) known.old.plans) (T.count units.old) (T.count units.new) }
 {
     settle(
         alloc,
@@ -69,12 +75,14 @@ pub(crate) fn settle_where_due<T: Tally>(
     requires follow { AllFollow known.old.world (may_differ known.old.world.conf found) known.old.plans }
     requires bounds { Bounds (ends_of found) known.old.until known.old.world }
     requires held { is_touched found ≡ false → AreHeld known.old.world known.old.plans }
+    requires states { is_touched found ≡ false → AllByRecursion (λ h. IsValidState known.old.world.conf h.plan.state) known.old.plans }
     requires rests { is_touched found ≡ false → IsEarly known.old → RestsUntil known.old.until known.old.world }
     requires until { is_touched found ≡ false → IsEarly known.old → IsBound known.old.world known.old.until }
     ensures settled { OnOk result (known.new.world ≡ settle known.old.world) }
     ensures rests { OnOk result (HasSettled known.new) }
     ensures left_out { is_touched found ≡ false → IsEarly known.old → T.count units.new ≡ T.count units.old }
     ensures kept { is_touched found ≡ false → IsEarly known.old → known.new ≡ known.old }
+    ensures most { RisesAtMost (counted (ask_all known.old.world) (with_asked known.old.world (may_differ known.old.world.conf found)) known.old.plans) (T.count units.old) (T.count units.new) }
 {
     what_rests_settles_as_it_is();
     if found.is_touched() || known.until <= known.world.moment.0 {

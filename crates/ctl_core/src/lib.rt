@@ -2,6 +2,7 @@
 #![tactic(auto)]
 
 mod before;
+mod compared;
 mod controller;
 mod ends;
 mod found;

@@ -1,9 +1,10 @@
 //! What a new configuration does.
 
-ghost use Rattle.std.specs.Prelude.{◌≡◌, ◌++◌, ℕ, List, map, false, is_ok, Ok, Err, IfOk, OnOk};
+ghost use Rattle.std.specs.Prelude.{◌≡◌, ◌++◌, ℕ, List, map, false, if◌then◌else◌, is_ok, Ok, Err, IfOk, OnOk};
 ghost use Rattle.conf_types.specs.Groups.{group_of};
 ghost use Rattle.ctl_world.specs.World.{running};
 ghost use Rattle.conf_check.specs.Accepted.{IsTextRefused};
+ghost use Rattle.ctl_core.specs.declared.found.Found.TheVariants.{Any, Nothing};
 ghost use Rattle.ctl_core.specs.Found.{Tells, is_touched};
 ghost use Rattle.ctl_core.specs.Reloading.{Gives, accepted, close_each, close_stray, is_stray, of_text, of_tree, reload, renew, strays, want_all, want_each, yaml_fault_text};
 
@@ -182,6 +183,7 @@ pub(crate) fn reload(alloc: Global, world: &mut World, text: &[u8]) -> Result<Fo
     ensures reloaded { OnOk result (world.new ≡ reload (accepted text.now) world.old) }
     ensures tells { IfOk result (λ found. Tells world.old world.new found) }
     ensures told { IfOk result (λ found. is_touched found ≡ is_ok (accepted text.now)) }
+    ensures found { IfOk result (λ found. found ≡ (if is_ok (accepted text.now) then Any else Nothing)) }
 {
     what_is_said_is_alike();
     match read_text(alloc, text)? {

@@ -3,6 +3,8 @@
 ghost use Rattle.std.specs.Prelude.{◌≡◌, ◌<◌, Some, None, if◌then◌else◌, max, false, IfOk, OnOk};
 ghost use Rattle.std.specs.List.{list_any};
 ghost use Rattle.fg_outside.specs.declared.hub.Happening.TheVariants.{Opened, Heard, Closed, Moment as Shown, Reload};
+ghost use Rattle.cold_start.specs.Counts.{RisesAtMost};
+ghost use Rattle.ctl_core.specs.Allowed.{allows, unread_allows};
 ghost use Rattle.ctl_life.specs.Silence.{closes, falls_silent, is_silent, look, look_each, show, stir};
 ghost use Rattle.ctl_core.specs.Changes.{changes, latest, unread_changes};
 ghost use Rattle.ctl_world.specs.World.{now};
@@ -25,7 +27,8 @@ use crate::turned::turned;
 use conf_types::Tally;
 use ctl_life::{closing_for, look_after, open};
 use ctl_settle::laws::{
-    alike_worlds_have_the_same_plans, alike_worlds_rest_alike, what_rests_settles_as_it_is,
+    alike_worlds_have_the_same_plans, alike_worlds_rest_alike, what_asks_touch_was_known,
+    what_rests_settles_as_it_is,
 };
 use ctl_settle::{Touched, rests_until};
 use ctl_world::laws::{
@@ -67,6 +70,7 @@ fn hear<T: Tally>(
     ensures heard { OnOk result (known.new.world ≡ hear conn piece.now known.old.world) }
     ensures settled { OnOk result (HasSettled known.new) }
     ensures left_out { unread_changes conn (feed conn piece.now known.old.world) ≡ false → IsEarly known.old → T.count units.new ≡ T.count units.old }
+    ensures most { RisesAtMost (unread_allows conn (feed conn piece.now known.old.world)) (T.count units.old) (T.count units.new) }
 {
     feed(known, conn, piece)?;
     let most = known.world.conns.unread_len(conn);
@@ -91,6 +95,7 @@ pub(crate) fn work<T: Tally>(
     ensures done { OnOk result (known.new.world ≡ work what.now known.old.world) }
     ensures settled { OnOk result (HasSettled known.new) }
     ensures left_out { changes what.now known.old.world ≡ false → latest what.now known.old.world < rests_until known.old.world → T.count units.new ≡ T.count units.old }
+    ensures most { RisesAtMost (allows what.now known.old.world) (T.count units.old) (T.count units.new) }
 {
     match what {
         Happening::Opened(conn) => opened(alloc, known, *conn, units),
@@ -111,6 +116,7 @@ fn opened<T: Tally>(
     ensures done { OnOk result (known.new.world ≡ work (Opened conn) known.old.world) }
     ensures settled { OnOk result (HasSettled known.new) }
     ensures left_out { changes (Opened conn) known.old.world ≡ false → IsEarly known.old → T.count units.new ≡ T.count units.old }
+    ensures most { RisesAtMost (allows (Opened conn) known.old.world) (T.count units.old) (T.count units.new) }
 {
     if known.world.conns.is_open(conn) {
         return Ok(());
@@ -118,6 +124,7 @@ fn opened<T: Tally>(
     what_comes_leaves_it_sound();
     what_happens_keeps_connections_in_order();
     what_happens_keeps_the_plans();
+    what_asks_touch_was_known();
     open(alloc, &mut known.world, conn)?;
     settle_anew(alloc, known, Touched::nothing(alloc), Ends::Later, units)
 }
@@ -133,6 +140,7 @@ fn heard<T: Tally>(
     ensures done { OnOk result (known.new.world ≡ work (Heard conn piece.now) known.old.world) }
     ensures settled { OnOk result (HasSettled known.new) }
     ensures left_out { changes (Heard conn piece.now) known.old.world ≡ false → IsEarly known.old → T.count units.new ≡ T.count units.old }
+    ensures most { RisesAtMost (allows (Heard conn piece.now) known.old.world) (T.count units.old) (T.count units.new) }
 {
     if !known.world.conns.is_open(conn) {
         return Ok(());
@@ -151,6 +159,7 @@ fn closed<T: Tally>(
     ensures done { OnOk result (known.new.world ≡ work (Closed conn cause) known.old.world) }
     ensures settled { OnOk result (HasSettled known.new) }
     ensures left_out { changes (Closed conn cause) known.old.world ≡ false → IsEarly known.old → T.count units.new ≡ T.count units.old }
+    ensures most { RisesAtMost (allows (Closed conn cause) known.old.world) (T.count units.old) (T.count units.new) }
 {
     if !known.world.conns.is_open(conn) {
         return Ok(());
@@ -159,6 +168,7 @@ fn closed<T: Tally>(
     forgetting_what_is_lost_makes_it_sound();
     what_happens_keeps_connections_in_order();
     what_happens_keeps_the_plans();
+    what_asks_touch_was_known();
     let before = Before::of(alloc, &known.world)?;
     known.world.end(alloc, closing_for(cause), conn)?;
     let touched = before.behind(alloc, &known.world)?;
@@ -240,6 +250,7 @@ fn passed<T: Tally>(
     ensures done { OnOk result (known.new.world ≡ work (Shown moment) known.old.world) }
     ensures settled { OnOk result (HasSettled known.new) }
     ensures left_out { changes (Shown moment) known.old.world ≡ false → max known.old.world.moment.0 moment < rests_until known.old.world → T.count units.new ≡ T.count units.old }
+    ensures most { RisesAtMost (allows (Shown moment) known.old.world) (T.count units.old) (T.count units.new) }
 {
     a_configuration_is_valid(&known.world.conf);
     a_moment_leaves_it_sound();
@@ -248,6 +259,7 @@ fn passed<T: Tally>(
     alike_worlds_rest_alike();
     alike_worlds_have_the_same_plans();
     what_rests_settles_as_it_is();
+    what_asks_touch_was_known();
     known.until = until_at(&known.world, known.until, moment);
     let before = known.world.moment;
     let kept = before_silence(alloc, &known.world, moment)?;
@@ -269,6 +281,7 @@ fn reloaded<T: Tally>(
     ensures done { OnOk result (known.new.world ≡ work (Reload text.now) known.old.world) }
     ensures settled { OnOk result (HasSettled known.new) }
     ensures left_out { changes (Reload text.now) known.old.world ≡ false → IsEarly known.old → T.count units.new ≡ T.count units.old }
+    ensures most { RisesAtMost (allows (Reload text.now) known.old.world) (T.count units.old) (T.count units.new) }
 {
     a_configuration_is_valid(&known.world.conf);
     a_reload_leaves_it_sound();
@@ -276,6 +289,7 @@ fn reloaded<T: Tally>(
     what_happens_keeps_the_plans();
     alike_worlds_rest_alike();
     alike_worlds_have_the_same_plans();
+    what_asks_touch_was_known();
     let found = reload(alloc, &mut known.world, text)?;
     settle_where_due(alloc, known, found, units)
 }

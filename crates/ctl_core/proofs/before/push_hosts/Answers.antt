@@ -1,4 +1,4 @@
-use Rattle.std.proofs.Common.{false, true, not, [], ◌∷◌, drop, ◌++◌, sym, ap, ◌∙◌, ◌+◌, arith}
+use Rattle.std.proofs.Common.{not, [], ◌∷◌, drop, ◌++◌, sym, ap, ◌∙◌, ◌+◌, arith}
 use Rattle.std.specs.Option.{option_map}
 use Rattle.conf_types.specs.declared.state.HostRec.{HostRec}
 use Rattle.law_names.specs.Differing.{host}

@@ -1,4 +1,8 @@
-use Rattle.std.proofs.Common.{refl, sym, ap, ◌∙◌, ◌+◌, ◌-◌}
+use Rattle.std.proofs.Common.{◌≡◌, true, refl, sym, ap, ◌∙◌, ◌+◌, ◌-◌, arith}
+use Rattle.ctl_world.specs.World.{World}
+use Rattle.ctl_life.specs.Life.{has_frame}
+use Rattle.ctl_core.specs.Allowed.{frames_allow}
+use Rattle.ctl_core.proofs.AllowedOn.{allow_begun, allow_next, allow_on}
 use Rattle.ctl_core.specs.Changes.{any_changes}
 use Rattle.ctl_core.specs.Hearing.{hear_frames}
 use Rattle.ctl_core.proofs.HeardOn.{all_none, begun, ended, heard_last, heard_on, next_none, rest_none}
@@ -6,7 +10,8 @@ use Rattle.ctl_core.proofs.hearing.hear_frames.Goals as goal
 
 pub loop-init : goal.loop-init
 loop-init g c =
-    (begun c.args.most 0 c.args.conn c.args.known.now.world, c.requires, λ none early. (all_none c.args.most 0 c.args.conn c.args.known.now.world none, early, refl))
+    let e = allow_begun c.args.most c.args.conn c.args.known.now.world in
+    (begun c.args.most 0 c.args.conn c.args.known.now.world, c.requires, λ none early. (all_none c.args.most 0 c.args.conn c.args.known.now.world none, early, refl), omega (arith, e))
 
 pub hear_front-requires : goal.hear_front-requires
 hear_front-requires g c = c.loop.invariant.1
@@ -31,6 +36,11 @@ loop-preserved g c = (
         c.in_ok-hear_front.ensures.early next before.1,
         c.in_ok-hear_front.ensures.left_out next before.1 ∙ before.2,
       ),
+  (let w : World = c.loop.known.world in
+      let more : has_frame c.args.conn w ≡ true = sym c.in_ok-hear_front.ensures.more ∙ c.if-not-branch.false in
+      let e = allow_on c.args.most c.loop.counter c.args.conn w c.loop-test.true more in
+      let same = ap (frames_allow (c.args.most - (c.loop.counter + 1)) c.args.conn) c.in_ok-hear_front.ensures.heard in
+      omega (arith, e, same, c.hear_front.ensures.most, c.loop.invariant.3)),
 )
 
 pub returns-clause-heard : goal.returns-clause-heard
@@ -53,3 +63,16 @@ returns-in_err-hear_front-clause-left_out g c = λ none early.
     let before = c.loop.invariant.2 none early in
     let next = next_none c.args.most c.loop.counter c.args.conn c.loop.known.world c.loop-test.true before.0 in
     c.in_err-hear_front.ensures.left_out next before.1 ∙ before.2
+
+pub returns-then-not-branch-clause-most : goal.returns-then-not-branch-clause-most
+returns-then-not-branch-clause-most g c =
+    let e = allow_next c.args.most c.loop.counter c.args.conn c.loop.known.world c.loop-test.true in
+    omega (arith, e, c.hear_front.ensures.most, c.loop.invariant.3)
+
+pub returns-in_err-hear_front-clause-most : goal.returns-in_err-hear_front-clause-most
+returns-in_err-hear_front-clause-most g c =
+    let e = allow_next c.args.most c.loop.counter c.args.conn c.loop.known.world c.loop-test.true in
+    omega (arith, e, c.hear_front.ensures.most, c.loop.invariant.3)
+
+pub returns-clause-most : goal.returns-clause-most
+returns-clause-most g c = let so_far = c.loop.invariant.3 in omega (arith, so_far)

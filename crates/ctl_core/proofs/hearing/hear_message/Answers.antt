@@ -15,6 +15,8 @@ use Rattle.ctl_world.proofs.Faces.{alike_same}
 use Rattle.ctl_core.specs.Changes.{Changes, step_changes}
 use Rattle.ctl_core.specs.Found.{is_reply, is_settled}
 use Rattle.ctl_core.specs.Hearing.{follow}
+use Rattle.ctl_core.specs.Told.{IsExact, is_calm}
+use Rattle.ctl_core.proofs.Calm.{leaves_calm}
 use Rattle.ctl_core.proofs.Silent.{neither}
 use Rattle.ctl_core.proofs.Stays.{nothing_lost, world_stays}
 use Rattle.ctl_core.proofs.Telling.{IsQuiet, follow_settled, replied_lost, replied_quiet, reply_settled, tells_behind}
@@ -47,6 +49,10 @@ returns-then-stays c =
           let same_state : leaves d.session.state m xid ≡ true = (rw at at (sym c.stays-stays.ensures.exact)) ∙ c.if-stays.true in
           rw at (rw same_state (IfOk-weaker c.follow.result _ _
           (λ found told same_step. told (ap (λ s. step_changes s m d.dp v) step ∙ ap (step_changes (leads d.session.state m xid).1 m d.dp) (left ∙ put) ∙ same_step)) c.follow.ensures.told));
+      exact =
+          let same_state : leaves d.session.state m xid ≡ true = (rw at at (sym c.stays-stays.ensures.exact)) ∙ c.if-stays.true in
+          let calm : is_calm c.in_ok-step.step ≡ true = ap is_calm step ∙ leaves_calm d.session.state m xid same_state in
+          IfOk-weaker c.follow.result _ _ (λ found exact. subst (λ (u : World). IsExact u c.follow.new.world found) (left ∙ put) (exact calm)) c.follow.ensures.exact;
     }
 
 second : (a b : Bool) → a ≡ false → (a || b) ≡ true → b ≡ true
@@ -72,6 +78,7 @@ returns c =
       heard = rw at (left ∙ sym (follow_settled (leads d.session.state m xid).1 m xid c.args.conn d.dp (forget_lost heard) settled ∙ lost));
       tells = subst (IsQuiet w) (sym left) (replied_quiet m xid c.args.conn w d at settled, λ until all. all);
       told = rw at (rw other_state (λ none. absurd (true≢false none)));
+      exact = λ sound behind. (refl, tt);
     }
 
 -- the state of the connection changes
@@ -97,4 +104,5 @@ returns-then-not-is_quiet c =
       heard = c.hear_change.ensures.heard;
       tells = c.hear_change.ensures.tells;
       told = rw at (rw other_state (IfOk-weaker c.hear_change.result _ _ (λ found tells none. absurd (true≢false none)) c.hear_change.ensures.tells));
+      exact = c.hear_change.ensures.exact;
     }

@@ -1,12 +1,19 @@
 use Rattle.std.proofs.Common.{◌≡◌, ◌<◌, false, subst, sym}
 use Rattle.std.proofs.lemmas.Result.{on_ok_weaker}
+use Rattle.std.specs.List.{AllByRecursion}
 use Rattle.net_base.specs.declared.numbers.Moment.{Moment}
+use Rattle.conf_types.specs.Configuration.{Configuration}
+use Rattle.conf_types.specs.State.{IsValidState}
 use Rattle.ctl_world.specs.World.{IsSound, World}
 use Rattle.ctl_settle.specs.Plans.{Fit}
 use Rattle.ctl_settle.specs.Rest.{AreInOrder}
 use Rattle.ctl_settle.proofs.Until.{are_bounded}
 use Rattle.ctl_life.specs.Life.{says}
-use Rattle.ctl_core.specs.Found.{IsStill, is_touched}
+use Rattle.cold_start.specs.Counts.{RisesAtMost}
+use Rattle.ctl_core.specs.Allowed.{settling}
+use Rattle.ctl_core.specs.Found.{IsStill, is_touched, may_differ}
+use Rattle.ctl_core.proofs.Bound.{rises_exactly}
+use Rattle.ctl_core.proofs.Spent.{AreOld, old_heard}
 use Rattle.ctl_core.specs.Known.{IsEarly}
 use Rattle.ctl_core.proofs.Still.{still_held, still_rests, still_until}
 use Rattle.ctl_core.proofs.Telling.{tells_bounds, tells_follow, tells_still}
@@ -24,6 +31,7 @@ settle_where_due-requires g c =
       in_order = subst AreInOrder heard (c.what_happens_keeps_connections_in_order.ensures.heard (says c.args.frame.now) c.args.conn w c.requires.in_order);
       fit = subst (λ (u : World). Fit u.conns k.plans) heard (c.what_happens_keeps_the_plans.ensures.heard (says c.args.frame.now) c.args.conn w k.plans c.requires.held.fit);
       follow = tells_follow w v c.in_ok-found.found c.requires.sound c.in_ok-found.ensures.tells k.plans c.requires.follow;
+      states = λ none. subst (λ (conf : Configuration). AllByRecursion (λ h. IsValidState conf h.plan.state) k.plans) (sym (still none).alike.conf) c.requires.states;
       held = λ none. still_held w v (still none) c.alike_worlds_have_the_same_plans.ensures k.plans c.requires.held;
       rests = λ none early. still_rests w v (still none) c.alike_worlds_rest_alike.ensures.rest k.until c.requires.until c.requires.rests early;
       until = λ none early. still_until w v (still none) c.alike_worlds_rest_alike.ensures.rest k.until c.requires.until c.requires.rests early;
@@ -42,3 +50,22 @@ returns-clause-early g c = λ same early.
     let unmoved = tells_still c.args.known.now.world c.hear_frame.new.world c.in_ok-found.found none c.requires.sound c.in_ok-found.ensures.tells in
     let still = subst (λ (m : Moment). m.0 < c.args.known.now.until) (sym unmoved.alike.moment) early in
     on_ok_weaker c.settle_where_due.result (λ _. subst IsEarly (sym (c.settle_where_due.ensures.kept none still)) still) c.settle_where_due.ensures.settled
+
+pub returns-clause-most : goal.returns-clause-most
+returns-clause-most g c =
+    let k = c.args.known.now in
+    let w : World = k.world in
+    let v : World = c.hear_frame.new.world in
+    let said = says c.args.frame.now in
+    let is = c.in_ok-found.ensures.heard in
+    let heard = sym is in
+    let sound : IsSound v = subst IsSound heard (c.a_frame_leaves_it_sound.ensures.heard said c.args.conn w c.a_configuration_is_valid.ensures c.requires.sound) in
+    let exact = c.in_ok-found.ensures.exact c.requires.sound sound in
+    let a = g.T.Tally.count c.args.units.now in
+    let b = g.T.Tally.count c.settle_where_due.new.units in
+    subst (λ (u : World). RisesAtMost (settling w u) a b) is
+    (rises_exactly c.what_asks_touch_was_known.ensures.lost c.what_asks_touch_was_known.ensures.named k c.requires v exact.0 sound
+    (subst AreInOrder heard (c.what_happens_keeps_connections_in_order.ensures.heard said c.args.conn w c.requires.in_order))
+    (subst (λ (u : World). Fit u.conns k.plans) heard (c.what_happens_keeps_the_plans.ensures.heard said c.args.conn w k.plans c.requires.held.fit))
+    (subst (λ (u : World). AreOld w.neighbours.neighbours u.neighbours.neighbours) heard (old_heard w said c.args.conn))
+    (may_differ v.conf c.in_ok-found.found) exact.1 a b c.settle_where_due.ensures.most)

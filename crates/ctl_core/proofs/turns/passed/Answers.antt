@@ -1,5 +1,7 @@
 use Rattle.std.proofs.Common.{◌≡◌, ◌<◌, [], Some, None, map, max, refl, subst, sym, ap, ◌∙◌, arith}
-use Rattle.std.specs.List.{list_any}
+use Rattle.std.specs.List.{AllByRecursion, list_any}
+use Rattle.conf_types.specs.Configuration.{Configuration}
+use Rattle.conf_types.specs.State.{IsValidState}
 use Rattle.net_base.specs.declared.numbers.Moment.{Moment}
 use Rattle.ctl_world.specs.Alike.{IsAlike}
 use Rattle.ctl_world.specs.World.{IsSound, World, now}
@@ -11,6 +13,11 @@ use Rattle.ctl_settle.specs.Touched.{AllFollow}
 use Rattle.ctl_settle.proofs.Following.{named_follow}
 use Rattle.ctl_core.specs.declared.known.Known.{Known}
 use Rattle.ctl_core.specs.Known.{HasSettled}
+use Rattle.cold_start.specs.Counts.{RisesAtMost}
+use Rattle.ctl_core.specs.Allowed.{settling}
+use Rattle.ctl_core.proofs.Bound.{AllDiffer, rises_within}
+use Rattle.ctl_core.proofs.Spent.{AreOld, old_passed}
+use Rattle.ctl_core.proofs.TurnedDiffer.{aged_differ}
 use Rattle.ctl_core.proofs.NoneNew.{NoneIsNew, passed_new}
 use Rattle.ctl_core.proofs.Silent.{none_falls, none_silent, was_kept}
 use Rattle.ctl_core.proofs.Telling.{at_moment_follow, quiet_before}
@@ -30,6 +37,7 @@ returns-then-known g c =
       in_order = c.requires.in_order;
       held = c.requires.held;
       follow = c.requires.follow;
+      states = c.requires.states;
       rests = c.until_at-known.ensures.rests;
       until = c.until_at-known.ensures.bound;
     } in
@@ -45,11 +53,13 @@ returns-then-known g c =
         sound = subst IsSound (sym passed) (c.a_moment_leaves_it_sound.ensures c.args.moment k.world c.a_configuration_is_valid.ensures c.requires.sound);
         in_order = subst AreInOrder (sym passed) (c.what_happens_keeps_connections_in_order.ensures.passed c.args.moment k.world c.requires.in_order);
         follow = named_follow k.world v [] (quiet_before c.args.moment k.world v alike (let less : v.moment.0 < k.until = c.if-known.true in omega (arith, less, settled.until.least))) k.plans c.requires.follow;
+        states = subst (λ (conf : Configuration). AllByRecursion (λ h. IsValidState conf h.plan.state) k.plans) (sym alike.conf) c.requires.states;
         held = c.alike_worlds_have_the_same_plans.ensures v (show c.args.moment k.world) k.plans alike (record { fit = c.requires.held.fit; there = c.requires.held.there; shut = c.requires.held.shut });
         rests = moment_rests rest.rest rest.none_over rest.until same k settled c.args.moment v alike;
         until = moment_until rest.rest rest.none_over rest.until same k settled c.args.moment v alike c.if-known.true;
       };
       left_out = λ _ _. refl;
+      most = omega arith;
     }
 
 pub settle_anew-requires : goal.settle_anew-requires
@@ -72,3 +82,30 @@ settle_anew-requires g c =
           (at_moment_follow c.args.moment w v c.in_ok-kept.kept alike (λ s is. was_kept (list_any (is_silent shown) w.conns) (now w) s (sym c.in_ok-kept.ensures ∙ is)) new k.plans c.requires.follow));
       bounds = tt;
     }
+
+pub returns-clause-most : goal.returns-clause-most
+returns-clause-most g c =
+    let k = c.args.known.now in
+    let w = k.world in
+    let u : World = c.look_after.new.world in
+    let v : World = c.age_named.new.world in
+    let shown : Moment = record { 0 = max w.moment.0 c.args.moment } in
+    let done = c.in_ok-touched.ensures.done in
+    let is = done ∙ ap age c.in_ok-closed.ensures.looked in
+    let aged = sym is in
+    let alike : c.in_ok-kept.kept ≡ None → IsAlike u (show c.args.moment w) =
+    λ none. c.in_ok-closed.ensures.alike (c.in_ok-closed.ensures.told ∙ none_falls (show c.args.moment w) (none_silent (list_any (is_silent shown) w.conns) (now w) (sym c.in_ok-kept.ensures ∙ none)) (map (λ d. d.number) w.conns)) in
+    let new : NoneIsNew w (age u) = subst (NoneIsNew w) (ap age (sym c.in_ok-closed.ensures.looked)) (passed_new w c.args.moment) in
+    let conf : u.conf ≡ w.conf = new.conf in
+    let sound : IsSound v = subst IsSound aged (c.a_moment_leaves_it_sound.ensures c.args.moment w c.a_configuration_is_valid.ensures c.requires.sound) in
+    let valid : IsValidState w.conf (now (age u)) = subst (λ (cf : Configuration). IsValidState cf (now (age u))) conf (subst IsSound done sound).valid in
+    let all : AllDiffer w (age u) (aged_names w.moment.0 c.in_ok-kept.kept u) =
+    aged_differ w u c.in_ok-kept.kept conf c.requires.sound valid (λ none. (alike none).hosts) (λ s is_kept. was_kept (list_any (is_silent shown) w.conns) (now w) s (sym c.in_ok-kept.ensures ∙ is_kept)) in
+    let a = g.T.Tally.count c.args.units.now in
+    let b = g.T.Tally.count c.settle_anew.new.units in
+    subst (λ (x : World). RisesAtMost (settling w x) a b) is
+    (rises_within c.what_asks_touch_was_known.ensures.lost c.what_asks_touch_was_known.ensures.named k c.requires v (ap (λ (x : World). x.conf) done ∙ conf) sound
+    (subst AreInOrder aged (c.what_happens_keeps_connections_in_order.ensures.passed c.args.moment w c.requires.in_order))
+    (subst (λ (x : World). Fit x.conns k.plans) aged (c.what_happens_keeps_the_plans.ensures.passed c.args.moment w k.plans c.requires.held.fit))
+    (subst (λ (x : World). AreOld w.neighbours.neighbours x.neighbours.neighbours) aged (old_passed w c.args.moment))
+    c.in_ok-touched.touched (aged_names w.moment.0 c.in_ok-kept.kept u) c.in_ok-touched.ensures.touched (subst (λ (x : World). AllDiffer w x (aged_names w.moment.0 c.in_ok-kept.kept u)) (sym done) all) a b c.settle_anew.ensures.most)

@@ -1,0 +1,89 @@
+-- What a settling touches differs from what was known behind the settling before.
+use Rattle.std.proofs.Common.{◌≡◌, Bool, true, false, not, nat_lt, is_some, Option, Some, None, List, ◌++◌, refl, inl, inr, sym, ap, ◌∙◌, subst, true≢false}
+use Rattle.std.specs.Prelude.{Contains}
+use Rattle.std.specs.List.{AllByRecursion}
+use Rattle.std.specs.Option.{option_eq}
+use Rattle.std.proofs.lemmas.Bool.{and_parts, cases_Bool}
+use Rattle.net_base.specs.declared.address.Mac.{Mac}
+use Rattle.conf_types.specs.declared.change.Change.{Change}
+use Rattle.conf_types.specs.declared.change.Change.TheVariants as change
+use Rattle.conf_types.specs.declared.state.NeighRec.{NeighRec}
+use Rattle.conf_types.specs.Changes.{AreNamed, mac_of_neighbour}
+use Rattle.conf_types.specs.Configuration.{Configuration}
+use Rattle.conf_types.specs.State.{State}
+use Rattle.law_names.specs.Differing.{differs, is_one_address, is_one_place}
+use Rattle.law_names.proofs.Alone.{first_alone}
+use Rattle.law_names.proofs.Joined.{itself, place_itself}
+use Rattle.law_runs.specs.Members.{all_by, all_joined, of_all}
+use Rattle.law_units.specs.Reached.{is_other}
+use Rattle.neighbour_resolve.specs.Due.{most_tries}
+use Rattle.plan_units.specs.Agrees.{equal_bytes}
+use Rattle.ctl_world.specs.World.{IsSound, World, now}
+use Rattle.ctl_settle.specs.Asked.{IsLost, all_asked, is_spent}
+use Rattle.ctl_core.proofs.Exact.{mac_itself, own_mac}
+use Rattle.ctl_core.proofs.Spent.{AreOld}
+
+-- ---- what differs is named
+
+option_itself : {A : Type 0} (test : A → A → Bool) → ((a : A) → test a a ≡ true) → (o : Option A) → option_eq test o o ≡ true
+option_itself test self None = refl
+option_itself test self (Some a) = self a
+
+not_both : (b : Bool) → b ≡ true → not b ≡ true → ⊥
+not_both true is other = true≢false (sym other)
+not_both false is other = true≢false (sym is)
+
+apart : {A : Type 0} (test : A → A → Bool) → ((a : A) → test a a ≡ true) → (a b : Option A) → not (option_eq test a b) ≡ true → a ≡ b → ⊥
+apart test self a b is same = not_both (option_eq test a b) (subst (λ o. option_eq test a o ≡ true) same (option_itself test self a)) is
+
+apart_bool : (a b : Bool) → is_other a b ≡ true → a ≡ b → ⊥
+apart_bool a b is same = not_both (is_other a b) is (subst (λ o. not (is_other a o) ≡ true) same (itself a))
+
+named_within : (conf : Configuration) (old new : State) (xs : List Change) → AreNamed conf old new xs → (c : Change) → differs conf old new c ≡ true → Contains xs c
+named_within conf old new xs named (change.Host group vid mac) is = named.hosts group vid mac (apart is_one_place place_itself _ _ is)
+named_within conf old new xs named (change.Port dp port) is = named.ports dp port (apart_bool _ _ is)
+named_within conf old new xs named (change.Dp dp) is = named.dps dp (apart_bool _ _ is)
+named_within conf old new xs named (change.Neighbour group vid ip) is = named.neighbours group vid ip (apart is_one_address (λ a. equal_bytes a.0 a.0 refl) _ _ is)
+
+-- ---- neighbours that are lost
+
+not_alone : (o : Option Mac) → is_some o ≡ true → not (option_eq is_one_address o None) ≡ true
+not_alone None is = absurd (true≢false (sym is))
+not_alone (Some m) is = refl
+
+abbrev mac_in : World → NeighRec → Option Mac
+mac_in w n = mac_of_neighbour w.neighbours.neighbours n.group n.vid n.ip.0
+
+module _ (was w is : World) (sound_was : IsSound was) (sound : IsSound w) (old : AreOld was.neighbours.neighbours w.neighbours.neighbours) (conf : Configuration) where
+  known : (n : NeighRec) → Contains w.neighbours.neighbours n → is_spent n ≡ true → mac_in was n ≡ n.mac
+  known n there spent = own_mac was.neighbours.neighbours sound_was.valid.neighbour_keys n (old n there spent)
+
+  -- they were known behind the settling before
+  lost_same : (c : Change) → IsLost w is c → differs conf (now was) (now w) c ≡ false
+  lost_same c lost =
+      let n = lost.one in
+      ap (differs conf (now was) (now w)) lost.named
+      ∙ (λ i. not (option_eq is_one_address (known n lost.there lost.spent i) (own_mac w.neighbours.neighbours sound.valid.neighbour_keys n lost.there i)))
+      ∙ ap not (mac_itself n.mac)
+
+  lost_differs : (c : Change) → IsLost w is c → differs conf (now was) (now is) c ≡ true
+  lost_differs c lost =
+      let n = lost.one in
+      ap (differs conf (now was) (now is)) lost.named
+      ∙ (λ i. not (option_eq is_one_address (known n lost.there lost.spent i) (lost.gone i)))
+      ∙ not_alone n.mac (and_parts (is_some n.mac) (not (nat_lt n.tries most_tries)) lost.spent).0
+
+  module _ (named : AreNamed conf (now w) (now is) (all_asked w)) (lost : AllByRecursion (IsLost w is) (all_asked w)) where
+    still_differs : (c : Change) → differs conf (now was) (now w) c ≡ true → differs conf (now was) (now is) c ≡ true
+    still_differs c other = elim (cases_Bool (differs conf (now w) (now is) c)) [
+      | inl again ↦
+          let one : IsLost w is c = of_all (IsLost w is) (all_asked w) lost c (named_within conf (now w) (now is) (all_asked w) named c again) in
+          absurd (true≢false (sym other ∙ lost_same c one))
+      | inr still ↦ first_alone conf (now was) (now w) (now is) c other still
+    ]
+
+    pub all_differ : (changes : List Change) → AllByRecursion (λ c. differs conf (now was) (now w) c ≡ true) changes → AllByRecursion (λ c. differs conf (now was) (now is) c ≡ true) (changes ++ all_asked w)
+    all_differ changes all =
+        all_joined (λ c. differs conf (now was) (now is) c ≡ true) changes (all_asked w)
+        (all_by (λ c. differs conf (now was) (now is) c ≡ true) changes (λ c within. still_differs c (of_all (λ x. differs conf (now was) (now w) x ≡ true) changes all c within)))
+        (all_by (λ c. differs conf (now was) (now is) c ≡ true) (all_asked w) (λ c within. lost_differs c (of_all (IsLost w is) (all_asked w) lost c within)))
