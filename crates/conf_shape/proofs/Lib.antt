@@ -1,4 +1,3 @@
-pub mod Asked
 pub mod FaultLaws
 pub mod Parsed
 mod SeenNames

@@ -1,5 +1,5 @@
 -- What is wrong with a value that is no list and no map, by what it has to be.
-use Rattle.std.specs.Prelude.{ℕ, ◌-◌, ◌^◌, ℤ, pos, negsuc, Bool, true, false, ◌==◌, ◌&&◌, nat_le, if◌then◌else◌, List, length, Option, Some, None}
+use Rattle.std.specs.Prelude.{ℕ, ◌-◌, ◌^◌, ℤ, pos, negsuc, Bool, true, false, ◌==◌, ◌&&◌, nat_le, nat_lt, if◌then◌else◌, List, length, Option, Some, None}
 use Rattle.net_base.specs.declared.field.FieldId.{FieldId}
 use Rattle.net_base.specs.declared.field.FieldId.TheVariants.{VlanVid}
 use Rattle.net_base.specs.FieldId.{bits_of, may_be_masked}
@@ -62,10 +62,10 @@ text_fault Gateway text = gateway_cause text
 text_fault Prefix text = prefix_cause text
 
 -- what a rule's value for a field of so many bits has to be, where a mask may leave some out and where
--- not (OpenFlow 1.3, 7.2.3.7, table 12): an Ethernet address, one of IPv4, a number
+-- not (OpenFlow 1.3, 7.2.3.7, table 12): an Ethernet address, one of IP, a number of less than 64 bits
 abbrev pub bits_scalar : ℕ → Bool → Scalar
 bits_scalar bits true = if bits == 48 then MaskedMac else Prefix
-bits_scalar bits false = Number 0 (2 ^ bits - 1)
+bits_scalar bits false = if nat_lt bits 64 then Number 0 (2 ^ bits - 1) else Prefix
 
 -- by the field's row in the table of fields; a VLAN is asked for by its number
 abbrev pub asked_scalar : FieldId → Scalar

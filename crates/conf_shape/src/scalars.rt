@@ -83,9 +83,9 @@ fn text_fault(scalar: Scalar, text: &str) -> Option<ConfCause>
     }
 }
 
-/// What a rule's value for a match field has to be: where a mask may leave bits out an Ethernet
-/// address or one of IPv4, and else a number of the field's bits. A VLAN is asked for by its number.
-#[tactic(auto, using(crate::proofs::Asked::few_bits))]
+/// What a rule's value for a match field has to be: where a mask may leave bits out, or where there are
+/// 64 or more, an Ethernet address or one of IP, and else a number of the field's bits. A VLAN is asked
+/// for by its number.
 pub fn asked_scalar(id: FieldId) -> Scalar
     ensures { result ≡ asked_scalar id }
 {
@@ -95,12 +95,16 @@ pub fn asked_scalar(id: FieldId) -> Scalar
             high: MOST_VID,
         };
     }
-    if !id.may_be_masked() {
-        let high = (1_u64 << id.bits()) - 1;
-        return Scalar::Number { low: 0, high };
-    }
-    if id.bits() == ETHERNET_BITS {
-        Scalar::MaskedMac
+    let bits = id.bits();
+    if id.may_be_masked() {
+        if bits == ETHERNET_BITS {
+            Scalar::MaskedMac
+        } else {
+            Scalar::Prefix
+        }
+    } else if bits < 64 {
+        let high = (1_u64 << bits) - 1;
+        Scalar::Number { low: 0, high }
     } else {
         Scalar::Prefix
     }

@@ -3,7 +3,7 @@ use Rattle.std.proofs.Common.{◌≡◌, ℕ, ◌-◌, ◌*◌, ◌^◌, ◌≤�
 use Rattle.std.specs.Prelude.{nat_le, if◌then◌else◌}
 use Rattle.std.specs.List.{AllByRecursion, list_all}
 use Rattle.std.proofs.Math.Nat.{pow-le-pow_right}
-use Rattle.std.proofs.lemmas.Bool.{and_parts, or_cases, not-true, leb-true}
+use Rattle.std.proofs.lemmas.Bool.{and_parts, or_cases, not-true, leb-true, lt-ltb}
 use Rattle.net_base.specs.declared.field.Field.{Field}
 use Rattle.net_base.specs.declared.field.FieldId.{FieldId}
 use Rattle.net_base.specs.declared.field.FieldId.TheVariants.{InPort, VlanVid}
@@ -118,7 +118,7 @@ module _ (id : FieldId) (port : (number_of id == 0) ≡ false) (tag : (number_of
       record {
         low = 0;
         high = 2 ^ bits_of id - 1;
-        scalar = row.0 ∙ ap (bits_scalar (bits_of id)) unmasked;
+        scalar = row.0 ∙ ap (bits_scalar (bits_of id)) unmasked ∙ ap (λ b. if b then Number 0 (2 ^ bits_of id - 1) else Prefix) (lt-ltb (bits_of id) 64 (omega (arith, leb-true (bits_of id) 16 parts.1)));
         small = omega (arith, few);
         may = λ n least most. row.2 (number_field id n) (subst (λ may. MayAskBits (bits_of id) may (number_field id n)) (sym unmasked)
             (let bit = row.1 in record { from = omega arith; to = omega (arith, most, bit); whole = refl }));
