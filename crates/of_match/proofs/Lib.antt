@@ -6,3 +6,4 @@ pub mod Bits
 pub mod Allowed
 pub mod Commute
 pub mod Settling
+pub mod Leads

@@ -37,7 +37,7 @@ key_partial_order = partial_order_from_total key_total
 
 -- ---- equal where it answers Equal
 
-both_equal : (p q : Ordering) → ordering_then p q ≡ Equal → (p ≡ Equal) × (q ≡ Equal)
+pub both_equal : (p q : Ordering) → ordering_then p q ≡ Equal → (p ≡ Equal) × (q ≡ Equal)
 both_equal Less q e = absurd (true≢false (sym (ap is_eq e)))
 both_equal Equal q e = (refl, e)
 both_equal Greater q e = absurd (true≢false (sym (ap is_eq e)))

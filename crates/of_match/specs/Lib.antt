@@ -1,4 +1,5 @@
 pub mod MatchOrder
+pub mod MatchLead
 pub mod KeyOrder
 pub mod InPort
 pub mod KeyLaws

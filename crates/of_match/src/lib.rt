@@ -7,6 +7,7 @@ pub mod ether_type;
 mod hit;
 mod ingress;
 pub mod laws;
+mod lead;
 mod matching;
 mod order;
 mod packet;
