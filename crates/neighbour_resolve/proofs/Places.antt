@@ -57,6 +57,13 @@ module _ (test : NeighRec → Bool) where
   none_found [] fail = refl
   none_found (x ∷ ns) fail = ap (λ b. cond b (Some x) (find test ns)) (fail 0 x (omega arith)) ∙ none_found ns (λ k d lt. fail (suc k) d (omega arith))
 
+  -- what is found, by its place
+  pub found : (ns : List NeighRec) (i : ℕ) (n : NeighRec) → Some i ≡ position test ns → i < length ns → n ≡ get_or ns i n → find test ns ≡ Some n
+  found ns i n is within at = found_at ns i n (is_first ns i n is within) ∙ ap Some (sym at)
+
+  pub not_found : (ns : List NeighRec) → None ≡ position test ns → find test ns ≡ None
+  not_found ns is = none_found ns (all_fail ns is)
+
 -- ---- by going on from where none before is
 
 neither : (a b : Bool) → (a || b) ≡ false → (a ≡ false) × (b ≡ false)
@@ -139,7 +146,7 @@ module _ (conf : Configuration) (moment : ℕ) where
 
   module _ (ns : List NeighRec) (i : ℕ) (n : NeighRec) (is : Some i ≡ position (is_due moment) ns) (within : i < length ns) (at : n ≡ get_or ns i n) where
     said_at : due_said conf moment ns ≡ Some (said_of conf moment n)
-    said_at = ap (option_map (said_of conf moment)) (found_at (is_due moment) ns i n (is_first (is_due moment) ns i n is within) ∙ ap Some (sym at))
+    said_at = ap (option_map (said_of conf moment)) (found (is_due moment) ns i n is within at)
 
     pub said_ask : (m : NeighRec) → Some m ≡ next conf moment n → Some (Ask n.group n.vid n.ip) ≡ due_said conf moment ns
     said_ask m asked = ap (λ o. Some (if is_some o then Ask n.group n.vid n.ip else Gone n.group n.vid n.ip)) asked ∙ sym said_at
@@ -152,9 +159,6 @@ module _ (conf : Configuration) (moment : ℕ) where
 
     pub left : None ≡ next conf moment n → remove ns i ≡ after_due conf moment ns
     left gone = sym (left_at ns i n (is_first (is_due moment) ns i n is within) (ap (next conf moment) (sym at) ∙ sym gone))
-
-  pub none_due : (ns : List NeighRec) → None ≡ position (is_due moment) ns → find (is_due moment) ns ≡ None
-  none_due ns is = none_found (is_due moment) ns (all_fail (is_due moment) ns is)
 
   pub none_left : (ns : List NeighRec) → None ≡ position (is_due moment) ns → after_due conf moment ns ≡ ns
   none_left ns is = unchanged ns (all_fail (is_due moment) ns is)

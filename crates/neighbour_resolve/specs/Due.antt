@@ -1,5 +1,5 @@
 -- When a neighbour is asked, and when it is given up.
-use Rattle.std.specs.Prelude.{ℕ, ◌+◌, ◌-◌, ◌^◌, ◌==◌, ◌&&◌, not, Bool, Option, Some, None, List, [], ◌∷◌, is_some, nat_lt, nat_le, slice_index_or, if◌then◌else◌}
+use Rattle.std.specs.Prelude.{ℕ, ◌+◌, ◌-◌, ◌^◌, ◌==◌, ◌&&◌, not, Bool, false, Option, Some, None, List, [], ◌∷◌, is_some, nat_lt, nat_le, slice_index_or, if◌then◌else◌}
 use Rattle.std.specs.List.{list_any, find}
 use Rattle.std.specs.Option.{option_map, option_map_or}
 use Rattle.net_base.specs.declared.numbers.Moment.{Moment}
@@ -57,6 +57,14 @@ next conf moment n =
     if nat_lt n.tries most_tries then Some (asked moment n)
     else if is_gateway conf n then Some (asked_on moment n)
     else None
+
+-- it is known, and was asked as often as it may be: what becomes of it is known no more
+abbrev pub is_spent : NeighRec → Bool
+is_spent n = is_some n.mac && not (nat_lt n.tries most_tries)
+
+-- the first one that is due is
+abbrev pub is_lost : (moment : ℕ) → List NeighRec → Bool
+is_lost moment neighbours = option_map_or is_spent (first_due moment neighbours) false
 
 abbrev pub said_of : Configuration → (moment : ℕ) → NeighRec → Due
 said_of conf moment n = if is_some (next conf moment n) then Ask n.group n.vid n.ip else Gone n.group n.vid n.ip

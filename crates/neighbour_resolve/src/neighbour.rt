@@ -1,7 +1,7 @@
 //! What is asked of one neighbour, and what becomes of it.
 
 ghost use Rattle.std.specs.Prelude.{◌≡◌, ◌<◌, ◌^◌};
-ghost use Rattle.neighbour_resolve.specs.Due.{asked, asked_on, is_due, is_gateway, later, next, said_of, wait_after};
+ghost use Rattle.neighbour_resolve.specs.Due.{asked, asked_on, is_due, is_gateway, is_spent, later, next, said_of, wait_after};
 ghost use Rattle.neighbour_resolve.specs.Table.{is_same};
 
 use conf_types::{Conf, NeighRec};
@@ -102,6 +102,13 @@ fn asked_on(now: Moment, neighbour: &NeighRec) -> NeighRec
         due: later(now, LAST_WAIT),
         ..*neighbour
     }
+}
+
+/// Whether a neighbour is known, and was asked as often as it may be.
+pub(crate) fn is_spent(neighbour: &NeighRec) -> bool
+    ensures { result ≡ is_spent neighbour.now }
+{
+    neighbour.mac.is_some() && neighbour.tries >= MOST_TRIES
 }
 
 /// What becomes of a neighbour that is due; `None` where it is given up.

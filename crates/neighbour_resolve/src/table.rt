@@ -2,13 +2,13 @@ ghost use Rattle.std.specs.Prelude.{◌≡◌, ◌≤◌, ◌<◌, Some, true, f
 ghost use Rattle.std.specs.List.{list_any};
 ghost use Rattle.conf_types.specs.Lists.{EachBefore};
 ghost use Rattle.conf_types.specs.State.{IsSameNeighbour};
-ghost use Rattle.neighbour_resolve.specs.Due.{after_due, is_due, due_said};
+ghost use Rattle.neighbour_resolve.specs.Due.{after_due, is_due, is_lost, due_said};
 ghost use Rattle.neighbour_resolve.specs.Kept.{kept};
 ghost use Rattle.neighbour_resolve.specs.Passed.{AreWaiting};
 ghost use Rattle.neighbour_resolve.specs.Table.{after_told, outcome, gives_way, is_known, neighbours_after, off_group, replaced, resolved, stays, unresolved};
 
 use crate::kept::kept_neighbours;
-use crate::neighbour::{Due, Want, is_due, is_same, next};
+use crate::neighbour::{Due, Want, is_due, is_same, is_spent, next};
 use crate::passed::Passed;
 use conf_types::{Conf, NeighRec};
 use net_base::{DpId, Ip4, Mac, Moment, NoMemory, Vid};
@@ -93,6 +93,18 @@ fn due_place(neighbours: &[NeighRec], from: usize, now: Moment) -> Option<usize>
         }
     }
     None
+}
+
+/// Whether the first neighbour that is due is known and was asked as often as it may be. None of the
+/// first `from` is due.
+fn is_lost(neighbours: &[NeighRec], from: usize, now: Moment) -> bool
+    requires { list_any (is_due now.0) (take from neighbours.now) ≡ false }
+    ensures { result ≡ is_lost now.0 neighbours.now }
+{
+    match due_place(neighbours, from, now) {
+        Some(at) => is_spent(&neighbours[at]),
+        None => false,
+    }
 }
 
 /// Changes the first neighbour that is due, which stands at the place, or takes it out.
@@ -215,6 +227,15 @@ impl Neighbours {
         };
         self.passed = Passed::none();
         tell(&mut self.neighbours, self.limit, told, false)
+    }
+
+    /// Whether the first neighbour that is due is known and was asked as often as it may be: then
+    /// `due` at this moment leaves it known no more, whether it is taken out or asked on.
+    pub fn loses(&self, now: Moment) -> bool
+        ensures lost { result ≡ is_lost now.0 self.now.neighbours }
+        ensures keys { EachBefore (λ a b. IsSameNeighbour a b → ⊥) self.now.neighbours }
+    {
+        is_lost(self.neighbours.as_slice(), self.passed.count(now), now)
     }
 
     /// What is to be done with the first neighbour that is due; `None` exactly where none is. One
