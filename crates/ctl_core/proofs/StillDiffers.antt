@@ -1,49 +1,23 @@
 -- What a settling touches differs from what was known behind the settling before.
-use Rattle.std.proofs.Common.{◌≡◌, Bool, true, false, not, nat_lt, is_some, Option, Some, None, List, ◌++◌, refl, inl, inr, sym, ap, ◌∙◌, subst, true≢false}
+use Rattle.std.proofs.Common.{◌≡◌, true, false, not, nat_lt, is_some, Option, Some, None, List, ◌++◌, refl, inl, inr, sym, ap, ◌∙◌, true≢false}
 use Rattle.std.specs.Prelude.{Contains}
 use Rattle.std.specs.List.{AllByRecursion}
 use Rattle.std.specs.Option.{option_eq}
 use Rattle.std.proofs.lemmas.Bool.{and_parts, cases_Bool}
 use Rattle.net_base.specs.declared.address.Mac.{Mac}
 use Rattle.conf_types.specs.declared.change.Change.{Change}
-use Rattle.conf_types.specs.declared.change.Change.TheVariants as change
 use Rattle.conf_types.specs.declared.state.NeighRec.{NeighRec}
 use Rattle.conf_types.specs.Changes.{AreNamed, mac_of_neighbour}
 use Rattle.conf_types.specs.Configuration.{Configuration}
-use Rattle.conf_types.specs.State.{State}
-use Rattle.law_names.specs.Differing.{differs, is_one_address, is_one_place}
+use Rattle.law_names.specs.Differing.{differs, is_one_address}
 use Rattle.law_names.proofs.Alone.{first_alone}
-use Rattle.law_names.proofs.Joined.{itself, place_itself}
+use Rattle.law_names.proofs.Counted.{named_within}
 use Rattle.law_runs.specs.Members.{all_by, all_joined, of_all}
-use Rattle.law_units.specs.Reached.{is_other}
 use Rattle.neighbour_resolve.specs.Due.{most_tries}
-use Rattle.plan_units.specs.Agrees.{equal_bytes}
 use Rattle.ctl_world.specs.World.{IsSound, World, now}
 use Rattle.ctl_settle.specs.Asked.{IsLost, all_asked, is_spent}
 use Rattle.ctl_core.proofs.Exact.{mac_itself, own_mac}
 use Rattle.ctl_core.proofs.Spent.{AreOld}
-
--- ---- what differs is named
-
-option_itself : {A : Type 0} (test : A → A → Bool) → ((a : A) → test a a ≡ true) → (o : Option A) → option_eq test o o ≡ true
-option_itself test self None = refl
-option_itself test self (Some a) = self a
-
-not_both : (b : Bool) → b ≡ true → not b ≡ true → ⊥
-not_both true is other = true≢false (sym other)
-not_both false is other = true≢false (sym is)
-
-apart : {A : Type 0} (test : A → A → Bool) → ((a : A) → test a a ≡ true) → (a b : Option A) → not (option_eq test a b) ≡ true → a ≡ b → ⊥
-apart test self a b is same = not_both (option_eq test a b) (subst (λ o. option_eq test a o ≡ true) same (option_itself test self a)) is
-
-apart_bool : (a b : Bool) → is_other a b ≡ true → a ≡ b → ⊥
-apart_bool a b is same = not_both (is_other a b) is (subst (λ o. not (is_other a o) ≡ true) same (itself a))
-
-named_within : (conf : Configuration) (old new : State) (xs : List Change) → AreNamed conf old new xs → (c : Change) → differs conf old new c ≡ true → Contains xs c
-named_within conf old new xs named (change.Host group vid mac) is = named.hosts group vid mac (apart is_one_place place_itself _ _ is)
-named_within conf old new xs named (change.Port dp port) is = named.ports dp port (apart_bool _ _ is)
-named_within conf old new xs named (change.Dp dp) is = named.dps dp (apart_bool _ _ is)
-named_within conf old new xs named (change.Neighbour group vid ip) is = named.neighbours group vid ip (apart is_one_address (λ a. equal_bytes a.0 a.0 refl) _ _ is)
 
 -- ---- neighbours that are lost
 

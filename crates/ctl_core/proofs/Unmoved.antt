@@ -1,7 +1,6 @@
 -- From two states between which nothing differs, changes reach the same.
 use Rattle.std.proofs.Common.{◌≡◌, ℕ, suc, ◌==◌, ◌&&◌, ◌||◌, nat_le, Bool, true, false, List, [], ◌∷◌, filter, length, Option, Some, None, count_by, refl, sym, ap, ◌∙◌, arith}
 use Rattle.std.specs.Prelude.{Contains}
-use Rattle.std.specs.List.{list_any}
 use Rattle.std.specs.Option.{option_map, option_map_or}
 use Rattle.net_base.specs.declared.address.Mac.{Mac}
 use Rattle.net_base.specs.declared.numbers.DpId.{DpId}
@@ -14,10 +13,9 @@ use Rattle.conf_types.specs.Changes.{AreNamed, Standing, host_by, standing, stan
 use Rattle.conf_types.specs.Configuration.{Configuration, dp_with, vlan_with}
 use Rattle.conf_types.specs.State.{IsValidState, State, is_host_in, is_table_full, is_vlan_full, most_hosts}
 use Rattle.cold_start.specs.Cold.{units_of}
-use Rattle.plan_units.specs.declared.unit.Unit.{Unit as PlanUnit}
-use Rattle.plan_units.specs.declared.unit.Unit.TheVariants as unit
 use Rattle.law_units.specs.Reach.{has_vlan, is_full_in}
-use Rattle.law_units.specs.Reached.{is_other, is_ours, is_reached, reaches, stands_at, touches_port}
+use Rattle.law_names.proofs.Reaching.{reached_alike}
+use Rattle.law_units.specs.Reached.{is_other, is_ours, stands_at, touches_port}
 use Rattle.law_units.proofs.Hosts.{ReadsPlace, same_count, same_length, stable_standing}
 use Rattle.warm_plan.specs.Kept.{reached_at}
 
@@ -80,32 +78,5 @@ module _ (conf : Configuration) (s t : State) (valid_s : IsValidState conf s) (v
         || ((is_ours conf s new d group && (has_vlan conf s new d number vid && is_other (full_same group vid i) (is_full_in conf s new d new group vid)))
         || is_other (table_same i) (is_table_full new.hosts))
 
-    -- ---- what is reached
-
-    reaches_same : (c : Change) (u : PlanUnit) → reaches conf s new d c u ≡ reaches conf t new d c u
-    reaches_same (change.Host group vid mac) unit.Dp = refl
-    reaches_same (change.Host group vid mac) (unit.Port number) = touches_same group vid mac number
-    reaches_same (change.Host group vid mac) (unit.Vlan w) = refl
-    reaches_same (change.Host group vid mac) (unit.Host w address) = refl
-    reaches_same (change.Host group vid mac) (unit.Route w) = refl
-    reaches_same (change.Port dp port) unit.Dp = refl
-    reaches_same (change.Port dp port) (unit.Port number) = refl
-    reaches_same (change.Port dp port) (unit.Vlan w) = refl
-    reaches_same (change.Port dp port) (unit.Host w address) = refl
-    reaches_same (change.Port dp port) (unit.Route w) = refl
-    reaches_same (change.Dp dp) unit.Dp = refl
-    reaches_same (change.Dp dp) (unit.Port number) = refl
-    reaches_same (change.Dp dp) (unit.Vlan w) = refl
-    reaches_same (change.Dp dp) (unit.Host w address) = refl
-    reaches_same (change.Dp dp) (unit.Route w) = refl
-    reaches_same (change.Neighbour group vid ip) unit.Dp = refl
-    reaches_same (change.Neighbour group vid ip) (unit.Port number) = refl
-    reaches_same (change.Neighbour group vid ip) (unit.Vlan w) = refl
-    reaches_same (change.Neighbour group vid ip) (unit.Host w address) = refl
-    reaches_same (change.Neighbour group vid ip) (unit.Route w) = refl
-
-    reached_same : (changes : List Change) → ◌≡◌ {A = PlanUnit → Bool} (is_reached conf s new d changes) (is_reached conf t new d changes)
-    reached_same changes = λ i u. list_any (λ c. reaches_same c u i) changes
-
   pub reach_same : (new : State) (id : DpId) (changes : List Change) → reached_at conf s new id changes ≡ reached_at conf t new id changes
-  reach_same new id changes = λ i. option_map_or (λ d. filter (reached_same new d changes i) (units_of conf new d)) (dp_with conf.dps id) []
+  reach_same new id changes = λ i. option_map_or (λ d. filter (reached_alike conf s t new d (touches_same new d) changes i) (units_of conf new d)) (dp_with conf.dps id) []

@@ -7,6 +7,7 @@ use Rattle.std.proofs.lemmas.Bool.{or_left, or_right}
 use Rattle.conf_types.specs.declared.datapath.Dp.{Dp}
 use Rattle.conf_types.specs.declared.change.Change.{Change}
 use Rattle.conf_types.specs.declared.change.Change.TheVariants as change
+use Rattle.conf_types.specs.Changes.{AreNamed}
 use Rattle.conf_types.specs.Configuration.{Configuration}
 use Rattle.conf_types.specs.State.{State}
 use Rattle.plan_units.specs.declared.unit.Unit.{Unit as PlanUnit}
@@ -65,12 +66,15 @@ apart test self a b is same = not_both (option_eq test a b) (subst (λ o. option
 apart_bool : (a b : Bool) → is_other a b ≡ true → a ≡ b → ⊥
 apart_bool a b is same = not_both (is_other a b) is (subst (λ o. not (is_other a o) ≡ true) same (itself a))
 
+pub named_within : (conf : Configuration) (old new : State) (xs : List Change) → AreNamed conf old new xs → (c : Change) → differs conf old new c ≡ true → Contains xs c
+named_within conf old new xs named (change.Host group vid mac) is = named.hosts group vid mac (apart is_one_place place_itself _ _ is)
+named_within conf old new xs named (change.Port dp port) is = named.ports dp port (apart_bool _ _ is)
+named_within conf old new xs named (change.Dp dp) is = named.dps dp (apart_bool _ _ is)
+named_within conf old new xs named (change.Neighbour group vid ip) is = named.neighbours group vid ip (apart is_one_address (λ a. equal_bytes a.0 a.0 refl) _ _ is)
+
 module _ (conf : Configuration) (old new : State) where
   within_all : (c : Change) → differs conf old new c ≡ true → Contains (differences conf old new) c
-  within_all (change.Host group vid mac) is = (all_named conf old new).hosts group vid mac (apart is_one_place place_itself _ _ is)
-  within_all (change.Port dp port) is = (all_named conf old new).ports dp port (apart_bool _ _ is)
-  within_all (change.Dp dp) is = (all_named conf old new).dps dp (apart_bool _ _ is)
-  within_all (change.Neighbour group vid ip) is = (all_named conf old new).neighbours group vid ip (apart is_one_address (λ a. equal_bytes a.0 a.0 refl) _ _ is)
+  within_all = named_within conf old new (differences conf old new) (all_named conf old new)
 
   all_differ : (c : Change) → Contains (differences conf old new) c → differs conf old new c ≡ true
   all_differ c here =

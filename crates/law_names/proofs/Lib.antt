@@ -8,5 +8,6 @@ pub mod Moments
 pub mod Neighbours
 pub mod Packets
 pub mod Places
+pub mod Reaching
 pub mod Stepped
 pub mod Strangers

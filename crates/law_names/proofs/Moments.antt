@@ -1,6 +1,5 @@
 -- A state at another moment.
 use Rattle.std.proofs.Common.{◌≡◌, ℕ, Bool, not, List, ◌++◌, filter, Option, Some, None, refl, ap}
-use Rattle.std.specs.List.{list_any}
 use Rattle.std.specs.Option.{option_eq, option_map}
 use Rattle.net_base.specs.declared.address.Mac.{Mac}
 use Rattle.net_base.specs.declared.numbers.DpId.{DpId}
@@ -12,13 +11,13 @@ use Rattle.conf_types.specs.Changes.{Standing, host_by, standing, standing_of}
 use Rattle.conf_types.specs.Configuration.{Configuration}
 use Rattle.conf_types.specs.State.{State, is_fresh}
 use Rattle.plan_units.specs.declared.unit.Unit.{Unit as PlanUnit}
-use Rattle.plan_units.specs.declared.unit.Unit.TheVariants as unit
 use Rattle.plan_units.specs.Facts.{found}
 use Rattle.law_runs.specs.Members.{of_all}
-use Rattle.law_units.specs.Reached.{is_reached, reaches}
+use Rattle.law_units.specs.Reached.{is_reached}
 use Rattle.law_names.specs.Differences.{AreAsFresh, differences, parts_of}
 use Rattle.law_names.specs.Differing.{differs, is_one_place}
 use Rattle.law_names.proofs.Hosts as hosts
+use Rattle.law_names.proofs.Reaching.{reached_alike}
 
 abbrev at_place : HostRec → Bool → Option Standing
 at_place h fresh = Some (record { dp = h.dp; port = h.port; is_fresh = fresh })
@@ -49,28 +48,5 @@ module _ (conf : Configuration) (old new : State) (moment : ℕ) where
 
   -- ---- what is reached
 
-  module _ (d : Dp) where
-    reaches_same : (c : Change) (u : PlanUnit) → reaches conf then_state new d c u ≡ reaches conf old new d c u
-    reaches_same (change.Host group vid mac) unit.Dp = refl
-    reaches_same (change.Host group vid mac) (unit.Port number) = refl
-    reaches_same (change.Host group vid mac) (unit.Vlan w) = refl
-    reaches_same (change.Host group vid mac) (unit.Host w address) = refl
-    reaches_same (change.Host group vid mac) (unit.Route w) = refl
-    reaches_same (change.Port dp port) unit.Dp = refl
-    reaches_same (change.Port dp port) (unit.Port number) = refl
-    reaches_same (change.Port dp port) (unit.Vlan w) = refl
-    reaches_same (change.Port dp port) (unit.Host w address) = refl
-    reaches_same (change.Port dp port) (unit.Route w) = refl
-    reaches_same (change.Dp dp) unit.Dp = refl
-    reaches_same (change.Dp dp) (unit.Port number) = refl
-    reaches_same (change.Dp dp) (unit.Vlan w) = refl
-    reaches_same (change.Dp dp) (unit.Host w address) = refl
-    reaches_same (change.Dp dp) (unit.Route w) = refl
-    reaches_same (change.Neighbour group vid ip) unit.Dp = refl
-    reaches_same (change.Neighbour group vid ip) (unit.Port number) = refl
-    reaches_same (change.Neighbour group vid ip) (unit.Vlan w) = refl
-    reaches_same (change.Neighbour group vid ip) (unit.Host w address) = refl
-    reaches_same (change.Neighbour group vid ip) (unit.Route w) = refl
-
-    pub reached_same : (xs : List Change) (u : PlanUnit) → is_reached conf then_state new d xs u ≡ is_reached conf old new d xs u
-    reached_same xs u = ap (λ (test : Change → Bool). list_any test xs) (λ i c. reaches_same c u i)
+  pub reached_same : (d : Dp) (xs : List Change) (u : PlanUnit) → is_reached conf then_state new d xs u ≡ is_reached conf old new d xs u
+  reached_same d xs u = ap (λ (f : PlanUnit → Bool). f u) (reached_alike conf then_state old new d (λ group vid mac number. refl) xs)
