@@ -22,6 +22,7 @@ use Rattle.neighbour_resolve.specs.declared.neighbour.Want.{Want}
 use Rattle.neighbour_resolve.specs.declared.neighbour.Want.TheVariants as wants
 use Rattle.neighbour_resolve.specs.Answers.{answer}
 use Rattle.neighbour_resolve.specs.Counted.{counted_vid}
+use Rattle.neighbour_resolve.specs.Due.{is_spent}
 use Rattle.neighbour_resolve.specs.Hearing.{heard_sender}
 use Rattle.neighbour_resolve.specs.Table.{Table, after_told, gives_way, neighbours_after, outcome, resolved, stays, unresolved}
 use Rattle.of_match.specs.InPort.{in_port}
@@ -39,7 +40,6 @@ use Rattle.ctl_world.specs.World.{World, running, ups}
 use Rattle.switch_session.specs.Connections.{opened}
 use Rattle.ctl_life.specs.Life.{open_conn}
 use Rattle.ctl_packets.specs.Packets.{destination, gateways, glean, glean_at, glean_in, glean_to, hear_neighbour, hear_sender, is_for_gateway, is_resolved, learn, least_time, network_vlan, outgoing, packet_at, packet_by, packet_in, packet_of_table, reply, routes, sources, want}
-use Rattle.ctl_settle.specs.Asked.{is_spent}
 use Rattle.ctl_core.specs.Hearing.{hear_frame, packet, want_gateways, want_routes}
 use Rattle.ctl_core.specs.Turns.{pass}
 use Rattle.ctl_core.proofs.Walk.{Setup, Steps, either, heard_kept, pass_kept, wants_by, with_any}

@@ -13,9 +13,9 @@ use Rattle.law_names.specs.Differing.{differs, is_one_address}
 use Rattle.law_names.proofs.Alone.{first_alone}
 use Rattle.law_names.proofs.Counted.{named_within}
 use Rattle.law_runs.specs.Members.{all_by, all_joined, of_all}
-use Rattle.neighbour_resolve.specs.Due.{most_tries}
+use Rattle.neighbour_resolve.specs.Due.{is_spent, most_tries}
 use Rattle.ctl_world.specs.World.{IsSound, World, now}
-use Rattle.ctl_settle.specs.Asked.{IsLost, all_asked, is_spent}
+use Rattle.ctl_settle.specs.Asked.{IsLost, all_asked}
 use Rattle.ctl_core.proofs.Exact.{mac_itself, own_mac}
 use Rattle.ctl_core.proofs.Spent.{AreOld}
 

@@ -25,14 +25,14 @@ use Rattle.law_runs.specs.Members.{all_joined, of_all, tail_of}
 use Rattle.neighbour_resolve.specs.declared.neighbour.Due.{Due}
 use Rattle.neighbour_resolve.specs.declared.neighbour.Due.TheVariants.{Ask, Gone}
 use Rattle.neighbour_resolve.specs.Asks.{AskOn, asks}
-use Rattle.neighbour_resolve.specs.Due.{after_due, asked as asked_once, asked_on, due_said, first_due, is_due, is_gateway, last_wait, most_tries, next, said_of, wait_after}
+use Rattle.neighbour_resolve.specs.Due.{after_due, asked as asked_once, asked_on, due_said, first_due, is_due, is_gateway, is_lost, is_spent, last_wait, most_tries, next, said_of, wait_after}
 use Rattle.neighbour_resolve.specs.Table.{Table}
 use Rattle.neighbour_resolve.proofs.Alone.{by_next, some_wait}
 use Rattle.ctl_world.specs.declared.conns.Conn.{Conn}
 use Rattle.ctl_world.specs.Connections.{conn_of, conn_with, with_said}
 use Rattle.ctl_world.specs.Saying.{packet_out, say, say_by}
 use Rattle.ctl_world.specs.World.{IsSound, World, running}
-use Rattle.ctl_settle.specs.Asked.{IsLost, all_asked, asked, is_lost, is_spent, lost}
+use Rattle.ctl_settle.specs.Asked.{IsLost, all_asked, asked, lost}
 use Rattle.ctl_settle.specs.Settling.{ask_all, ask_due, ask_each, ask_on, say_due, take_due}
 use Rattle.ctl_settle.proofs.Following.{all_same}
 use Rattle.ctl_settle.proofs.Lost.{AreApart, lost_named, mac_in, none_behind, one_key, test}

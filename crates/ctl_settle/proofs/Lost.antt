@@ -12,13 +12,13 @@ use Rattle.conf_types.specs.Configuration.{Configuration}
 use Rattle.conf_types.specs.Lists.{EachBefore}
 use Rattle.conf_types.specs.State.{IsSameNeighbour}
 use Rattle.neighbour_resolve.specs.declared.neighbour.Due.{Due}
-use Rattle.neighbour_resolve.specs.Due.{after_due, asked as asked_once, asked_on, due_said, first_due, is_due, is_gateway, most_tries, next}
+use Rattle.neighbour_resolve.specs.Due.{after_due, asked as asked_once, asked_on, due_said, first_due, is_due, is_gateway, is_lost, is_spent, most_tries, next}
 use Rattle.ctl_world.specs.World.{World}
 use Rattle.law_names.specs.Dues.{due}
 use Rattle.law_names.specs.Names.{Names}
 use Rattle.law_names.proofs.Neighbours.{key}
 use Rattle.law_names.proofs.Stepped.{neighbours_named, then_quiet}
-use Rattle.ctl_settle.specs.Asked.{is_lost, is_spent, lost}
+use Rattle.ctl_settle.specs.Asked.{lost}
 use Rattle.ctl_settle.specs.Settling.{say_due, take_due}
 use Rattle.ctl_settle.proofs.AskedNames.{ask_named, say_due_quiet}
 

@@ -1,5 +1,5 @@
 -- What the asks of a settling touch: the neighbours whose Ethernet address was known and isn't any more.
-use Rattle.std.specs.Prelude.{◌≡◌, ℕ, zero, suc, ◌&&◌, not, nat_lt, is_some, Bool, true, false, None, Contains, if◌then◌else◌, List, [], ◌∷◌, ◌++◌, length}
+use Rattle.std.specs.Prelude.{◌≡◌, ℕ, zero, suc, true, None, Contains, if◌then◌else◌, List, [], ◌∷◌, ◌++◌, length}
 use Rattle.std.specs.Option.{option_map, option_map_or}
 use Rattle.conf_types.specs.declared.change.Change.{Change}
 use Rattle.conf_types.specs.declared.state.NeighRec.{NeighRec}
@@ -7,19 +7,12 @@ use Rattle.conf_types.specs.Changes.{mac_of_neighbour}
 use Rattle.law_names.specs.Differing.{neighbour}
 use Rattle.law_names.specs.Dues.{due}
 use Rattle.neighbour_resolve.specs.declared.neighbour.Due.{Due}
-use Rattle.neighbour_resolve.specs.Due.{due_said, first_due, is_due, most_tries}
+use Rattle.neighbour_resolve.specs.Due.{due_said, is_due, is_lost, is_spent}
 use Rattle.ctl_world.specs.World.{World}
 use Rattle.ctl_settle.specs.Settling.{say_due, take_due}
 use Rattle.ctl_settle.specs.Touched.{MayDiffer}
 
--- it is known, and was asked as often as it may be
-abbrev pub is_spent : NeighRec → Bool
-is_spent n = is_some n.mac && not (nat_lt n.tries most_tries)
-
--- the first one that is due is
-abbrev pub is_lost : (moment : ℕ) → List NeighRec → Bool
-is_lost moment neighbours = option_map_or is_spent (first_due moment neighbours) false
-
+-- the one that is due, where it is lost
 abbrev pub lost : World → Due → List Change
 lost w d = if is_lost w.moment.0 w.neighbours.neighbours then due d ∷ [] else []
 

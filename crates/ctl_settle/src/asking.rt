@@ -1,27 +1,19 @@
 ghost use Rattle.std.specs.Prelude.{◌≡◌, ◌++◌, ◌∷◌, [], if◌then◌else◌, OnOk};
-ghost use Rattle.std.specs.Option.{option_copied, option_map};
+ghost use Rattle.std.specs.Option.{option_map};
 ghost use Rattle.neighbour_resolve.specs.Asks.{asks};
-ghost use Rattle.neighbour_resolve.specs.Due.{first_due, is_due};
 ghost use Rattle.ctl_world.specs.World.{running};
 ghost use Rattle.law_names.specs.Dues.{due as change_of};
-ghost use Rattle.ctl_settle.specs.Asked.{asked, is_lost, is_spent, with_asked};
+ghost use Rattle.ctl_settle.specs.Asked.{asked, with_asked};
 ghost use Rattle.ctl_settle.specs.Touched.{Goes};
 ghost use Rattle.ctl_settle.specs.Settling.{ask_all, ask_by, ask_by_each, ask_due, ask_each, ask_on, say_due};
 
 use crate::order::in_order;
 use crate::touched::Touched;
-use conf_types::NeighRec;
 use ctl_world::{World, packet_out};
 use neighbour_resolve::{Due, Outgoing, ask};
-use net_base::{DpId, Ip4, Moment, NoMemory, Vid};
+use net_base::{DpId, Ip4, NoMemory, Vid};
 use std::alloc::Global;
 use warm_plan::Change;
-
-/// The greatest moment, which never comes.
-const NEVER: u64 = u64::MAX;
-
-/// After so many tries a neighbour is known no more.
-const MOST_TRIES: u8 = 10;
 
 /// A datapath is told to send a frame that asks.
 fn say_on(world: &mut World, dp: DpId, out: Outgoing) -> Result<(), NoMemory>
@@ -104,35 +96,6 @@ fn change_of(due: &Due) -> Change
     }
 }
 
-fn is_due(now: Moment, neighbour: &NeighRec) -> bool
-    ensures { result ≡ is_due now.0 neighbour.now }
-{
-    neighbour.due.0 <= now.0 && neighbour.due.0 != NEVER
-}
-
-fn first_due(neighbours: &[NeighRec], now: Moment) -> Option<&NeighRec>
-    ensures { option_copied result ≡ first_due now.0 neighbours.now }
-{
-    neighbours.iter().find(|neighbour| is_due(now, neighbour))
-}
-
-/// Whether a neighbour is known, and was asked as often as it may be.
-fn is_spent(neighbour: &NeighRec) -> bool
-    ensures { result ≡ is_spent neighbour.now }
-{
-    neighbour.mac.is_some() && neighbour.tries >= MOST_TRIES
-}
-
-/// Whether the first neighbour that is due is.
-fn is_lost(neighbours: &[NeighRec], now: Moment) -> bool
-    ensures { result ≡ is_lost now.0 neighbours.now }
-{
-    match first_due(neighbours, now) {
-        Some(neighbour) => is_spent(neighbour),
-        None => false,
-    }
-}
-
 /// A neighbour that is lost is touched.
 fn touch(touched: &mut Touched, due: &Due, is_lost: bool) -> Result<(), NoMemory>
     ensures { OnOk result (touched.new ≡ option_map (λ changes. changes ++ (if is_lost then change_of due.now ∷ [] else [])) touched.old) }
@@ -169,7 +132,7 @@ fn ask_due(
     ensures goes { OnOk result (Goes world.old world.new touched.old touched.new) }
 {
     for _ in 0..most {
-        let lost = is_lost(world.neighbours.list(), world.moment);
+        let lost = world.neighbours.loses(world.moment);
         match world.neighbours.due(&world.conf, world.moment) {
             Some(due) => {
                 touch(touched, &due, lost)?;

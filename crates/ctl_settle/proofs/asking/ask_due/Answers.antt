@@ -1,16 +1,15 @@
 use Rattle.std.proofs.Common.{◌≡◌, ℕ, List, [], ◌∷◌, if◌then◌else◌, ap, sym, subst, ◌∙◌, ◌+◌, ◌-◌, arith}
 use Rattle.conf_types.specs.declared.change.Change.{Change}
-use Rattle.conf_types.specs.declared.state.NeighRec.{NeighRec}
 use Rattle.neighbour_resolve.specs.Table.{Table}
 use Rattle.ctl_world.specs.World.{World}
-use Rattle.ctl_settle.specs.Asked.{asked, is_lost, lost}
+use Rattle.ctl_settle.specs.Asked.{asked, lost}
 use Rattle.ctl_settle.specs.Settling.{ask_due, say_due, take_due}
 use Rattle.ctl_settle.specs.Touched.{Goes, MayDiffer}
 use Rattle.law_names.specs.Dues.{due}
 use Rattle.law_names.specs.Names.{Names}
 use Rattle.ctl_settle.proofs.DueOnce.{due_none, due_some, more_and_more, no_more, none_taken, touched_none, touched_some, with_more}
 use Rattle.ctl_settle.proofs.Following.{goes_by, goes_nowhere, goes_on}
-use Rattle.ctl_settle.proofs.Lost.{AreApart, lost_named}
+use Rattle.ctl_settle.proofs.Lost.{lost_named}
 use Rattle.ctl_settle.proofs.asking.ask_due.Goals as goal
 
 pub loop-init : goal.loop-init
@@ -56,12 +55,10 @@ loop-preserved c =
     let said = sym c.in-Some.ensures.said in
     let asked_now = c.in_ok-say_due-in-Some.ensures
     ∙ ap (λ (table : Table). say_due d (record w { neighbours = table })) c.due.ensures.list in
-    let apart : AreApart w.neighbours.neighbours = subst AreApart c.list.ensures.value c.list.ensures.keys in
-    let goes_out : c.is_lost-lost.result ≡ is_lost w.moment.0 w.neighbours.neighbours = c.is_lost-lost.ensures ∙ ap (λ (ns : List NeighRec). is_lost w.moment.0 ns) c.list.ensures.value in
     let names : Names w c.say_due.new.world (lost w d) =
-    subst (λ (v : World). Names w v (lost w d)) (sym asked_now) (lost_named d w said apart) in
+    subst (λ (v : World). Names w v (lost w d)) (sym asked_now) (lost_named d w said c.loses.ensures.keys) in
     let pushed : c.touch.new.touched ≡ with_more (lost w d) c.loop.touched =
-    c.in_ok-touch-in-Some.ensures ∙ ap (λ b. with_more (if b then due d ∷ [] else []) c.loop.touched) goes_out in
+    c.in_ok-touch-in-Some.ensures ∙ ap (λ b. with_more (if b then due d ∷ [] else []) c.loop.touched) c.loses.ensures.lost in
     let more : MayDiffer = with_more (lost w d) c.loop.touched in
     record {
       whole = ap (ask_due left) asked_now ∙ sym (due_some most i w c.loop-test.true d said) ∙ c.loop.invariant.whole;
