@@ -283,4 +283,5 @@ def main():
         print(f"{words} => {answer}" if answered and answer is not None else words)
 
 
-main()
+if __name__ == "__main__":
+    main()

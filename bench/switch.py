@@ -3,8 +3,9 @@
 switch.py examples FAUCET EXAMPLES   opens each datapath of each example on the switch; it has to refuse nothing, and to hold what was sent
 switch.py frames N                   prints cases for the program test_plans: states of datapaths, and N frames for each, by chance
 switch.py answers FILE               fills the switch with the entries of each state in what test_plans answered, sends it the frames, and compares
+switch.py fields FILE                gives the switch each match and each action on IPv6 in FILE, the answers of test_packets, and compares
 """
-import collections, glob, json, os, random, socket, struct, subprocess, sys, threading, time
+import collections, glob, json, os, random, re, socket, struct, subprocess, sys, threading, time
 
 RUN = os.environ.get("OVS_RUNDIR", "")
 HELLO, ERROR, ECHO_REQUEST, ECHO_REPLY, SET_CONFIG, PACKET_IN, FLOW_MOD, MULTIPART_REQUEST, MULTIPART_REPLY, BARRIER_REQUEST, BARRIER_REPLY = 0, 1, 2, 3, 9, 10, 14, 18, 19, 20, 21
@@ -128,12 +129,13 @@ def examples(faucet, folder):
     return wrong
 
 
-# ---- frames by chance (Ethernet; RFC 826; RFC 791; RFC 768; RFC 9293; RFC 792)
+# ---- frames by chance (Ethernet; RFC 826; RFC 791; RFC 768; RFC 9293; RFC 792; RFC 8200; RFC 4443; RFC 4861)
 
 STATIONS = ["02:00:00:00:00:01", "02:00:00:00:00:02", "02:00:00:00:00:03", "02:00:00:00:00:09", "0e:00:00:00:00:01"]
-GROUPS = ["ff:ff:ff:ff:ff:ff", "01:00:5e:00:00:01", "01:80:c2:00:00:00", "01:00:0c:cc:cc:cd"]
+GROUPS = ["ff:ff:ff:ff:ff:ff", "01:00:5e:00:00:01", "01:80:c2:00:00:00", "01:00:0c:cc:cc:cd", "33:33:ff:00:00:fe", "01:80:c2:00:00:0e"]
 NO_SOURCES = ["ff:ff:ff:ff:ff:ff", "01:00:5e:00:00:02", "0e:00:00:00:00:01"]
 ADDRESSES = ["10.0.1.9", "10.0.2.2", "10.0.2.3", "10.0.2.254", "10.0.1.254", "10.9.9.9", "8.8.8.8", "10.0.1.7", "10.0.0.1"]
+ADDRESSES6 = ["fd00::1", "fd00::fe", "fe80::1", "2001:db8::9", "ff02::1:ff00:fe"]
 FRONT, BACK = b"\xfa\xce", b"\xca\xfe"
 
 
@@ -153,25 +155,49 @@ def checksum(data):
     return struct.pack("!H", total ^ 0xFFFF)
 
 
+def ip6(text):
+    return socket.inet_pton(socket.AF_INET6, text)
+
+
 def packet(protocol, body):
     header = struct.pack("!BBHHHBB", 0x45, 0, 20 + len(body), 0, 0, random.choice([64, 64, 64, 2, 1, 0]), protocol)
     ends = ip4(random.choice(ADDRESSES)) + ip4(random.choice(ADDRESSES))
     return b"\x08\x00" + header + checksum(header + bytes(2) + ends) + ends + body
 
 
+def packet6(protocol, body):
+    ends = ip6(random.choice(ADDRESSES6)) + ip6(random.choice(ADDRESSES6))
+    header = struct.pack("!IHBB", 6 << 28 | random.choice([0, 0xB812345]), len(body), protocol, random.choice([255, 64, 64, 2, 1, 0]))
+    if protocol == 58:
+        body = body[:2] + checksum(ends + struct.pack("!II", len(body), protocol) + body) + body[4:]
+    return b"\x86\xdd" + header + ends + body
+
+
+def message6(data):
+    """An echo, or how a neighbour is asked for and told of, with the option of a link-layer address."""
+    kind = random.choice([128, 129, 134, 135, 136])
+    front = bytes([kind, random.choice([0, 0, 1])]) + bytes(6)
+    if kind in (135, 136):
+        front += ip6(random.choice(ADDRESSES6)) + bytes([kind - 134, 1]) + mac(random.choice(STATIONS))
+    return packet6(58, front + data)
+
+
 def payload(number):
     """What stands behind addresses and tags, with the frame's number in it."""
     data = bytes(random.randrange(4) * 2) + FRONT + struct.pack("!I", number) + BACK + bytes(12)
-    kind = random.choice(["other", "arp", "udp", "udp", "tcp", "icmp"])
+    kind = random.choice(["other", "arp", "udp", "udp", "tcp", "icmp", "udp6", "tcp6", "icmp6", "icmp6"])
     if kind == "other":
         return struct.pack("!H", random.choice([0x1234, 0x88CC, 0x86DD, 0x9000])) + bytes(24) + data
     if kind == "arp":
         sender, target = ip4(random.choice(ADDRESSES)), ip4(random.choice(ADDRESSES))
         return bytes.fromhex("0806000108000604") + struct.pack("!H", random.choice([1, 2])) + mac(STATIONS[0]) + sender + bytes(6) + target + data
-    if kind == "udp":
-        return packet(17, struct.pack("!HHHH", random.choice([53, 67, 5353]), random.choice([53, 80, 5353]), 8 + len(data), 0) + data)
-    if kind == "tcp":
-        return packet(6, struct.pack("!HHIIBBHHH", random.choice([7, 80]), random.choice([80, 22]), 1, 0, 0x50, 2, 100, 0, 0) + data)
+    if kind == "icmp6":
+        return message6(data)
+    above = packet6 if kind.endswith("6") else packet
+    if kind.startswith("udp"):
+        return above(17, struct.pack("!HHHH", random.choice([53, 67, 5353]), random.choice([53, 80, 5353]), 8 + len(data), 0) + data)
+    if kind.startswith("tcp"):
+        return above(6, struct.pack("!HHIIBBHHH", random.choice([7, 80]), random.choice([80, 22]), 1, 0, 0x50, 2, 100, 0, 0) + data)
     front, rest = bytes([random.choice([0, 8]), random.choice([0, 0, 3])]), struct.pack("!I", 1) + data
     return packet(1, front + checksum(front + bytes(2) + rest) + rest)
 
@@ -185,10 +211,10 @@ def frame(number):
 
 # ---- states of datapaths: a name, a configuration, what was learned, and the ports where frames come in
 
-ACLS = """{f: [{rule: {dl_type: 0x0806, actions: {mirror: 4, output: {ports: [2, 1, 2, 5]}}}}, {rule: {dl_src: 02:00:00:00:00:00/ff:ff:ff:ff:ff:fe, dl_type: 0x0800, nw_proto: 6, tcp_dst: 80, actions: {allow: 1}}}],
+ACLS = """{f: [{rule: {dl_type: 0x0806, actions: {mirror: 4, output: {ports: [2, 1, 2, 5]}}}}, {rule: {dl_src: 02:00:00:00:00:00/ff:ff:ff:ff:ff:fe, dl_type: 0x0800, nw_proto: 6, tcp_dst: 80, actions: {allow: 1}}}, {rule: {dl_type: 0x86dd, actions: {allow: 1, output: {port: 4}}}}],
  g: [{rule: {dl_type: 0x0800, nw_proto: 17, udp_dst: 53, actions: {allow: 1, mirror: 4}}}, {rule: {dl_dst: ff:ff:ff:ff:ff:ff, actions: {}}}, {rule: {vlan_vid: 100, vlan_pcp: 3, actions: {output: {port: 4}}}}, {rule: {dl_type: 0x0800, nw_proto: 1, icmpv4_type: 8, actions: {output: {port: 4}}}}, {rule: {actions: {allow: 1}}}],
- h: [{rule: {eth_type: 0x0800, ipv4_src: 10.0.0.0/16, ipv4_dst: 10.0.2.0/30, actions: {allow: 1}}}, {rule: {eth_type: 0x0806, arp_op: 1, arp_tpa: 10.0.1.0/24, actions: {allow: 1, output: {port: 4}}}}, {rule: {eth_type: 0x0806, arp_spa: 10.0.2.2, actions: {}}}, {rule: {eth_type: 0x1234, actions: {allow: 1}}}],
- v: [{rule: {dl_type: 0x0800, nw_proto: 17, udp_src: 53, actions: {allow: 1, mirror: 4}}}, {rule: {dl_type: 0x0800, ipv4_dst: 10.0.0.0/8, actions: {allow: 0, output: {ports: [4, 2]}}}}, {rule: {actions: {allow: 1}}}]}"""
+ h: [{rule: {eth_type: 0x0800, ipv4_src: 10.0.0.0/16, ipv4_dst: 10.0.2.0/30, actions: {allow: 1}}}, {rule: {eth_type: 0x0806, arp_op: 1, arp_tpa: 10.0.1.0/24, actions: {allow: 1, output: {port: 4}}}}, {rule: {eth_type: 0x0806, arp_spa: 10.0.2.2, actions: {}}}, {rule: {eth_type: 0x1234, actions: {allow: 1}}}, {rule: {eth_type: 0x86dd, vlan_vid: 200, actions: {mirror: 4}}}, {rule: {eth_type: 0x86dd, actions: {allow: 1}}}],
+ v: [{rule: {dl_type: 0x86dd, dl_dst: 33:33:00:00:00:00/ff:ff:00:00:00:00, actions: {allow: 1, mirror: 4}}}, {rule: {dl_type: 0x0800, nw_proto: 17, udp_src: 53, actions: {allow: 1, mirror: 4}}}, {rule: {dl_type: 0x0800, ipv4_dst: 10.0.0.0/8, actions: {allow: 0, output: {ports: [4, 2]}}}}, {rule: {actions: {allow: 1}}}]}"""
 ROUTED = "routers: {r: {vlans: [100, 200]}}"
 ONE, TWO, THREE = "02:00:00:00:00:01", "02:00:00:00:00:02", "02:00:00:00:00:03"
 STATES = [
@@ -202,7 +228,7 @@ STATES = [
      [f"host 1 1 100 {ONE} 0", f"host 1 5 200 {TWO} 0"], [1, 2, 3, 4, 5]),
     ("routes", "{dps: {a: {dp_id: 1, interfaces: {1: {tagged_vlans: [100, 200], hairpin: true}, 2: {native_vlan: 100}, 3: {native_vlan: 200}}}}, vlans: {100: {faucet_vips: [10.0.1.254/24]}, 200: {faucet_vips: [10.0.2.254/24], routes: [{route: {ip_dst: 0.0.0.0/0, ip_gw: 10.0.2.3}}, {route: {ip_dst: 10.0.0.0/8, ip_gw: 10.0.2.2}}]}}, %s}" % ROUTED,
      [f"host 1 1 100 {ONE} 0", f"host 1 3 200 {TWO} 0", f"host 1 1 200 {THREE} 0", f"neighbour 1 200 10.0.2.2 {TWO}", f"neighbour 1 200 10.0.2.3 {THREE}", f"neighbour 1 100 10.0.1.9 {ONE}"], [1, 2, 3]),
-    ("VLANs with gateways of their own", "{dps: {a: {dp_id: 1, interfaces: {1: {native_vlan: 100}, 2: {native_vlan: 100, acl_in: f}, 3: {tagged_vlans: [200]}}}}, vlans: {100: {faucet_vips: [10.0.1.254/24, 10.0.2.254/24], routes: [{route: {ip_dst: 10.9.0.0/16, ip_gw: 10.0.1.9}}]}, 200: {faucet_vips: [10.0.2.254/24], faucet_mac: 0e:00:00:00:00:02}}, acls: {f: [{rule: {dl_type: 0x0800, ip_proto: 17, udp_dst: 53, actions: {output: {port: 3}}}}, {rule: {actions: {allow: 1}}}]}}",
+    ("VLANs with gateways of their own", "{dps: {a: {dp_id: 1, interfaces: {1: {native_vlan: 100}, 2: {native_vlan: 100, acl_in: f}, 3: {tagged_vlans: [200]}}}}, vlans: {100: {faucet_vips: [10.0.1.254/24, 10.0.2.254/24], routes: [{route: {ip_dst: 10.9.0.0/16, ip_gw: 10.0.1.9}}]}, 200: {faucet_vips: [10.0.2.254/24], faucet_mac: 0e:00:00:00:00:02}}, acls: {f: [{rule: {dl_type: 0x0800, ip_proto: 17, udp_dst: 53, actions: {output: {port: 3}}}}, {rule: {dl_type: 0x86dd, ip_proto: 17, udp_dst: 53, actions: {output: {port: 3}}}}, {rule: {dl_type: 0x86dd, ip_proto: 6, tcp_src: 7, actions: {}}}, {rule: {actions: {allow: 1}}}]}}",
      [f"host 1 1 100 {ONE} 0", f"neighbour 1 100 10.0.1.9 {ONE}"], [1, 2, 3]),
     ("the root of a stack", "{dps: {a: {dp_id: 1, stack: {priority: 1}, interfaces: {1: {native_vlan: 100}, 2: {tagged_vlans: [200]}, 4: {mirror: 1}, 12: {stack: {dp: b, port: 21}}, 13: {stack: {dp: c, port: 31}}}}, b: {dp_id: 2, interfaces: {1: {native_vlan: 100}, 21: {stack: {dp: a, port: 12}}, 23: {stack: {dp: c, port: 32}}}}, c: {dp_id: 3, interfaces: {1: {native_vlan: 200}, 31: {stack: {dp: a, port: 13}}, 32: {stack: {dp: b, port: 23}}}}}}",
      [f"host 1 1 100 {ONE} 0", f"host 2 1 100 {TWO} 0", f"host 3 1 200 {THREE} 0"], [1, 2, 4, 12, 13]),
@@ -304,7 +330,7 @@ def read_answers(file):
 
 
 def shown(port, data):
-    """As test_plans shows a packet that is sent: addresses, the VLANs of the tags, the time to live."""
+    """As test_plans shows a packet that is sent: addresses, the VLANs of the tags, the time to live or hop limit."""
     text = ":".join(f"{b:02x}" for b in data[:6]) + " " + ":".join(f"{b:02x}" for b in data[6:12])
     at = 12
     while data[at : at + 2] == b"\x81\x00":
@@ -312,6 +338,8 @@ def shown(port, data):
         at += 4
     if data[at : at + 2] == b"\x08\x00":
         text += f" ttl {data[at + 10]}"
+    if data[at : at + 2] == b"\x86\xdd" and len(data) >= at + 42 and data[at + 2] >> 4 == 6:
+        text += f" hops {data[at + 9]}"
     return f"port {port}: {text}"
 
 
@@ -377,6 +405,128 @@ def answers(file):
     return wrong
 
 
+# ---- matches and actions on IPv6, as test_packets answers
+
+NAMES = {number: name for name, (number, _) in FIELDS.items()}
+IPV6, ICMPV6 = [(5, 0x86DD)], [(5, 0x86DD), (10, 58)]
+# what the fields of IPv6 ask of their match (OpenFlow 1.3, 7.2.3.6)
+ASKED = {10: IPV6, 26: IPV6, 27: IPV6, 29: ICMPV6, 30: ICMPV6} | {it: IPV6 + [(10, proto)] for proto, pair in ((6, (13, 14)), (17, (15, 16))) for it in pair}
+HIT, OTHER = 2, 3
+
+
+def kind_of(data):
+    """The first byte behind a frame's IPv6 header."""
+    return data[data.index(b"\x86\xdd") + 42]
+
+
+def field_of(number, bits, mask=None):
+    size = FIELDS[NAMES[number]][1]
+    data = bits.to_bytes(size, "big") + (mask.to_bytes(size, "big") if mask is not None else b"")
+    return struct.pack("!HBB", 0x8000, number << 1 | (mask is not None), len(data)) + data
+
+
+def match_of(words, data):
+    """The match that asks for these fields and for what they ask for; None where a mask leaves out all bits."""
+    found = {}
+    for word in words.split(","):
+        number, bits, mask = int(word.split("=")[0]), *(int(it, 16) for it in word.split("=")[1].split("/"))
+        if not mask:
+            return None
+        whole = mask == (1 << 8 * FIELDS[NAMES[number]][1]) - 1
+        for asked, wanted in ASKED.get(number, []) + (ICMPV6 + [(29, 136 if kind_of(data) == 136 else 135)] if number == 31 else []):
+            found.setdefault(asked, field_of(asked, wanted))
+        found[number] = field_of(number, bits & mask, None if whole else mask)
+    return b"".join(found[it] for it in sorted(found))
+
+
+def outputs(port):
+    return struct.pack("!HHIH6x", 0, 16, port, 0)
+
+
+def actions_of(words):
+    """The actions, where ports 8 and 9 are 12 and 13; what is left of the packet leaves by port 2."""
+    data = b""
+    for word in words.split():
+        kind, _, rest = word.partition(":")
+        if kind == "out":
+            data += outputs({8: 12, 9: 13}[int(rest)])
+        if kind == "ttl":
+            data += struct.pack("!HH4x", 24, 8)
+        if kind == "set":
+            number, _, bits = rest.partition("=")
+            body = padded(bytes(4) + field_of(int(number), int(bits.split("/")[0], 16)))
+            data += struct.pack("!HH", 25, len(body)) + body[4:]
+    return data + outputs(HIT)
+
+
+def applied(actions):
+    return struct.pack("!HH4x", 4, 8 + len(actions)) + actions
+
+
+def given(words, answer):
+    """The entries and the frame of a case, and which packets have to leave: a port and, of actions, what the packet is."""
+    if words[0] == "hits":
+        data = bytes.fromhex(words[3])
+        match = match_of(words[1], data)
+        hit = match is not None and [flow_mod(0, 0, 1, match, applied(outputs(HIT))), flow_mod(0, 0, 0, b"", applied(outputs(OTHER)))]
+        return hit, data, [(HIT if answer == "true" else OTHER, None)]
+    sents = [({"8": 12, "9": 13}[port], text) for port, text in re.findall(r"Sent \{ port: (\d+), packet: (Packet \{.*?rest: Items \{ items: \[[^]]*\] \} \}) \}", answer)]
+    left = re.search(r"left: Some\((Packet \{.*\})\) \}$", answer)
+    data = bytes.fromhex(words[2])
+    asked = IPV6 + [(10, data[data.index(b"\x86\xdd") + 8])]
+    match = b"".join(field_of(*it) for it in asked + ([(29, kind_of(data))] if asked == ICMPV6 else []))
+    return [flow_mod(0, 0, 0, match, applied(actions_of(" ".join(words[3:]))))], data, sents + ([(HIT, left[1])] if left else [])
+
+
+def without_rest(text):
+    """A packet as it is shown, but for the bytes that no part has: a switch mends the checksums among them."""
+    return text and text[: text.index("rest: ")]
+
+
+def left_of_case(connection, entries, data, count, passed):
+    """What the switch sends of the frame, or None where it refuses an entry."""
+    connection.errors.clear()
+    for message in [flow_mod(3, 0xFF, 0, b"", b"")] + entries:
+        connection.say(FLOW_MOD, message)
+    connection.wait_for(connection.say(BARRIER_REQUEST, b""))
+    if connection.errors:
+        return None
+    put_in(1, data)
+    found, end = [], time.time() + 2
+    while time.time() < end:
+        for port in (HIT, OTHER, 12, 13):
+            more, passed[port] = left_by(port, passed[port])
+            found += [(port, it) for it in more]
+        if len(found) >= count:
+            end = min(end, time.time() + 0.1)
+        time.sleep(0.02)
+    return found
+
+
+def fields(file):
+    from frames6 import Held
+    connection, passed = Connection(), {port: 24 for port in PORTS}
+    counts = collections.Counter()
+    for line in open(file, encoding="utf-8").read().split("\n"):
+        words, _, answer = line.partition(" => ")
+        words = words.split()
+        if not words or words[0] not in ("hits", "act") or "86dd" not in words[3 if words[0] == "hits" else 2]:
+            continue
+        entries, data, wanted = given(words, answer)
+        found = entries and left_of_case(connection, entries, data, len(wanted), passed)
+        if not entries or found is None:
+            counts[f"{words[0]}: asks for no bit" if not entries else f"{words[0]}: refused with ERROR %d %d" % connection.errors[0][1]] += 1
+            continue
+        seen = [(port, None if words[0] == "hits" else without_rest(Held(it).said())) for port, it in found]
+        same = sorted(seen, key=repr) == sorted(((port, without_rest(text)) for port, text in wanted), key=repr)
+        counts[f"{words[0]}: {'as answered' if same else 'OTHERWISE'}"] += 1
+        if not same:
+            print("OTHERWISE", line, "on the switch:", *seen, sep="\n    ")
+    connection.close()
+    print("matches and actions on IPv6:", ", ".join(f"{count} {it}" for it, count in sorted(counts.items())))
+    return counts["hits: OTHERWISE"] + counts["act: OTHERWISE"] + (counts["hits: as answered"] == 0)
+
+
 if __name__ == "__main__":
-    given = sys.argv[2:]
-    sys.exit(bool({"examples": examples, "answers": answers, "frames": lambda n: frames(int(n))}[sys.argv[1]](*given)))
+    calls = {"examples": examples, "answers": answers, "frames": lambda n: frames(int(n)), "fields": fields}
+    sys.exit(bool(calls[sys.argv[1]](*sys.argv[2:])))

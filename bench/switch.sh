@@ -1,9 +1,11 @@
 #!/usr/bin/env bash
 # Holds the tables against a real switch: Open vSwitch, in user space and with no other network. It opens each datapath
 # of each example, which has to go without an error and leave just the entries that were sent. Then, for eight states of
-# datapaths, it sends frames made by chance, and compares what leaves by each port, and what the controller gets, with
-# the description and with the tables, as the program test_plans answers. Status 1 where something differs. Needs
-# ovs-vswitchd, ovsdb-server and python3; port 6653 on 127.0.0.1 is to be free.
+# datapaths, it sends frames made by chance, of ARP, IPv4, IPv6 and others, and compares what leaves by each port, and
+# what the controller gets, with the description and with the tables, as the program test_plans answers. At last it gives
+# the switch each match and each action on IPv6 of the cases of test_packets, and compares what becomes of their frames
+# with the answers there; this part is left out where Debian's python3-scapy isn't there. Status 1 where something
+# differs. Needs ovs-vswitchd, ovsdb-server and python3; port 6653 on 127.0.0.1 is to be free.
 # Usage: bench/switch.sh [FRAMES A STATE]
 set -eu
 top=$(cd "$(dirname "$0")/.." && pwd)
@@ -33,3 +35,8 @@ python3 "$top/bench/switch.py" examples "$top/bin/faucet" "$top/examples"
 python3 "$top/bench/switch.py" frames "${1:-90}" >cases
 (cd "$top/crates/test_plans" && rt run <"$OVS_RUNDIR/cases") >answers
 python3 "$top/bench/switch.py" answers answers
+if /usr/bin/python3 -c "import scapy" 2>/dev/null; then
+  PYTHONDONTWRITEBYTECODE=1 /usr/bin/python3 "$top/bench/switch.py" fields "$top/crates/test_packets/stdout"
+else
+  echo "skipped: matches and actions on IPv6: scapy is missing"
+fi
