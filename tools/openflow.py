@@ -2,7 +2,7 @@
 
 The form of records stands in docs/reference/recordings.md. Flow entries are written in the words of `ovs-ofctl ofp-parse`.
 """
-import struct, sys
+import ipaddress, struct, sys
 
 OPENED, HEARD, ENDED, RELOAD, MOMENT, SAID, CLOSED = 1, 2, 3, 4, 5, 130, 131
 # OpenFlow 1.3, 7.1
@@ -25,6 +25,7 @@ FIELDS = {
     "vlan_pcp": (7, 1, False), "ip_proto": (10, 1, False), "ipv4_src": (11, 4, True), "ipv4_dst": (12, 4, True), "tcp_src": (13, 2, False),
     "tcp_dst": (14, 2, False), "udp_src": (15, 2, False), "udp_dst": (16, 2, False), "icmpv4_type": (19, 1, False),
     "icmpv4_code": (20, 1, False), "arp_op": (21, 2, False), "arp_spa": (22, 4, True), "arp_tpa": (23, 4, True),
+    "ipv6_src": (26, 16, True), "ipv6_dst": (27, 16, True), "icmpv6_type": (29, 1, False), "icmpv6_code": (30, 1, False), "ipv6_nd_target": (31, 16, False),
 }
 BY_NUMBER = {number: name for name, (number, _, _) in FIELDS.items()}
 
@@ -192,8 +193,20 @@ def ip_masked(value, mask):
     return f"{ip_text(value)}/{length if mask == (0xFFFFFFFF << 32 - length) & 0xFFFFFFFF else ip_text(mask)}"
 
 
+def ip6_text(value):
+    return str(ipaddress.IPv6Address(value))
+
+
+def ip6_masked(value, mask):
+    if mask is None:
+        return ip6_text(value)
+    length = mask.bit_count()
+    return f"{ip6_text(value)}/{length if mask == (1 << 128) - (1 << 128 - length) else ip6_text(mask)}"
+
+
 TYPES = {0x0806: "arp", 0x86DD: "ipv6", 0x8035: "rarp", 0x8847: "mpls", 0x8848: "mplsm"}
 PROTOCOLS = {1: "icmp", 6: "tcp", 17: "udp", 132: "sctp", 2: "igmp"}
+PROTOCOLS_6 = {58: "icmp6", 6: "tcp6", 17: "udp6", 132: "sctp6"}
 
 
 def vlan_words(vid, mask, pcp):
@@ -208,8 +221,11 @@ def match_words(fields):
     """A match as `ovs-ofctl` shows it: the types as names, then its fields in its order."""
     has, words = {name: (value, mask) for name, value, mask in fields}, []
     eth_type, proto = (has.get(it, (None, None))[0] for it in ("eth_type", "ip_proto"))
+    protocols = PROTOCOLS_6 if eth_type == 0x86DD else PROTOCOLS
     if eth_type == 0x0800:
         words.append(PROTOCOLS.get(proto, "ip"))
+    elif eth_type == 0x86DD and proto in PROTOCOLS_6:
+        words.append(PROTOCOLS_6[proto])
     elif eth_type in TYPES:
         words.append(TYPES[eth_type])
     if "in_port" in has:
@@ -224,11 +240,14 @@ def match_words(fields):
     for name, short in (("ipv4_src", "nw_src"), ("ipv4_dst", "nw_dst"), ("arp_spa", "arp_spa"), ("arp_tpa", "arp_tpa")):
         if name in has:
             words.append(f"{short}={ip_masked(*has[name])}")
-    if proto is not None and proto not in PROTOCOLS:
+    words += [f"{name}={ip6_masked(*has[name])}" for name in ("ipv6_src", "ipv6_dst") if name in has]
+    if proto is not None and proto not in protocols:
         words.append(f"nw_proto={proto}")
-    for name, short in (("arp_op", "arp_op"), ("tcp_src", "tp_src"), ("udp_src", "tp_src"), ("tcp_dst", "tp_dst"), ("udp_dst", "tp_dst"), ("icmpv4_type", "icmp_type"), ("icmpv4_code", "icmp_code")):
+    for name, short in (("arp_op", "arp_op"), ("tcp_src", "tp_src"), ("udp_src", "tp_src"), ("tcp_dst", "tp_dst"), ("udp_dst", "tp_dst"), ("icmpv4_type", "icmp_type"), ("icmpv4_code", "icmp_code"), ("icmpv6_type", "icmp_type"), ("icmpv6_code", "icmp_code")):
         if name in has:
             words.append(f"{short}={has[name][0]}")
+    if "ipv6_nd_target" in has:
+        words.append(f"nd_target={ip6_text(has['ipv6_nd_target'][0])}")
     return words + [f"{name}={value}" for name, value, _ in fields if name not in FIELDS]
 
 

@@ -43,6 +43,22 @@ class Packet:
         length = 4 * (body[0] & 15)
         return length if 20 <= length <= len(body) else 0
 
+    def is_ip6(self):
+        return self.eth_type == 0x86DD and len(self.body) >= 40 and self.body[0] >> 4 == 6
+
+    def fields6(self):
+        """What an IPv6 packet has of each field. Headers of extensions aren't gone through."""
+        number, more = lambda start, end: int.from_bytes(self.body[start:end], "big"), self.body[40:]
+        has = {"ip_proto": self.body[6], "ipv6_src": number(8, 24), "ipv6_dst": number(24, 40)}
+        if self.body[6] in (6, 17) and len(more) >= 4:
+            name = {6: "tcp", 17: "udp"}[self.body[6]]
+            has[f"{name}_src"], has[f"{name}_dst"] = struct.unpack("!HH", more[:4])
+        if self.body[6] == 58 and len(more) >= 2:
+            has.update(icmpv6_type=more[0], icmpv6_code=more[1])
+            if more[0] in (135, 136) and len(more) >= 24:
+                has["ipv6_nd_target"] = number(48, 64)
+        return has
+
     def fields(self, port):
         """What it has of each field where it comes in by a port."""
         has = {"in_port": port, "eth_dst": int.from_bytes(self.dst, "big"), "eth_src": int.from_bytes(self.src, "big"), "eth_type": self.eth_type, "vlan_vid": 0}
@@ -59,7 +75,7 @@ class Packet:
                 has[f"{name}_src"], has[f"{name}_dst"] = struct.unpack("!HH", more[:4])
             if first and body[9] == 1 and len(more) >= 2:
                 has.update(icmpv4_type=more[0], icmpv4_code=more[1])
-        return has
+        return has | (self.fields6() if self.is_ip6() else {})
 
     def text(self):
         has = self.fields(0)
@@ -67,12 +83,24 @@ class Packet:
         if "arp_op" in has:
             spa, tpa = openflow.ip_text(has["arp_spa"]), openflow.ip_text(has["arp_tpa"])
             return " ".join(words + [{1: f"arp: {spa} asks for {tpa}", 2: f"arp: {spa} tells {tpa}"}.get(has["arp_op"], f"arp operation {has['arp_op']}")])
+        if "ipv6_src" in has:
+            return " ".join(words + self.words6(has))
         if "ip_proto" in has:
             name = openflow.PROTOCOLS.get(has["ip_proto"], f"ip protocol {has['ip_proto']}")
             ends = [openflow.ip_text(has[it]) + (f":{has[f'{name}_{it[5:]}']}" if f"{name}_{it[5:]}" in has else "") for it in ("ipv4_src", "ipv4_dst")]
             kind = [f"type {has['icmpv4_type']}"] if "icmpv4_type" in has else []
             return " ".join([*words, name, " > ".join(ends), *kind, f"ttl {self.body[8]}"])
         return " ".join(words + [f"type 0x{self.eth_type:04x}"])
+
+    def words6(self, has):
+        name = openflow.PROTOCOLS_6.get(has["ip_proto"], f"ipv6 next header {has['ip_proto']}")
+        ends = []
+        for it in ("src", "dst"):
+            port = next((has[f"{above}_{it}"] for above in ("tcp", "udp") if f"{above}_{it}" in has), None)
+            ends.append(openflow.ip6_text(has[f"ipv6_{it}"]) if port is None else f"[{openflow.ip6_text(has[f'ipv6_{it}'])}]:{port}")
+        kind = [f"type {has['icmpv6_type']}"] if "icmpv6_type" in has else []
+        target = [f"target {openflow.ip6_text(has['ipv6_nd_target'])}"] if "ipv6_nd_target" in has else []
+        return [name, " > ".join(ends), *kind, *target, f"hops {self.body[7]}"]
 
 
 # ---- flow entries
@@ -129,14 +157,21 @@ def act(actions, packet, port):
             packet.tags.pop(0)
         elif kind == "set":
             set_field(packet, *more)
-        elif kind == "dec_ttl":
-            length = packet.header_len()
-            if not length or packet.body[8] < 2:
-                return sent, False
-            packet.body[8] -= 1
-            packet.body[10:12] = bytes(2)
-            packet.body[10:12] = struct.pack("!H", checksum(bytes(packet.body[:length])))
+        elif kind == "dec_ttl" and not dec_ttl(packet):
+            return sent, False
     return sent, True
+
+
+def dec_ttl(packet):
+    """Takes one from the time to live, or the hop limit; whether the packet is left."""
+    length, at = packet.header_len(), 7 if packet.is_ip6() else 8
+    if not (length or packet.is_ip6()) or packet.body[at] < 2:
+        return False
+    packet.body[at] -= 1
+    if length:
+        packet.body[10:12] = bytes(2)
+        packet.body[10:12] = struct.pack("!H", checksum(bytes(packet.body[:length])))
+    return True
 
 
 def way(tables, frame, port):

@@ -8,12 +8,25 @@ import random, sys
 import openflow
 from preflight_samples import ACTIONS, SAMPLES
 
+IPV6 = [("eth_type", 0x86DD, None)]
+ICMPV6 = IPV6 + [("ip_proto", 58, None)]
+SOLICITATION = ICMPV6 + [("icmpv6_type", 135, None)]
+HOST, PREFIX, ENDS = 0xFD << 120 | 1, (1 << 128) - (1 << 64), 1 << 127 | 1
+# The fields of IPv6, in the same form, and fields of other protocols behind it.
+SAMPLES |= {
+    "ipv6_src": (IPV6, HOST & PREFIX, PREFIX), "ipv6_dst": (IPV6, HOST & ENDS, ENDS), "icmpv6_type": (ICMPV6, 128, None), "icmpv6_code": (ICMPV6, 0, None),
+    "ipv6_nd_target": (SOLICITATION, HOST, None),
+}
+BEHIND = {"tcp_dst": 6, "udp_src": 17, "ip_proto": 0}
+
 
 def some_match():
     """Fields with what they ask for, in the order of their numbers."""
     found = {}
     for name in random.sample(sorted(SAMPLES), random.randrange(4)):
         needs, value, mask = SAMPLES[name]
+        if name in BEHIND and random.random() < 0.5:
+            needs, value = (IPV6, 0) if name == "ip_proto" else (IPV6 + [("ip_proto", BEHIND[name], None)], value)
         wanted = {it[0]: it for it in needs} | {name: (name, value, mask if random.random() < 0.5 else None)}
         if all(found.get(it, one)[1] == one[1] for it, one in wanted.items()):
             found.update({it: found.get(it, one) for it, one in wanted.items()})
@@ -22,7 +35,7 @@ def some_match():
 
 def some_mod():
     fields = some_match()
-    ip = ("eth_type", 0x0800, None) in fields
+    ip = any(("eth_type", it, None) in fields for it in (0x0800, 0x86DD))
     able = [it for name, it in ACTIONS.items() if (name != "DEC_NW_TTL" or ip) and "VLAN" not in name.upper().replace("PUSH_VLAN", "")]
     actions = [it for one in random.sample(able, random.randrange(3)) for it in one]
     command = random.choice([openflow.ADD, openflow.ADD, openflow.DELETE_STRICT])
