@@ -16,6 +16,7 @@ import subprocess
 import sys
 import time
 
+import one_vlan
 from gauge_cases import HELLO, features, field, flow, flows, stats, status, upto
 
 PROGRAM, EXAMPLES, FOLDER = sys.argv[1:4]
@@ -212,6 +213,33 @@ def watched(polls):
     return b"".join(records)
 
 
+# ---- what a datapath of a ring hears: LLDP from its neighbours, and IPv6 (RFC 8200; RFC 4443; RFC 4861)
+
+RING = f"{EXAMPLES}/ring/faucet.yaml"
+LLDP = bytes.fromhex("0180c200000e0e000000000188cc" "0209070000000000000002" "0405070000000a" "0602000f" "0000")
+ENDS = bytes.fromhex("fd000000000000000000000000000001" "ff0200000000000000000001ff0000fe")
+SOLICITATION = bytes.fromhex("87007b9f00000000" "fd0000000000000000000000000000fe" "0101020000000001")
+OPTIONS = bytes.fromhex("3a00010400000000")
+BODIES = (58, SOLICITATION), (58, b"\x88" + SOLICITATION[1:]), (58, b"\x80\0\xf3\x1c\0\1\0\1abcdefgh"), (6, b"\3\xe8\0\x50" + bytes(16)), (17, b"\0\x36\0\x35\0\x0b\0\0abc"), (0, OPTIONS + SOLICITATION)
+
+
+def frames6():
+    """Tagged frames of so many hosts, each whole, then without its last byte, and with its header cut."""
+    for number, (proto, body) in enumerate(BODIES, 1):
+        front = bytes.fromhex("3333ff0000fe0200000000") + bytes([number]) + bytes.fromhex("8100006486dd")
+        header = struct.pack("!IHBB", 6 << 28, len(body), proto, (255, 64, 1)[number % 3]) + ENDS
+        frame = front + header + body
+        yield from (frame, frame[:-1], frame[:57])
+
+
+def stacked():
+    """A recording of the ring's first datapath, whose switch hands these on."""
+    told = [one_vlan.HELLO, one_vlan.features(1), one_vlan.descriptions([1, 10, 11]), one_vlan.barrier_reply(5)]
+    told += [one_vlan.packet_in(10 + number % 2, LLDP, 1) for number in range(4)]
+    told += [one_vlan.packet_in(1, frame) for frame in frames6()] + [one_vlan.port_status(10, 1), one_vlan.packet_in(11, LLDP, 1)]
+    return record(0, 1, 1) + b"".join(record(100 * number, 2, 1, piece) for number, piece in enumerate(told))
+
+
 def connect():
     return socket.create_connection(("127.0.0.1", PORT), timeout=10)
 
@@ -301,6 +329,8 @@ def main():
         "file": lambda: runs("file", files(f"{EXAMPLES}/**/*.yaml"), lambda name: ["check", name], (0, 2, 3), chance),
         "recording": lambda: runs("recording", files(f"{EXAMPLES}/**/*.rec"), lambda name: ["replay", CONFIGURATION, name], (0, 5), chance),
         "serve": lambda: streams("serve", CONFIGURATION, spoken(read(RECORDING)), chance),
+        "stack-recording": lambda: runs("stack recording", [stacked()], lambda name: ["replay", RING, name], (0, 5), chance),
+        "stack-serve": lambda: streams("serve", RING, spoken(stacked()), chance),
         "gauge-file": lambda: runs("gauge file", [GAUGE.encode(), *map(read, GAUGES)], lambda name: ["gauge", name, told], (0, 2, 3), chance),
         "gauge-recording": lambda: runs("gauge recording", [read(told), *files(f"{EXAMPLES}/gauge/*.rec")], lambda name: ["gauge", gauge, name], (0, 5), chance),
         "gauge-serve": lambda: streams("gauge-serve", gauge, b"".join(replies(3)), chance),

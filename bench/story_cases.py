@@ -14,6 +14,10 @@ OFF = "drop_spoofed_faucet_mac: false, drop_broadcast_source_address: false, dro
 BARE = f"conf {{dps: {{a: {{dp_id: 5, {OFF}, interfaces: {{}}}}}}}}"
 PORTS = f"conf {{vlans: {{100: {{}}}}, dps: {{a: {{dp_id: 5, {OFF}, interfaces: {{1: {{native_vlan: 100}}, 3: {{native_vlan: 100}}}}}}}}}}"
 SOURCE = bytes([2, 0, 0, 0, 0, 9])
+# a frame in which 02:00:00:00:00:01 asks for the neighbour fd00::fe (RFC 4861, 4.3), with the tag of VLAN 100
+SOLICITATION = bytes.fromhex(
+    "3333ff0000fe" "020000000001" "81000064" "86dd" "6000000000203aff" "fd000000000000000000000000000001" "ff0200000000000000000001ff0000fe"
+    "87007b9f00000000" "fd0000000000000000000000000000fe" "0101020000000001")
 
 
 class Cases:
@@ -103,10 +107,11 @@ def repeated(c):
 
 
 def cut(c):
-    """A whole setup and a host, in pieces of one byte and of a prime number of bytes."""
-    whole = b"".join(stages(19)[5][1]) + packet_in(1, frame_of(SOURCE, 100)) + barrier_reply(23) + message(2, b"hello")
+    """A whole setup and two hosts, in pieces of one byte and of a prime number of bytes."""
+    hosts = packet_in(1, frame_of(SOURCE, 100)) + barrier_reply(23) + packet_in(3, SOLICITATION) + barrier_reply(27)
+    whole = b"".join(stages(19)[5][1]) + hosts + message(2, b"hello")
     for size in (len(whole), 7, 1):
-        c.begin(f"a setup, a host and an echo in pieces of {size} bytes", PORTS, [1, 3])
+        c.begin(f"a setup, a host, one that asks for a neighbour by IPv6, and an echo in pieces of {size} bytes", PORTS, [1, 3])
         c.do("open 1")
         c.heard(1, *(whole[at:at + size] for at in range(0, len(whole), size)))
 

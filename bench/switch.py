@@ -1,7 +1,7 @@
 """Holds what is sent of packets against a real switch: see switch.sh, which calls it.
 
 switch.py examples FAUCET EXAMPLES   opens each datapath of each example on the switch; it has to refuse nothing, and to hold what was sent
-switch.py frames N                   prints cases for the program test_plans: states of datapaths, and N frames for each, by chance
+switch.py frames N                   prints cases for the program test_plans: states of datapaths, and for each N frames by chance, and LLDP by each port
 switch.py answers FILE               fills the switch with the entries of each state in what test_plans answered, sends it the frames, and compares
 switch.py fields FILE                gives the switch each match and each action on IPv6 in FILE, the answers of test_packets, and compares
 """
@@ -209,6 +209,11 @@ def frame(number):
     return mac(target) + mac(source) + tags + payload(number)
 
 
+def lldp(number):
+    """LLDP without a tag, as the end of a link tells of itself (IEEE 802.1AB)."""
+    return mac("01:80:c2:00:00:0e") + mac(STATIONS[0]) + bytes.fromhex("88cc" "0207040200000000010403075031" "06020078") + FRONT + struct.pack("!I", number) + BACK
+
+
 # ---- states of datapaths: a name, a configuration, what was learned, and the ports where frames come in
 
 ACLS = """{f: [{rule: {dl_type: 0x0806, actions: {mirror: 4, output: {ports: [2, 1, 2, 5]}}}}, {rule: {dl_src: 02:00:00:00:00:00/ff:ff:ff:ff:ff:fe, dl_type: 0x0800, nw_proto: 6, tcp_dst: 80, actions: {allow: 1}}}, {rule: {dl_type: 0x86dd, actions: {allow: 1, output: {port: 4}}}}],
@@ -242,9 +247,9 @@ def frames(count):
     number = 0
     for name, conf, learned, ports in STATES:
         print(f"# {name}", f"conf {conf}", *learned, "cold 1", sep="\n")
-        for _ in range(count):
+        for made, port in [(frame, random.choice(ports)) for _ in range(count)] + [(lldp, port) for port in ports]:
             number += 1
-            print(f"sends 1 {random.choice(ports)} {frame(number).hex()}")
+            print(f"sends 1 {port} {made(number).hex()}")
 
 
 # ---- the entries that test_plans prints, as messages (OpenFlow 1.3, 7.2.3 to 7.2.5 and 7.3.4.1)
