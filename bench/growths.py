@@ -16,6 +16,10 @@ PROGRAM, FOLDER, STEP = sys.argv[1], sys.argv[2], int(sys.argv[3])
 REFUSED = "no memory"
 PLAIN = "{vlans: {100: {faucet_vips: [\"10.0.100.254/24\"]}}, dps: {a: {dp_id: 1, interfaces: {1: {native_vlan: 100}, 2: {native_vlan: 100}}}}}"
 SETUP = [HELLO, features(1), descriptions([1, 2]), barrier_reply(5)]
+# a solicitation, and an echo request over IPv6 of an odd length with bytes behind it
+SOLICITATION = ("3333ff0000fe020000000001" "81000064" "86dd6000000000203aff" "fd000000000000000000000000000001" "ff0200000000000000000001ff0000fe"
+                "87007b9f00000000" "fd0000000000000000000000000000fe" "0101020000000001")
+PING = ("0e00000000010200000000018100006486dd" "6000000000113a40" "fd000000000000000000000000000001" "fd0000000000000000000000000000fe" "80008a1b0001000161626364656667686900ff")
 ARP = bytes.fromhex("ffffffffffff020000000009810000640806000108000604000102000000" + "00090a0064010000000000000a0064fe")
 
 
@@ -41,6 +45,7 @@ STORIES = {
         "[{rule: {dl_type: 0x800, nw_dst: 10.0.0.0/8, actions: {allow: 1, mirror: 2}}}]}}",
         "file b dps:\\n  a:\\n    dp_id: 1\\n    interfaces:\\n      1: {native_vlan: office, acl_in: a}\\n      2: {tagged_vlans: [office, 200]}\\n"
         "routers:\\n  r: {vlans: [office]}\\n", "load main"],
+    "frames": [f"frame packet {SOLICITATION}", "frame solicit", "frame advert", f"frame reply {PING}", f"frame packet {PING}"],
     "controller": [f"conf {PLAIN}", "steer", *happenings(
         SETUP, ANSWERS, "moment 10", heard(packet_in(1, frame_of(bytes([2, 0, 0, 0, 0, 9]), 100))), ANSWERS,
         heard(packet_in(1, ARP, 6)), "moment 1010", ANSWERS, "moment 20010", heard(port_status(1, 1)), ANSWERS, f"reload {PLAIN}",
@@ -75,7 +80,7 @@ def way(kind, whole, code, told):
     if code == 0 and told == whole:
         return "as ever"
     if code == 0 and REFUSED in told:
-        if kind in ("session", "load"):
+        if kind in ("session", "load", "frames"):
             again = told.replace("no memory, as it was; ", "").replace("no memory; ", "")
             return "refused once, and then as ever" if again == whole else "OTHERWISE"
         return "spent" if is_spent(whole, told) else "OTHERWISE"

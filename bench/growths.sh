@@ -1,17 +1,17 @@
 #!/usr/bin/env bash
-# Refuses each growth in turn, one at a time, in `Session::feed` with the messages that are heard, `load`, `Controller::turn`,
-# `Gauge::turn` and a `LinkHub`. A program of this script's own calls the checkout's crates, and goes on behind a refusal. A session is
-# then as it was, and a file loads when it is asked for again, so that all comes to what it comes to without the refusal; a controller, a
-# Gauge and a hub answer as ever up to the refusal, and from it on that they are spent. Prints how many runs ended in which way: `own`
-# are those in which an allocation of the program itself failed, which tell nothing. Status 1 where one ended otherwise. Needs gcc and
-# python3.
+# Refuses each growth in turn, one at a time, in `Session::feed` with the messages that are heard, `load`, what is read of frames of
+# IPv6 and made of them, `Controller::turn`, `Gauge::turn` and a `LinkHub`. A program of this script's own calls the checkout's crates,
+# and goes on behind a refusal. A session is then as it was, and a file loads, and a frame is read or made, when it is asked for again, so
+# that all comes to what it comes to without the refusal; a controller, a Gauge and a hub answer as ever up to the refusal, and from it on
+# that they are spent. Prints how many runs ended in which way: `own` are those in which an allocation of the program itself failed, which
+# tell nothing. Status 1 where one ended otherwise. Needs gcc and python3.
 # Usage: bench/growths.sh [STEP]    every STEP-th allocation alone fails (1 else)
 set -eu
 top=$(cd "$(dirname "$0")/.." && pwd)
 work=$(mktemp -d)
 trap 'rm -rf "$work"' EXIT
 rt=$(command -v rt || echo /opt/rattle/bin/rt)
-named="net_base fg_outside fg_links link_hub yaml_subset conf_types conf_check conf_gather conf_load conf_json gauge_conf ctl_life ctl_core gauge_poll of13_codec switch_session test_lines test_turns"
+named="net_base fg_outside fg_links link_hub yaml_subset conf_types conf_check conf_gather conf_load conf_json gauge_conf ctl_life ctl_core gauge_poll of13_codec switch_session of_match pkt_view test_lines test_turns"
 
 # a repository with the checkout's libraries, and the proofs that it keeps, and the program
 mkdir -p "$work/crates/growths/src"
@@ -50,6 +50,7 @@ cat >"$work/crates/growths/src/main.rt" <<'PROGRAM'
 
 mod bench;
 mod files;
+mod frames;
 mod hubs;
 mod sessions;
 
@@ -66,6 +67,7 @@ PROGRAM
 
 cat >"$work/crates/growths/src/bench.rt" <<'PROGRAM'
 use crate::files::{file_of, load_text};
+use crate::frames::frame_text;
 use crate::hubs::{Links, call, hub_of};
 use crate::sessions::feed;
 use conf_check::conf_of_bytes;
@@ -185,6 +187,7 @@ impl Answers for Bench {
             }
             "file" => self.held.push(file_of(alloc, rest)?)?,
             "load" => return load_text(alloc, &self.held, rest),
+            "frame" => return frame_text(alloc, rest),
             "conf" => self.conf = Some(conf_of(alloc, rest)?),
             "steer" => {
                 if let Some(conf) = replace(&mut self.conf, None) {
@@ -360,6 +363,77 @@ pub fn load_text(alloc: Global, held: &HeldFiles, name: &str) -> Result<String, 
     let mut out = String::from_str(alloc, " => ")?;
     if !put_loaded(alloc, &mut out, &mut files, name)? {
         put_loaded(alloc, &mut out, &mut files, name)?;
+    }
+    Ok(out)
+}
+PROGRAM
+
+cat >"$work/crates/growths/src/frames.rt" <<'PROGRAM'
+use net_base::{Bytes, Ip6, Mac, NoMemory};
+use of_match::Packet;
+use pkt_view::{echo_reply, nd_advert, nd_solicit, packet_of, view};
+use std::alloc::Global;
+use std::fmt::Write;
+use test_lines::bytes_of;
+
+const ROUTER: Mac = Mac([0x0e, 0, 0, 0, 0, 1]);
+
+const STATION: Mac = Mac([2, 0, 0, 0, 0, 1]);
+
+const GATEWAY: Ip6 = Ip6(0xfd00_0000_0000_0000_0000_0000_0000_00fe);
+
+const HOST: Ip6 = Ip6(0xfd00_0000_0000_0000_0000_0000_0000_0001);
+
+/// The frame that is asked for: of a neighbour, or an answer.
+fn make(alloc: Global, kind: &str, frame: &[u8]) -> Result<Option<Bytes>, NoMemory> {
+    match (kind, view(frame)) {
+        ("solicit", _) => Ok(Some(nd_solicit(alloc, ROUTER, GATEWAY, HOST)?)),
+        ("advert", _) => Ok(Some(nd_advert(alloc, ROUTER, GATEWAY, STATION, HOST)?)),
+        (_, Some(view)) => echo_reply(alloc, ROUTER, &view),
+        (_, None) => Ok(None),
+    }
+}
+
+/// Asks for it a second time where the first was refused.
+fn make_surely(
+    alloc: Global,
+    out: &mut String,
+    kind: &str,
+    frame: &[u8],
+) -> Result<Option<Bytes>, NoMemory> {
+    match make(alloc, kind, frame) {
+        Ok(made) => Ok(made),
+        Err(_) => {
+            out.push_str("no memory; ")?;
+            make(alloc, kind, frame)
+        }
+    }
+}
+
+/// Reads a packet, a second time where the first was refused.
+fn read_surely(alloc: Global, out: &mut String, frame: &[u8]) -> Result<Option<Packet>, NoMemory> {
+    match packet_of(alloc, frame) {
+        Ok(packet) => Ok(packet),
+        Err(_) => {
+            out.push_str("no memory; ")?;
+            packet_of(alloc, frame)
+        }
+    }
+}
+
+/// What is read of a frame, or made of it.
+pub fn frame_text(alloc: Global, line: &str) -> Result<String, NoMemory> {
+    let (kind, digits) = line.split_once(' ').unwrap_or((line, ""));
+    let frame = bytes_of(alloc, digits)?;
+    let mut out = String::from_str(alloc, " => ")?;
+    if kind == "packet" {
+        let packet = read_surely(alloc, &mut out, frame.as_slice())?;
+        write!(out, "{packet:?}")?;
+        return Ok(out);
+    }
+    match make_surely(alloc, &mut out, kind, frame.as_slice())? {
+        Some(made) => out.push_str(hex::encode(alloc, made.as_slice())?.as_str())?,
+        None => out.push_str("nothing")?,
     }
     Ok(out)
 }
