@@ -4,9 +4,10 @@
 Frames and their checksums are built by scapy, and what whole ones hold is what scapy reads of them; the answers to cut ones, and what
 matches and actions make of a frame, are worked out here, from RFC 8200, RFC 4443, RFC 4861 and OpenFlow 1.3, with none of the program's code.
 """
+import random
 import socket
 import sys
-from scapy.all import Dot1Q, Ether, ICMPv6EchoReply, ICMPv6EchoRequest, ICMPv6ND_NA, ICMPv6ND_NS, ICMPv6NDOptDstLLAddr, ICMPv6NDOptSrcLLAddr, IPv6, IPv6ExtHdrHopByHop, IPv6ExtHdrFragment, PadN, Raw, TCP, UDP
+from scapy.all import IP, Dot1Q, Ether, ICMPv6EchoReply, ICMPv6EchoRequest, ICMPv6ND_NA, ICMPv6ND_NS, ICMPv6NDOptDstLLAddr, ICMPv6NDOptSrcLLAddr, IPv6, in6_chksum, IPv6ExtHdrHopByHop, IPv6ExtHdrFragment, PadN, Raw, TCP, UDP
 
 ROUTER, STATION = "0e:00:00:00:00:01", "02:00:00:00:00:01"
 GATEWAY, HOST = "fd00::fe", "fd00::1"
@@ -27,7 +28,7 @@ def case(words, answer):
 class Held:
     """The parts of a frame: IPv6 where a whole header of version 6 stands behind type 0x86dd."""
 
-    def __init__(self, frame):
+    def __init__(self, frame, whole=True):
         self.dst, self.src, at, self.tags = frame[:6], frame[6:12], 12, []
         while frame[at:at + 2] in (b"\x81\x00", b"\x88\xa8"):
             control = int.from_bytes(frame[at + 2:at + 4], "big")
@@ -36,12 +37,15 @@ class Held:
         self.eth_type = int.from_bytes(frame[at:at + 2], "big")
         payload = frame[at + 2:]
         self.upper, self.rest = None, payload
+        # this reads none of ARP, and of IPv4 only what is built whole
+        assert self.eth_type != 0x0806 and (self.eth_type != 0x0800 or payload[:1] != b"\x45" or len(payload) < 20 or whole)
         if self.eth_type == 0x86DD and len(payload) >= 40 and payload[0] >> 4 == 6:
             self.read(payload[:40], payload[40:])
-            self.check(frame)
+            if whole:
+                self.check(frame)
 
     def read(self, header, body):
-        number = lambda data: int.from_bytes(data, "big")
+        self.header, self.body, number = header, body, lambda data: int.from_bytes(data, "big")
         self.upper = {"src": number(header[8:24]), "dst": number(header[24:]), "proto": header[6], "hops": header[7]}
         self.l4, self.rest = ("None", {}), header[:6] + body
         if header[6] in (6, 17) and len(body) >= 4:
@@ -111,8 +115,27 @@ class Held:
         return f"V6 {{ src: Ip6({upper['src']}), dst: Ip6({upper['dst']}), proto: {upper['proto']}, hops: {upper['hops']}, l4: {inner} }}"
 
 
-def packet(frame):
-    case(f"packet {frame.hex()}", f"Some({Held(frame).said()})")
+def packet(frame, whole=True):
+    case(f"packet {frame.hex()}", f"Some({Held(frame, whole).said()})" if has_type(frame) else "None")
+
+
+def has_type(frame):
+    """Whether a frame reaches to the end of its EtherType."""
+    at = 12
+    while frame[at:at + 2] in (b"\x81\x00", b"\x88\xa8"):
+        at += 4
+    return len(frame) >= at + 2
+
+
+def packet4(proto, body):
+    """An IPv4 packet of a protocol that has no fields, whose header has 20 bytes."""
+    frame = bytes(Ether(dst=ROUTER, src=STATION) / IP(src="10.0.0.1", dst="10.0.0.2", proto=proto) / Raw(body))
+    held = Held(frame)
+    header, seen = held.rest[:20], Ether(frame)[IP]
+    assert (seen.proto, seen.ttl, bytes(seen)[20:]) == (header[9], header[8], body)
+    held.rest = header[:8] + body
+    said = held.said().replace("upper: None", f"upper: V4 {{ src: Ip4({0x0A000001}), dst: Ip4({0x0A000002}), proto: {proto}, ttl: {header[8]}, l4: None }}")
+    case(f"packet {frame.hex()}", f"Some({said})")
 
 
 def hits(fields, frame):
@@ -227,10 +250,11 @@ for count, answered in ((65392, True), (65393, False)):
     head = frame[:66]
     assert frame == head + bytes(count)
     reply(frame, pong(bytes(count)) if answered else None, f"{head.hex()} «{count}:00»")
-note("# Frames that are cut: in front of the header and in it, behind it, behind one byte of the message, behind its code and its")
-note("# checksum, in front of the last byte of the target, and behind the target.")
-for length in (18, 19, 57, 58, 59, 60, 62, 81, 82):
+note("# Frames that are cut behind each byte, and echo requests of which a byte or more is missing.")
+for length in range(1, len(SOLICIT)):
     packet(SOLICIT[:length])
+for length in range(1, len(PING)):
+    reply(PING[:length], None)
 note("# Version 4 behind the type of IPv6, and a header of version 6 behind the type of IPv4.")
 packet(with_byte(SOLICIT, 18, 0x40))
 packet(SOLICIT[:16] + b"\x08\x00" + SOLICIT[18:])
@@ -239,13 +263,14 @@ packet(with_byte(SOLICIT, 58, 134))
 packet(with_byte(SOLICIT, 58, 136))
 packet(with_byte(SOLICIT, 58, 137))
 packet(with_byte(SOLICIT, 58, 128))
-note("# TCP and UDP, whole and with ports that do not lie within; ICMP of IPv4 is none of IPv6.")
+note("# TCP and UDP, whole and with ports that do not lie within; ICMP of IPv4 is none of IPv6, and the other way round.")
 packet(TO_80)
 packet(TO_53)
 packet(TO_80[:61])
 packet(TO_80[:62])
 packet(TO_53[:61])
 packet(bytes(ether() / ping(nh=1)))
+packet4(58, bytes(ping())[40:])
 note("# Behind headers of options and of fragments nothing is read.")
 packet(bytes(ether() / IPv6(src=HOST, dst=GATEWAY) / IPv6ExtHdrHopByHop(options=[PadN(optdata=b"\0" * 4)]) / ICMPv6EchoRequest(id=1, seq=1)))
 packet(bytes(ether() / IPv6(src=HOST, dst=GATEWAY) / IPv6ExtHdrFragment(id=9) / TCP(sport=1000, dport=80)))
@@ -275,6 +300,65 @@ for frame, actions in ((SOLICIT, f"set:26={0x20010DB8 << 96 | 1:x}/{ALL:x}"), (S
                        (PING, "set:29=81/ff"), (PING, "set:30=1/ff"), (PING, "set:19=0/ff"), (PING, "set:11=a000001/ffffffff"), (TO_80, "set:14=1f90/ffff"),
                        (TO_53, "set:15=1f90/ffff"), (TO_80, "set:29=81/ff"), (TO_80, "set:10=11/ff")):
     act(frame, actions)
+
+note("")
+note("# Frames of which bits are turned, and bytes are cut, left out or come twice, by chance; of an echo request, for each second one, with")
+note("# the checksum that is right then.")
+
+
+def changed(chance, frame):
+    data = bytearray(frame)
+    for _ in range(1 + chance.randrange(2)):
+        at, kind = chance.randrange(12, len(data)), chance.choice(("turned", "turned", "turned", "cut", "out", "twice"))
+        if kind == "turned":
+            data[at] ^= 1 << chance.randrange(8)
+        elif kind == "cut":
+            del data[max(at, 20):]
+        elif kind == "out":
+            del data[at]
+        else:
+            data.insert(at, data[at])
+    return bytes(data)
+
+
+def with_sum(frame):
+    """The frame with the checksum that its message is to have, where it has one."""
+    held = Held(frame, False)
+    if held.upper is None or len(held.body) < 4:
+        return frame
+    message = held.body[:2] + bytes(2) + held.body[4:]
+    front = frame[:len(frame) - len(held.body)]
+    return front + message[:2] + summed(held, message).to_bytes(2, "big") + message[4:]
+
+
+def summed(held, message):
+    ends = (socket.inet_ntop(socket.AF_INET6, held.header[at:at + 16]) for at in (8, 24))
+    return in6_chksum(58, IPv6(**dict(zip(("src", "dst"), ends))), message)
+
+
+def answer_to(frame):
+    """The answer to an echo request over IPv6 that is whole and has its right type, code and checksum."""
+    held = Held(frame, False)
+    if held.upper is None or held.upper["proto"] != 58:
+        return None
+    size = int.from_bytes(held.header[4:6], "big")
+    message = held.body[:size]
+    if not 8 <= size <= len(held.body) or message[:2] != b"\x80\0" or summed(held, message) != 0:
+        return None
+    source, destination = (socket.inet_ntop(socket.AF_INET6, held.header[at:at + 16]) for at in (8, 24))
+    number = lambda data: int.from_bytes(data, "big")
+    return (Ether(dst=frame[6:12], src=ROUTER) / IPv6(src=destination, dst=source, hlim=64)
+            / ICMPv6EchoReply(id=number(message[4:6]), seq=number(message[6:8]), data=message[8:]))
+
+
+CHANCE = random.Random(6)
+for number in range(100):
+    packet(changed(CHANCE, CHANCE.choice((SOLICIT, ADVERT, PING, TO_80, TO_53))), False)
+for number in range(100):
+    frame = changed(CHANCE, PING)
+    if has_type(frame):
+        frame = with_sum(frame) if number % 2 else frame
+        reply(frame, answer_to(frame))
 
 
 def main():
