@@ -10,6 +10,8 @@ USAGE = "usage: faucet check, plan, replay, serve, gauge, gauge-serve, bench, tr
 FRAME = "ffffffffffff0200000000010800"
 BROADCAST = "ff:ff:ff:ff:ff:ff"
 VID = 100
+# LLDP, as the controller may tell of a stack port's end
+LLDP, TOLD_FROM, TOLD_TO = "0180c200000e0e000000000188cc", "0e:00:00:00:00:01", "01:80:c2:00:00:0e"
 
 
 def escaped(text):
@@ -217,6 +219,10 @@ def one_switch(runs):
     header = bytes.fromhex("4500001400004000" + "3f11" + "0000" + "0a000001" + "0a000002")
     ipv4 = "ffffffffffff020000000001" + "0800" + header.hex()
     runs.run(f"trace t.yaml t.rec sw1 1 {ipv4}", 0, one.trace("sw1", 1, "02:00:00:00:00:01", BROADCAST, "63"))
+    ipv6 = "ffffffffffff020000000001" + "86dd" + "6000000000003b" + "01" + "fd" + "00" * 14 + "01" + "fd" + "00" * 14 + "02"
+    for command, answer in (("trace", one.trace), ("walk", one.walk)):
+        runs.run(f"{command} t.yaml t.rec sw1 1 {ipv6}", 0, answer("sw1", 1, "02:00:00:00:00:01", BROADCAST, "1"))
+        runs.run(f"{command} t.yaml t.rec sw1 1 {ipv6[:-2]}", 0, answer("sw1", 1, "02:00:00:00:00:01", BROADCAST))
     runs.run(f"trace t.yaml t.rec sw1 1 ffffffffffff020000000001810000070800", 0)
     for name, made in (("batch", open_one().says(1, message(21, 5))), ("wipe", open_one()), ("greeting", Recording().put(0, 1, 1)), ("nothing", Recording()),
                        ("ended", open_one().says(1, message(21, 5)).says(1, message(21, 24)).put(0, 3, 1))):
@@ -282,6 +288,13 @@ def networks(runs):
     runs.run(f"walk r.yaml r.rec sw2 10 {FRAME}", 0, lines)
     for name in net.dps:
         runs.run(f"trace r.yaml r.rec {name} 10 {FRAME}", 0, net.trace(name, 10, "02:00:00:00:00:01", BROADCAST))
+    runs.put("# LLDP from a stack port goes to the controller, with a tag as any other packet, and from an edge port nowhere")
+    told = f"controller - {TOLD_FROM} {TOLD_TO} -\n"
+    runs.run(f"trace r.yaml r.rec sw2 1 {LLDP}", 0, told)
+    runs.run(f"walk r.yaml r.rec sw2 2 {LLDP}", 0, f"sw2 {told}")
+    runs.run(f"walk r.yaml r.rec sw2 1 {LLDP[:24]}8100006488cc", 0, net.walk("sw2", 1, TOLD_FROM, TOLD_TO))
+    runs.run(f"walk r.yaml r.rec sw2 10 {LLDP}", 0)
+    runs.put("# the same ring")
     host = "02:00:00:00:00:33"
     made = ring().recording().says(3, learned(10, host)).rests(1, 2, 3)
     net.hosts[host] = ("sw3", 10)
