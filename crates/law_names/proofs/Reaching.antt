@@ -13,7 +13,7 @@ use Rattle.plan_units.specs.declared.unit.Unit.TheVariants as unit
 use Rattle.law_units.specs.Reached.{is_reached, reaches, touches_port}
 
 module _ (conf : Configuration) (s t new : State) (d : Dp)
-  (touches_same : (group : DpId) (vid : ℕ) (mac : Mac) (number : ℕ) → touches_port conf s new d group vid mac number ≡ touches_port conf t new d group vid mac number) where
+    (touches_same : (group : DpId) (vid : ℕ) (mac : Mac) (number : ℕ) → touches_port conf s new d group vid mac number ≡ touches_port conf t new d group vid mac number) where
   reaches_same : (c : Change) (u : PlanUnit) → reaches conf s new d c u ≡ reaches conf t new d c u
   reaches_same (change.Host group vid mac) unit.Dp = refl
   reaches_same (change.Host group vid mac) (unit.Port number) = touches_same group vid mac number
