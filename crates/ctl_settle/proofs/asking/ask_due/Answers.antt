@@ -56,9 +56,9 @@ loop-preserved c =
     let asked_now = c.in_ok-say_due-in-Some.ensures
     ∙ ap (λ (table : Table). say_due d (record w { neighbours = table })) c.due.ensures.list in
     let names : Names w c.say_due.new.world (lost w d) =
-    subst (λ (v : World). Names w v (lost w d)) (sym asked_now) (lost_named d w said c.loses.ensures.keys) in
+    subst (λ (v : World). Names w v (lost w d)) (sym asked_now) (lost_named d w said c.loses-lost.ensures.keys) in
     let pushed : c.touch.new.touched ≡ with_more (lost w d) c.loop.touched =
-    c.in_ok-touch-in-Some.ensures ∙ ap (λ b. with_more (if b then due d ∷ [] else []) c.loop.touched) c.loses.ensures.lost in
+    c.in_ok-touch-in-Some.ensures ∙ ap (λ b. with_more (if b then due d ∷ [] else []) c.loop.touched) c.loses-lost.ensures.lost in
     let more : MayDiffer = with_more (lost w d) c.loop.touched in
     record {
       whole = ap (ask_due left) asked_now ∙ sym (due_some most i w c.loop-test.true d said) ∙ c.loop.invariant.whole;
