@@ -240,6 +240,15 @@ def stacked():
     return record(0, 1, 1) + b"".join(record(100 * number, 2, 1, piece) for number, piece in enumerate(told))
 
 
+def long():
+    """What a switch of quick start's says where 40 hosts talk for long, with their ports going down and up: some 3,000 messages."""
+    told = [one_vlan.HELLO, one_vlan.features(1), one_vlan.descriptions([1, 2, 3]), one_vlan.barrier_reply(5)]
+    for number in range(3000):
+        frame = bytes.fromhex("ffffffffffff") + bytes.fromhex("0200000000") + bytes([1 + number % 40]) + bytes.fromhex("0800") + bytes(46)
+        told.append(one_vlan.port_status(1 + number % 3, 1 + number // 100 % 2) if number % 100 == 99 else one_vlan.packet_in(1 + number % 3, frame))
+    return b"".join(told)
+
+
 def connect():
     return socket.create_connection(("127.0.0.1", PORT), timeout=10)
 
@@ -299,9 +308,11 @@ def streams(command, file, stream, chance):
     switch.sendall(struct.pack("!BBHI", 4, 0, 8, 1))
     if not is_answered(switch):
         return False
-    ended = slow = 0
+    ended = slow = frames = 0
     for number in range(COUNT):
-        ended += send(mutated(chance, stream), chance)
+        said = mutated(chance, stream)
+        frames += frames_of(said)
+        ended += send(said, chance)
         if number % 100 == 0:
             start = time.time()
             if not is_answered(switch):
@@ -315,7 +326,7 @@ def streams(command, file, stream, chance):
     status = open(f"/proc/{server.pid}/status").read()
     memory = int(status.split("VmHWM:")[1].split()[0])
     end()
-    print(f"streams: {COUNT}, of which {command} ended {ended}; slowest answer to the switch {1000 * slow:.1f} ms, at most {memory} KB")
+    print(f"streams: {COUNT} of {frames} messages, of which {command} ended {ended}; slowest answer to the switch {1000 * slow:.1f} ms, at most {memory} KB")
     return answered and memory <= MOST_MEMORY
 
 
@@ -329,6 +340,7 @@ def main():
         "file": lambda: runs("file", files(f"{EXAMPLES}/**/*.yaml"), lambda name: ["check", name], (0, 2, 3), chance),
         "recording": lambda: runs("recording", files(f"{EXAMPLES}/**/*.rec"), lambda name: ["replay", CONFIGURATION, name], (0, 5), chance),
         "serve": lambda: streams("serve", CONFIGURATION, spoken(read(RECORDING)), chance),
+        "long-serve": lambda: streams("serve", CONFIGURATION, long(), chance),
         "stack-recording": lambda: runs("stack recording", [stacked()], lambda name: ["replay", RING, name], (0, 5), chance),
         "stack-serve": lambda: streams("serve", RING, spoken(stacked()), chance),
         "gauge-file": lambda: runs("gauge file", [GAUGE.encode(), *map(read, GAUGES)], lambda name: ["gauge", name, told], (0, 2, 3), chance),

@@ -7,7 +7,7 @@
 # where a run ended otherwise than docs/reference/commands.md says, took more than ten times the median of its kind and a second, or
 # more than 64 MB; where `serve` ended, or left its switch unanswered. It ends what it started, by its process id. Needs python3.
 # Usage: [ONLY="KIND.."] [PORT=N] bench/hostile.sh [COUNT [SEED [PROGRAM]]]    COUNT is 2000 and SEED 1 else; PROGRAM is another one
-# than bin/faucet; a KIND is file, recording, serve, stack-recording, stack-serve, gauge-file, gauge-recording or gauge-serve
+# than bin/faucet; a KIND is file, recording, serve, long-serve, stack-recording, stack-serve, gauge-file, gauge-recording or gauge-serve
 set -eu
 top=$(cd "$(dirname "$0")/.." && pwd)
 work=$(mktemp -d)
