@@ -3,25 +3,26 @@
 # replies that nobody awaits, PORT_STATUS messages that change nothing), and a switch with 48 ports of which so
 # many hosts are learned, one in each turn, each batch answered at once. Prints turns a second and the most memory
 # of the process; checks nothing.
-# Usage: bench/replay.sh [FRAMES [HOSTS]]
+# Usage: bench/replay.sh [FRAMES [HOSTS [PROGRAM]]]    FRAMES is 100000 and HOSTS 1000 else; PROGRAM is another one than bin/faucet
 set -eu
 top=$(cd "$(dirname "$0")/.." && pwd)
 frames=${1:-100000}
 hosts=${2:-1000}
 work=$(mktemp -d)
 trap 'rm -rf "$work"' EXIT
-"$top/bin/faucet" plan "$top/examples/quick-start/faucet.yaml" sw1 >/dev/null
+program=${3:-$top/bin/faucet}
+"$program" plan "$top/examples/quick-start/faucet.yaml" sw1 >/dev/null
 
 awk 'BEGIN {
   print "vlans: {100: {max_hosts: 16384}}\ndps:\n  sw1:\n    dp_id: 1\n    interfaces:"
   for (p = 1; p <= 48; p++) printf "      %d: {native_vlan: 100, max_hosts: 16384}\n", p
 }' >"$work/ports.yaml"
 
-python3 - "$top" "$work" "$frames" "$hosts" <<'RUN'
+python3 - "$top" "$work" "$frames" "$hosts" "$program" <<'RUN'
 import resource, struct, subprocess, sys, time
 
 top, work, frames, hosts = sys.argv[1], sys.argv[2], int(sys.argv[3]), int(sys.argv[4])
-program = top + "/bin/faucet"
+program = sys.argv[5]
 
 
 def record(moment, kind, conn, body=b""):
