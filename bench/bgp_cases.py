@@ -224,8 +224,11 @@ class Speaker:
         self.say(self.conn, data)
         self.said = self.now
 
+    def ends(self, conn, why):
+        self.out += "%d %s; " % (conn, why)
+
     def close(self, why):
-        self.out += "%d %s; " % (self.conn, why)
+        self.ends(self.conn, why)
         self.conn, self.state, self.hold, self.routes = None, "Idle", 0, {}
 
     def refuse(self, fault):
@@ -238,7 +241,7 @@ class Speaker:
             self.speak(message(OPEN, opening(asn=OURS, ident=ID)))
         elif self.conn != conn:
             self.say(conn, message(NOTIFICATION, codes("6/0")))
-            self.out += "%d sent 6/0; " % conn
+            self.ends(conn, "sent 6/0")
 
     def hears_update(self, said):
         routes = dict(self.routes)
@@ -319,6 +322,47 @@ def story(words):
     for word in words:
         speaker.takes(word)
     speaker.shows()
+    return speaker.out
+
+
+def record(moment, kind, conn, body):
+    return moment.to_bytes(8, "big") + bytes([kind]) + conn.to_bytes(4, "big") + len(body).to_bytes(4, "big") + body
+
+
+class Driven(Speaker):
+    """The same with records, lines, and the texts of a document: `text_of` gives that with routes, or None."""
+
+    def __init__(self, text_of):
+        super().__init__()
+        self.text_of, self.records = text_of, b""
+        self.last = text_of({})
+
+    def say(self, conn, data):
+        super().say(conn, data)
+        self.records += record(self.now, 130, conn, data)
+
+    def ends(self, conn, why):
+        word, _, rest = why.partition(" ")
+        if word in ("sent", "heard"):
+            self.out += "close %d End; conn %d: Bgp%s %s; " % (conn, conn, word.title(), rest.replace("/", " "))
+            self.records += record(self.now, 131, conn, bytes([{"sent": 12, "heard": 13}[word]]) + codes(rest))
+        else:
+            self.out += "conn %d: %s; " % (conn, {"end": "End", "link": "LinkFault", "overfull": "Overfull"}[word])
+
+    def takes(self, word):
+        super().takes(word)
+        text = self.text_of(self.routes)
+        if text is not None and text != self.last:
+            self.last = text
+            self.records += record(self.now, 4, 0, text.encode())
+        self.out += "at %d: %s; " % (self.now, self.records.hex())
+        self.records = b""
+
+
+def driven(words, text_of):
+    speaker = Driven(text_of)
+    for word in words:
+        speaker.takes(word)
     return speaker.out
 
 
@@ -625,6 +669,35 @@ def texts():
             "office", announced, document([("office", 100, vips, []), other], routers), document([("office", 100, vips, taken), other], routers))
 
 
+def spoken():
+    """Each with the number of a VLAN, what happens, a document, and its text with the routes that there are."""
+    vips = ["10.0.100.254/24"]
+    begins = ["connects", message(OPEN, opening()), message(KEEPALIVE)]
+
+    def said(net, hop):
+        return message(UPDATE, update(b"", ORIGIN + PATH + attribute(3, bytes(int(part) for part in hop.split("."))), prefixes(net)))
+
+    def text_of(routes, own=(), key="office"):
+        """Of a VLAN that takes the routes by a neighbour alone."""
+        taken = [("%s/%d" % (shown_ip(ip), length), shown_ip(hop)) for (ip, length), hop in sorted(routes.items()) if shown_ip(hop).startswith("10.0.100.")]
+        return document([(key, 100, vips, [*own, *taken])])
+
+    def one(words, vid=100, **told):
+        return vid, words, text_of({}, **told), lambda routes: text_of(routes if vid == 100 else {}, **told)
+    net, near, far = "172.16.0.0/16", "10.0.100.1", "10.0.101.1"
+    yield "a route, the same again, and a close", one([*begins, said(net, near), said(net, near), "ends"])
+    yield "behind the VLAN's own, by another neighbour, and withdrawn", one([*begins, said(net, near), said(net, "10.0.100.2"), message(UPDATE, update(prefixes(net))), "ends"], own=[("192.0.2.0/24", near)])
+    yield "a route that isn't taken, and one that is", one([*begins, said("192.0.2.0/24", far), said(net, near), message(UPDATE, update(prefixes("192.0.2.0/24")))])
+    yield "announced and withdrawn in one piece", one([*begins, said(net, near) + message(UPDATE, update(prefixes(net)))])
+    yield "a VLAN by its number", one([*begins, said(net, near)], key="100")
+    yield "a VLAN that isn't written", one([*begins, said(net, near), "ends"], vid=200)
+    yield "another AS", one(["at:0", "connects", message(OPEN, opening(asn=65003))])
+    yield "a NOTIFICATION is heard, at a moment", one(["at:1700000000000", *begins, said(net, near), "at:1700000000001", message(NOTIFICATION, codes("6/2"))])
+    yield "each end", one(["connects", "fault:1", "open:2", "overfull:2", "open:3", "end:3"])
+    yield "a connection beside the session's", one([*begins, said(net, near), "open:7", "end:7"])
+    yield "the hold timer", one([*begins, said(net, near), "at:30000", "at:89999", "at:90000"])
+
+
 def escaped(text):
     return text.replace("\\", "\\\\").replace("\n", "\\n")
 
@@ -670,11 +743,15 @@ def cases():
             words = addressed(words)
             yield "story %d %s %d %s" % (OURS, shown_ip(ID), THEIRS, " ".join(words)), story(words)
 
-
     yield "Texts: a VLAN's key, the routes that are announced, and a document, with that with the routes that it takes.", None
     for why, (key, announced, before, after) in texts():
         yield why, None
         yield "text %s %s %s" % (key, ",".join("%s>%s" % route for route in announced) or "none", escaped(before)), escaped(after)
+    yield "A router's speaker: what it says, its lines and its records, and records of the texts with its routes.", None
+    for why, (vid, words, before, text_of) in spoken():
+        yield why, None
+        words = addressed(words)
+        yield "spoken %d %d %s %d %s in %s" % (vid, OURS, shown_ip(ID), THEIRS, " ".join(words), escaped(before)), driven(words, text_of)
 
 
 def repeated(line):

@@ -1,10 +1,12 @@
-//! Cases of a BGP peer: what stands at the front of bytes, messages, and whole stories with the routes that they lead to.
+//! Cases of a BGP peer: what stands at the front of bytes, messages, and whole stories with the routes that they lead to,
+//! with texts of configurations, and with records.
 //! Each line of the input is a case, and is printed with its answer; an empty line, and one that begins with
 //! `#`, is printed as it is. Bytes stand in hexadecimal digits, and `«COUNT:PIECE»` for the piece so many
 //! times.
 #![tactic(auto)]
 
 mod messages;
+mod spoken;
 mod story;
 mod texts;
 
@@ -25,6 +27,7 @@ fn write_answer(out: &mut String, alloc: Global, kind: &str, text: &str) -> Resu
         "faults" => messages::write_faults(out),
         "story" => story::write_story(out, alloc, text),
         "text" => texts::write_text(out, alloc, text),
+        "spoken" => spoken::write_spoken(out, alloc, text),
         _ => out.push_str("no such kind"),
     }
 }

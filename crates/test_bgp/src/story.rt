@@ -8,7 +8,7 @@ use std::alloc::Global;
 use std::fmt::Write;
 use test_lines::bytes_of;
 
-fn number_in(word: &str) -> u64 {
+pub fn number_in(word: &str) -> u64 {
     word.parse::<u64>().unwrap_or(0)
 }
 
@@ -18,7 +18,7 @@ fn conn_in(word: &str) -> u32 {
 
 /// What a word says: that a connection opens, ends or fails, that a moment comes, in milliseconds, or that
 /// bytes come on a connection.
-fn happening_in(alloc: Global, what: &str, rest: &str) -> Result<Happening, NoMemory> {
+pub fn happening_in(alloc: Global, what: &str, rest: &str) -> Result<Happening, NoMemory> {
     let conn = conn_in(rest);
     Ok(match what {
         "open" => Happening::Opened(conn),
@@ -41,6 +41,19 @@ fn happening_in(alloc: Global, what: &str, rest: &str) -> Result<Happening, NoMe
             piece: bytes_of(alloc, rest)?,
         },
     })
+}
+
+fn as_in(word: &str) -> u16 {
+    u16::try_from(number_in(word)).unwrap_or(0)
+}
+
+/// Between whom BGP is spoken, by the words for our AS, our identifier and the peer's AS.
+pub fn peering_of(our_as: &str, id: &str, peer_as: &str) -> Peering {
+    Peering {
+        our_as: as_in(our_as),
+        id: Ip4::parse(id).unwrap_or(Ip4(0)),
+        peer_as: as_in(peer_as),
+    }
 }
 
 fn write_closing(out: &mut String, cause: BgpClosing) -> Result<(), NoMemory> {
@@ -98,14 +111,9 @@ fn take_word(out: &mut String, alloc: Global, bgp: &mut Bgp, word: &str) -> Resu
 /// `CONN:BYTES` that bytes come, and `routes` asks for the routes.
 pub fn write_story(out: &mut String, alloc: Global, text: &str) -> Result<(), NoMemory> {
     let mut words = text.split_whitespace();
-    let our_as = u16::try_from(number_in(words.next().unwrap_or(""))).unwrap_or(0);
-    let id = Ip4::parse(words.next().unwrap_or("")).unwrap_or(Ip4(0));
-    let peer_as = u16::try_from(number_in(words.next().unwrap_or(""))).unwrap_or(0);
-    let peering = Peering {
-        our_as,
-        id,
-        peer_as,
-    };
+    let our_as = words.next().unwrap_or("");
+    let id = words.next().unwrap_or("");
+    let peering = peering_of(our_as, id, words.next().unwrap_or(""));
     let mut bgp = Bgp::new(alloc, peering);
     for word in words {
         take_word(out, alloc, &mut bgp, word)?;

@@ -26,7 +26,8 @@ fn routes_in(alloc: Global, word: &str) -> Result<Vec<BgpRoute>, NoMemory> {
     Ok(routes)
 }
 
-fn document_in(alloc: Global, text: &str) -> Result<Option<Tree>, NoMemory> {
+/// The document that an escaped text is; `None` where it is none.
+pub fn document_in(alloc: Global, text: &str) -> Result<Option<Tree>, NoMemory> {
     let text = unescaped(alloc, text)?;
     match read_yaml(alloc, text.as_slice()) {
         Ok(tree) => Ok(Some(tree)),
