@@ -1,5 +1,5 @@
 -- Probes of stack links: LLDP frames (IEEE 802.1AB-2016, 8) with a datapath's identifier and a port's number.
-use Rattle.std.specs.Prelude.{◌≡◌, ℕ, ◌≤◌, List, [], ◌∷◌, ◌++◌, length}
+use Rattle.std.specs.Prelude.{◌≡◌, ℕ, ◌≤◌, nat_le, ◌==◌, ◌&&◌, Bool, if◌then◌else◌, Option, Some, None, List, [], ◌∷◌, ◌++◌, length}
 use Rattle.net_base.specs.declared.numbers.DpId.{DpId}
 use Rattle.of_wire.specs.Grammar.{◌▷◌, Number, Ignored}
 use Rattle.of_wire.specs.Numbers.{number_in}
@@ -71,3 +71,19 @@ pub record IsLaidOut (frame : List ℕ) : Type 0 where
   pub chassis : number_in 14 3 frame ≡ chassis
   pub port : number_in 25 3 frame ≡ port_of_chassis
   pub ttl : number_in 32 2 frame ≡ time_to_live
+
+abbrev pub is_laid_out : List ℕ → Bool
+is_laid_out frame =
+    nat_le 36 (length frame) && (number_in 0 6 frame == nearest_bridges) && (number_in 12 2 frame == lldp) && (number_in 14 3 frame == chassis)
+    && (number_in 25 3 frame == port_of_chassis) && (number_in 32 2 frame == time_to_live)
+
+-- the numbers of ports are 1 to 0xffffff00 (OpenFlow 1.3, 7.2.1)
+abbrev pub is_port_no : ℕ → Bool
+is_port_no n = nat_le 1 n && nat_le n 0xffffff00
+
+-- which probe a frame is; None where it is none, or its port has no number of one
+abbrev pub probe_of : List ℕ → Option Probe
+probe_of frame =
+    if is_laid_out frame && is_port_no (number_in 28 4 frame)
+    then Some (record { dp = record { 0 = number_in 17 8 frame }; port = number_in 28 4 frame })
+    else None

@@ -1,7 +1,7 @@
 ghost use Rattle.std.specs.Prelude.{◌≡◌, ◌++◌, true, None, IfOk, IfSome, OnOk};
 ghost use Rattle.net_base.specs.Numbers.{IsPortNo};
 ghost use Rattle.lldp_probe.specs.declared.frame.Probe.{Probe};
-ghost use Rattle.lldp_probe.specs.Probes.{IsLaidOut, SpellsProbe, ids, probe_frame};
+ghost use Rattle.lldp_probe.specs.Probes.{IsLaidOut, SpellsProbe, ids, is_laid_out, probe_frame, probe_of};
 
 use net_base::{Bytes, DpId, NoMemory, PortNo};
 use of_wire::{number_at, put_number, u32_at, u64_at};
@@ -69,6 +69,7 @@ pub fn probe_frame(alloc: Global, dp: DpId, port: PortNo, ttl: u16) -> Result<By
 
 /// Whether what is the same in every probe stands in its places.
 fn is_laid_out(frame: &[u8]) -> bool
+    ensures test { result ≡ is_laid_out frame.now }
     ensures yes { result ≡ true → IsLaidOut frame.now }
     ensures no { IsLaidOut frame.now → result ≡ true }
 {
@@ -83,6 +84,7 @@ fn is_laid_out(frame: &[u8]) -> bool
 /// Which port of which datapath a frame was sent from as a probe, whatever its source and its time to live;
 /// `None` exactly where it is no probe, or its port has no number of one.
 pub fn probe_read(frame: &[u8]) -> Option<Probe>
+    ensures exact { result ≡ probe_of frame.now }
     ensures some { IfSome result (λ probe. SpellsProbe probe frame.now) }
     ensures none { result ≡ None → (probe : Probe) → IsPortNo probe.port → SpellsProbe probe frame.now → ⊥ }
 {
