@@ -1,0 +1,13 @@
+mod Heard
+mod Hearing
+mod Places
+mod Going
+mod Stepping
+mod Saying
+mod Losing
+mod Calm
+mod Quiet
+mod Last
+mod Knowing
+mod Spending
+mod Ending

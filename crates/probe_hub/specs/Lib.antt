@@ -1,0 +1,13 @@
+pub mod Conn
+pub mod Conns
+pub mod Frames
+pub mod Known
+pub mod Links
+pub mod Marks
+pub mod Notices
+pub mod Peer
+pub mod ProbeHub
+pub mod ProbedStory
+pub mod Probing
+pub mod Quiet
+pub mod Says
