@@ -72,6 +72,22 @@ module _ {S : Type 0} (left : S → Option (List ℕ)) (may : S → S → Type 0
   pub own_none : (hub new : ScriptHub S) → is_spent hub ≡ false → (hub.waiting ≡ None → (let a : Option Turn = None in a ≡ None) × (new ≡ hub)) → ((r : Record) → hub.waiting ≡ Some r → TellsOwn r hub None new) → Goes hub new
   own_none hub new running nothing told = own_none_at hub.waiting hub new refl running nothing told
 
+  -- so it goes on, with all that was before
+  pub record GoesOn (first new : ScriptHub S) : Type 0 where
+    pub keeps : Keeps left first [] new
+    pub running : is_spent new ≡ false
+    pub source : Went may (source_in first) (source_in new)
+
+  pub own_passed : (first hub new : ScriptHub S) → Keeps left first [] hub → Went may (source_in first) (source_in hub) → is_spent hub ≡ false → (hub.waiting ≡ None → (let a : Option Turn = None in a ≡ None) × (new ≡ hub))
+      → ((r : Record) → hub.waiting ≡ Some r → TellsOwn r hub None new) → new.reader ≡ hub.reader → GoesOn first new
+  own_passed first hub new keeps source running nothing told reader =
+      let goes = own_none hub new running nothing told in
+      record {
+        keeps = Keeps-then left first hub new [] keeps goes.keeps;
+        running = goes.running;
+        source = Went-append may (source_in first) (source_in hub) source (source_in new) (same_source hub new reader);
+      }
+
   happened : (own : Option Happening) (hub new : ScriptHub S) (r : Record) (t : Turn) → hub.waiting ≡ Some r → is_spent hub ≡ false → script.Told hub r new → Keeps left hub (events_of own) new → Some t ≡ option_map (λ it. Happened it) own → ScriptStep left may hub (turned t) new
   happened None hub new r t is running told keeps h = cc
   happened (Some it) hub new r t is running told keeps h =

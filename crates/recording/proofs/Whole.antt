@@ -6,7 +6,7 @@ use Rattle.std.specs.Option.{option_map}
 use Rattle.fg_outside.specs.declared.hub.Happening.{Happening}
 use Rattle.fg_outside.specs.declared.hub.Turn.TheVariants.{Happened, Done, Failed}
 use Rattle.fg_outside.specs.Left.{prepended, IsAtEnd}
-use Rattle.fg_outside.specs.HubStep.{HubStep, Event, happening, happenings, turned, Leads, story}
+use Rattle.fg_outside.specs.HubStep.{HubStep, Event, happening, happenings, turned, Leads, story, told_by as added_by}
 use Rattle.fg_outside.specs.Steps.{Went, stay}
 use Rattle.fg_outside.proofs.StepLemmas.{Went-append}
 use Rattle.fg_outside.proofs.StoryLemmas.{Story-keeps}
@@ -68,6 +68,11 @@ module _ {S : Type 0} (left : S → Option (List ℕ)) (may : S → S → Type 0
   way_tells whole from to steps first way =
       Story-keeps (ScriptStep left may) (Stands whole) (λ mid events step next stands may_step. may_step.story whole stands.0 stands.1 events stands.2) from ([], None, first) steps to way
 
+  -- and behind a step more
+  next_tells : (whole : Option (List ℕ)) (from to next : ScriptHub S) (steps : List HubStep) (step : HubStep) → StandsFor left whole from [] None [] → Leads (ScriptStep left may) from steps to
+      → ScriptStep left may to step next → Stands whole next (story steps ++ added_by step)
+  next_tells whole from to next steps step first way taken = let before = way_tells whole from to steps first way in taken.story whole before.0 before.1 (story steps) before.2
+
   pub source_goes : (from to : ScriptHub S) (steps : List HubStep) → Leads (ScriptStep left may) from steps to → Went may (source_in from) (source_in to)
   source_goes from to steps way =
       Story-keeps (ScriptStep left may) (λ hub _. Went may (source_in from) (source_in hub)) (λ mid events step next went may_step. Went-append may (source_in from) (source_in mid) went (source_in next) may_step.source) from stay steps to way
@@ -123,8 +128,7 @@ module _ {S : Type 0} (left : S → Option (List ℕ)) (may : S → S → Type 0
 
   pub done_told : (bytes : List ℕ) (from to next : ScriptHub S) (steps : List HubStep) → StandsFor left (Some bytes) from [] None [] → Leads (ScriptStep left may) from steps to → ScriptStep left may to (turned Done) next → IsStoryOf bytes (happenings (story steps)) (closings 0 (story steps)) (refusal_in next)
   done_told bytes from to next steps first way done =
-      let before = way_tells (Some bytes) from to steps first way in
-      let behind = done.story (Some bytes) before.0 before.1 (story steps) before.2 in
+      let behind = next_tells (Some bytes) from to next steps (turned Done) first way done in
       let stands : StandsFor left (Some bytes) next behind.0 behind.1 (story steps) = subst (λ (l : List Event). StandsFor left (Some bytes) next behind.0 behind.1 l) (append-nil (story steps)) behind.2 in
       let over = done.answer in
       let none : behind.1 ≡ None = sym (stands.runs over.runs).waiting ∙ over.none_waits in
@@ -132,8 +136,7 @@ module _ {S : Type 0} (left : S → Option (List ℕ)) (may : S → S → Type 0
 
   pub read_behind : (bytes : List ℕ) (from to next : ScriptHub S) (steps : List HubStep) (it : Happening) → StandsFor left (Some bytes) from [] None [] → Leads (ScriptStep left may) from steps to → ScriptStep left may to (turned (Happened it)) next → IsReadBehind bytes (left (source_in next))
   read_behind bytes from to next steps it first way step =
-      let before = way_tells (Some bytes) from to steps first way in
-      let behind = step.story (Some bytes) before.0 before.1 (story steps) before.2 in
+      let behind = next_tells (Some bytes) from to next steps (turned (Happened it)) first way step in
       let stands = behind.2 in
       let runs = stands.runs step.answer.runs in
       let split = split_told bytes stands.front stands.rest stands.parts in
@@ -148,8 +151,7 @@ module _ {S : Type 0} (left : S → Option (List ℕ)) (may : S → S → Type 0
 
   pub read_and_told : (bytes : List ℕ) (from to next : ScriptHub S) (steps : List HubStep) (it : Happening) → StandsFor left (Some bytes) from [] None [] → Leads (ScriptStep left may) from steps to → ScriptStep left may to (turned (Happened it)) next → IsReadAndTold bytes (story steps ++ happening it ∷ []) (left (source_in next))
   read_and_told bytes from to next steps it first way step =
-      let before = way_tells (Some bytes) from to steps first way in
-      let behind = step.story (Some bytes) before.0 before.1 (story steps) before.2 in
+      let behind = next_tells (Some bytes) from to next steps (turned (Happened it)) first way step in
       let stands = behind.2 in
       let runs = stands.runs step.answer.runs in
       let split = split_told bytes stands.front stands.rest stands.parts in
@@ -166,8 +168,7 @@ module _ {S : Type 0} (left : S → Option (List ℕ)) (may : S → S → Type 0
 
   pub read_inside : (bytes : List ℕ) (from to next : ScriptHub S) (steps : List HubStep) → StandsFor left (Some bytes) from [] None [] → Leads (ScriptStep left may) from steps to → ScriptStep left may to (turned Failed) next → IsReadInside bytes (left (source_in next))
   read_inside bytes from to next steps first way step =
-      let before = way_tells (Some bytes) from to steps first way in
-      let behind = step.story (Some bytes) before.0 before.1 (story steps) before.2 in
+      let behind = next_tells (Some bytes) from to next steps (turned Failed) first way step in
       let stands = behind.2 in
       let runs = stands.runs step.answer.runs in
       let split = split_told bytes stands.front stands.rest stands.parts in
@@ -185,8 +186,7 @@ module _ {S : Type 0} (left : S → Option (List ℕ)) (may : S → S → Type 0
 
   pub failed_told : (bytes : List ℕ) (from to next : ScriptHub S) (steps : List HubStep) → StandsFor left (Some bytes) from [] None [] → Leads (ScriptStep left may) from steps to → ScriptStep left may to (turned Failed) next → IsStoryOfFront bytes (happenings (story steps)) (closings 0 (story steps))
   failed_told bytes from to next steps first way failed =
-      let before = way_tells (Some bytes) from to steps first way in
-      let behind = failed.story (Some bytes) before.0 before.1 (story steps) before.2 in
+      let behind = next_tells (Some bytes) from to next steps (turned Failed) first way failed in
       let runs = behind.2.runs failed.answer.runs in
       let none : behind.1 ≡ None = sym runs.waiting ∙ failed.answer.none_waits in
       let same : StandsFor left (Some bytes) next behind.0 behind.1 (story steps) = subst (λ (l : List Event). StandsFor left (Some bytes) next behind.0 behind.1 l) (append-nil (story steps)) behind.2 in
