@@ -25,8 +25,8 @@ use Rattle.command_line.specs.declared.parts.CommandOption.{CommandOption}
 use Rattle.command_line.specs.declared.parts.Parts.{Parts}
 use Rattle.command_line.specs.declared.recorded.RecordedServe.{RecordedServe}
 use Rattle.command_line.specs.declared.values.Listen.{Listen}
-use Rattle.command_line.specs.Asked.{StandOnce, AreWritten, StandsBehind, StandsOrIs, Spells, SpellsFrame, SpellsListen, SaysEvents, SaysReload, SaysListen, SayHowToServe, AskFor, Check, Plan, Replay, Serve, Gauge, GaugeServe, Bench, Trace, Walk, AskToRecord}
-use Rattle.command_line.specs.Meaning.{command_of, options_of, are_taken, one_of, two_of, events_of, listen_or, serve_options, sent_by, sent_on, job_of, meaning}
+use Rattle.command_line.specs.Asked.{StandOnce, AreWritten, StandsBehind, StandsOrIs, Spells, SpellsFrame, SpellsListen, SaysEvents, SaysReload, SaysListen, SayHowToServe, AskFor, Check, Plan, Replay, Serve, Gauge, GaugeServe, Bench, Trace, Walk, Bgp, BgpServe, AskToRecord}
+use Rattle.command_line.specs.Meaning.{command_of, options_of, are_taken, one_of, two_of, three_of, events_of, listen_or, serve_options, sent_by, sent_on, job_of, meaning}
 use Rattle.command_line.specs.Frames.{frame_of}
 use Rattle.command_line.specs.Parts.{parts_of}
 use Rattle.command_line.specs.Recorded.{recorded_options, are_recorded_options, recorded_serve, recorded_meaning}
@@ -218,6 +218,13 @@ two_words (first ∷ []) two e = absurd (none-some two e)
 two_words (first ∷ second ∷ []) two e = ap (λ (t : List ℕ × List ℕ). t.0 ∷ t.1 ∷ []) (same_Some _ _ e)
 two_words (first ∷ second ∷ third ∷ others) two e = absurd (none-some two e)
 
+three_words : (plain : List (List ℕ)) (three : List ℕ × List ℕ × List ℕ) → three_of plain ≡ Some three → plain ≡ three.0 ∷ three.1 ∷ three.2 ∷ []
+three_words [] three e = absurd (none-some three e)
+three_words (a ∷ []) three e = absurd (none-some three e)
+three_words (a ∷ b ∷ []) three e = absurd (none-some three e)
+three_words (a ∷ b ∷ c ∷ []) three e = ap (λ (t : List ℕ × List ℕ × List ℕ). t.0 ∷ t.1 ∷ t.2 ∷ []) (same_Some _ _ e)
+three_words (a ∷ b ∷ c ∷ d ∷ others) three e = absurd (none-some three e)
+
 -- five words, of which the fourth spells a port and the fifth a frame
 record FiveWords (plain : List (List ℕ)) (sent : SentOn) : Type 0 where
   port : List ℕ
@@ -282,15 +289,19 @@ asks_two words parts f job e none is =
     let two = mapped f (two_of parts.plain) job is in
     (two.0, subst (λ plain. Written words plain []) (two_words parts.plain two.0 two.1) (without_options words parts e none), two.2)
 
-asks_with : (words names : List (List ℕ)) (parts : Parts) (config : List ℕ) → parts_of words ≡ Some parts
-    → list_all (λ o. list_any (λ name. bytes_eq name o.name) names) parts.options ≡ true → one_of parts.plain ≡ Some config → AreWritten names words (config ∷ []) parts.options
-asks_with words names parts config e all is =
+asks_plain : (words names : List (List ℕ)) (parts : Parts) (plain : List (List ℕ)) → parts_of words ≡ Some parts
+    → list_all (λ o. list_any (λ name. bytes_eq name o.name) names) parts.options ≡ true → parts.plain ≡ plain → AreWritten names words plain parts.options
+asks_plain words names parts plain e all is =
     let written = what_is_parted words parts e in
     record {
-      written = subst (λ plain. Written words plain parts.options) (one_word parts.plain config is) written.0;
+      written = subst (λ plain. Written words plain parts.options) is written.0;
       named = (taken names parts.options).0 all;
       once = once parts.options written.1;
     }
+
+asks_with : (words names : List (List ℕ)) (parts : Parts) (config : List ℕ) → parts_of words ≡ Some parts
+    → list_all (λ o. list_any (λ name. bytes_eq name o.name) names) parts.options ≡ true → one_of parts.plain ≡ Some config → AreWritten names words (config ∷ []) parts.options
+asks_with words names parts config e all is = asks_plain words names parts (config ∷ []) e all (one_word parts.plain config is)
 
 asks_check : (words : List (List ℕ)) (job : Job) → asked_of commands.Check words ≡ Some job → AskFor (codes "check" ∷ words) job
 asks_check words job e =
@@ -361,6 +372,23 @@ asks_walk words job e =
     let written = subst (λ plain. Written words plain []) five.words (without_options words parts.0 parts.1 parts.2) in
     subst (AskFor (codes "walk" ∷ words)) sent.2 (Walk words sent.0.config sent.0.recording sent.0.dp five.port five.digits sent.0.port sent.0.frame written five.is_port five.is_frame)
 
+asks_bgp : (words : List (List ℕ)) (job : Job) → asked_of commands.Bgp words ≡ Some job → AskFor (codes "bgp" ∷ words) job
+asks_bgp words job e =
+    let parts = parts_from words (are_taken commands.Bgp) (job_of commands.Bgp) job e in
+    let three = mapped (λ (three : List ℕ × List ℕ × List ℕ). jobs.Bgp three.0 three.1 three.2) (three_of parts.0.plain) job parts.3 in
+    let written = subst (λ plain. Written words plain []) (three_words parts.0.plain three.0 three.1) (without_options words parts.0 parts.1 parts.2) in
+    subst (AskFor (codes "bgp" ∷ words)) three.2 (Bgp words three.0.0 three.0.1 three.0.2 written)
+
+asks_bgp_serve : (words : List (List ℕ)) (job : Job) → asked_of commands.BgpServe words ≡ Some job → AskFor (codes "bgp-serve" ∷ words) job
+asks_bgp_serve words job e =
+    let parts = parts_from words (are_taken commands.BgpServe) (job_of commands.BgpServe) job e in
+    let two = bound (two_of parts.0.plain) _ job parts.3 in
+    let events = bound (events_of parts.0.options) _ job two.2 in
+    let listen = bound (listen_or (codes "127.0.0.1:9179") parts.0.options) _ job events.2 in
+    let written = asks_plain words (options_of commands.BgpServe) parts.0 (two.0.0 ∷ two.0.1 ∷ []) parts.1 parts.2 (two_words parts.0.plain two.0 two.1) in
+    subst (AskFor (codes "bgp-serve" ∷ words)) (same_Some _ _ listen.2)
+    (BgpServe words two.0.0 two.0.1 parts.0.options events.0 listen.0 written (events_said parts.0.options events.0 events.1) (listen_said (codes "127.0.0.1:9179") parts.0.options listen.0 listen.1))
+
 -- one word of a table, or one of the rest
 first_or : (word name : List ℕ) (command : Command) (rest : Option Command) (found : Command) → cond (bytes_eq word name) (Some command) rest ≡ Some found
     → ((word ≡ name) × (command ≡ found)) ⊎ (rest ≡ Some found)
@@ -394,9 +422,15 @@ asks_by word command e = elim (first_or word (codes "check") commands.Check _ co
               | inl is ↦ here word (codes "bench") commands.Bench command asks_bench is
               | inr e ↦ elim (first_or word (codes "trace") commands.Trace _ command e) [
                 | inl is ↦ here word (codes "trace") commands.Trace command asks_trace is
-                | inr e ↦ elim (first_or word (codes "walk") commands.Walk None command e) [
+                | inr e ↦ elim (first_or word (codes "walk") commands.Walk _ command e) [
                   | inl is ↦ here word (codes "walk") commands.Walk command asks_walk is
-                  | inr e ↦ absurd (none-some command e)
+                  | inr e ↦ elim (first_or word (codes "bgp") commands.Bgp _ command e) [
+                    | inl is ↦ here word (codes "bgp") commands.Bgp command asks_bgp is
+                    | inr e ↦ elim (first_or word (codes "bgp-serve") commands.BgpServe None command e) [
+                      | inl is ↦ here word (codes "bgp-serve") commands.BgpServe command asks_bgp_serve is
+                      | inr e ↦ absurd (none-some command e)
+                    ]
+                  ]
                 ]
               ]
             ]
@@ -462,6 +496,13 @@ meant_walk words config recording dp port digits number frame is is_port is_fram
     meant_plain commands.Walk words (config ∷ recording ∷ dp ∷ port ∷ digits ∷ []) refl is
     ∙ ap (option_map (λ (sent : SentOn). jobs.Walk sent.config sent.recording sent.dp sent.port sent.frame)) (five_again config recording dp port digits number frame is_port is_frame)
 
+meant_bgp_serve : (words : List (List ℕ)) (config router : List ℕ) (options : List CommandOption) (events : ℕ) (listen : Listen)
+    → AreWritten (options_of commands.BgpServe) words (config ∷ router ∷ []) options → SaysEvents options events → SaysListen (codes "127.0.0.1:9179") options listen
+    → asked_of commands.BgpServe words ≡ Some (jobs.BgpServe config router events listen)
+meant_bgp_serve words config router options events listen is says_events says_listen =
+    let parts = with_parts (options_of commands.BgpServe) words (config ∷ router ∷ []) options is in
+    rw (parts.0, parts.1, events_read options events is.once says_events, listen_read (codes "127.0.0.1:9179") options listen is.once says_listen) refl
+
 pub meant : (words : List (List ℕ)) (job : Job) → AskFor words job → meaning words ≡ Some job
 unfolding meaning
 meant w j (Check words files some is) = meant_check words files some is
@@ -473,6 +514,8 @@ meant w j (GaugeServe words config options events listen is says_events says_lis
 meant w j (Bench words text hosts is spells) = meant_bench words text hosts is spells
 meant w j (Trace words config recording dp port digits number frame is is_port is_frame) = meant_trace words config recording dp port digits number frame is is_port is_frame
 meant w j (Walk words config recording dp port digits number frame is is_port is_frame) = meant_walk words config recording dp port digits number frame is is_port is_frame
+meant w j (Bgp words config router recording is) = meant_plain commands.Bgp words (config ∷ router ∷ recording ∷ []) refl is
+meant w j (BgpServe words config router options events listen is says_events says_listen) = meant_bgp_serve words config router options events listen is says_events says_listen
 
 -- ---- a recorded controller
 

@@ -103,6 +103,13 @@ pub data AskFor : List (List ℕ) → Job → Type 0 where
   Walk : (words : List (List ℕ)) (config recording dp port digits : List ℕ) (number : ℕ) (frame : List ℕ)
       → Written words (config ∷ recording ∷ dp ∷ port ∷ digits ∷ []) [] → Spells 1 0xffffff00 port number → SpellsFrame digits frame
       → AskFor (codes "walk" ∷ words) (jobs.Walk config recording dp number frame)
+  -- `bgp CONFIG ROUTER RECORDING`
+  Bgp : (words : List (List ℕ)) (config router recording : List ℕ) → Written words (config ∷ router ∷ recording ∷ []) []
+      → AskFor (codes "bgp" ∷ words) (jobs.Bgp config router recording)
+  -- `bgp-serve CONFIG ROUTER --events N [--listen A:P]`
+  BgpServe : (words : List (List ℕ)) (config router : List ℕ) (options : List CommandOption) (events : ℕ) (listen : Listen)
+      → AreWritten (codes "events" ∷ codes "listen" ∷ []) words (config ∷ router ∷ []) options → SaysEvents options events
+      → SaysListen (codes "127.0.0.1:9179") options listen → AskFor (codes "bgp-serve" ∷ words) (jobs.BgpServe config router events listen)
 
 -- words of `faucet_recorded`, `CONFIG --record FILE` with the options of `serve`, and what they ask for
 pub record AskToRecord (words : List (List ℕ)) (asked : RecordedServe) : Type 0 where

@@ -29,6 +29,8 @@ command_of word =
     else if bytes_eq word (codes "bench") then Some commands.Bench
     else if bytes_eq word (codes "trace") then Some commands.Trace
     else if bytes_eq word (codes "walk") then Some commands.Walk
+    else if bytes_eq word (codes "bgp") then Some commands.Bgp
+    else if bytes_eq word (codes "bgp-serve") then Some commands.BgpServe
     else None
 
 -- the options that a command takes
@@ -42,6 +44,8 @@ options_of commands.GaugeServe = codes "events" ∷ codes "listen" ∷ []
 options_of commands.Bench = []
 options_of commands.Trace = []
 options_of commands.Walk = []
+options_of commands.Bgp = []
+options_of commands.BgpServe = codes "events" ∷ codes "listen" ∷ []
 
 -- each of these options is one that the command takes
 abbrev pub are_taken : Command → List CommandOption → Bool
@@ -50,6 +54,10 @@ are_taken command options = list_all (λ o. list_any (λ name. bytes_eq name o.n
 -- two words, where there are just two
 abbrev pub two_of : List (List ℕ) → Option (List ℕ × List ℕ)
 two_of words = elim words [ first ∷ second ∷ [] ↦ Some (first, second) | _ ↦ None ]
+
+-- three words, where there are just three
+abbrev pub three_of : List (List ℕ) → Option (List ℕ × List ℕ × List ℕ)
+three_of words = elim words [ first ∷ second ∷ third ∷ [] ↦ Some (first, second, third) | _ ↦ None ]
 
 -- one word, where there is just one
 abbrev pub one_of : List (List ℕ) → Option (List ℕ)
@@ -90,7 +98,8 @@ sent_on words = elim words [ config ∷ recording ∷ dp ∷ port ∷ digits ∷
 -- what a command asks for: `check FILE..`, one file or more; `plan CONFIG DP`; `replay CONFIG RECORDING`;
 -- `serve CONFIG --events N`, with what options it has beside; `gauge GAUGE_CONFIG RECORDING`;
 -- `gauge-serve GAUGE_CONFIG --events N`, which without the other option listens at port 6654 of this host alone; `bench N`;
--- `trace CONFIG RECORDING DP PORT FRAME`, and `walk` with the same words
+-- `trace CONFIG RECORDING DP PORT FRAME`, and `walk` with the same words; `bgp CONFIG ROUTER RECORDING`;
+-- `bgp-serve CONFIG ROUTER --events N`, which without the other option listens at port 9179 of this host alone
 abbrev pub job_of : Command → Parts → Option Job
 job_of commands.Check parts = elim parts.plain [ [] ↦ None | file ∷ files ↦ Some (jobs.Check (file ∷ files)) ]
 job_of commands.Plan parts = option_map (λ two. jobs.Plan two.0 two.1) (two_of parts.plain)
@@ -108,6 +117,12 @@ job_of commands.GaugeServe parts = do
 job_of commands.Bench parts = bench_of parts.plain
 job_of commands.Trace parts = option_map (λ sent. jobs.Trace sent.config sent.recording sent.dp sent.port sent.frame) (sent_on parts.plain)
 job_of commands.Walk parts = option_map (λ sent. jobs.Walk sent.config sent.recording sent.dp sent.port sent.frame) (sent_on parts.plain)
+job_of commands.Bgp parts = option_map (λ three. jobs.Bgp three.0 three.1 three.2) (three_of parts.plain)
+job_of commands.BgpServe parts = do
+  words ← two_of parts.plain
+  events ← events_of parts.options
+  listen ← listen_or (codes "127.0.0.1:9179") parts.options
+  Some (jobs.BgpServe words.0 words.1 events listen)
 
 -- the first word is the command
 unfoldable pub meaning : List (List ℕ) → Option Job

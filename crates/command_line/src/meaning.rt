@@ -1,7 +1,7 @@
 ghost use Rattle.std.specs.Prelude.{◌≡◌, List, ℕ, map, IfOk};
 ghost use Rattle.std.specs.List.{list_any};
 ghost use Rattle.std.specs.Str.{bytes_eq};
-ghost use Rattle.command_line.specs.Meaning.{command_of, options_of, are_taken, one_of, two_of, events_of, listen_or, serve_options, bench_of, sent_by, sent_on, job_of, meaning};
+ghost use Rattle.command_line.specs.Meaning.{command_of, options_of, are_taken, one_of, two_of, three_of, events_of, listen_or, serve_options, bench_of, sent_by, sent_on, job_of, meaning};
 ghost use Rattle.command_line.specs.Values.{number_in};
 
 use crate::frames::frame_of;
@@ -21,6 +21,8 @@ enum Command {
     Bench,
     Trace,
     Walk,
+    Bgp,
+    BgpServe,
 }
 
 /// What the program is asked to do.
@@ -76,6 +78,20 @@ pub enum Job {
         port: PortNo,
         frame: Bytes,
     },
+    /// To run the speaker for the BGP peer of a router, by a configuration file, on a recording.
+    Bgp {
+        config: Text,
+        router: Text,
+        recording: Text,
+    },
+    /// To run the speaker for the BGP peer of a router, by a configuration file, on the connections that come, for at
+    /// most so many events.
+    BgpServe {
+        config: Text,
+        router: Text,
+        events: u64,
+        listen: Listen,
+    },
 }
 
 /// The options of `serve`.
@@ -117,6 +133,10 @@ fn command_of(word: &str) -> Option<Command>
         Some(Command::Trace)
     } else if word == "walk" {
         Some(Command::Walk)
+    } else if word == "bgp" {
+        Some(Command::Bgp)
+    } else if word == "bgp-serve" {
+        Some(Command::BgpServe)
     } else {
         None
     }
@@ -133,9 +153,10 @@ fn options_of(command: Command) -> &'static [&'static str]
         | Command::Gauge
         | Command::Bench
         | Command::Trace
-        | Command::Walk => &[],
+        | Command::Walk
+        | Command::Bgp => &[],
         Command::Serve => &["events", "reload-ms", "listen"],
-        Command::GaugeServe => &["events", "listen"],
+        Command::GaugeServe | Command::BgpServe => &["events", "listen"],
     }
 }
 
@@ -175,6 +196,20 @@ fn two_words(alloc: Global, plain: &[Text]) -> Result<Option<(Text, Text)>, NoMe
 {
     match plain {
         [first, second] => Ok(Some((first.copy(alloc)?, second.copy(alloc)?))),
+        _ => Ok(None),
+    }
+}
+
+/// Three plain words; `None` where there are fewer or more.
+fn three_words(alloc: Global, plain: &[Text]) -> Result<Option<(Text, Text, Text)>, NoMemory>
+    ensures { IfOk result (λ three. three ≡ three_of plain.now) }
+{
+    match plain {
+        [first, second, third] => Ok(Some((
+            first.copy(alloc)?,
+            second.copy(alloc)?,
+            third.copy(alloc)?,
+        ))),
         _ => Ok(None),
     }
 }
@@ -330,6 +365,41 @@ fn walk_job(sent: SentOn) -> Job
     }
 }
 
+/// What `bgp` asks for.
+fn bgp_job(alloc: Global, parts: &Parts) -> Result<Option<Job>, NoMemory>
+    ensures { IfOk result (λ job. job ≡ job_of Command.Bgp parts.now) }
+{
+    let Some((config, router, recording)) = three_words(alloc, parts.plain.as_slice())? else {
+        return Ok(None);
+    };
+    Ok(Some(Job::Bgp {
+        config,
+        router,
+        recording,
+    }))
+}
+
+/// What `bgp-serve` asks for.
+fn bgp_serve_job(alloc: Global, parts: &Parts) -> Result<Option<Job>, NoMemory>
+    ensures { IfOk result (λ job. job ≡ job_of Command.BgpServe parts.now) }
+{
+    let Some((config, router)) = two_words(alloc, parts.plain.as_slice())? else {
+        return Ok(None);
+    };
+    let Some(events) = events_of(parts.options.as_slice()) else {
+        return Ok(None);
+    };
+    let Some(listen) = listen_or(parts.options.as_slice(), "127.0.0.1:9179") else {
+        return Ok(None);
+    };
+    Ok(Some(Job::BgpServe {
+        config,
+        router,
+        events,
+        listen,
+    }))
+}
+
 fn job_of(alloc: Global, command: Command, parts: Parts) -> Result<Option<Job>, NoMemory>
     ensures { IfOk result (λ job. job ≡ job_of command parts) }
 {
@@ -369,6 +439,8 @@ fn job_of(alloc: Global, command: Command, parts: Parts) -> Result<Option<Job>, 
             };
             Ok(Some(walk_job(sent)))
         }
+        Command::Bgp => bgp_job(alloc, &parts),
+        Command::BgpServe => bgp_serve_job(alloc, &parts),
     }
 }
 

@@ -156,6 +156,31 @@ pub fn words_behind_walk()
     ensures option { meaning (codes "walk" ∷ codes "--dp=sw1" ∷ codes "a" ∷ codes "r" ∷ codes "sw1" ∷ codes "1" ∷ codes "ffffffffffff0200000000010800" ∷ []) ≡ None }
 {}
 
+/// `bgp CONFIG ROUTER RECORDING`: three words, and no option.
+#[tactic(auto, unfolding(crate::specs::Meaning::meaning, crate::specs::Parts::parts_of, crate::specs::Parts::parted))]
+pub fn words_behind_bgp()
+    ensures all { meaning (codes "bgp" ∷ codes "a" ∷ codes "b" ∷ codes "c" ∷ []) ≡ Some (jobs.Bgp (codes "a") (codes "b") (codes "c")) }
+    ensures missing { meaning (codes "bgp" ∷ codes "a" ∷ codes "b" ∷ []) ≡ None }
+    ensures further { meaning (codes "bgp" ∷ codes "a" ∷ codes "b" ∷ codes "c" ∷ codes "d" ∷ []) ≡ None }
+    ensures option { meaning (codes "bgp" ∷ codes "a" ∷ codes "--events=3" ∷ codes "b" ∷ codes "c" ∷ []) ≡ None }
+{}
+
+/// `bgp-serve CONFIG ROUTER --events N`, with `--listen A:P` where this isn't the default.
+#[tactic(auto, unfolding(crate::specs::Meaning::meaning, crate::specs::Parts::parts_of, crate::specs::Parts::parted, net_base::specs::AddressReading::ip4_of, net_base::specs::AddressReading::number_up_to, net_base::specs::AddressReading::number_of))]
+pub fn words_behind_bgp_serve()
+    ensures apart { meaning (codes "bgp-serve" ∷ codes "a" ∷ codes "--events" ∷ codes "1" ∷ codes "b" ∷ [])
+        ≡ Some (jobs.BgpServe (codes "a") (codes "b") 1 (record { ip = record { 0 = 2130706433 }; port = 9179 })) }
+    ensures listen { meaning (codes "bgp-serve" ∷ codes "--listen=10.1.2.3:179" ∷ codes "a" ∷ codes "b" ∷ codes "--events=1000000000" ∷ [])
+        ≡ Some (jobs.BgpServe (codes "a") (codes "b") 1000000000 (record { ip = record { 0 = 167838211 }; port = 179 })) }
+    ensures no_events { meaning (codes "bgp-serve" ∷ codes "a" ∷ codes "b" ∷ []) ≡ None }
+    ensures no_event { meaning (codes "bgp-serve" ∷ codes "a" ∷ codes "b" ∷ codes "--events=0" ∷ []) ≡ None }
+    ensures too_many_events { meaning (codes "bgp-serve" ∷ codes "a" ∷ codes "b" ∷ codes "--events=1000000001" ∷ []) ≡ None }
+    ensures reload { meaning (codes "bgp-serve" ∷ codes "a" ∷ codes "b" ∷ codes "--events=3" ∷ codes "--reload-ms=1000" ∷ []) ≡ None }
+    ensures port_0 { meaning (codes "bgp-serve" ∷ codes "a" ∷ codes "b" ∷ codes "--events=3" ∷ codes "--listen=127.0.0.1:0" ∷ []) ≡ None }
+    ensures no_router { meaning (codes "bgp-serve" ∷ codes "a" ∷ codes "--events=3" ∷ []) ≡ None }
+    ensures further { meaning (codes "bgp-serve" ∷ codes "a" ∷ codes "b" ∷ codes "c" ∷ codes "--events=3" ∷ []) ≡ None }
+{}
+
 /// Options stand anywhere, in either spelling.
 #[tactic(auto, unfolding(crate::specs::Parts::parts_of, crate::specs::Parts::parted))]
 pub fn options_among_words()
