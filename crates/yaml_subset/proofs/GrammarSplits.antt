@@ -115,17 +115,8 @@ passes_after P f fs v frames slot (l ∷ ls) end s p r = by_test (passes f.inden
 record Below (n : ℕ) (f : Frame) (fs : List Frame) (ls : List Line) (end : State) : Type 0 where
   pub form : Form
   pub at : ℕ
-  pub value : Tree
-  pub below : List Line
-  pub more : List Line
-  pub frames : List Frame
-  pub slot : Option Tree
-  pub split : ls ≡ below ++ more
   pub takes : takes_block (f ∷ fs) at (list_form form) ≡ true
-  pub block : IsBlock n form at below value
-  pub stands : Stands (Passes f.indent (is_list f.open_block)) (f ∷ fs) value frames slot
-  pub runs : steps (Blocks frames slot) more ≡ Ok end
-  pub stops : Stops (Passes f.indent (is_list f.open_block)) more
+  pub lines : EntrySplit (IsBlock n form at) f fs ls end
 
 taken : (x y m l : Bool) → x || y && not m && l ≡ true → (x ≡ true) ⊎ ((y ≡ true) × (m ≡ false) × (l ≡ true))
 taken true y m l h = inl refl
@@ -160,17 +151,19 @@ below_split n nested f fs (line ∷ ls) end l r = by_test (takes_block (f ∷ fs
         record {
           form = b.form;
           at = line.0;
-          value = b.tree;
-          below = line ∷ b.below;
-          more = b.more;
-          frames = b.frames;
-          slot = b.slot;
-          split = ap (λ xs. line ∷ xs) b.split;
           takes = takes;
-          block = b.block;
-          stands = stands_below f fs b.tree b.frames b.slot line.0 (list_form b.form) takes b.stands;
-          runs = b.runs;
-          stops = passes_after (Ends line.0 (list_form b.form) (f ∷ fs)) f fs b.tree b.frames b.slot b.more end b.stands b.stops b.runs;
+          lines = record {
+            value = b.tree;
+            below = line ∷ b.below;
+            more = b.more;
+            frames = b.frames;
+            slot = b.slot;
+            split = ap (λ xs. line ∷ xs) b.split;
+            is = b.block;
+            stands = stands_below f fs b.tree b.frames b.slot line.0 (list_form b.form) takes b.stands;
+            runs = b.runs;
+            stops = passes_after (Ends line.0 (list_form b.form) (f ∷ fs)) f fs b.tree b.frames b.slot b.more end b.stands b.stops b.runs;
+          };
         }
 
     of_split : takes_block (f ∷ fs) line.0 (marks 45 line.1) ≡ true → IsValue n Deeper (f ∷ fs) line.0 line.1 (λ next. steps next ls) end ⊎ BlockSplit n line.0 line.1 ls (f ∷ fs) end
@@ -195,6 +188,36 @@ deeper_item at deeper item h = grind (arith, nat_tests)
 
 behind_column : (at : ℕ) (rest part : List ℕ) → marks 45 rest ≡ true → next_part false (drop 1 rest) ≡ Ok part → at < at + (length rest - length part)
 behind_column at rest part m e = omega (arith, part_short 45 rest part m e)
+
+-- behind an entry or item without a value stands a block, or nothing of it
+of_below : (n : ℕ) (Value : List Line → Tree → Type 0) (f : Frame) (fs : List Frame) (ls : List Line) (end : State) → Value [] tree.Null → ((b : Below n f fs ls end) → Value b.lines.below b.lines.value)
+    → Stops (Passes f.indent (is_list f.open_block)) ls ⊎ Below n f fs ls end → steps (Blocks (f ∷ fs) None) ls ≡ Ok end → EntrySplit Value f fs ls end
+of_below n Value f fs ls end nothing block (inl stops) g = record {
+  value = tree.Null;
+  below = [];
+  more = ls;
+  frames = f ∷ fs;
+  slot = None;
+  split = refl;
+  is = nothing;
+  stands = stands_nothing f fs;
+  runs = g;
+  stops = stops;
+}
+of_below n Value f fs ls end nothing block (inr b) g =
+    let s = b.lines in
+    record {
+      value = s.value;
+      below = s.below;
+      more = s.more;
+      frames = s.frames;
+      slot = s.slot;
+      split = s.split;
+      is = block b;
+      stands = s.stands;
+      runs = s.runs;
+      stops = s.stops;
+    }
 
 -- the lines behind an item that has been read
 pub item_split : (n : ℕ) → NestedSplits n → (items : List Tree) (at : ℕ) (fs : List Frame) (rest : List ℕ) (ls : List Line) (end : State)
@@ -226,32 +249,6 @@ item_split n nested items at fs rest ls end l dash r = (part, behind, by_empty (
     Value : List Line → Tree → Type 0
     Value = ItemValue n (IsBlock n) at (at + (length rest - length part)) part
 
-    of_below : is_empty part ≡ true → Stops (Passes at true) ls ⊎ Below n (list_frame at items) fs ls end → steps (Blocks (list_frame at items ∷ fs) None) ls ≡ Ok end → EntrySplit Value (list_frame at items) fs ls end
-    of_below e (inl stops) g = record {
-      value = tree.Null;
-      below = [];
-      more = ls;
-      frames = list_frame at items ∷ fs;
-      slot = None;
-      split = refl;
-      is = item_nothing e refl refl;
-      stands = stands_nothing (list_frame at items) fs;
-      runs = g;
-      stops = stops;
-    }
-    of_below e (inr b) g = record {
-      value = b.value;
-      below = b.below;
-      more = b.more;
-      frames = b.frames;
-      slot = b.slot;
-      split = b.split;
-      is = item_below b.form b.at e (deeper_item at b.at (list_form b.form) b.takes) b.block;
-      stands = b.stands;
-      runs = b.runs;
-      stops = b.stops;
-    }
-
     of_split : is_empty part ≡ false → IsValue n Item (list_frame at items ∷ fs) (at + (length rest - length part)) part (λ next. steps next ls) end ⊎ BlockSplit n (at + (length rest - length part)) part ls (list_frame at items ∷ fs) end
         → EntrySplit Value (list_frame at items) fs ls end
     of_split e (inl v) = record {
@@ -282,7 +279,7 @@ item_split n nested items at fs rest ls end l dash r = (part, behind, by_empty (
     by_empty : (b : Bool) → is_empty part ≡ b → then_steps (after_part part) ls ≡ Ok end → EntrySplit Value (list_frame at items) fs ls end
     by_empty true e g =
         let g' : steps (Blocks (list_frame at items ∷ fs) None) ls ≡ Ok end = rw e at g in
-        of_below e (below_split n nested (list_frame at items) fs ls end l g') g'
+        of_below n Value (list_frame at items) fs ls end (item_nothing e refl refl) (λ b. item_below b.form b.at e (deeper_item at b.at (list_form b.form) b.takes) b.lines.is) (below_split n nested (list_frame at items) fs ls end l g') g'
     by_empty false e g =
         let g' : then_steps (content n Item (list_frame at items ∷ fs) (at + (length rest - length part)) part) ls ≡ Ok end = rw e at g in
         of_split e (nested Item (list_frame at items ∷ fs) (at + (length rest - length part)) part ls end l g')
@@ -324,32 +321,6 @@ entry_split n nested pairs k at fs rest ls end l r = (part, behind, by_empty (is
     Value : List Line → Tree → Type 0
     Value = EntryValue n (IsBlock n) at part
 
-    of_below : is_empty part ≡ true → Stops (Passes at false) ls ⊎ Below n (map_frame at pairs k) fs ls end → steps (Blocks (map_frame at pairs k ∷ fs) None) ls ≡ Ok end → EntrySplit Value (map_frame at pairs k) fs ls end
-    of_below e (inl stops) g = record {
-      value = tree.Null;
-      below = [];
-      more = ls;
-      frames = map_frame at pairs k ∷ fs;
-      slot = None;
-      split = refl;
-      is = entry_nothing e refl refl;
-      stands = stands_nothing (map_frame at pairs k) fs;
-      runs = g;
-      stops = stops;
-    }
-    of_below e (inr b) g = record {
-      value = b.value;
-      below = b.below;
-      more = b.more;
-      frames = b.frames;
-      slot = b.slot;
-      split = b.split;
-      is = entry_of_block n (map_frame at pairs k) fs b.at part b.below b.value b.form e b.takes b.block;
-      stands = b.stands;
-      runs = b.runs;
-      stops = b.stops;
-    }
-
     of_value : is_empty part ≡ false → (v : Tree) → block_value n part ≡ Ok v → steps (Blocks (map_frame at pairs k ∷ fs) (Some v)) ls ≡ Ok end → EntrySplit Value (map_frame at pairs k) fs ls end
     of_value e v is g = record {
       value = v;
@@ -367,7 +338,7 @@ entry_split n nested pairs k at fs rest ls end l r = (part, behind, by_empty (is
     by_empty : (b : Bool) → is_empty part ≡ b → then_steps (after_part part) ls ≡ Ok end → EntrySplit Value (map_frame at pairs k) fs ls end
     by_empty true e g =
         let g' : steps (Blocks (map_frame at pairs k ∷ fs) None) ls ≡ Ok end = rw e at g in
-        of_below e (below_split n nested (map_frame at pairs k) fs ls end l g') g'
+        of_below n Value (map_frame at pairs k) fs ls end (entry_nothing e refl refl) (λ b. entry_of_block n (map_frame at pairs k) fs b.at part b.lines.below b.lines.value b.form e b.takes b.lines.is) (below_split n nested (map_frame at pairs k) fs ls end l g') g'
     by_empty false e g =
         let g' : then_steps (block_value (levels_in (map_frame at pairs k ∷ fs)) part >>= λ v. Ok (Blocks (map_frame at pairs k ∷ fs) (Some v))) ls ≡ Ok end = rw e at g in
         let b = bind_ok (block_value (levels_in (map_frame at pairs k ∷ fs)) part >>= λ v. Ok (Blocks (map_frame at pairs k ∷ fs) (Some v))) (λ next. steps next ls) end g' in
