@@ -1,7 +1,8 @@
+pub mod Families
 pub mod Found
 pub mod Marks
 pub mod LinksUp
 pub mod Listed
 pub mod Reached
 pub mod Taken
-mod Alone
+pub mod Alone

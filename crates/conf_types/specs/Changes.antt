@@ -2,14 +2,15 @@
 use Rattle.std.specs.Prelude.{◌≡◌, ℕ, ◌==◌, ◌&&◌, Bool, Option, List, Contains}
 use Rattle.std.specs.List.{find}
 use Rattle.std.specs.Option.{option_map, option_and_then}
-use Rattle.net_base.specs.declared.address.Ip4.{Ip4}
 use Rattle.net_base.specs.declared.address.Mac.{Mac}
 use Rattle.net_base.specs.declared.numbers.DpId.{DpId}
+use Rattle.conf_types.specs.declared.address.Ip.{Ip}
 use Rattle.conf_types.specs.declared.change.Change.{Change}
 use Rattle.conf_types.specs.declared.change.Change.TheVariants as change
 use Rattle.conf_types.specs.declared.state.HostRec.{HostRec}
 use Rattle.conf_types.specs.declared.state.NeighRec.{NeighRec}
 use Rattle.conf_types.specs.Configuration.{Configuration}
+use Rattle.conf_types.specs.Families.{is_same_ip}
 use Rattle.conf_types.specs.Links.{is_up}
 use Rattle.conf_types.specs.Lists.{is_same}
 use Rattle.conf_types.specs.State.{State, is_running, is_host_in, is_fresh}
@@ -35,8 +36,8 @@ standing_of conf now group vid mac = option_map (standing conf now) (host_by con
 -- ---- neighbours by their keys
 
 -- the neighbour's Ethernet address, if it is known
-abbrev pub mac_of_neighbour : List NeighRec → DpId → ℕ → ℕ → Option Mac
-mac_of_neighbour neighbours group vid ip = option_and_then (λ n. n.mac) (find (λ n. n.group.0 == group.0 && n.vid == vid && n.ip.0 == ip) neighbours)
+abbrev pub mac_of_neighbour : List NeighRec → DpId → ℕ → Ip → Option Mac
+mac_of_neighbour neighbours group vid ip = option_and_then (λ n. n.mac) (find (λ n. n.group.0 == group.0 && n.vid == vid && is_same_ip n.ip ip) neighbours)
 
 -- ---- each difference is named
 
@@ -45,4 +46,4 @@ pub record AreNamed (conf : Configuration) (old new : State) (changes : List Cha
   pub ports : (dp : DpId) (port : ℕ) → (is_up old.ups dp port ≡ is_up new.ups dp port → ⊥) → Contains changes (change.Port dp port)
   pub dps : (dp : DpId) → (is_running old.running dp ≡ is_running new.running dp → ⊥) → Contains changes (change.Dp dp)
   -- of a neighbour counts whether its Ethernet address is known, and which it is
-  pub neighbours : (group : DpId) (vid : ℕ) (ip : Ip4) → (mac_of_neighbour old.neighbours group vid ip.0 ≡ mac_of_neighbour new.neighbours group vid ip.0 → ⊥) → Contains changes (change.Neighbour group vid ip)
+  pub neighbours : (group : DpId) (vid : ℕ) (ip : Ip) → (mac_of_neighbour old.neighbours group vid ip ≡ mac_of_neighbour new.neighbours group vid ip → ⊥) → Contains changes (change.Neighbour group vid ip)

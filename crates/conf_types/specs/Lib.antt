@@ -2,6 +2,7 @@ pub mod Attached
 pub mod Changes
 pub mod Configuration
 pub mod Count
+pub mod Families
 pub mod Groups
 pub mod Links
 pub mod Marks

@@ -122,10 +122,10 @@ pub record IsSameHost (conf : Configuration) (a b : HostRec) : Type 0 where
 pub record IsSameNeighbour (a b : NeighRec) : Type 0 where
   pub groups : a.group.0 ≡ b.group.0
   pub vlans : a.vid ≡ b.vid
-  pub ips : a.ip.0 ≡ b.ip.0
+  pub ips : a.ip ≡ b.ip
 
 pub record IsNeighbour (conf : Configuration) (state : State) (n : NeighRec) : Type 0 where
-  pub address : is_neighbour_address (vips_of conf n.vid) n.ip.0 ≡ true
+  pub address : is_neighbour_address (vips_of conf n.vid) n.ip ≡ true
   -- some datapath of its group runs
   pub runs : list_any (λ dp. (group_of conf dp).0 == n.group.0) state.running ≡ true
 

@@ -2,23 +2,25 @@
 use Rattle.std.specs.Prelude.{◌≡◌, ◌==◌, ◌&&◌, ◌||◌, ◌+◌, ◌*◌, ◌%◌, ◌^◌, ◌<◌, ◌≤◌, Bool, true, false, not, ℕ, List, [], ◌∷◌, ◌++◌, length, Some, None, is_some, IsTrue, IfSome, IsSomeAnd, sum_by, count_by, map, filter, slice_get, if◌then◌else◌}
 use Rattle.std.specs.List.{AllByRecursion, list_any}
 use Rattle.std.specs.Option.{option_map_or}
-use Rattle.net_base.specs.declared.net4.Net4.{Net4}
 use Rattle.net_base.specs.WellFormed.{IsWellFormed}
 use Rattle.net_base.specs.Numbers.{IsVid, IsPortNo}
+use Rattle.conf_types.specs.declared.address.Net.{Net}
 use Rattle.conf_types.specs.declared.acl.PortRef.{PortRef}
 use Rattle.conf_types.specs.declared.acl.PortRef.TheVariants.{No, Name}
 use Rattle.conf_types.specs.declared.acl.Rule.{Rule}
 use Rattle.conf_types.specs.declared.datapath.Dp.{Dp}
 use Rattle.conf_types.specs.declared.datapath.Port.{Port}
 use Rattle.conf_types.specs.declared.datapath.StackEnd.{StackEnd}
+use Rattle.conf_types.specs.declared.peer.BgpConf.{BgpConf}
 use Rattle.conf_types.specs.declared.vlan.Route.{Route}
 use Rattle.conf_types.specs.declared.vlan.Vlan.{Vlan}
 use Rattle.conf_types.specs.Attached.{acl_named, rules_of, is_named, port_named, names_in}
 use Rattle.conf_types.specs.Configuration.{Configuration, port_with, port_at, vlan_with}
+use Rattle.conf_types.specs.Families.{IsAddress, family_of, width_of, is_same_family, different_ips, address_of, len_of}
 use Rattle.conf_types.specs.Groups.{group_of}
-use Rattle.conf_types.specs.Lists.{EachBefore, AreDistinct, IsTextBefore, IsLabel, is_among, different}
+use Rattle.conf_types.specs.Lists.{EachBefore, AreDistinct, IsTextBefore, IsLabel, is_among}
 use Rattle.conf_types.specs.Membership.{is_edge, is_stack, is_edge_member, has_edge_member, is_mirror_of, is_mirrored}
-use Rattle.conf_types.specs.Networks.{AreApart, LiesIn, AreSame, HasNoHostBits, is_neighbour_address}
+use Rattle.conf_types.specs.Networks.{AreApart, AreApartOrLocal, LiesIn, AreSame, HasNoHostBits, is_neighbour_address}
 use Rattle.conf_types.specs.Routing.{routing_set, vips_in, routes_in}
 use Rattle.conf_types.specs.RuleFields.{MayAsk}
 
@@ -33,16 +35,16 @@ pub record IsStation (bytes : List ℕ) : Type 0 where
   pub not_zero : list_any (λ b. not (b == 0)) bytes ≡ true
 
 -- a VIP leaves room for neighbours
-pub record IsVip (net : Net4) : Type 0 where
-  pub address : net.ip.0 < 2 ^ 32
-  pub least : 1 ≤ net.len
-  pub most : net.len ≤ 31
+pub record IsVip (net : Net) : Type 0 where
+  pub address : IsAddress (address_of net)
+  pub least : 1 ≤ len_of net
+  pub most : len_of net ≤ (family_of (address_of net)).most_vip_len
 
 pub record IsRoute (route : Route) : Type 0 where
-  pub address : route.dst.ip.0 < 2 ^ 32
-  pub length : route.dst.len ≤ 32
+  pub address : IsAddress (address_of route.dst)
+  pub length : len_of route.dst ≤ width_of (address_of route.dst)
   pub network : HasNoHostBits route.dst
-  pub gateway : route.gw.0 < 2 ^ 32
+  pub gateway : IsAddress route.gw
 
 pub record IsVlan (v : Vlan) : Type 0 where
   pub number : IsVid v.vid
@@ -67,6 +69,11 @@ pub record IsTimeout (seconds : ℕ) : Type 0 where
   pub least : 1 ≤ seconds
   pub most : seconds ≤ 604800
 
+-- from one second to five minutes
+pub record IsInterval (seconds : ℕ) : Type 0 where
+  pub least : 1 ≤ seconds
+  pub most : seconds ≤ 300
+
 -- the VLANs that an interface names
 abbrev pub vlans_named : Port → List ℕ
 vlans_named p = option_map_or (λ vid. vid ∷ p.tagged) p.native p.tagged
@@ -88,6 +95,7 @@ pub record IsDatapath (conf : Configuration) (d : Dp) : Type 0 where
   pub timeout : IsTimeout d.timeout
   pub arp_timeout : IsTimeout d.arp_timeout
   pub stack_priority : IfSome d.stack_priority (λ priority. priority < 2 ^ 32)
+  pub lldp : IfSome d.lldp IsInterval
   pub ports : AllByRecursion (IsPort conf) d.ports
   -- by number, no two with one
   pub in_order : EachBefore (λ p q. p.no < q.no) d.ports
@@ -166,9 +174,23 @@ pub record StacksAreValid (conf : Configuration) : Type 0 where
 
 -- ---- routing
 
+-- the number of an autonomous system (RFC 4271, 4.2: two bytes; 0 stands for none)
+pub record IsAs (number : ℕ) : Type 0 where
+  pub least : 1 ≤ number
+  pub most : number ≤ 65535
+
+-- the identifier of a speaker isn't 0 (RFC 4271, 6.2); the VLAN of its routes exists
+pub record IsPeer (conf : Configuration) (peer : BgpConf) : Type 0 where
+  pub ours : IsAs peer.our_as
+  pub theirs : IsAs peer.neighbor_as
+  pub identified : 1 ≤ peer.routerid.0
+  pub address : peer.routerid.0 < 2 ^ 32
+  pub vlan : IsTrue (is_some (vlan_with conf.vlans peer.vlan))
+
 pub record RoutesAreValid (conf : Configuration) (v : Vlan) : Type 0 where
-  -- a gateway is a neighbour of the VLAN
-  pub reached : AllByRecursion (λ route. IsTrue (is_neighbour_address v.vips route.gw.0)) v.routes
+  -- a gateway is a neighbour of the VLAN, of the family of what it leads to
+  pub reached : AllByRecursion (λ route. IsTrue (is_neighbour_address v.vips route.gw)) v.routes
+  pub one_family : AllByRecursion (λ route. IsTrue (is_same_family route.gw (address_of route.dst))) v.routes
   -- no route leads into a network of a VIP of the routing set
   pub outside : AllByRecursion (λ route. AllByRecursion (λ vip. LiesIn route.dst vip → ⊥) (vips_in conf (routing_set conf v.vid))) v.routes
 
@@ -180,8 +202,12 @@ pub record RoutingIsValid (conf : Configuration) : Type 0 where
   pub once : AllByRecursion (λ r. AreDistinct r.vlans) conf.routers
   -- no VLAN is in two routers
   pub apart : EachBefore (λ r s. AllByRecursion (λ vid. is_among s.vlans vid ≡ false) r.vlans) conf.routers
-  -- of the VLANs of a routing set: networks of VIPs don't overlap, and routes lead to different networks
-  pub vips : AllByRecursion (λ v. EachBefore AreApart (vips_in conf (routing_set conf v.vid))) conf.vlans
+  pub peers : AllByRecursion (λ r. IfSome r.bgp (IsPeer conf)) conf.routers
+  -- networks of a VLAN's VIPs don't overlap
+  pub own_vips : AllByRecursion (λ v. EachBefore AreApart v.vips) conf.vlans
+  -- of the VLANs of a routing set: networks of VIPs don't overlap, unless both are link-local, and routes
+  -- lead to different networks
+  pub vips : AllByRecursion (λ v. EachBefore AreApartOrLocal (vips_in conf (routing_set conf v.vid))) conf.vlans
   pub routes : AllByRecursion (λ v. EachBefore (λ r s. AreSame r.dst s.dst → ⊥) (routes_in conf (routing_set conf v.vid))) conf.vlans
   pub each : AllByRecursion (RoutesAreValid conf) conf.vlans
 
@@ -231,7 +257,7 @@ pub record IsWithinLimits (conf : Configuration) : Type 0 where
   pub router_vlans : AllByRecursion (λ r. length r.vlans ≤ 16) conf.routers
   pub routes : sum_by (λ v. length v.routes) conf.vlans ≤ 1024
   -- each group asks for each gateway of each VLAN
-  pub gateways : group_count conf * sum_by (λ v. different (map (λ r. r.gw.0) v.routes)) conf.vlans ≤ 1024
+  pub gateways : group_count conf * sum_by (λ v. different_ips (map (λ r. r.gw) v.routes)) conf.vlans ≤ 1024
   pub route_items : sum_by (route_items conf) conf.vlans ≤ 32768
 
 -- ---- all of it

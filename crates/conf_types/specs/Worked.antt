@@ -1,10 +1,11 @@
 -- Interfaces, datapaths and VLANs with their defaults, and addresses: the parts of what is worked out by
 -- hand in modules `worked` of other crates.
 use Rattle.std.specs.Prelude.{ℕ, ◌+◌, ◌*◌, true, false, Option, None, List, [], ◌∷◌}
-use Rattle.net_base.specs.declared.address.Ip4.{Ip4}
 use Rattle.net_base.specs.declared.address.Mac.{Mac}
-use Rattle.net_base.specs.declared.net4.Net4.{Net4}
 use Rattle.net_base.specs.declared.numbers.DpId.{DpId}
+use Rattle.conf_types.specs.declared.address.Ip.{Ip}
+use Rattle.conf_types.specs.declared.address.Ip.TheVariants.{V4}
+use Rattle.conf_types.specs.declared.address.Net.{Net}
 use Rattle.conf_types.specs.declared.datapath.Dp.{Dp}
 use Rattle.conf_types.specs.declared.datapath.Port.{Port}
 use Rattle.conf_types.specs.declared.vlan.Vlan.{Vlan}
@@ -21,8 +22,8 @@ abbrev pub gateway : ℕ → Mac
 gateway n = record { 0 = 14 ∷ 0 ∷ 0 ∷ 0 ∷ 0 ∷ n ∷ [] }
 
 -- the address 10.0.a.b
-abbrev pub ip : ℕ → ℕ → Ip4
-ip a b = record { 0 = 0x0a000000 + a * 256 + b }
+abbrev pub ip : ℕ → ℕ → Ip
+ip a b = V4 (record { 0 = 0x0a000000 + a * 256 + b })
 
 abbrev pub edge : ℕ → Option ℕ → List ℕ → Port
 edge number native tagged = record {
@@ -52,6 +53,7 @@ datapath id priority ports = record {
   timeout = 300;
   arp_timeout = 30;
   stack_priority = priority;
+  lldp = None;
   drop_spoofed = true;
   drop_broadcast = true;
   drop_bpdu = true;
@@ -59,7 +61,7 @@ datapath id priority ports = record {
   ports = ports;
 }
 
-abbrev pub vlan : ℕ → List Net4 → Vlan
+abbrev pub vlan : ℕ → List Net → Vlan
 vlan vid vips = record {
   vid = vid;
   name = [];

@@ -1,6 +1,7 @@
 //! What may differ between two states.
 
-use net_base::{DpId, Ip4, Mac, PortNo, Vid};
+use crate::address::Ip;
+use net_base::{DpId, Mac, PortNo, Vid};
 
 /// A part of the state that differs, or may differ, from the state that was handed in last.
 #[derive(Clone, Copy, Debug, PartialEq, Eq)]
@@ -12,5 +13,5 @@ pub enum Change {
     /// Whether the datapath runs.
     Dp(DpId),
     /// The neighbour with this key: its Ethernet address.
-    Neighbour { group: DpId, vid: Vid, ip: Ip4 },
+    Neighbour { group: DpId, vid: Vid, ip: Ip },
 }

@@ -81,8 +81,8 @@ impl Conf {
         }
     }
 
-    /// The number of the group of the datapath at a place.
-    pub(crate) fn group_of_place(&self, at: usize) -> DpId
+    /// The number of the group of the datapath at a place of `dps`, counted from 0, which isn't looked up.
+    pub fn group_of_place(&self, at: usize) -> DpId
         requires { at < length self.now.dps }
         ensures { (d : Dp) → result ≡ group_of self.now (slice_index_or self.now.dps at d).id }
     {

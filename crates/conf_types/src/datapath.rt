@@ -82,6 +82,8 @@ pub struct Dp {
     pub drop_bpdu: bool,
     /// LLDP packets are dropped.
     pub drop_lldp: bool,
+    /// Seconds between two probes of a stack link, 1 to 300, where links are probed.
+    pub lldp: Option<u32>,
     pub ports: Ports,
 }
 
@@ -208,6 +210,7 @@ impl TryCopy for Dp {
             drop_broadcast: self.drop_broadcast,
             drop_bpdu: self.drop_bpdu,
             drop_lldp: self.drop_lldp,
+            lldp: self.lldp,
             ports: self.ports.copy(alloc)?,
         })
     }

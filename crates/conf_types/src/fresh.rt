@@ -41,7 +41,7 @@ impl Conf {
     pub fn is_fresh(&self, moment: Moment, host: &HostRec) -> bool
         ensures { result ≡ is_fresh self.now moment.0 host.now }
     {
-        self.is_permanent(host) || moment.0 < self.stale_at(host.dp, host.learned).0
+        moment.0 < self.stale_at(host.dp, host.learned).0 || self.is_permanent(host)
     }
 
     /// Whether a host is to be forgotten at a moment: the one of `forgotten_at` has come, and its port
@@ -49,6 +49,6 @@ impl Conf {
     pub fn is_to_forget(&self, moment: Moment, host: &HostRec) -> bool
         ensures { result ≡ is_to_forget self.now moment.0 host.now }
     {
-        !self.is_permanent(host) && self.forgotten_at(host.dp, host.learned).0 <= moment.0
+        self.forgotten_at(host.dp, host.learned).0 <= moment.0 && !self.is_permanent(host)
     }
 }

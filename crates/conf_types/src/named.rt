@@ -5,15 +5,17 @@ ghost use Rattle.std.specs.List.{list_any};
 ghost use Rattle.std.specs.Option.{option_copied};
 ghost use Rattle.conf_types.specs.Attached.{acl_named, is_named, port_named};
 ghost use Rattle.conf_types.specs.Configuration.{port_with};
+ghost use Rattle.conf_types.specs.Families.{address_of, is_same_ip};
 ghost use Rattle.conf_types.specs.Lists.{is_same};
 ghost use Rattle.conf_types.specs.Membership.{has_edge_member};
 ghost use Rattle.conf_types.specs.Networks.{is_held, is_vip, vip_for, is_neighbour_address};
 
 use crate::acl::{Acl, PortRef};
+use crate::address::{Ip, Net};
 use crate::conf::Conf;
 use crate::datapath::{Dp, Port};
 use crate::vlan::Vlan;
-use net_base::{Ip4, Net4, PortNo, Text, Vid};
+use net_base::{PortNo, Text, Vid};
 
 fn is_same_text(a: &Text, b: &Text) -> bool
     ensures { result ≡ is_same a.now b.now }
@@ -74,37 +76,37 @@ impl Dp {
     }
 }
 
-fn holds(net: &Net4, ip: Ip4) -> bool
-    ensures { result ≡ is_held net.now ip.0 }
+fn are_holding(vips: &[Net], ip: Ip) -> bool
+    ensures { result ≡ list_any (λ vip. is_held vip ip) vips.now }
 {
-    net.holds(ip)
+    vips.iter().any(|vip| vip.holds(ip))
 }
 
-fn are_holding(vips: &[Net4], ip: Ip4) -> bool
-    ensures { result ≡ list_any (λ vip. is_held vip ip.0) vips.now }
+fn has_address(vip: &Net, ip: Ip) -> bool
+    ensures { result ≡ is_same_ip (address_of vip.now) ip }
 {
-    vips.iter().any(|vip| holds(vip, ip))
+    vip.address().is_same(ip)
 }
 
 impl Vlan {
     /// Whether an address is one of its VIPs.
-    pub fn is_vip(&self, ip: Ip4) -> bool
-        ensures { result ≡ is_vip self.now.vips ip.0 }
+    pub fn is_vip(&self, ip: Ip) -> bool
+        ensures { result ≡ is_vip self.now.vips ip }
     {
-        self.vips.as_slice().iter().any(|vip| vip.ip.0 == ip.0)
+        self.vips.as_slice().iter().any(|vip| has_address(vip, ip))
     }
 
     /// The VIP whose network an address lies in; `None` exactly where there is none.
-    pub fn vip_for(&self, ip: Ip4) -> Option<&Net4>
-        ensures { option_copied result ≡ vip_for self.now.vips ip.0 }
+    pub fn vip_for(&self, ip: Ip) -> Option<&Net>
+        ensures { option_copied result ≡ vip_for self.now.vips ip }
     {
-        self.vips.as_slice().iter().find(|vip| holds(vip, ip))
+        self.vips.as_slice().iter().find(|vip| vip.holds(ip))
     }
 
     /// Whether an address is that of a neighbour: it lies in a network of its VIPs, and is none of
     /// them.
-    pub fn is_neighbour_address(&self, ip: Ip4) -> bool
-        ensures { result ≡ is_neighbour_address self.now.vips ip.0 }
+    pub fn is_neighbour_address(&self, ip: Ip) -> bool
+        ensures { result ≡ is_neighbour_address self.now.vips ip }
     {
         are_holding(self.vips.as_slice(), ip) && !self.is_vip(ip)
     }

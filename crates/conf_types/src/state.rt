@@ -1,4 +1,5 @@
-use net_base::{DpId, Ip4, Items, Mac, Moment, NoMemory, PortNo, TryCopy, Vid};
+use crate::address::Ip;
+use net_base::{DpId, Items, Mac, Moment, NoMemory, PortNo, TryCopy, Vid};
 use std::alloc::Global;
 
 /// A list of datapaths, by their identifiers.
@@ -18,13 +19,13 @@ pub struct HostRec {
 /// Hosts, in the order in which they were learned.
 pub type HostRecs = Items<HostRec>;
 
-/// A neighbour to be resolved by ARP (RFC 826): its key is the group, the VLAN and the address.
+/// A neighbour to be resolved, by ARP (RFC 826) or neighbour discovery (RFC 4861): its key is the group, the VLAN and the address.
 #[derive(Clone, Copy, Debug, PartialEq, Eq)]
 pub struct NeighRec {
     /// The number of the group of datapaths: the least identifier in it.
     pub group: DpId,
     pub vid: Vid,
-    pub ip: Ip4,
+    pub ip: Ip,
     /// The neighbour's Ethernet address, once it is known.
     pub mac: Option<Mac>,
     /// How often it was asked without an answer.

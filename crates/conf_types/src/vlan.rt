@@ -1,22 +1,24 @@
 ghost use Rattle.std.specs.Prelude.{◌≡◌};
 ghost use Rattle.conf_types.specs.Lists.{is_among};
 
-use net_base::{Ip4, Items, Mac, Names, Net4, NoMemory, Text, TryCopy, Vid};
+use crate::address::{Ip, Net};
+use crate::peer::BgpConf;
+use net_base::{Items, Mac, Names, NoMemory, Text, TryCopy, Vid};
 use std::alloc::Global;
 
 /// A list of VLAN identifiers.
 pub type Vids = Items<Vid>;
 
 /// A list of networks, each with an address in it.
-pub type Nets = Items<Net4>;
+pub type Nets = Items<Net>;
 
 /// A route of a VLAN.
 #[derive(Clone, Copy, Debug, PartialEq, Eq)]
 pub struct Route {
     /// The network that the route leads to, its host bits zero.
-    pub dst: Net4,
-    /// The gateway, a neighbour of the VLAN.
-    pub gw: Ip4,
+    pub dst: Net,
+    /// The gateway, a neighbour of the VLAN, of the same family.
+    pub gw: Ip,
 }
 
 /// Routes, as they are written.
@@ -44,12 +46,14 @@ pub struct Vlan {
 /// VLANs, ascending by their identifiers.
 pub type Vlans = Items<Vlan>;
 
-/// A router: VLANs between which packets are routed.
+/// A router: VLANs between which packets are routed, and a peer that tells routes.
 #[derive(Debug, Drop)]
 pub struct Router {
     pub name: Text,
-    /// The VLANs, each once, as they are written.
+    /// The VLANs, each once, as they are written; maybe none where there is a peer.
     pub vlans: Vids,
+    /// The BGP peer.
+    pub bgp: Option<BgpConf>,
 }
 
 /// Routers, ascending by the bytes of their names.
@@ -94,6 +98,7 @@ impl TryCopy for Router {
         Ok(Router {
             name: self.name.copy(alloc)?,
             vlans: self.vlans.copy(alloc)?,
+            bgp: self.bgp,
         })
     }
 }
