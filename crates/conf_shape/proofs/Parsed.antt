@@ -4,8 +4,11 @@ use Rattle.std.specs.Prelude.{IfSome, IfNone, MatchOption}
 use Rattle.std.specs.Borrow.{Bor}
 use Rattle.net_base.specs.declared.address.Mac.{Mac}
 use Rattle.net_base.specs.Address.{SpellsMac, ip4_text, net4_text}
+use Rattle.net_base.specs.Address6.{SpellsIp6, SpellsNet6}
+use Rattle.net_base.specs.Address6Reading.{ip6_of, net6_of}
 use Rattle.net_base.specs.AddressReading.{◌>>=◌, IsMac, Cuts, spelled_mac, ip4_of, net4_of, cut_at}
 use Rattle.net_base.proofs.Addresses.{ip4_again, ip4_ok, net4_again, net4_ok, mac_ok, mac_again}
+use Rattle.net_base.proofs.Groups.{ip6_ok, ip6_again, net6_ok, net6_again}
 use Rattle.net_base.proofs.Cut.{cut_at_mark, cut_past}
 
 pub ip4_found : (text : List ℕ) (n : ℕ) → n < 2 ^ 32 → text ≡ ip4_text n → Some n ≡ ip4_of text
@@ -27,6 +30,26 @@ net4_not text h = by (net4_of text) refl
     by : (read : Option (ℕ × ℕ)) → net4_of text ≡ read → None ≡ net4_of text
     by None e = sym e
     by (Some net) e = let ok = net4_ok text net e in absurd (h net.0 net.1 ok.1 ok.2 ok.0)
+
+pub ip6_found : (text : List ℕ) (n : ℕ) → SpellsIp6 text n → Some n ≡ ip6_of text
+ip6_found text n s = sym (ip6_again text n s)
+
+pub ip6_not : (text : List ℕ) → ((ip : ℕ) → SpellsIp6 text ip → ⊥) → None ≡ ip6_of text
+ip6_not text h = by (ip6_of text) refl
+  where
+    by : (read : Option ℕ) → ip6_of text ≡ read → None ≡ ip6_of text
+    by None e = sym e
+    by (Some n) e = absurd (h n (ip6_ok text n e))
+
+pub net6_found : (text : List ℕ) (n len : ℕ) → SpellsNet6 text n len → Some (n, len) ≡ net6_of text
+net6_found text n len s = sym (net6_again text n len s)
+
+pub net6_not : (text : List ℕ) → ((ip len : ℕ) → SpellsNet6 text ip len → ⊥) → None ≡ net6_of text
+net6_not text h = by (net6_of text) refl
+  where
+    by : (read : Option (ℕ × ℕ)) → net6_of text ≡ read → None ≡ net6_of text
+    by None e = sym e
+    by (Some net) e = absurd (h net.0 net.1 (net6_ok text net e))
 
 pub mac_parsed : (text : List ℕ) (found : Option Mac) → IfSome found (λ mac. SpellsMac text mac.0) → IfNone found ((bytes : List ℕ) → SpellsMac text bytes → ⊥) → IsMac found (spelled_mac text)
 mac_parsed text (Some mac) found none = mac_again text mac.0 found

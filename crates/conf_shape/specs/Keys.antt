@@ -4,17 +4,17 @@ use Rattle.std.specs.List.{filter_map}
 use Rattle.std.specs.Option.{option_map}
 use Rattle.std.specs.Borrow.{Bor}
 use Rattle.net_base.specs.declared.field.FieldId.{FieldId}
-use Rattle.net_base.specs.declared.field.FieldId.TheVariants.{EthDst, EthSrc, EthType, VlanVid, VlanPcp, IpProto, Ipv4Src, Ipv4Dst, TcpSrc, TcpDst, UdpSrc, UdpDst, Icmpv4Type, Icmpv4Code, ArpOp, ArpSpa, ArpTpa}
+use Rattle.net_base.specs.declared.field.FieldId.TheVariants.{EthDst, EthSrc, EthType, VlanVid, VlanPcp, IpProto, Ipv4Src, Ipv4Dst, TcpSrc, TcpDst, UdpSrc, UdpDst, Icmpv4Type, Icmpv4Code, ArpOp, ArpSpa, ArpTpa, Ipv6Src, Ipv6Dst, Icmpv6Type, Icmpv6Code, Ipv6NdTarget}
 use Rattle.conf_shape.specs.declared.refused.ConfCause.{ConfCause}
 use Rattle.conf_shape.specs.declared.refused.ConfCause.TheVariants.{UnknownKey, LeftOut}
 use Rattle.conf_shape.specs.declared.kinds.Kind.{Kind}
 use Rattle.conf_shape.specs.declared.kinds.Kind.TheVariants.{One, Several, OneOrSeveral, Given, Asked, Map, Maps, MapOrMaps}
-use Rattle.conf_shape.specs.declared.kinds.Scalar.TheVariants.{Flag, Number, Name, Words, Label, Permission, NoEffect, StationMac, Vip, Destination, Gateway}
+use Rattle.conf_shape.specs.declared.kinds.Scalar.TheVariants.{Flag, Number, Name, Words, Label, Permission, NoEffect, StationMac, Vip, Destination, Gateway, Identifier, Passive}
 use Rattle.conf_shape.specs.declared.kinds.TheConstants.{MOST_VID, MOST_PORT_NO, VLAN_NAMED, PORT_NAMED}
 use Rattle.conf_shape.specs.declared.kinds.MapKind.{MapKind}
-use Rattle.conf_shape.specs.declared.kinds.MapKind.TheVariants.{Top, Datapaths, Datapath, DatapathStack, Interfaces, Interface, PortStack, Vlans, Vlan, RouteItem, Route, Acls, RuleItem, Rule, Actions, Output, Routers, Router}
+use Rattle.conf_shape.specs.declared.kinds.MapKind.TheVariants.{Top, Datapaths, Datapath, DatapathStack, LldpBeacon, Interfaces, Interface, PortStack, Vlans, Vlan, RouteItem, Route, Acls, RuleItem, Rule, Actions, Output, Routers, Router, Bgp}
 use Rattle.conf_shape.specs.declared.kinds.Need.{Need}
-use Rattle.conf_shape.specs.declared.kinds.Need.TheVariants.{Always, UnlessNumbered, Never}
+use Rattle.conf_shape.specs.declared.kinds.Need.TheVariants.{Always, UnlessNumbered, UnlessBgp, Never}
 use Rattle.conf_shape.specs.declared.kinds.DefaultValue.{DefaultValue}
 use Rattle.conf_shape.specs.declared.kinds.DefaultValue.TheVariants as defaults
 use Rattle.conf_shape.specs.declared.tables.Row.{Row}
@@ -75,6 +75,7 @@ datapath_keys = keys
     row (codes "drop_broadcast_source_address") (One Flag) Never On ∷
     row (codes "drop_bpdu") (One Flag) Never On ∷
     row (codes "drop_lldp") (One Flag) Never On ∷
+    row (codes "lldp_beacon") (Map LldpBeacon) Never Nothing ∷
     row (codes "learn_ban_timeout") (One NoEffect) Never Nothing ∷
     row (codes "learn_jitter") (One NoEffect) Never Nothing ∷
     row (codes "ignore_learn_ins") (One NoEffect) Never Nothing ∷
@@ -87,7 +88,7 @@ datapath_keys = keys
     row (codes "ofchannel_log") (One NoEffect) Never Nothing ∷
     row (codes "combinatorial_port_flood") (One NoEffect) Never Nothing ∷
     row (codes "cache_update_guard_time") (One NoEffect) Never Nothing ∷ [])
-    (codes "interface_ranges" ∷ codes "lldp_beacon" ∷ codes "dot1x" ∷ codes "egress_pipeline" ∷
+    (codes "interface_ranges" ∷ codes "dot1x" ∷ codes "egress_pipeline" ∷
     codes "group_table" ∷ codes "use_idle_timeout" ∷ codes "priority_offset" ∷ codes "low_priority" ∷
     codes "high_priority" ∷ codes "lowest_priority" ∷ codes "highest_priority" ∷ codes "proactive_learn_v4" ∷
     codes "proactive_learn_v6" ∷ codes "nd_neighbor_timeout" ∷ codes "idle_dst" ∷ codes "dp_acls" ∷
@@ -98,6 +99,20 @@ abbrev pub datapath_stack_keys : Keys
 datapath_stack_keys = record {
   rows =
       row (codes "priority") (One (Number 0 (2 ^ 32 - 1))) Never Nothing ∷
+      [];
+  left_out =
+      [];
+  spellings =
+      [];
+  unlisted = LeftOut;
+}
+
+-- how many probes may be sent at once has no effect, since each stack port is probed once at a time
+abbrev pub lldp_beacon_keys : Keys
+lldp_beacon_keys = record {
+  rows =
+      row (codes "send_interval") (One (Number 1 300)) Never (Count 5) ∷
+      row (codes "max_per_interval") (One (Number 1 1024)) Never Nothing ∷
       [];
   left_out =
       [];
@@ -188,10 +203,14 @@ rule_keys = record {
       row (codes "arp_op") (Asked ArpOp) Never Nothing ∷
       row (codes "arp_spa") (Asked ArpSpa) Never Nothing ∷
       row (codes "arp_tpa") (Asked ArpTpa) Never Nothing ∷
+      row (codes "ipv6_src") (Asked Ipv6Src) Never Nothing ∷
+      row (codes "ipv6_dst") (Asked Ipv6Dst) Never Nothing ∷
+      row (codes "icmpv6_type") (Asked Icmpv6Type) Never Nothing ∷
+      row (codes "icmpv6_code") (Asked Icmpv6Code) Never Nothing ∷
+      row (codes "ipv6_nd_target") (Asked Ipv6NdTarget) Never Nothing ∷
       [];
   left_out =
-      codes "cookie" ∷ codes "in_port" ∷ codes "ip_dscp" ∷ codes "ip_ecn" ∷ codes "ipv6_src" ∷ codes "ipv6_dst" ∷
-      codes "icmpv6_type" ∷ codes "icmpv6_code" ∷ codes "ipv6_nd_target" ∷ [];
+      codes "cookie" ∷ codes "in_port" ∷ codes "ip_dscp" ∷ codes "ip_ecn" ∷ [];
   spellings =
       (codes "dl_src", codes "eth_src") ∷ (codes "dl_dst", codes "eth_dst") ∷
       (codes "dl_type", codes "eth_type") ∷ (codes "dl_vlan", codes "vlan_vid") ∷
@@ -216,8 +235,22 @@ output_keys = keys
 
 abbrev pub router_keys : Keys
 router_keys = keys
-    (row (codes "vlans") (Several VLAN_NAMED) Always Nothing ∷ [])
-    (codes "bgp" ∷ [])
+    (row (codes "vlans") (Several VLAN_NAMED) UnlessBgp Nothing ∷
+    row (codes "bgp") (Map Bgp) Never Nothing ∷ [])
+    []
+
+-- the peer's addresses and port and who connects have no effect: the one peer is passive
+abbrev pub bgp_keys : Keys
+bgp_keys = keys
+    (row (codes "as") (One (Number 1 65535)) Always Nothing ∷
+    row (codes "neighbor_as") (One (Number 1 65535)) Always Nothing ∷
+    row (codes "neighbor_addresses") (Several Words) Always Nothing ∷
+    row (codes "server_addresses") (Several Words) Always Nothing ∷
+    row (codes "routerid") (One Identifier) Always Nothing ∷
+    row (codes "vlan") (One VLAN_NAMED) Always Nothing ∷
+    row (codes "port") (One (Number 1 65535)) Never Nothing ∷
+    row (codes "connect_mode") (One Passive) Never Nothing ∷ [])
+    []
 
 -- a map whose keys are names or numbers of the user's
 abbrev pub no_keys : Keys
@@ -227,6 +260,7 @@ abbrev pub keys_of : MapKind → Keys
 keys_of Top = top_keys
 keys_of Datapath = datapath_keys
 keys_of DatapathStack = datapath_stack_keys
+keys_of LldpBeacon = lldp_beacon_keys
 keys_of (Interface number) = interface_keys
 keys_of PortStack = port_stack_keys
 keys_of (Vlan number) = vlan_keys
@@ -237,6 +271,7 @@ keys_of Rule = rule_keys
 keys_of Actions = actions_keys
 keys_of Output = output_keys
 keys_of Router = router_keys
+keys_of Bgp = bgp_keys
 keys_of Datapaths = no_keys
 keys_of Interfaces = no_keys
 keys_of Vlans = no_keys

@@ -1,10 +1,11 @@
 -- The raw configuration of a tree, key by key: what is written, and where a key isn't given its default by
 -- the tables.
 use Rattle.std.specs.Prelude.{ℕ, Bool, is_some, List, [], ◌∷◌, map, codes, Option, None, unwrap_or}
+use Rattle.std.specs.Option.{option_map}
 use Rattle.net_base.specs.declared.address.Mac.{Mac}
-use Rattle.net_base.specs.declared.net4.Net4.{Net4}
 use Rattle.net_base.specs.declared.numbers.DpId.{DpId}
 use Rattle.conf_types.specs.declared.acl.PortRef.TheVariants as port_refs
+use Rattle.conf_types.specs.declared.address.Net.{Net}
 use Rattle.conf_types.specs.declared.vlan.Route.{Route}
 use Rattle.yaml_tree.specs.declared.tree.Key.{Key}
 use Rattle.yaml_tree.specs.declared.tree.Pair.{Pair}
@@ -23,12 +24,14 @@ use Rattle.conf_shape.specs.declared.raw.RawVlan.{RawVlan}
 use Rattle.conf_shape.specs.declared.raw.RawOutput.{RawOutput}
 use Rattle.conf_shape.specs.declared.raw.RawRule.{RawRule}
 use Rattle.conf_shape.specs.declared.raw.RawAcl.{RawAcl}
+use Rattle.conf_shape.specs.declared.raw.RawBgp.{RawBgp}
 use Rattle.conf_shape.specs.declared.raw.RawRouter.{RawRouter}
+use Rattle.conf_shape.specs.declared.raw.VlanRef.TheVariants as vlan_refs
 use Rattle.conf_shape.specs.declared.raw.RawConf.{RawConf}
 use Rattle.conf_shape.specs.Keys.{keys_of, match_keys}
 use Rattle.conf_shape.specs.Reads.{value_at, words_of, items_of, entries_of, words_at, entries_at, option_at, list_at, one_or_list_at, number_under, flag_at, permission_at, number_at, text_at, label_of, port_of, vlan_of, own_number}
 use Rattle.conf_shape.specs.Sections.{key_text}
-use Rattle.conf_shape.specs.Values.{mac_of, ip_of, net_of, fields_by}
+use Rattle.conf_shape.specs.Values.{mac_of, ip_of, net_of, identifier_of, fields_by}
 
 abbrev pub is_given : List ℕ → List Pair → Bool
 is_given name pairs = is_some (value_at name pairs)
@@ -129,6 +132,13 @@ datapath_id pairs = record { 0 = unwrap_or (number_under 64 (codes "dp_id") pair
 abbrev pub stack_priority : List Pair → Option ℕ
 stack_priority pairs = number_under 32 (codes "priority") (entries_at (codes "stack") pairs)
 
+-- how often links are probed, where they are
+abbrev pub lldp_interval : Tree → ℕ
+lldp_interval t = number_at kinds.LldpBeacon (codes "send_interval") (entries_of t)
+
+abbrev pub lldp : List Pair → Option ℕ
+lldp pairs = option_map lldp_interval (value_at (codes "lldp_beacon") pairs)
+
 abbrev pub datapath_with : Key → List Pair → RawDp
 datapath_with key pairs = record {
   names = names_by kinds.Datapath (key_text key) pairs;
@@ -137,6 +147,7 @@ datapath_with key pairs = record {
   timeout = number_at kinds.Datapath (codes "timeout") pairs;
   arp_timeout = number_at kinds.Datapath (codes "arp_neighbor_timeout") pairs;
   stack_priority = stack_priority pairs;
+  lldp = lldp pairs;
   drops = drop_flags pairs;
   ports = map port_of_entry (entries_at (codes "interfaces") pairs);
 }
@@ -146,7 +157,7 @@ datapath_of_entry p = datapath_with p.key (entries_of p.value)
 
 -- ---- VLANs
 
-abbrev pub vip_of : Tree → Net4
+abbrev pub vip_of : Tree → Net
 vip_of t = net_of (words_of t)
 
 abbrev pub route_of : Tree → Route
@@ -200,8 +211,26 @@ rule_of t = let pairs = entries_at (codes "rule") (entries_of t) in rule_with pa
 abbrev pub acl_of_entry : Pair → RawAcl
 acl_of_entry p = record { name = key_text p.key; rules = map rule_of (items_of p.value) }
 
+abbrev pub bgp_with : List Pair → RawBgp
+bgp_with pairs = record {
+  our_as = unwrap_or (number_under 16 (codes "as") pairs) 0;
+  neighbor_as = unwrap_or (number_under 16 (codes "neighbor_as") pairs) 0;
+  routerid = identifier_of (words_at (codes "routerid") pairs);
+  vlan = unwrap_or (option_at vlan_of (codes "vlan") pairs) (vlan_refs.Name []);
+}
+
+abbrev pub bgp_of : Tree → RawBgp
+bgp_of t = bgp_with (entries_of t)
+
+abbrev pub router_with : Key → List Pair → RawRouter
+router_with key pairs = record {
+  name = key_text key;
+  vlans = list_at vlan_of (codes "vlans") pairs;
+  bgp = option_at bgp_of (codes "bgp") pairs;
+}
+
 abbrev pub router_of_entry : Pair → RawRouter
-router_of_entry p = record { name = key_text p.key; vlans = list_at vlan_of (codes "vlans") (entries_of p.value) }
+router_of_entry p = router_with p.key (entries_of p.value)
 
 -- ---- the whole
 

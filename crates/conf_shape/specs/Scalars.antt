@@ -1,17 +1,18 @@
 -- What is wrong with a value that is no list and no map, by what it has to be.
-use Rattle.std.specs.Prelude.{ℕ, ◌-◌, ◌^◌, ℤ, pos, negsuc, Bool, true, false, ◌==◌, ◌&&◌, nat_le, nat_lt, if◌then◌else◌, List, length, Option, Some, None}
+use Rattle.std.specs.Prelude.{ℕ, ◌-◌, ◌^◌, ℤ, pos, negsuc, Bool, true, false, ◌==◌, ◌&&◌, nat_le, nat_lt, if◌then◌else◌, List, length, codes, Option, Some, None}
+use Rattle.std.specs.Str.{bytes_eq}
 use Rattle.net_base.specs.declared.field.FieldId.{FieldId}
 use Rattle.net_base.specs.declared.field.FieldId.TheVariants.{VlanVid}
 use Rattle.net_base.specs.FieldId.{bits_of, may_be_masked}
 use Rattle.conf_shape.specs.declared.refused.ConfCause.{ConfCause}
-use Rattle.conf_shape.specs.declared.refused.ConfCause.TheVariants.{WrongType, OutOfRange}
+use Rattle.conf_shape.specs.declared.refused.ConfCause.TheVariants.{LeftOut, WrongType, OutOfRange}
 use Rattle.conf_shape.specs.declared.kinds.Kind.{Kind}
 use Rattle.conf_shape.specs.declared.kinds.Kind.TheVariants.{One, Several, OneOrSeveral, Given, Asked, Map, Maps, MapOrMaps}
 use Rattle.conf_shape.specs.declared.kinds.TheConstants.{MOST_VID}
 use Rattle.conf_shape.specs.declared.kinds.MapKind.{MapKind}
 use Rattle.conf_shape.specs.declared.kinds.Scalar.{Scalar}
-use Rattle.conf_shape.specs.declared.kinds.Scalar.TheVariants.{Flag, Number, Name, Words, Label, Reference, Permission, NoEffect, StationMac, MaskedMac, Vip, Destination, Gateway, Prefix}
-use Rattle.conf_shape.specs.Addresses.{station_cause, masked_cause, vip_cause, destination_cause, gateway_cause, prefix_cause}
+use Rattle.conf_shape.specs.declared.kinds.Scalar.TheVariants.{Flag, Number, Name, Words, Label, Reference, Permission, NoEffect, StationMac, MaskedMac, Vip, Destination, Gateway, Prefix, Address, Identifier, Passive}
+use Rattle.conf_shape.specs.Addresses.{station_cause, masked_cause, vip_cause, destination_cause, gateway_cause, prefix_cause, address_cause, identifier_cause}
 
 -- a cause where the test fails
 abbrev pub unless : Bool → ConfCause → Option ConfCause
@@ -59,13 +60,16 @@ text_fault MaskedMac text = masked_cause text
 text_fault Vip text = vip_cause text
 text_fault Destination text = destination_cause text
 text_fault Gateway text = gateway_cause text
-text_fault Prefix text = prefix_cause text
+text_fault (Prefix width) text = prefix_cause width text
+text_fault (Address width) text = address_cause width text
+text_fault Identifier text = identifier_cause text
+text_fault Passive text = unless (bytes_eq text (codes "passive")) LeftOut
 
 -- what a rule's value for a field of so many bits has to be, where a mask may leave some out and where
 -- not (OpenFlow 1.3, 7.2.3.7, table 12): an Ethernet address, one of IP, a number of less than 64 bits
 abbrev pub bits_scalar : ℕ → Bool → Scalar
-bits_scalar bits true = if bits == 48 then MaskedMac else Prefix
-bits_scalar bits false = if nat_lt bits 64 then Number 0 (2 ^ bits - 1) else Prefix
+bits_scalar bits true = if bits == 48 then MaskedMac else Prefix bits
+bits_scalar bits false = if nat_lt bits 64 then Number 0 (2 ^ bits - 1) else Address bits
 
 -- by the field's row in the table of fields; a VLAN is asked for by its number
 abbrev pub asked_scalar : FieldId → Scalar

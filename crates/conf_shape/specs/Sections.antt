@@ -1,5 +1,5 @@
 -- What stands under a key of a map, or what is wrong with the key.
-use Rattle.std.specs.Prelude.{ℕ, Bool, true, false, not, ◌&&◌, if◌then◌else◌, List, [], ◌∷◌, map, Option, Some, None, Result, Ok, Err}
+use Rattle.std.specs.Prelude.{ℕ, Bool, true, false, not, ◌&&◌, if◌then◌else◌, List, [], ◌∷◌, map, codes, Option, Some, None, Result, Ok, Err}
 use Rattle.std.specs.Fmt.{signed_decimal}
 use Rattle.std.specs.List.{list_any}
 use Rattle.std.specs.Str.{bytes_eq}
@@ -15,7 +15,7 @@ use Rattle.conf_shape.specs.declared.kinds.TheConstants.{MOST_VID, MOST_PORT_NO}
 use Rattle.conf_shape.specs.declared.kinds.MapKind.{MapKind}
 use Rattle.conf_shape.specs.declared.kinds.MapKind.TheVariants.{Datapaths, Datapath, Interfaces, Interface, Vlans, Vlan, Acls, RuleItem, Routers, Router}
 use Rattle.conf_shape.specs.declared.kinds.Need.{Need}
-use Rattle.conf_shape.specs.declared.kinds.Need.TheVariants.{Always, UnlessNumbered, Never}
+use Rattle.conf_shape.specs.declared.kinds.Need.TheVariants.{Always, UnlessNumbered, UnlessBgp, Never}
 use Rattle.conf_shape.specs.Keys.{KeyRow, Keys, keys_of}
 use Rattle.conf_shape.specs.Scalars.{within, is_name}
 
@@ -111,12 +111,14 @@ under_key Interfaces earlier key = numbered 1 MOST_PORT_NO Interface key
 under_key Vlans earlier key = numbered 1 MOST_VID Vlan key
 under_key m earlier key = listed_kind (keys_of m) (number_of m) earlier key
 
-abbrev pub is_needed : Option ℕ → Need → Bool
-is_needed number Always = true
-is_needed None UnlessNumbered = true
-is_needed (Some n) UnlessNumbered = false
-is_needed number Never = false
+-- a key has to be there by its row, beside these keys
+abbrev pub is_needed : Option ℕ → List Key → Need → Bool
+is_needed number keys Always = true
+is_needed None keys UnlessNumbered = true
+is_needed (Some n) keys UnlessNumbered = false
+is_needed number keys UnlessBgp = not (list_any (is_key (codes "bgp")) keys)
+is_needed number keys Never = false
 
 -- whether a key has to be there and isn't
 abbrev pub lacks : Option ℕ → List Key → KeyRow → Bool
-lacks number keys r = is_needed number r.need && not (list_any (is_key r.key) keys)
+lacks number keys r = is_needed number keys r.need && not (list_any (is_key r.key) keys)

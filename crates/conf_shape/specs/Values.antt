@@ -1,22 +1,24 @@
 -- Addresses, networks and the fields of a rule, as texts and numbers give them.
-use Rattle.std.specs.Prelude.{ℕ, ◌+◌, ◌==◌, if◌then◌else◌, List, [], ◌∷◌, min, Option, Some, None, unwrap_or}
+use Rattle.std.specs.Prelude.{ℕ, ◌+◌, ◌==◌, if◌then◌else◌, List, [], ◌∷◌, Option, Some, None, unwrap_or}
 use Rattle.std.specs.Option.{option_map}
-use Rattle.std.proofs.Math.Nat.{min-le_right}
 use Rattle.net_base.specs.declared.address.Mac.{Mac}
 use Rattle.net_base.specs.declared.address.Ip4.{Ip4}
-use Rattle.net_base.specs.declared.net4.Net4.{Net4}
 use Rattle.net_base.specs.declared.field.Field.{Field}
 use Rattle.net_base.specs.declared.field.FieldId.{FieldId}
 use Rattle.net_base.specs.declared.field.FieldId.TheVariants.{VlanVid}
 use Rattle.net_base.specs.Address.{mac_value}
-use Rattle.net_base.specs.AddressReading.{spelled_mac, ip4_of, net4_of, cut_at}
-use Rattle.net_base.specs.Field.{exact, prefix}
+use Rattle.net_base.specs.AddressReading.{spelled_mac, ip4_of, cut_at}
+use Rattle.net_base.specs.Field.{exact, prefix_in}
 use Rattle.net_base.specs.FieldId.{bits_of}
+use Rattle.conf_types.specs.declared.address.Ip.{Ip}
+use Rattle.conf_types.specs.declared.address.Net.{Net}
+use Rattle.conf_types.specs.Families.{ip_value, width_of, address_of, len_of}
 use Rattle.yaml_tree.specs.declared.tree.Pair.{Pair}
 use Rattle.yaml_tree.specs.declared.tree.Tree.{Tree, out-Tree}
 use Rattle.yaml_tree.specs.declared.tree.Tree.TheOpen.{Tree-F}
 use Rattle.yaml_tree.specs.declared.tree.Tree.TheOpen as tree
 use Rattle.conf_shape.specs.declared.raw.RawField.{RawField}
+use Rattle.conf_shape.specs.Addresses.{width_written, ip4_with, net4_with, ip_in, net_in}
 use Rattle.conf_shape.specs.Scalars.{within}
 use Rattle.conf_shape.specs.Sections.{key_text, spells}
 
@@ -29,19 +31,23 @@ mac_or_zero (Some bytes) = record { 0 = bytes }
 abbrev pub mac_of : List ℕ → Mac
 mac_of text = mac_or_zero (spelled_mac text)
 
-abbrev pub ip_of : List ℕ → Ip4
-ip_of text = record { 0 = unwrap_or (ip4_of text) 0 }
+abbrev pub ip_or_zero : Option Ip → Ip
+ip_or_zero None = ip4_with 0
+ip_or_zero (Some ip) = ip
 
--- the network of an address and a length, of which no text spells one above 32
-abbrev pub net_with : ℕ → ℕ → Net4
-net_with ip len = record { ip = record { 0 = ip }; len = min len 32; short = min-le_right len 32 }
+abbrev pub ip_of : List ℕ → Ip
+ip_of text = ip_or_zero (ip_in (width_written text) text)
 
-abbrev pub net_or_zero : Option (ℕ × ℕ) → Net4
-net_or_zero None = net_with 0 0
-net_or_zero (Some net) = net_with net.0 net.1
+abbrev pub net_or_zero : Option Net → Net
+net_or_zero None = net4_with (0, 0)
+net_or_zero (Some net) = net
 
-abbrev pub net_of : List ℕ → Net4
-net_of text = net_or_zero (net4_of text)
+abbrev pub net_of : List ℕ → Net
+net_of text = net_or_zero (net_in (width_written text) text)
+
+-- what a speaker of BGP is called
+abbrev pub identifier_of : List ℕ → Ip4
+identifier_of text = record { 0 = unwrap_or (ip4_of text) 0 }
 
 -- ---- the fields of a rule
 
@@ -70,15 +76,21 @@ mac_parts id text (Some parts) = masked id (mac_number (spelled_mac parts.0)) (m
 abbrev pub mac_field : FieldId → List ℕ → Option Field
 mac_field id text = mac_parts id text (cut_at 47 text)
 
--- a length of 0 leaves the field out
-abbrev pub ip_field : FieldId → Option ℕ → Option (ℕ × ℕ) → Option Field
-ip_field id (Some ip) net = Some (exact id ip)
-ip_field id None None = None
-ip_field id None (Some net) = if net.1 == 0 then None else Some (prefix id net.0 net.1)
+-- the field of a network's prefix
+abbrev pub prefix_of : FieldId → Net → Field
+prefix_of id net = prefix_in (width_of (address_of net)) id (ip_value (address_of net)) (len_of net)
 
--- an Ethernet address has 48 bits
+-- a length of 0 leaves the field out
+abbrev pub ip_field : FieldId → Option Ip → Option Net → Option Field
+ip_field id (Some ip) net = Some (exact id (ip_value ip))
+ip_field id None None = None
+ip_field id None (Some net) = if len_of net == 0 then None else Some (prefix_of id net)
+
+-- an Ethernet address has 48 bits; one of IP is of the family with the field's bits
 abbrev pub text_field : FieldId → List ℕ → Option Field
-text_field id text = if bits_of id == 48 then mac_field id text else ip_field id (ip4_of text) (net4_of text)
+text_field id text =
+    if bits_of id == 48 then mac_field id text
+    else ip_field id (ip_in (bits_of id) text) (net_in (bits_of id) text)
 
 abbrev pub field_in : FieldId → Tree-F Tree Pair → Option Field
 field_in id (tree.Int n) = option_map (number_field id) (within 0 0xffff n)

@@ -1,11 +1,11 @@
 ghost use Rattle.std.specs.Prelude.{◌≡◌, IfOk};
 ghost use Rattle.yaml_tree.specs.declared.tree.Pair.{Pair};
 ghost use Rattle.yaml_tree.specs.declared.tree.Tree.{Tree};
-ghost use Rattle.conf_shape.specs.Raw.{output_of, rule_with, rule_of, acl_of_entry, router_of_entry};
+ghost use Rattle.conf_shape.specs.Raw.{output_of, rule_with, rule_of, acl_of_entry};
 
 use crate::keys::key_text;
 use crate::kinds::MapKind;
-use crate::raw::{RawAcl, RawOutput, RawRouter, RawRule};
+use crate::raw::{RawAcl, RawOutput, RawRule};
 use crate::reads::{
     Read, ReadEntry, as_entries, as_items, entries_at, list_at, one_or_list_at, option_at,
     permission_at, read_all,
@@ -56,17 +56,6 @@ impl ReadEntry for RawAcl {
         Ok(RawAcl {
             name: key_text(alloc, &pair.key)?,
             rules: read_all(alloc, as_items(&pair.value))?,
-        })
-    }
-}
-
-impl ReadEntry for RawRouter {
-    ghost given_by = { router_of_entry };
-
-    fn read(alloc: Global, pair: &Pair) -> Result<RawRouter, NoMemory> {
-        Ok(RawRouter {
-            name: key_text(alloc, &pair.key)?,
-            vlans: list_at(alloc, as_entries(&pair.value), "vlans")?,
         })
     }
 }

@@ -3,10 +3,12 @@ ghost use Rattle.std.specs.Char.{is_ascii_digit};
 ghost use Rattle.std.specs.Int.{is_in_range};
 ghost use Rattle.std.specs.List.{list_all};
 ghost use Rattle.net_base.specs.AddressReading.{IsMac, Cuts, spelled_mac, ip4_of, net4_of, cut_at};
-ghost use Rattle.conf_shape.specs.Addresses.{is_group, is_zero, is_masked, is_length, station_cause, masked_cause, mac_fault, masked_fault, has_colon, other_cause, vip_cause, destination_cause, gateway_cause, prefix_cause, network_fault, has_no_host_bits, long_behind};
+ghost use Rattle.net_base.specs.Address6Reading.{ip6_of, net6_of};
+ghost use Rattle.conf_shape.specs.Addresses.{is_group, is_zero, is_masked, is_length, station_cause, masked_cause, mac_fault, masked_fault, has_colon, width_written, ip_in, net_in, long_behind, other_cause, leaves_room, has_no_host_bits, network_cause, address_cause, prefix_cause, vip_cause, destination_cause, gateway_cause, identifier_cause};
 
 use crate::refused::ConfCause;
-use net_base::{Ip4, Mac, Net4};
+use conf_types::{Ip, Net};
+use net_base::{Ip4, Ip6, Mac, Net4, Net6};
 
 pub fn parse_mac(text: &str) -> Option<Mac>
     ensures { IsMac result (spelled_mac text.now) }
@@ -23,12 +25,32 @@ pub fn parse_ip4(text: &str) -> Option<u32>
     }
 }
 
-/// The address and the length of a network.
+/// The address and the length of an IPv4 network.
 pub fn parse_net4(text: &str) -> Option<(u32, u8)>
     ensures value { result ≡ net4_of text.now }
     ensures range { IfSome result (λ net. net.1 ≤ 32) }
 {
     match Net4::parse(text) {
+        Some(net) => Some((net.ip.0, net.len)),
+        None => None,
+    }
+}
+
+pub fn parse_ip6(text: &str) -> Option<u128>
+    ensures { result ≡ ip6_of text.now }
+{
+    match Ip6::parse(text) {
+        Some(ip) => Some(ip.0),
+        None => None,
+    }
+}
+
+/// The address and the length of an IPv6 network.
+pub fn parse_net6(text: &str) -> Option<(u128, u8)>
+    ensures value { result ≡ net6_of text.now }
+    ensures range { IfSome result (λ net. net.1 ≤ 128) }
+{
+    match Net6::parse(text) {
         Some(net) => Some((net.ip.0, net.len)),
         None => None,
     }
@@ -130,7 +152,54 @@ fn is_length(digits: &[u8]) -> bool
     }
 }
 
-fn long_behind(ip: Option<u32>, len: &str) -> ConfCause
+fn has_colon(text: &str) -> bool
+    ensures { result ≡ has_colon text.now }
+{
+    text.as_bytes().iter().any(|byte| *byte == b':')
+}
+
+/// How many bits an address has in the family that the text is read as: with a colon it is IPv6.
+pub fn width_written(text: &str) -> usize
+    ensures { result ≡ width_written text.now }
+{
+    if has_colon(text) { 128 } else { 32 }
+}
+
+/// The address that a text spells in the family of so many bits.
+pub fn ip_in(width: usize, text: &str) -> Option<Ip>
+    ensures { result ≡ ip_in width text.now }
+{
+    if width == 128 {
+        match parse_ip6(text) {
+            Some(ip) => Some(Ip::V6(Ip6(ip))),
+            None => None,
+        }
+    } else {
+        match parse_ip4(text) {
+            Some(ip) => Some(Ip::V4(Ip4(ip))),
+            None => None,
+        }
+    }
+}
+
+/// The network that a text spells in the family of so many bits.
+pub fn net_in(width: usize, text: &str) -> Option<Net>
+    ensures { result ≡ net_in width text.now }
+{
+    if width == 128 {
+        match parse_net6(text) {
+            Some((ip, len)) => Some(Net::V6(Net6 { ip: Ip6(ip), len })),
+            None => None,
+        }
+    } else {
+        match parse_net4(text) {
+            Some((ip, len)) => Some(Net::V4(Net4 { ip: Ip4(ip), len })),
+            None => None,
+        }
+    }
+}
+
+fn long_behind(ip: Option<Ip>, len: &str) -> ConfCause
     ensures { result ≡ long_behind ip len.now }
 {
     if ip.is_some() && is_length(len.as_bytes()) {
@@ -141,78 +210,94 @@ fn long_behind(ip: Option<u32>, len: &str) -> ConfCause
 }
 
 /// What is wrong with a text that spells no network: a length that is too long, or the text.
-fn other_cause(text: &str) -> ConfCause
-    ensures { result ≡ other_cause text.now }
+fn other_cause(width: usize, text: &str) -> ConfCause
+    ensures { result ≡ other_cause width text.now }
 {
     match parts_of(text) {
-        Some((ip, len)) => long_behind(parse_ip4(ip), len),
+        Some((ip, len)) => long_behind(ip_in(width, ip), len),
         None => ConfCause::BadText,
     }
 }
 
-fn has_colon(text: &str) -> bool
-    ensures { result ≡ has_colon text.now }
+fn leaves_room(net: &Net) -> bool
+    ensures { result ≡ leaves_room net.now }
 {
-    text.as_bytes().iter().any(|byte| *byte == b':')
+    1 <= net.len() && net.len() <= net.address().family().most_vip_len
 }
 
-fn has_no_host_bits(ip: u32, len: u8) -> bool
-    requires { len ≤ 32 }
-    ensures { result ≡ has_no_host_bits (ip, len) }
+fn has_no_host_bits(net: &Net) -> bool
+    ensures { result ≡ has_no_host_bits net.now }
 {
-    let size = 1_u64 << (32 - len);
-    u64::from(ip) % size == 0
+    net.is_network()
 }
 
-fn network_fault(text: &str) -> Option<ConfCause>
-    ensures { result ≡ network_fault (other_cause text.now) (net4_of text.now) }
+fn network_cause(width: usize, text: &str) -> Option<ConfCause>
+    ensures { result ≡ network_cause width text.now }
 {
-    match parse_net4(text) {
-        Some((ip, len)) if has_no_host_bits(ip, len) => None,
-        Some(_) => Some(ConfCause::BadText),
-        None => Some(other_cause(text)),
+    match net_in(width, text) {
+        Some(net) => {
+            if has_no_host_bits(&net) {
+                None
+            } else {
+                Some(ConfCause::BadText)
+            }
+        }
+        None => Some(other_cause(width, text)),
+    }
+}
+
+pub fn address_cause(width: usize, text: &str) -> Option<ConfCause>
+    ensures { result ≡ address_cause width text.now }
+{
+    match ip_in(width, text) {
+        Some(_) => None,
+        None => Some(ConfCause::BadText),
+    }
+}
+
+pub fn prefix_cause(width: usize, text: &str) -> Option<ConfCause>
+    ensures { result ≡ prefix_cause width text.now }
+{
+    match ip_in(width, text) {
+        Some(_) => None,
+        None => network_cause(width, text),
     }
 }
 
 pub fn vip_cause(text: &str) -> Option<ConfCause>
     ensures { result ≡ vip_cause text.now }
 {
-    if has_colon(text) {
-        return Some(ConfCause::LeftOut);
-    }
-    match parse_net4(text) {
-        Some((_, len)) if 1 <= len && len <= 31 => None,
-        Some(_) => Some(ConfCause::OutOfRange),
-        None => Some(other_cause(text)),
+    let width = width_written(text);
+    match net_in(width, text) {
+        Some(net) => {
+            if leaves_room(&net) {
+                None
+            } else {
+                Some(ConfCause::OutOfRange)
+            }
+        }
+        None => Some(other_cause(width, text)),
     }
 }
 
 pub fn destination_cause(text: &str) -> Option<ConfCause>
     ensures { result ≡ destination_cause text.now }
 {
-    if has_colon(text) {
-        return Some(ConfCause::LeftOut);
-    }
-    network_fault(text)
+    network_cause(width_written(text), text)
 }
 
 pub fn gateway_cause(text: &str) -> Option<ConfCause>
     ensures { result ≡ gateway_cause text.now }
 {
-    if has_colon(text) {
-        return Some(ConfCause::LeftOut);
-    }
-    match parse_ip4(text) {
-        Some(_) => None,
-        None => Some(ConfCause::BadText),
-    }
+    address_cause(width_written(text), text)
 }
 
-pub fn prefix_cause(text: &str) -> Option<ConfCause>
-    ensures { result ≡ prefix_cause text.now }
+pub fn identifier_cause(text: &str) -> Option<ConfCause>
+    ensures { result ≡ identifier_cause text.now }
 {
     match parse_ip4(text) {
+        Some(ip) if ip == 0 => Some(ConfCause::OutOfRange),
         Some(_) => None,
-        None => network_fault(text),
+        None => Some(ConfCause::BadText),
     }
 }

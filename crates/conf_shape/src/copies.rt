@@ -1,8 +1,8 @@
 //! Copies of a raw configuration and its parts.
 
 use crate::raw::{
-    OneOrList, RawAcl, RawAclNames, RawDp, RawField, RawNames, RawOutput, RawPort, RawRouter,
-    RawRule, RawStackEnd, RawVlan, VlanRef,
+    OneOrList, RawAcl, RawAclNames, RawBgp, RawDp, RawField, RawNames, RawOutput, RawPort,
+    RawRouter, RawRule, RawStackEnd, RawVlan, VlanRef,
 };
 use net_base::{NoMemory, TryCopy};
 use std::alloc::Global;
@@ -93,6 +93,7 @@ impl TryCopy for RawDp {
             timeout: self.timeout,
             arp_timeout: self.arp_timeout,
             stack_priority: self.stack_priority,
+            lldp: self.lldp,
             drops: self.drops,
             ports: self.ports.copy(alloc)?,
         })
@@ -161,11 +162,27 @@ impl TryCopy for RawAcl {
     }
 }
 
+impl TryCopy for RawBgp {
+    fn copy(&self, alloc: Global) -> Result<RawBgp, NoMemory> {
+        Ok(RawBgp {
+            our_as: self.our_as,
+            neighbor_as: self.neighbor_as,
+            routerid: self.routerid,
+            vlan: self.vlan.copy(alloc)?,
+        })
+    }
+}
+
 impl TryCopy for RawRouter {
     fn copy(&self, alloc: Global) -> Result<RawRouter, NoMemory> {
+        let bgp = match &self.bgp {
+            Some(bgp) => Some(bgp.copy(alloc)?),
+            None => None,
+        };
         Ok(RawRouter {
             name: self.name.copy(alloc)?,
             vlans: self.vlans.copy(alloc)?,
+            bgp,
         })
     }
 }

@@ -3,7 +3,7 @@ ghost use Rattle.yaml_tree.specs.declared.tree.Pair.{Pair};
 ghost use Rattle.yaml_tree.specs.declared.tree.Tree.{Tree};
 ghost use Rattle.conf_shape.specs.Reads.{entries_at, text_at};
 ghost use Rattle.conf_shape.specs.Sections.{key_text};
-ghost use Rattle.conf_shape.specs.Raw.{is_given, acls_at, names_by, stack_end_of, port_flags, port_number, port_with, port_of_entry, drop_flags, datapath_id, stack_priority, datapath_with, datapath_of_entry};
+ghost use Rattle.conf_shape.specs.Raw.{is_given, acls_at, names_by, stack_end_of, port_flags, port_number, port_with, port_of_entry, drop_flags, datapath_id, stack_priority, lldp_interval, lldp, datapath_with, datapath_of_entry};
 
 use crate::keys::key_text;
 use crate::kinds::MapKind;
@@ -157,6 +157,21 @@ fn stack_priority(pairs: &[Pair]) -> Option<u32>
     u32_under(entries_at(pairs, "stack"), "priority")
 }
 
+fn lldp_interval(tree: &Tree) -> u32
+    ensures { result ≡ lldp_interval tree.now }
+{
+    number_at(MapKind::LldpBeacon, as_entries(tree), "send_interval")
+}
+
+fn lldp(pairs: &[Pair]) -> Option<u32>
+    ensures { result ≡ lldp pairs.now }
+{
+    match value_at(pairs, "lldp_beacon") {
+        Some(tree) => Some(lldp_interval(tree)),
+        None => None,
+    }
+}
+
 fn read_ports(alloc: Global, pairs: &[Pair]) -> Result<RawPorts, NoMemory>
     ensures { IfOk result (λ made. made ≡ map port_of_entry (entries_at (codes "interfaces") pairs.now)) }
 {
@@ -174,6 +189,7 @@ fn read_datapath(alloc: Global, key: &Key, pairs: &[Pair]) -> Result<RawDp, NoMe
         timeout: number_at(map, pairs, "timeout"),
         arp_timeout: number_at(map, pairs, "arp_neighbor_timeout"),
         stack_priority: stack_priority(pairs),
+        lldp: lldp(pairs),
         drops: drop_flags(pairs),
         ports: read_ports(alloc, pairs)?,
     })

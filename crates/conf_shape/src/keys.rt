@@ -242,16 +242,6 @@ fn vlan_kind(key: &Key) -> Result<Kind, ConfCause>
     Ok(Kind::Map(MapKind::Vlan { number }))
 }
 
-fn is_needed(number: Option<u64>, need: Need) -> bool
-    ensures { result ≡ is_needed number need }
-{
-    match need {
-        Need::Always => true,
-        Need::UnlessNumbered => number.is_none(),
-        Need::Never => false,
-    }
-}
-
 fn has_key(name: &str, pairs: &[Pair]) -> bool
     ensures { result ≡ list_any (is_key name.now) (map_keys pairs.now) }
 {
@@ -263,9 +253,20 @@ fn has_key(name: &str, pairs: &[Pair]) -> bool
     false
 }
 
+fn is_needed(number: Option<u64>, pairs: &[Pair], need: Need) -> bool
+    ensures { result ≡ is_needed number (map_keys pairs.now) need }
+{
+    match need {
+        Need::Always => true,
+        Need::UnlessNumbered => number.is_none(),
+        Need::UnlessBgp => !has_key("bgp", pairs),
+        Need::Never => false,
+    }
+}
+
 /// Whether a key has to be there and isn't.
 pub fn lacks(number: Option<u64>, pairs: &[Pair], row: &Row) -> bool
     ensures { result ≡ lacks number (map_keys pairs.now) (seen_row row.now) }
 {
-    is_needed(number, row.need) && !has_key(row.key, pairs)
+    is_needed(number, pairs, row.need) && !has_key(row.key, pairs)
 }

@@ -41,14 +41,20 @@ pub enum Scalar {
     StationMac,
     /// An Ethernet address, or one with a slash and a mask.
     MaskedMac,
-    /// An IPv4 address with the length of its network, 1 to 31.
+    /// An IP address with the length of its network, 1 to 31, or 1 to 127 where it is IPv6.
     Vip,
-    /// An IPv4 network without host bits.
+    /// An IP network without host bits.
     Destination,
-    /// An IPv4 address.
+    /// An IP address.
     Gateway,
-    /// An IPv4 address, or an IPv4 network without host bits, in a match.
-    Prefix,
+    /// An IP address of so many bits, or a network of them without host bits, in a match.
+    Prefix { width: usize },
+    /// An IP address of so many bits, in a match.
+    Address { width: usize },
+    /// An IPv4 address that isn't zero: what a speaker of BGP is called.
+    Identifier,
+    /// The word `passive`.
+    Passive,
 }
 
 /// A kind of map of a configuration.
@@ -61,6 +67,8 @@ pub enum MapKind {
     Datapath,
     /// `stack` of a datapath.
     DatapathStack,
+    /// `lldp_beacon` of a datapath.
+    LldpBeacon,
     /// `interfaces`: interfaces by their numbers or names.
     Interfaces,
     /// An interface; its number where its key gives it.
@@ -84,6 +92,8 @@ pub enum MapKind {
     /// `routers`: routers by their names.
     Routers,
     Router,
+    /// `bgp` of a router.
+    Bgp,
 }
 
 /// What a value has to be.
@@ -111,6 +121,8 @@ pub enum Need {
     Always,
     /// Where the map's own key gives no number.
     UnlessNumbered,
+    /// Where `bgp` isn't given.
+    UnlessBgp,
     Never,
 }
 

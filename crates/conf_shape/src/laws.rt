@@ -4,6 +4,8 @@
 ghost use Rattle.std.specs.Prelude.{◌≡◌, ◌<◌, ◌≤◌, ◌^◌, ◌↔◌, ℕ, List, Option, Some, None};
 ghost use Rattle.std.specs.List.{AllByRecursion};
 ghost use Rattle.net_base.specs.Address.{SpellsMac, ip4_text, net4_text};
+ghost use Rattle.net_base.specs.Address6.{SpellsIp6, SpellsNet6};
+ghost use Rattle.net_base.specs.Address6Reading.{ip6_of, net6_of};
 ghost use Rattle.net_base.specs.AddressReading.{spelled_mac, ip4_of, net4_of};
 ghost use Rattle.yaml_tree.specs.declared.tree.Pair.{Pair};
 ghost use Rattle.yaml_tree.specs.declared.tree.Tree.{Tree};
@@ -29,6 +31,16 @@ pub fn a_given_ip4_is_spelled()
 /// The IPv4 network that a text gives is the one that it spells.
 pub fn a_given_net4_is_spelled()
     ensures { (text : List ℕ) (ip len : ℕ) → ip < 2 ^ 32 → len ≤ 32 → (net4_of text ≡ Some (ip, len)) ↔ (text ≡ net4_text ip len) }
+{}
+
+/// The IPv6 address that a text gives is the one that it spells.
+pub fn a_given_ip6_is_spelled()
+    ensures { (text : List ℕ) (ip : ℕ) → (ip6_of text ≡ Some ip) ↔ SpellsIp6 text ip }
+{}
+
+/// The IPv6 network that a text gives is the one that it spells.
+pub fn a_given_net6_is_spelled()
+    ensures { (text : List ℕ) (ip len : ℕ) → (net6_of text ≡ Some (ip, len)) ↔ SpellsNet6 text ip len }
 {}
 
 /// A document with no fault is a map with none, and so is each map that stands under a key of such a

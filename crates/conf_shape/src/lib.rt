@@ -14,6 +14,7 @@ pub mod laws;
 mod raw;
 mod reads;
 mod refused;
+mod routers;
 mod scalars;
 mod seen;
 mod tables;
@@ -25,7 +26,7 @@ pub use faults::{find_shape_fault, path_of};
 pub use keys::{is_key, key_text};
 pub use kinds::{DefaultValue, Kind, MapKind, Need, Scalar};
 pub use raw::{
-    DropFlags, OneOrList, PortFlags, RawAcl, RawAclNames, RawAcls, RawConf, RawDp, RawDps,
+    DropFlags, OneOrList, PortFlags, RawAcl, RawAclNames, RawAcls, RawBgp, RawConf, RawDp, RawDps,
     RawField, RawFields, RawNames, RawOutput, RawPort, RawPorts, RawRouter, RawRouters, RawRule,
     RawRules, RawStackEnd, RawVlan, RawVlans, VlanRef, VlanRefs,
 };

@@ -2,7 +2,7 @@
 //! aren't given, and what leads back to each value's place in the document.
 
 use conf_types::{Nets, PortRef, PortRefs, Routes};
-use net_base::{DpId, Field, Items, Mac, Names, PortNo, Text, Vid};
+use net_base::{DpId, Field, Ip4, Items, Mac, Names, PortNo, Text, Vid};
 
 /// A VLAN as it is written: its number or its name.
 #[derive(Drop)]
@@ -97,6 +97,8 @@ pub struct RawDp {
     pub timeout: u32,
     pub arp_timeout: u32,
     pub stack_priority: Option<u32>,
+    /// `send_interval` of `lldp_beacon`, where that is given.
+    pub lldp: Option<u32>,
     pub drops: DropFlags,
     pub ports: RawPorts,
 }
@@ -165,6 +167,15 @@ pub struct RawAcl {
 /// ACLs, in the order of the text.
 pub type RawAcls = Items<RawAcl>;
 
+/// The BGP peer of a router: `bgp`.
+#[derive(Drop)]
+pub struct RawBgp {
+    pub our_as: u16,
+    pub neighbor_as: u16,
+    pub routerid: Ip4,
+    pub vlan: VlanRef,
+}
+
 /// A router.
 #[derive(Drop)]
 pub struct RawRouter {
@@ -172,6 +183,7 @@ pub struct RawRouter {
     pub name: Text,
     /// `vlans`, each at its place.
     pub vlans: VlanRefs,
+    pub bgp: Option<RawBgp>,
 }
 
 /// Routers, in the order of the text.

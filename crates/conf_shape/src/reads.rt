@@ -62,6 +62,13 @@ fn as_number(tree: &Tree, low: u64, high: u64) -> Option<u64>
     }
 }
 
+/// A whole number of 16 bits.
+fn as_u16(tree: &Tree) -> Option<u16>
+    ensures { result ≡ number_of 0 (2 ^ 16 - 1) tree.now }
+{
+    u16::try_from(as_number(tree, 0, 0xffff)?).ok()
+}
+
 /// A whole number of 32 bits.
 fn as_u32(tree: &Tree) -> Option<u32>
     ensures { result ≡ number_of 0 (2 ^ 32 - 1) tree.now }
@@ -208,6 +215,13 @@ pub fn u32_under(pairs: &[Pair], name: &str) -> Option<u32>
     ensures { result ≡ number_under 32 name.now pairs.now }
 {
     as_u32(value_at(pairs, name)?)
+}
+
+/// The whole number of 16 bits under a key.
+pub fn u16_under(pairs: &[Pair], name: &str) -> Option<u16>
+    ensures { result ≡ number_under 16 name.now pairs.now }
+{
+    as_u16(value_at(pairs, name)?)
 }
 
 /// The number under a key, or its default.

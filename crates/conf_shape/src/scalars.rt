@@ -1,9 +1,10 @@
 ghost use Rattle.std.specs.Prelude.{◌≡◌};
-ghost use Rattle.conf_shape.specs.declared.kinds.Scalar.TheVariants.{Name};
+ghost use Rattle.conf_shape.specs.declared.kinds.Scalar.TheVariants.{Name, Passive};
 ghost use Rattle.conf_shape.specs.Scalars.{within, if_within, is_name, flag_fault, number_fault, text_fault, asked_scalar, scalar_kind, item_kind, map_kind, flag_cause, number_cause, text_cause};
 
 use crate::addresses::{
-    destination_cause, gateway_cause, masked_cause, prefix_cause, station_cause, vip_cause,
+    address_cause, destination_cause, gateway_cause, identifier_cause, masked_cause, prefix_cause,
+    station_cause, vip_cause,
 };
 use crate::kinds::{Kind, MOST_VID, MapKind, Scalar};
 use crate::refused::ConfCause;
@@ -67,6 +68,16 @@ fn name_fault(text: &str) -> Option<ConfCause>
     }
 }
 
+fn passive_fault(text: &str) -> Option<ConfCause>
+    ensures { result ≡ text_fault Passive text.now }
+{
+    if text == "passive" {
+        None
+    } else {
+        Some(ConfCause::LeftOut)
+    }
+}
+
 fn text_fault(scalar: Scalar, text: &str) -> Option<ConfCause>
     ensures { result ≡ text_fault scalar text.now }
 {
@@ -79,7 +90,10 @@ fn text_fault(scalar: Scalar, text: &str) -> Option<ConfCause>
         Scalar::Vip => vip_cause(text),
         Scalar::Destination => destination_cause(text),
         Scalar::Gateway => gateway_cause(text),
-        Scalar::Prefix => prefix_cause(text),
+        Scalar::Prefix { width } => prefix_cause(width, text),
+        Scalar::Address { width } => address_cause(width, text),
+        Scalar::Identifier => identifier_cause(text),
+        Scalar::Passive => passive_fault(text),
     }
 }
 
@@ -100,13 +114,13 @@ pub fn asked_scalar(id: FieldId) -> Scalar
         if bits == ETHERNET_BITS {
             Scalar::MaskedMac
         } else {
-            Scalar::Prefix
+            Scalar::Prefix { width: bits }
         }
     } else if bits < 64 {
         let high = (1_u64 << bits) - 1;
         Scalar::Number { low: 0, high }
     } else {
-        Scalar::Prefix
+        Scalar::Address { width: bits }
     }
 }
 

@@ -4,12 +4,13 @@ ghost use Rattle.conf_shape.specs.Keys.{seen_table, keys_of};
 use crate::kinds::DefaultValue::{Count, Nothing, Off, On, OwnKey, OwnName, Spelled};
 use crate::kinds::Kind::{Asked, Given, Map, MapOrMaps, Maps, One, OneOrSeveral, Several};
 use crate::kinds::MapKind::{
-    Acls, Actions, DatapathStack, Datapaths, Interfaces, Output, PortStack, Route, RouteItem,
-    Routers, Rule, Vlans,
+    Acls, Actions, Bgp, DatapathStack, Datapaths, Interfaces, LldpBeacon, Output, PortStack, Route,
+    RouteItem, Routers, Rule, Vlans,
 };
-use crate::kinds::Need::{Always, Never, UnlessNumbered};
+use crate::kinds::Need::{Always, Never, UnlessBgp, UnlessNumbered};
 use crate::kinds::Scalar::{
-    Destination, Flag, Gateway, Label, Name, NoEffect, Number, Permission, StationMac, Vip, Words,
+    Destination, Flag, Gateway, Identifier, Label, Name, NoEffect, Number, Passive, Permission,
+    StationMac, Vip, Words,
 };
 use crate::kinds::{
     DefaultValue, Kind, MOST_PORT_NO, MOST_VID, MapKind, Need, PORT_NAMED, VLAN_NAMED,
@@ -104,6 +105,7 @@ const DATAPATH: Table = Table {
         row!("drop_broadcast_source_address", One(Flag), Never, On),
         row!("drop_bpdu", One(Flag), Never, On),
         row!("drop_lldp", One(Flag), Never, On),
+        row!("lldp_beacon", Map(LldpBeacon), Never, Nothing),
         row!("learn_ban_timeout", One(NoEffect), Never, Nothing),
         row!("learn_jitter", One(NoEffect), Never, Nothing),
         row!("ignore_learn_ins", One(NoEffect), Never, Nothing),
@@ -119,7 +121,6 @@ const DATAPATH: Table = Table {
     ],
     left_out: &[
         "interface_ranges",
-        "lldp_beacon",
         "dot1x",
         "egress_pipeline",
         "group_table",
@@ -147,6 +148,16 @@ const DATAPATH: Table = Table {
 
 const DATAPATH_STACK: Table = Table {
     rows: &[row!("priority", One(number!(0, 0xffff_ffff)), Never, Nothing)],
+    left_out: &[],
+    spellings: &[],
+    unlisted: ConfCause::LeftOut,
+};
+
+const LLDP_BEACON: Table = Table {
+    rows: &[
+        row!("send_interval", One(number!(1, 300)), Never, Count(5)),
+        row!("max_per_interval", One(number!(1, 1024)), Never, Nothing),
+    ],
     left_out: &[],
     spellings: &[],
     unlisted: ConfCause::LeftOut,
@@ -280,18 +291,13 @@ const RULE: Table = Table {
         asked!("arp_op", ArpOp),
         asked!("arp_spa", ArpSpa),
         asked!("arp_tpa", ArpTpa),
+        asked!("ipv6_src", Ipv6Src),
+        asked!("ipv6_dst", Ipv6Dst),
+        asked!("icmpv6_type", Icmpv6Type),
+        asked!("icmpv6_code", Icmpv6Code),
+        asked!("ipv6_nd_target", Ipv6NdTarget),
     ],
-    left_out: &[
-        "cookie",
-        "in_port",
-        "ip_dscp",
-        "ip_ecn",
-        "ipv6_src",
-        "ipv6_dst",
-        "icmpv6_type",
-        "icmpv6_code",
-        "ipv6_nd_target",
-    ],
+    left_out: &["cookie", "in_port", "ip_dscp", "ip_ecn"],
     spellings: &[
         ("dl_src", "eth_src"),
         ("dl_dst", "eth_dst"),
@@ -333,8 +339,24 @@ const OUTPUT: Table = Table {
 };
 
 const ROUTER: Table = Table {
-    rows: &[row!("vlans", Several(VLAN_NAMED), Always, Nothing)],
-    left_out: &["bgp"],
+    rows: &[
+        row!("vlans", Several(VLAN_NAMED), UnlessBgp, Nothing),
+        row!("bgp", Map(Bgp), Never, Nothing),
+    ],
+    ..NONE
+};
+
+const BGP: Table = Table {
+    rows: &[
+        row!("as", One(number!(1, 65_535)), Always, Nothing),
+        row!("neighbor_as", One(number!(1, 65_535)), Always, Nothing),
+        row!("neighbor_addresses", Several(Words), Always, Nothing),
+        row!("server_addresses", Several(Words), Always, Nothing),
+        row!("routerid", One(Identifier), Always, Nothing),
+        row!("vlan", One(VLAN_NAMED), Always, Nothing),
+        row!("port", One(number!(1, 65_535)), Never, Nothing),
+        row!("connect_mode", One(Passive), Never, Nothing),
+    ],
     ..NONE
 };
 
@@ -354,6 +376,7 @@ pub fn table_of(map: MapKind) -> Table
         MapKind::Top => TOP,
         MapKind::Datapath => DATAPATH,
         MapKind::DatapathStack => DATAPATH_STACK,
+        MapKind::LldpBeacon => LLDP_BEACON,
         MapKind::Interface { .. } => INTERFACE,
         MapKind::PortStack => PORT_STACK,
         MapKind::Vlan { .. } => VLAN,
@@ -364,6 +387,7 @@ pub fn table_of(map: MapKind) -> Table
         MapKind::Actions => ACTIONS,
         MapKind::Output => OUTPUT,
         MapKind::Router => ROUTER,
+        MapKind::Bgp => BGP,
         MapKind::Datapaths
         | MapKind::Interfaces
         | MapKind::Vlans

@@ -1,16 +1,18 @@
 ghost use Rattle.std.specs.Prelude.{◌≡◌, ◌≤◌, map, IfOk};
 ghost use Rattle.std.specs.Option.{option_copied};
 ghost use Rattle.net_base.specs.declared.field.FieldId.{FieldId};
-ghost use Rattle.net_base.specs.AddressReading.{spelled_mac, ip4_of, net4_of};
+ghost use Rattle.net_base.specs.AddressReading.{spelled_mac};
+ghost use Rattle.conf_shape.specs.Addresses.{ip_in, net_in};
 ghost use Rattle.conf_shape.specs.Keys.{seen_pair, seen_row, asked_of, match_keys_of};
-ghost use Rattle.conf_shape.specs.Values.{mac_of, ip_of, net_of, tag_bit, number_field, mac_number, masked, mac_field, ip_field, text_field, field_of, spelled_at, raw_field, fields_by};
+ghost use Rattle.conf_shape.specs.Values.{mac_of, ip_of, net_of, identifier_of, prefix_of, tag_bit, number_field, mac_number, masked, mac_field, ip_field, text_field, field_of, spelled_at, raw_field, fields_by};
 
-use crate::addresses::{parse_ip4, parse_mac, parse_net4, parts_of};
+use crate::addresses::{ip_in, net_in, parse_ip4, parse_mac, parts_of, width_written};
 use crate::keys::{key_text, spells};
 use crate::kinds::Kind;
 use crate::raw::{RawField, RawFields};
 use crate::scalars::{ETHERNET_BITS, within};
 use crate::tables::Row;
+use conf_types::{Ip, Net};
 use net_base::{Field, FieldId, Ip4, Items, Mac, Net4, NoMemory};
 use std::alloc::Global;
 use yaml_tree::{Pair, Tree};
@@ -25,23 +27,33 @@ pub fn mac_of(text: &str) -> Mac
     }
 }
 
-/// The IPv4 address that a text spells.
-pub fn ip_of(text: &str) -> Ip4
+/// The IP address that a text spells.
+pub fn ip_of(text: &str) -> Ip
     ensures { result ≡ ip_of text.now }
 {
-    match parse_ip4(text) {
-        Some(ip) => Ip4(ip),
-        None => Ip4(0),
+    match ip_in(width_written(text), text) {
+        Some(ip) => ip,
+        None => Ip::V4(Ip4(0)),
     }
 }
 
 /// The network that a text spells.
-pub fn net_of(text: &str) -> Net4
+pub fn net_of(text: &str) -> Net
     ensures { result ≡ net_of text.now }
 {
-    match parse_net4(text) {
-        Some((ip, len)) => Net4 { ip: Ip4(ip), len },
-        None => Net4 { ip: Ip4(0), len: 0 },
+    match net_in(width_written(text), text) {
+        Some(net) => net,
+        None => Net::V4(Net4 { ip: Ip4(0), len: 0 }),
+    }
+}
+
+/// What a speaker of BGP is called: the IPv4 address that a text spells.
+pub fn identifier_of(text: &str) -> Ip4
+    ensures { result ≡ identifier_of text.now }
+{
+    match parse_ip4(text) {
+        Some(ip) => Ip4(ip),
+        None => Ip4(0),
     }
 }
 
@@ -96,16 +108,32 @@ fn mac_field(id: FieldId, text: &str) -> Option<Field>
     }
 }
 
-/// An address, or a network, whose prefix leaves the field out where it has no bit.
-fn ip_field(id: FieldId, text: &str) -> Option<Field>
-    ensures { result ≡ ip_field id (ip4_of text.now) (net4_of text.now) }
+/// The field of a network's prefix.
+fn prefix_of(id: FieldId, net: Net) -> Field
+    ensures { result ≡ prefix_of id net }
 {
-    if let Some(ip) = parse_ip4(text) {
-        return Some(Field::exact(id, u128::from(ip)));
+    match net {
+        Net::V4(net) => Field::prefix(id, net),
+        Net::V6(net) => Field::prefix6(id, net),
     }
-    match parse_net4(text) {
-        Some((ip, len)) if len != 0 => Some(Field::prefix(id, Net4 { ip: Ip4(ip), len })),
-        _ => None,
+}
+
+/// An address, or a network, whose prefix leaves the field out where it has no bit.
+fn ip_field(id: FieldId, width: usize, text: &str) -> Option<Field>
+    ensures { result ≡ ip_field id (ip_in width text.now) (net_in width text.now) }
+{
+    if let Some(ip) = ip_in(width, text) {
+        return Some(Field::exact(id, ip.value()));
+    }
+    match net_in(width, text) {
+        Some(net) => {
+            if net.len() == 0 {
+                None
+            } else {
+                Some(prefix_of(id, net))
+            }
+        }
+        None => None,
     }
 }
 
@@ -115,7 +143,7 @@ fn text_field(id: FieldId, text: &str) -> Option<Field>
     if id.bits() == ETHERNET_BITS {
         mac_field(id, text)
     } else {
-        ip_field(id, text)
+        ip_field(id, id.bits(), text)
     }
 }
 

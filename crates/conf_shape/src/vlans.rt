@@ -11,17 +11,17 @@ use crate::reads::{
     text_at, value_at, words_at,
 };
 use crate::values::{ip_of, mac_of, net_of};
-use conf_types::Route;
-use net_base::{Mac, Net4, NoMemory, Vid};
+use conf_types::{Net, Route};
+use net_base::{Mac, NoMemory, Vid};
 use std::alloc::Global;
 use yaml_tree::{Key, Pair, Tree};
 
 const VLAN: MapKind = MapKind::Vlan { number: None };
 
-impl Read for Net4 {
+impl Read for Net {
     ghost given_by = { vip_of };
 
-    fn read(_alloc: Global, tree: &Tree) -> Result<Net4, NoMemory> {
+    fn read(_alloc: Global, tree: &Tree) -> Result<Net, NoMemory> {
         Ok(net_of(as_words(tree)))
     }
 }

@@ -8,6 +8,7 @@ returns c = λ i. record {
   timeout = c.number_at.ensures i;
   arp_timeout = c.number_at-2.ensures i;
   stack_priority = c.stack_priority.ensures i;
+  lldp = c.lldp.ensures i;
   drops = c.drop_flags.ensures i;
   ports = c.in_ok-read_ports.ensures i;
 }
