@@ -6,7 +6,7 @@ use Rattle.net_base.specs.FieldId.{number_of}
 use Rattle.net_base.specs.Numbers.{IsVid, IsPortNo}
 use Rattle.conf_types.specs.Lists.{EachBefore, IsLabel}
 use Rattle.conf_types.specs.RuleFields.{MayAsk}
-use Rattle.conf_types.specs.Valid.{IsTimeout, IsStation, IsVip, IsRoute, NamesPort}
+use Rattle.conf_types.specs.Valid.{IsTimeout, IsInterval, IsStation, IsVip, IsRoute, NamesPort, IsAs}
 use Rattle.conf_shape.specs.declared.raw.VlanRef.{VlanRef}
 use Rattle.conf_shape.specs.declared.raw.VlanRef.TheVariants.{Vid, Name}
 use Rattle.conf_shape.specs.declared.raw.RawNames.{RawNames}
@@ -15,6 +15,8 @@ use Rattle.conf_shape.specs.declared.raw.RawDp.{RawDp}
 use Rattle.conf_shape.specs.declared.raw.RawVlan.{RawVlan}
 use Rattle.conf_shape.specs.declared.raw.RawOutput.{RawOutput}
 use Rattle.conf_shape.specs.declared.raw.RawRule.{RawRule}
+use Rattle.conf_shape.specs.declared.raw.RawBgp.{RawBgp}
+use Rattle.conf_shape.specs.declared.raw.RawRouter.{RawRouter}
 use Rattle.conf_shape.specs.declared.raw.RawConf.{RawConf}
 use Rattle.conf_resolve.specs.Resolved.{items_of}
 
@@ -41,6 +43,7 @@ pub record DpIsInRange (d : RawDp) : Type 0 where
   pub timeout : IsTimeout d.timeout
   pub arp_timeout : IsTimeout d.arp_timeout
   pub stack_priority : IfSome d.stack_priority (λ priority. priority < 2 ^ 32)
+  pub lldp : IfSome d.lldp IsInterval
   pub ports : AllByRecursion PortIsInRange d.ports
 
 pub record VlanIsInRange (v : RawVlan) : Type 0 where
@@ -63,10 +66,21 @@ pub record RuleIsInRange (r : RawRule) : Type 0 where
   pub mirror : IfSome r.mirror NamesPort
   pub output : AllByRecursion OutputIsInRange (items_of r.output)
 
+pub record BgpIsInRange (b : RawBgp) : Type 0 where
+  pub ours : IsAs b.our_as
+  pub theirs : IsAs b.neighbor_as
+  pub identified : 1 ≤ b.routerid.0
+  pub address : b.routerid.0 < 2 ^ 32
+  pub vlan : NamesVlan b.vlan
+
+pub record RouterIsInRange (r : RawRouter) : Type 0 where
+  pub vlans : AllByRecursion NamesVlan r.vlans
+  pub bgp : IfSome r.bgp BgpIsInRange
+
 pub record IsInRange (raw : RawConf) : Type 0 where
   pub dps : AllByRecursion DpIsInRange raw.dps
   pub vlans : AllByRecursion VlanIsInRange raw.vlans
   pub acls : AllByRecursion (λ a. AllByRecursion RuleIsInRange a.rules) raw.acls
   pub acl_names : EachBefore (λ a b. a.name ≡ b.name → ⊥) raw.acls
-  pub routers : AllByRecursion (λ r. AllByRecursion NamesVlan r.vlans) raw.routers
+  pub routers : AllByRecursion RouterIsInRange raw.routers
   pub router_names : EachBefore (λ r s. r.name ≡ s.name → ⊥) raw.routers

@@ -1,5 +1,6 @@
 -- What the parts of a configuration in order stand for: names as numbers. A name that nothing has stands for
--- nothing in a list of VLANs, and for the interface itself as a mirrored port or the far end of a stack link.
+-- nothing in a list of VLANs, for no peer as the VLAN of a BGP peer, and for the interface itself as a mirrored
+-- port or the far end of a stack link.
 use Rattle.std.specs.Prelude.{ℕ, ◌==◌, Bool, if◌then◌else◌, List, [], ◌∷◌, ◌++◌, map, nat_lt, Option, Some, None, option_and_then, unwrap_or}
 use Rattle.std.specs.List.{find, filter_map, flat_map}
 use Rattle.std.specs.Option.{option_map, option_map_or}
@@ -11,6 +12,7 @@ use Rattle.conf_types.specs.declared.acl.Rule.{Rule}
 use Rattle.conf_types.specs.declared.datapath.Dp.{Dp}
 use Rattle.conf_types.specs.declared.datapath.Port.{Port}
 use Rattle.conf_types.specs.declared.datapath.StackEnd.{StackEnd}
+use Rattle.conf_types.specs.declared.peer.BgpConf.{BgpConf}
 use Rattle.conf_types.specs.declared.vlan.Router.{Router}
 use Rattle.conf_types.specs.declared.vlan.Vlan.{Vlan}
 use Rattle.conf_types.specs.Configuration.{Configuration}
@@ -27,6 +29,7 @@ use Rattle.conf_shape.specs.declared.raw.RawVlan.{RawVlan}
 use Rattle.conf_shape.specs.declared.raw.RawOutput.{RawOutput}
 use Rattle.conf_shape.specs.declared.raw.RawRule.{RawRule}
 use Rattle.conf_shape.specs.declared.raw.RawAcl.{RawAcl}
+use Rattle.conf_shape.specs.declared.raw.RawBgp.{RawBgp}
 use Rattle.conf_shape.specs.declared.raw.RawRouter.{RawRouter}
 use Rattle.conf_resolve.specs.declared.ordered.PlacedVlan.{PlacedVlan}
 use Rattle.conf_resolve.specs.declared.ordered.OrderedConf.{OrderedConf}
@@ -103,6 +106,7 @@ dp_of conf d = record {
   timeout = d.timeout;
   arp_timeout = d.arp_timeout;
   stack_priority = d.stack_priority;
+  lldp = d.lldp;
   drop_spoofed = d.drops.spoofed;
   drop_broadcast = d.drops.broadcast;
   drop_bpdu = d.drops.bpdu;
@@ -139,9 +143,19 @@ rule_of r = record {
 abbrev pub acl_of : RawAcl → Acl
 acl_of a = record { name = a.name; rules = map rule_of a.rules }
 
+abbrev pub peer_in : RawBgp → (vid : ℕ) → BgpConf
+peer_in bgp vid = record { our_as = bgp.our_as; neighbor_as = bgp.neighbor_as; routerid = bgp.routerid; vlan = vid }
+
+abbrev pub peer_of : OrderedConf → RawBgp → Option BgpConf
+peer_of conf bgp = option_map (peer_in bgp) (vid_of conf.vlans bgp.vlan)
+
 -- a VLAN that a router names twice counts once
 abbrev pub router_of : OrderedConf → RawRouter → Router
-router_of conf r = record { name = r.name; vlans = once (filter_map (vid_of conf.vlans) r.vlans) }
+router_of conf r = record {
+  name = r.name;
+  vlans = once (filter_map (vid_of conf.vlans) r.vlans);
+  bgp = option_and_then (peer_of conf) r.bgp;
+}
 
 -- ---- the whole
 

@@ -16,7 +16,7 @@ use std::marker::Model;
 #[derive(Drop)]
 pub struct NamedPorts<'a> {
     dp: &'a RawDp,
-    numbers: BTreeSet<u64>,
+    numbers: BTreeSet<u128>,
     names: Named<PortNo>,
 }
 
@@ -39,7 +39,7 @@ impl<'a> NamedPorts<'a> {
         let mut numbers = BTreeSet::new(alloc);
         let mut names = BTreeMap::new(alloc);
         for port in dp.ports.as_slice() {
-            see_number(&mut numbers, u64::from(port.no.get()))?;
+            see_number(&mut numbers, u128::from(port.no.get()))?;
             add_first(alloc, &mut names, &port.names.name, port.no)?;
         }
         Ok(NamedPorts { dp, numbers, names })
@@ -58,7 +58,7 @@ impl<'a> NamedPorts<'a> {
     {
         match name {
             PortRef::No(no) => {
-                if self.numbers.contains(&u64::from(no.get())) {
+                if self.numbers.contains(&u128::from(no.get())) {
                     Some(*no)
                 } else {
                     None

@@ -68,12 +68,12 @@ pub fn vids_of(alloc: Global, conf: &OrderedConf, names: &[VlanRef]) -> Result<V
 }
 
 /// Adds an identifier that isn't there; there is a set of those that are.
-fn push_vid(vids: &mut Vids, seen: &mut BTreeSet<u64>, vid: Vid) -> Result<(), NoMemory>
+fn push_vid(vids: &mut Vids, seen: &mut BTreeSet<u128>, vid: Vid) -> Result<(), NoMemory>
     requires { (n : ℕ) → contains nat_cmp seen.old n ≡ is_among vids.old n }
     ensures vids { OnOk result (vids.new ≡ with_number vids.old vid) }
     ensures seen { OnOk result ((n : ℕ) → contains nat_cmp seen.new n ≡ is_among vids.new n) }
 {
-    if see_number(seen, u64::from(vid.get()))? {
+    if see_number(seen, u128::from(vid.get()))? {
         return Ok(());
     }
     vids.push(vid)
@@ -94,14 +94,14 @@ pub fn vids_once(alloc: Global, vids: &[Vid]) -> Result<Vids, NoMemory>
 /// Adds a number that isn't there; there is a set of those that are.
 fn push_number(
     numbers: &mut PortNos,
-    seen: &mut BTreeSet<u64>,
+    seen: &mut BTreeSet<u128>,
     number: PortNo,
 ) -> Result<(), NoMemory>
     requires { (n : ℕ) → contains nat_cmp seen.old n ≡ is_among numbers.old n }
     ensures numbers { OnOk result (numbers.new ≡ with_number numbers.old number) }
     ensures seen { OnOk result ((n : ℕ) → contains nat_cmp seen.new n ≡ is_among numbers.new n) }
 {
-    if see_number(seen, u64::from(number.get()))? {
+    if see_number(seen, u128::from(number.get()))? {
         return Ok(());
     }
     numbers.push(number)

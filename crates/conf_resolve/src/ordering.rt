@@ -18,6 +18,7 @@ fn ports_in_order(alloc: Global, dp: &RawDp) -> Result<RawDp, NoMemory>
         timeout: dp.timeout,
         arp_timeout: dp.arp_timeout,
         stack_priority: dp.stack_priority,
+        lldp: dp.lldp,
         drops: dp.drops,
         ports: in_order(dp.ports.copy(alloc)?)?,
     })

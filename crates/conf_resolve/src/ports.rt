@@ -149,6 +149,7 @@ fn resolve_dp(alloc: Global, conf: &OrderedConf, dps: &NamedDps, dp: &RawDp) -> 
         timeout: dp.timeout,
         arp_timeout: dp.arp_timeout,
         stack_priority: dp.stack_priority,
+        lldp: dp.lldp,
         drop_spoofed: dp.drops.spoofed,
         drop_broadcast: dp.drops.broadcast,
         drop_bpdu: dp.drops.bpdu,

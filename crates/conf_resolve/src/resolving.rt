@@ -1,13 +1,13 @@
-ghost use Rattle.std.specs.Prelude.{◌≡◌, map, IfOk};
-ghost use Rattle.conf_resolve.specs.Resolved.{vlan_of, router_of, resolved};
+ghost use Rattle.std.specs.Prelude.{◌≡◌, map, option_and_then, IfOk};
+ghost use Rattle.conf_resolve.specs.Resolved.{vlan_of, peer_of, router_of, resolved};
 
 use crate::numbers::{acl_names, vids_of, vids_once};
 use crate::ordered::{OrderedConf, PlacedVlan};
 use crate::ports::resolve_dps;
 use crate::resolved::Resolved;
 use crate::rules::resolve_acls;
-use conf_shape::{RawRouter, RawVlan};
-use conf_types::{Router, Routers, Vids, Vlan, Vlans};
+use conf_shape::{RawBgp, RawRouter, RawVlan};
+use conf_types::{BgpConf, Router, Routers, Vids, Vlan, Vlans};
 use net_base::{NoMemory, TryCopy};
 use std::alloc::Global;
 
@@ -44,12 +44,37 @@ fn routed(alloc: Global, conf: &OrderedConf, router: &RawRouter) -> Result<Vids,
     vids_once(alloc, vids.as_slice())
 }
 
+/// The peer in the VLAN that is named; none where no VLAN has the name.
+fn peer_of(conf: &OrderedConf, bgp: &RawBgp) -> Option<BgpConf>
+    ensures { result ≡ peer_of conf.now bgp.now }
+{
+    match conf.vid_of(&bgp.vlan) {
+        Some(vlan) => Some(BgpConf {
+            our_as: bgp.our_as,
+            neighbor_as: bgp.neighbor_as,
+            routerid: bgp.routerid,
+            vlan,
+        }),
+        None => None,
+    }
+}
+
+fn router_peer(conf: &OrderedConf, router: &RawRouter) -> Option<BgpConf>
+    ensures { result ≡ option_and_then (peer_of conf.now) router.now.bgp }
+{
+    match &router.bgp {
+        Some(bgp) => peer_of(conf, bgp),
+        None => None,
+    }
+}
+
 fn resolve_router(alloc: Global, conf: &OrderedConf, router: &RawRouter) -> Result<Router, NoMemory>
     ensures { IfOk result (λ made. made ≡ router_of conf.now router.now) }
 {
     Ok(Router {
         name: router.name.copy(alloc)?,
         vlans: routed(alloc, conf, router)?,
+        bgp: router_peer(conf, router),
     })
 }
 
@@ -68,8 +93,8 @@ fn resolve_routers(
 }
 
 /// What a raw configuration in order stands for: names as numbers. A name that nothing has stands
-/// for nothing in a list of VLANs, and for the interface itself as a mirrored port or the far end
-/// of a stack link.
+/// for nothing in a list of VLANs, for no peer as the VLAN of a BGP peer, and for the interface
+/// itself as a mirrored port or the far end of a stack link.
 pub fn resolve(alloc: Global, conf: &OrderedConf) -> Result<Resolved, NoMemory>
     ensures { IfOk result (λ made. made ≡ resolved conf.now) }
 {

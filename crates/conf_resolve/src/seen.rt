@@ -8,7 +8,7 @@ use net_base::NoMemory;
 use std::collections::BTreeSet;
 
 /// Whether the number was seen; from now on it is. The only error is that memory runs out.
-pub fn see_number(seen: &mut BTreeSet<u64>, number: u64) -> Result<bool, NoMemory>
+pub fn see_number(seen: &mut BTreeSet<u128>, number: u128) -> Result<bool, NoMemory>
     ensures was { IfOk result (λ was. was ≡ contains nat_cmp seen.old number) }
     ensures is { OnOk result ((n : ℕ) → contains nat_cmp seen.new n ≡ (contains nat_cmp seen.old n || number == n)) }
     ensures len { IfOk result (λ was. btree_set_len seen.new ≡ btree_set_len seen.old + (if was then 0 else 1)) }

@@ -3,7 +3,7 @@
 ghost use Rattle.std.specs.Prelude.{◌≡◌, [], ◌∷◌, ◌++◌, codes, map, IfOk, OnOk};
 ghost use Rattle.std.specs.List.{flat_map};
 ghost use Rattle.std.specs.Option.{option_map_or};
-ghost use Rattle.conf_resolve.specs.InOrder.{port_site, written, by_number, of_port, of_router, named_by_dps, named_by_routers, vlans_by};
+ghost use Rattle.conf_resolve.specs.InOrder.{port_site, router_site, bgp_site, written, by_number, by_numbers, of_port, of_router, named_by_dps, named_by_routers, vlans_by};
 ghost use Rattle.conf_resolve.specs.Added.{with_each};
 
 use crate::collected::CollectedVlans;
@@ -84,12 +84,32 @@ fn add_dps(alloc: Global, vlans: &mut CollectedVlans, dps: &[RawDp]) -> Result<(
     Ok(())
 }
 
-fn add_router(alloc: Global, vlans: &mut CollectedVlans, router: &RawRouter) -> Result<(), NoMemory>
-    ensures { OnOk result (vlans.new ≡ with_each vlans.old (of_router router.now)) }
+fn add_peer(alloc: Global, vlans: &mut CollectedVlans, router: &RawRouter) -> Result<(), NoMemory>
+    ensures { OnOk result (vlans.new ≡ with_each vlans.old (option_map_or (λ bgp. by_number (bgp_site router.now) bgp.vlan) router.now.bgp [])) }
+{
+    let site = top_site(alloc, "routers", &router.name)?;
+    match &router.bgp {
+        Some(bgp) => {
+            let site = under(alloc, &site, "bgp")?;
+            add_named(alloc, vlans, &site, "vlan", &bgp.vlan)
+        }
+        None => Ok(()),
+    }
+}
+
+fn add_routed(alloc: Global, vlans: &mut CollectedVlans, router: &RawRouter) -> Result<(), NoMemory>
+    ensures { OnOk result (vlans.new ≡ with_each vlans.old (by_numbers (router_site router.now ++ codes "vlans" ∷ []) router.now.vlans)) }
 {
     let site = top_site(alloc, "routers", &router.name)?;
     let list = under(alloc, &site, "vlans")?;
     add_numbers(alloc, vlans, &list, router.vlans.as_slice())
+}
+
+fn add_router(alloc: Global, vlans: &mut CollectedVlans, router: &RawRouter) -> Result<(), NoMemory>
+    ensures { OnOk result (vlans.new ≡ with_each vlans.old (of_router router.now)) }
+{
+    add_routed(alloc, vlans, router)?;
+    add_peer(alloc, vlans, router)
 }
 
 fn add_routers(
