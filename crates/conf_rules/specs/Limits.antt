@@ -6,7 +6,7 @@ use Rattle.conf_types.specs.declared.vlan.Router.{Router}
 use Rattle.conf_types.specs.declared.vlan.Vlan.{Vlan}
 use Rattle.conf_types.specs.Attached.{rules_of}
 use Rattle.conf_types.specs.Configuration.{Configuration}
-use Rattle.conf_types.specs.Lists.{different}
+use Rattle.conf_types.specs.Families.{different_ips}
 use Rattle.conf_types.specs.Membership.{has_edge_member, is_mirror_of}
 use Rattle.conf_types.specs.Valid.{is_special, members_at, ports_named, attached, route_items, group_count}
 use Rattle.conf_shape.specs.declared.raw.RawDp.{RawDp}
@@ -97,7 +97,7 @@ abbrev pub routes : Configuration → ℕ
 routes conf = sum_by (λ v. length v.routes) conf.vlans
 
 abbrev pub gateways_of : Vlan → ℕ
-gateways_of v = different (map (λ r. r.gw.0) v.routes)
+gateways_of v = different_ips (map (λ r. r.gw) v.routes)
 
 -- each group asks for each gateway of each VLAN
 abbrev pub gateways : Configuration → ℕ

@@ -14,7 +14,7 @@ use Rattle.conf_shape.specs.declared.refused.ConfFault.{ConfFault}
 use Rattle.conf_shape.specs.declared.refused.ConfCause.TheVariants.{Duplicate, Unresolved, Conflict}
 use Rattle.conf_resolve.specs.declared.ordered.OrderedConf.{OrderedConf}
 use Rattle.conf_resolve.specs.declared.ordered.PlacedVlan.{PlacedVlan}
-use Rattle.conf_resolve.specs.InOrder.{dp_site, port_site, router_site}
+use Rattle.conf_resolve.specs.InOrder.{dp_site, port_site, router_site, bgp_site}
 use Rattle.conf_resolve.specs.Resolved.{to_list, vid_of}
 use Rattle.conf_rules.specs.Places.{fault_if, under, name_site, each_at, one_at, list_at, with_earlier, is_repeat}
 
@@ -73,6 +73,10 @@ tagged_at d p = each_at (under (port_site d p) (codes "tagged_vlans")) p.tagged
 abbrev pub routed_at : RawRouter → List (List (List ℕ) × VlanRef)
 routed_at r = each_at (under (router_site r) (codes "vlans")) r.vlans
 
+-- that of its BGP peer
+abbrev pub peer_at : RawRouter → List (List (List ℕ) × VlanRef)
+peer_at r = map (λ bgp. (bgp_site r, bgp.vlan)) (to_list r.bgp)
+
 abbrev pub unknown_of_port : OrderedConf → RawDp → RawPort → List ConfFault
 unknown_of_port o d p = flat_map (unknown_vlan o) (native_at d p) ++ flat_map (unknown_vlan o) (tagged_at d p)
 
@@ -80,7 +84,7 @@ abbrev pub unknown_of_dp : OrderedConf → RawDp → List ConfFault
 unknown_of_dp o d = flat_map (unknown_of_port o d) d.ports
 
 abbrev pub unknown_of_router : OrderedConf → RawRouter → List ConfFault
-unknown_of_router o r = flat_map (unknown_vlan o) (routed_at r)
+unknown_of_router o r = flat_map (unknown_vlan o) (routed_at r) ++ flat_map (unknown_vlan o) (peer_at r)
 
 abbrev pub unknown_vlans : OrderedConf → List ConfFault
 unknown_vlans o = flat_map (unknown_of_dp o) o.dps ++ flat_map (unknown_of_router o) o.routers

@@ -20,7 +20,7 @@ pub fn see_name(alloc: Global, seen: &mut BTreeSet<String>, name: &Text) -> Resu
 }
 
 /// How many different numbers these are.
-pub fn different_len(alloc: Global, numbers: &[u64]) -> Result<usize, NoMemory>
+pub fn different_len(alloc: Global, numbers: &[u128]) -> Result<usize, NoMemory>
     ensures { IfOk result (λ count. count ≡ different numbers.now) }
 {
     let mut seen = BTreeSet::new(alloc);
