@@ -54,7 +54,7 @@ pub(crate) fn repeated_vlans(alloc: Global, ordered: &OrderedConf) -> Found
     let mut vids = BTreeSet::new(alloc);
     let mut names = BTreeSet::new(alloc);
     for placed in ordered.vlans.as_slice() {
-        let number = see_number(&mut vids, u64::from(placed.vlan.vid.get()))?;
+        let number = see_number(&mut vids, u128::from(placed.vlan.vid.get()))?;
         let name = see_name(alloc, &mut names, &placed.vlan.names.name)?;
         if let Some(found) = repeated_vlan(alloc, placed, Again { number, name })? {
             return Ok(Some(found));
@@ -85,7 +85,7 @@ pub(crate) fn repeated_dps(alloc: Global, ordered: &OrderedConf) -> Found
     let mut ids = BTreeSet::new(alloc);
     let mut names = BTreeSet::new(alloc);
     for dp in ordered.dps.as_slice() {
-        let number = see_number(&mut ids, dp.id.0)?;
+        let number = see_number(&mut ids, u128::from(dp.id.0))?;
         let name = see_name(alloc, &mut names, &dp.names.name)?;
         if let Some(found) = repeated_dp(alloc, dp, Again { number, name })? {
             return Ok(Some(found));
@@ -124,7 +124,7 @@ fn repeated_ports_of(alloc: Global, dp: &RawDp) -> Found
     let mut numbers = BTreeSet::new(alloc);
     let mut names = BTreeSet::new(alloc);
     for port in dp.ports.as_slice() {
-        let number = see_number(&mut numbers, u64::from(port.no.get()))?;
+        let number = see_number(&mut numbers, u128::from(port.no.get()))?;
         let name = see_name(alloc, &mut names, &port.names.name)?;
         if let Some(found) = repeated_port(alloc, dp, port, Again { number, name })? {
             return Ok(Some(found));

@@ -5,7 +5,7 @@ ghost use Rattle.std.specs.List.{flat_map};
 ghost use Rattle.conf_resolve.specs.InOrder.{port_site};
 ghost use Rattle.conf_resolve.specs.Resolved.{vid_of};
 ghost use Rattle.conf_shape.specs.declared.refused.ConfCause.TheVariants.{Duplicate};
-ghost use Rattle.conf_rules.specs.Names.{unknown_vlan, native_at, tagged_at, unknown_of_port, unknown_of_dp, unknown_of_router, unknown_vlans, twice_of_port, twice_of_dp, vlans_twice, unknown_acl, unknown_acls_of_vlan, unknown_acls_of_port, unknown_acls_of_dp, unknown_acls};
+ghost use Rattle.conf_rules.specs.Names.{unknown_vlan, native_at, tagged_at, routed_at, peer_at, unknown_of_port, unknown_of_dp, unknown_of_router, unknown_vlans, twice_of_port, twice_of_dp, vlans_twice, unknown_acl, unknown_acls_of_vlan, unknown_acls_of_port, unknown_acls_of_dp, unknown_acls};
 ghost use Rattle.conf_rules.specs.Places.{first, fault_if, nth, under, each_at, one_at, list_at};
 
 use conf_resolve::{OrderedConf, PlacedVlan, Resolved};
@@ -76,8 +76,8 @@ fn unknown_of_dps(alloc: Global, ordered: &OrderedConf) -> Found
 }
 
 #[tactic(auto, using(conf_rules::proofs::First::first_rules))]
-fn unknown_of_router(alloc: Global, ordered: &OrderedConf, router: &RawRouter) -> Found
-    ensures { IfOk result (λ found. found ≡ first (unknown_of_router ordered.now router.now)) }
+fn unknown_routed(alloc: Global, ordered: &OrderedConf, router: &RawRouter) -> Found
+    ensures { IfOk result (λ found. found ≡ first (flat_map (unknown_vlan ordered.now) (routed_at router.now))) }
 {
     for (i, name) in router.vlans.as_slice().iter().enumerate() {
         if ordered.vid_of(name).is_none() {
@@ -86,6 +86,28 @@ fn unknown_of_router(alloc: Global, ordered: &OrderedConf, router: &RawRouter) -
         }
     }
     Ok(None)
+}
+
+fn unknown_of_peer(alloc: Global, ordered: &OrderedConf, router: &RawRouter) -> Found
+    ensures { IfOk result (λ found. found ≡ first (flat_map (unknown_vlan ordered.now) (peer_at router.now))) }
+{
+    if let Some(bgp) = &router.bgp {
+        if ordered.vid_of(&bgp.vlan).is_none() {
+            let site = under(alloc, router_site(alloc, router)?, "bgp")?;
+            return broken(alloc, ConfCause::Unresolved, under(alloc, site, "vlan")?);
+        }
+    }
+    Ok(None)
+}
+
+#[tactic(auto, using(conf_rules::proofs::First::first_rules))]
+fn unknown_of_router(alloc: Global, ordered: &OrderedConf, router: &RawRouter) -> Found
+    ensures { IfOk result (λ found. found ≡ first (unknown_of_router ordered.now router.now)) }
+{
+    if let Some(found) = unknown_routed(alloc, ordered, router)? {
+        return Ok(Some(found));
+    }
+    unknown_of_peer(alloc, ordered, router)
 }
 
 /// Every VLAN that is named exists; of interfaces, then of routers.
