@@ -4,14 +4,15 @@ use Rattle.std.specs.List.{list_any}
 use Rattle.std.specs.HashSet.{HashSet, contains}
 use Rattle.conf_types.specs.declared.vlan.Route.{Route}
 use Rattle.conf_types.specs.declared.vlan.Vlan.{Vlan}
+use Rattle.conf_types.specs.Families.{ip_value, width_of, address_of, len_of}
 use Rattle.conf_rules.specs.Routing.{is_same_route}
 use Rattle.conf_limits.specs.declared.met_routes.Destination.{Destination}
 
 abbrev pub is_same_destination : Destination → Destination → Bool
-is_same_destination a b = a.vid == b.vid && (a.ip.0 == b.ip.0 && a.len == b.len)
+is_same_destination a b = a.vid == b.vid && (a.width == b.width && (a.value == b.value && a.len == b.len))
 
 abbrev pub destination_of : ℕ → Route → Destination
-destination_of vid route = record { vid = vid; ip = route.dst.ip; len = route.dst.len }
+destination_of vid route = let ip = address_of route.dst in record { vid = vid; width = width_of ip; value = ip_value ip; len = len_of route.dst }
 
 -- a route of the VLAN to the same network was met
 abbrev pub has_route : {S : Type 0} → HashSet Destination S → ℕ → Route → Bool

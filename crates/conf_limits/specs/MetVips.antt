@@ -5,16 +5,16 @@ use Rattle.std.specs.List.{flat_map}
 use Rattle.std.specs.Option.{option_map_or}
 use Rattle.std.specs.declared.alloc.Global.{Global}
 use Rattle.std.specs.declared.vec.Vec.{Vec}
-use Rattle.net_base.specs.declared.net4.Net4.{Net4}
+use Rattle.conf_types.specs.declared.address.Net.{Net}
 use Rattle.conf_types.specs.declared.vlan.Vlan.{Vlan}
 
-abbrev pub met_vips : {S : Type 0} → HashMap ℕ (Vec Net4 Global) S → ℕ → List Net4
+abbrev pub met_vips : {S : Type 0} → HashMap ℕ (Vec Net Global) S → ℕ → List Net
 met_vips met n = option_map_or (λ vips. vips.items) (get nat_eq met n) []
 
 -- the VIPs of the VLANs with the identifier, in their order
-abbrev pub vips_with : List Vlan → ℕ → List Net4
+abbrev pub vips_with : List Vlan → ℕ → List Net
 vips_with vlans n = flat_map (λ w. if w.vid == n then w.vips else []) vlans
 
 -- the map has the VIPs of these VLANs, and no others
-abbrev pub HasVips : {S : Type 0} → HashMap ℕ (Vec Net4 Global) S → List Vlan → Type 0
+abbrev pub HasVips : {S : Type 0} → HashMap ℕ (Vec Net Global) S → List Vlan → Type 0
 HasVips met vlans = (n : ℕ) → met_vips met n ≡ vips_with vlans n

@@ -7,14 +7,17 @@ ghost use Rattle.conf_rules.specs.Routing.{is_same_route};
 ghost use Rattle.conf_limits.specs.MetRoutes.{destination_of, has_route};
 
 use conf_types::Route;
-use net_base::{Ip4, NoMemory, Vid};
+use net_base::{NoMemory, Vid};
 use std::collections::HashSet;
 
 /// The network that a route of a VLAN leads to.
 #[derive(Clone, Copy, Debug, PartialEq, Eq, Hash)]
 pub(crate) struct Destination {
     pub vid: Vid,
-    pub ip: Ip4,
+    /// How many bits an address has in the network's family.
+    pub width: u8,
+    /// The network's address as a number.
+    pub value: u128,
     pub len: u8,
 }
 
@@ -23,10 +26,12 @@ pub(crate) type MetRoutes = HashSet<Destination>;
 fn destination_of(vid: Vid, route: &Route) -> Destination
     ensures { result ≡ destination_of vid route.now }
 {
+    let ip = route.dst.address();
     Destination {
         vid,
-        ip: route.dst.ip,
-        len: route.dst.len,
+        width: ip.family().width,
+        value: ip.value(),
+        len: route.dst.len(),
     }
 }
 

@@ -3,14 +3,15 @@
 ghost use Rattle.std.specs.Prelude.{◌≡◌, ◌==◌, ◌++◌, [], ℕ, OnOk, if◌then◌else◌};
 ghost use Rattle.conf_limits.specs.MetVips.{met_vips};
 
-use net_base::{Net4, NoMemory, Vid};
+use conf_types::Net;
+use net_base::{NoMemory, Vid};
 use std::alloc::Global;
 use std::collections::HashMap;
 
-pub(crate) type MetVips = HashMap<Vid, Vec<Net4>>;
+pub(crate) type MetVips = HashMap<Vid, Vec<Net>>;
 
 /// The VIPs of the VLANs with the identifier that were met.
-pub(crate) fn met_vips(met: &MetVips, vid: Vid) -> &[Net4]
+pub(crate) fn met_vips(met: &MetVips, vid: Vid) -> &[Net]
     ensures { result.now ≡ met_vips met.now vid }
 {
     match met.get(&vid) {
@@ -24,7 +25,7 @@ pub(crate) fn meet_vips(
     alloc: Global,
     met: &mut MetVips,
     vid: Vid,
-    vips: &[Net4],
+    vips: &[Net],
 ) -> Result<(), NoMemory>
     ensures { OnOk result ((n : ℕ) → met_vips met.new n ≡ met_vips met.old n ++ (if vid == n then vips.now else [])) }
 {

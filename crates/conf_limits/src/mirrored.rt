@@ -43,12 +43,12 @@ fn count_number(counts: &mut Counts, number: u64) -> Result<(), NoMemory>
 }
 
 /// Counts a number once more, unless it was seen; from now on it is.
-fn count_unseen(counts: &mut Counts, seen: &mut BTreeSet<u64>, number: u64) -> Result<(), NoMemory>
+fn count_unseen(counts: &mut Counts, seen: &mut BTreeSet<u128>, number: u64) -> Result<(), NoMemory>
     requires { contains nat_cmp seen.old number ≡ false → times counts.old number + 1 < 2 ^ 64 }
     ensures seen { OnOk result ((n : ℕ) → contains nat_cmp seen.new n ≡ (contains nat_cmp seen.old n || number == n)) }
     ensures counts { OnOk result ((n : ℕ) → times counts.new n ≡ times counts.old n + (if contains nat_cmp seen.old number then 0 else if number == n then 1 else 0)) }
 {
-    let was = see_number(seen, number)?;
+    let was = see_number(seen, u128::from(number))?;
     if was {
         return Ok(());
     }

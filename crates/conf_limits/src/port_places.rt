@@ -14,10 +14,10 @@ use std::alloc::Global;
 use std::collections::BTreeMap;
 
 /// Of each number, the places of the ports that have it.
-type ByNumber = BTreeMap<u64, Vec<u64>>;
+type ByNumber = BTreeMap<u64, Vec<u128>>;
 
 /// The same of each name.
-type ByName = BTreeMap<String, Vec<u64>>;
+type ByName = BTreeMap<String, Vec<u128>>;
 
 /// A datapath, and the places of its ports by their numbers and by their names.
 #[derive(Drop)]
@@ -30,7 +30,7 @@ pub(crate) struct PortPlaces<'a> {
 }
 
 /// These places, and one more.
-fn with_place(alloc: Global, places: &[u64], at: u64) -> Result<Vec<u64>, NoMemory>
+fn with_place(alloc: Global, places: &[u128], at: u128) -> Result<Vec<u128>, NoMemory>
     ensures { IfOk result (λ all. all.items ≡ places.now ++ at ∷ []) }
 {
     let mut all = Vec::new(alloc);
@@ -39,7 +39,7 @@ fn with_place(alloc: Global, places: &[u64], at: u64) -> Result<Vec<u64>, NoMemo
     Ok(all)
 }
 
-fn at_number(numbers: &ByNumber, number: u64) -> &[u64]
+fn at_number(numbers: &ByNumber, number: u64) -> &[u128]
     ensures { result.now ≡ at_number numbers.now number }
 {
     match numbers.get(&number) {
@@ -49,7 +49,7 @@ fn at_number(numbers: &ByNumber, number: u64) -> &[u64]
 }
 
 /// From now on the port's number leads to the place too.
-fn add_number(alloc: Global, numbers: &mut ByNumber, port: &Port, at: u64) -> Result<(), NoMemory>
+fn add_number(alloc: Global, numbers: &mut ByNumber, port: &Port, at: u128) -> Result<(), NoMemory>
     ensures { OnOk result ((n : ℕ) → at_number numbers.new n ≡ at_number numbers.old n ++ (if port.now.no == n then at ∷ [] else [])) }
 {
     let number = u64::from(port.no.get());
@@ -63,12 +63,12 @@ fn numbers_of(alloc: Global, ports: &[Port]) -> Result<ByNumber, NoMemory>
 {
     let mut numbers = BTreeMap::new(alloc);
     for i in (0..ports.len()).rev() {
-        add_number(alloc, &mut numbers, &ports[i], i as u64)?;
+        add_number(alloc, &mut numbers, &ports[i], i as u128)?;
     }
     Ok(numbers)
 }
 
-fn at_name<'a>(names: &'a ByName, name: &str) -> &'a [u64]
+fn at_name<'a>(names: &'a ByName, name: &str) -> &'a [u128]
     ensures { result.now ≡ at_name names.now name.now }
 {
     match names.get(name) {
@@ -78,7 +78,7 @@ fn at_name<'a>(names: &'a ByName, name: &str) -> &'a [u64]
 }
 
 /// From now on the port's name leads to the place too.
-fn add_name(alloc: Global, names: &mut ByName, port: &Port, at: u64) -> Result<(), NoMemory>
+fn add_name(alloc: Global, names: &mut ByName, port: &Port, at: u128) -> Result<(), NoMemory>
     ensures { OnOk result ((t : List ℕ) → at_name names.new t ≡ at_name names.old t ++ (if is_same port.now.name t then at ∷ [] else [])) }
 {
     let name = port.name.as_str();
@@ -93,7 +93,7 @@ fn names_of(alloc: Global, ports: &[Port]) -> Result<ByName, NoMemory>
 {
     let mut names = BTreeMap::new(alloc);
     for i in (0..ports.len()).rev() {
-        add_name(alloc, &mut names, &ports[i], i as u64)?;
+        add_name(alloc, &mut names, &ports[i], i as u128)?;
     }
     Ok(names)
 }
@@ -114,21 +114,21 @@ impl<'a> PortPlaces<'a> {
     }
 
     /// The places of the ports that have the number.
-    fn numbered(&self, no: PortNo) -> &[u64]
+    fn numbered(&self, no: PortNo) -> &[u128]
         ensures { (at : ℕ) → is_among result.now at ≡ stands_at 0 self.now.dp.now.ports (λ p. p.no == no) at }
     {
         at_number(&self.numbers, u64::from(no.get()))
     }
 
     /// The places of the ports that have the name.
-    fn named(&self, name: &Text) -> &[u64]
+    fn named(&self, name: &Text) -> &[u128]
         ensures { (at : ℕ) → is_among result.now at ≡ stands_at 0 self.now.dp.now.ports (λ p. is_same p.name name.now) at }
     {
         at_name(&self.names, name.as_str())
     }
 
     /// The places of the ports that are named.
-    fn places(&self, name: &PortRef) -> &[u64]
+    fn places(&self, name: &PortRef) -> &[u128]
         ensures { (at : ℕ) → is_among result.now at ≡ stands_at 0 self.now.dp.now.ports (is_named name.now) at }
     {
         match name {
@@ -138,7 +138,7 @@ impl<'a> PortPlaces<'a> {
     }
 
     /// Adds the places of the ports that are named.
-    fn add_places(&self, places: &mut Vec<u64>, names: &[PortRef]) -> Result<(), NoMemory>
+    fn add_places(&self, places: &mut Vec<u128>, names: &[PortRef]) -> Result<(), NoMemory>
         ensures { OnOk result ((at : ℕ) → is_among places.new.items at ≡ (is_among places.old.items at || list_any (λ name. stands_at 0 self.now.dp.now.ports (is_named name) at) names.now)) }
     {
         for name in names {
@@ -148,7 +148,7 @@ impl<'a> PortPlaces<'a> {
     }
 
     /// The places of the ports that a rule names, several times where it names a port so.
-    fn places_of(&self, alloc: Global, rule: &Rule) -> Result<Vec<u64>, NoMemory>
+    fn places_of(&self, alloc: Global, rule: &Rule) -> Result<Vec<u128>, NoMemory>
         ensures { IfOk result (λ places. (at : ℕ) → is_among places.items at ≡ list_any (λ name. stands_at 0 self.now.dp.now.ports (is_named name) at) (names_in rule.now)) }
     {
         let mut places = Vec::new(alloc);

@@ -3,12 +3,12 @@
 ghost use Rattle.std.specs.Prelude.{◌≡◌, ◌<◌, ◌∷◌, ℕ, IfOk, None, codes, false, slice_index_or};
 ghost use Rattle.std.specs.List.{flat_map, list_any};
 ghost use Rattle.conf_types.specs.Lists.{is_among};
-ghost use Rattle.conf_types.specs.Networks.{is_held};
+ghost use Rattle.conf_types.specs.Families.{is_same_family};
 ghost use Rattle.conf_types.specs.Routing.{vips_of};
 ghost use Rattle.conf_limits.specs.MetRoutes.{HasRoutes, has_same_route, has_same_route_so_far};
 ghost use Rattle.conf_limits.specs.MetVips.{HasVips, met_vips};
 ghost use Rattle.conf_rules.specs.Places.{first, nth, under};
-ghost use Rattle.conf_rules.specs.Routing.{are_routed, overlap, overlaps_earlier, overlapping_of_vlan, overlapping_vips, is_in_router, shared_of_router, shared_vlans, lies_in, route_site, leads_inside, wrong_route, wrong_routes_of, wrong_routes, repeats_earlier, repeated_of_vlan, repeated_routes};
+ghost use Rattle.conf_rules.specs.Routing.{are_routed, overlap, clash, overlaps_earlier, overlapping_of_vlan, overlapping_vips, is_in_router, shared_of_router, shared_vlans, lies_in, route_site, leads_inside, is_gateway, wrong_route, wrong_routes_of, wrong_routes, repeats_earlier, repeated_of_vlan, repeated_routes};
 ghost use Rattle.conf_rules.specs.Rules.{routing_faults};
 
 use crate::met_routes::{MetRoutes, has_route_of, meet_route};
@@ -18,40 +18,48 @@ use crate::routed::Joined;
 use conf_resolve::{OrderedConf, PlacedVlan, Resolved};
 use conf_rules::{Found, broken, nth, router_site, see_all, seen_once, under};
 use conf_shape::{ConfCause, ConfFault, RawRouter};
-use conf_types::{Route, Router, Vlan};
-use net_base::{Ip4, Names, Net4, NoMemory, TryCopy, Vid};
+use conf_types::{Ip, Net, Route, Router, Vlan};
+use net_base::{Names, NoMemory, TryCopy, Vid};
 use std::alloc::Global;
 use std::collections::{HashMap, HashSet};
 
-fn holds(net: &Net4, ip: Ip4) -> bool
-    ensures { result ≡ is_held net.now ip.0 }
-{
-    net.holds(ip)
-}
-
 /// Whether some address is of both.
-fn overlap(a: &Net4, b: &Net4) -> bool
+fn overlap(a: &Net, b: &Net) -> bool
     ensures { result ≡ overlap a.now b.now }
 {
-    if a.len <= b.len {
-        holds(a, b.ip)
+    if a.len() <= b.len() {
+        a.holds(b.address())
     } else {
-        holds(b, a.ip)
+        b.holds(a.address())
     }
 }
 
-fn overlaps_some(others: &[Net4], vip: &Net4) -> bool
+/// Whether some address is of both, and they aren't both link-local: so may networks of different VLANs
+/// not stand.
+fn clash(a: &Net, b: &Net) -> bool
+    ensures { result ≡ clash a.now b.now }
+{
+    overlap(a, b) && !(a.is_link_local() && b.is_link_local())
+}
+
+fn overlaps_some(others: &[Net], vip: &Net) -> bool
     ensures { result ≡ list_any (λ other. overlap other vip.now) others.now }
 {
     others.iter().any(|other| overlap(other, vip))
 }
 
-/// Whether a VIP overlaps one of these VLANs' that was met.
-fn overlaps_met(met: &MetVips, vids: &[Vid], vip: &Net4) -> bool
-    ensures { result ≡ list_any (λ n. list_any (λ other. overlap other vip.now) (met_vips met.now n)) vids.now }
+fn clashes_some(others: &[Net], vip: &Net) -> bool
+    ensures { result ≡ list_any (λ other. clash other vip.now) others.now }
+{
+    others.iter().any(|other| clash(other, vip))
+}
+
+/// Whether a VIP clashes with one of these VLANs' that was met.
+fn clashes_met(met: &MetVips, vids: &[Vid], vip: &Net) -> bool
+    ensures { result ≡ list_any (λ n. list_any (λ other. clash other vip.now) (met_vips met.now n)) vids.now }
 {
     vids.iter()
-        .any(|vid| overlaps_some(met_vips(met, *vid), vip))
+        .any(|vid| clashes_some(met_vips(met, *vid), vip))
 }
 
 fn overlaps_earlier(
@@ -60,14 +68,14 @@ fn overlaps_earlier(
     vids: &[Vid],
     earlier: &[Vlan],
     vlan: &Vlan,
-    vips: &[Net4],
-    vip: &Net4,
+    vips: &[Net],
+    vip: &Net,
 ) -> bool
     requires met { HasVips met.now earlier.now }
     requires vids { (n : ℕ) → is_among vids.now n ≡ are_routed conf.now n vlan.now.vid }
     ensures { result ≡ overlaps_earlier conf.now (earlier.now, vlan.now) (vips.now, vip.now) }
 {
-    overlaps_met(met, vids, vip) || overlaps_some(vips, vip)
+    clashes_met(met, vids, vip) || overlaps_some(vips, vip)
 }
 
 /// Where a VIP of a VLAN is written.
@@ -104,7 +112,8 @@ fn overlapping_of_vlan(
     Ok(None)
 }
 
-/// VIP networks that packets are routed between don't overlap.
+/// VIP networks that packets are routed between don't overlap, but link-local ones of different VLANs
+/// may.
 #[tactic(auto, using(conf_rules::proofs::First::zip_rules))]
 fn overlapping_vips(alloc: Global, ordered: &OrderedConf, conf: &Resolved) -> Found
     ensures { IfOk result (λ found. found ≡ first (overlapping_vips ordered.now conf.now)) }
@@ -182,19 +191,19 @@ fn shared_vlans(alloc: Global, ordered: &OrderedConf, conf: &Resolved) -> Found
 }
 
 /// Whether the first network equals the second or lies inside it.
-fn lies_in(a: &Net4, b: &Net4) -> bool
+fn lies_in(a: &Net, b: &Net) -> bool
     ensures { result ≡ lies_in a.now b.now }
 {
-    b.len <= a.len && holds(b, a.ip)
+    b.len() <= a.len() && b.holds(a.address())
 }
 
-fn lies_in_some(dst: &Net4, vips: &[Net4]) -> bool
+fn lies_in_some(dst: &Net, vips: &[Net]) -> bool
     ensures { result ≡ list_any (lies_in dst.now) vips.now }
 {
     vips.iter().any(|vip| lies_in(dst, vip))
 }
 
-fn leads_into(conf: &Resolved, numbered: &Numbered, vid: Vid, dst: &Net4) -> bool
+fn leads_into(conf: &Resolved, numbered: &Numbered, vid: Vid, dst: &Net) -> bool
     requires { numbered.now.conf.now ≡ conf.now }
     ensures { result ≡ list_any (lies_in dst.now) (vips_of conf.now vid) }
 {
@@ -204,7 +213,7 @@ fn leads_into(conf: &Resolved, numbered: &Numbered, vid: Vid, dst: &Net4) -> boo
     }
 }
 
-fn leads_into_some(conf: &Resolved, numbered: &Numbered, vids: &[Vid], dst: &Net4) -> bool
+fn leads_into_some(conf: &Resolved, numbered: &Numbered, vids: &[Vid], dst: &Net) -> bool
     requires { numbered.now.conf.now ≡ conf.now }
     ensures { result ≡ list_any (λ vid. list_any (lies_in dst.now) (vips_of conf.now vid)) vids.now }
 {
@@ -213,7 +222,7 @@ fn leads_into_some(conf: &Resolved, numbered: &Numbered, vids: &[Vid], dst: &Net
 
 /// Whether a route leads into a VIP network that packets of the VLAN are routed to.
 #[tactic(auto, using(conf_rules::proofs::First::any_rules))]
-fn leads_inside(conf: &Resolved, numbered: &Numbered, vid: Vid, dst: &Net4) -> bool
+fn leads_inside(conf: &Resolved, numbered: &Numbered, vid: Vid, dst: &Net) -> bool
     requires { numbered.now.conf.now ≡ conf.now }
     ensures { result ≡ leads_inside conf.now vid dst.now }
 {
@@ -223,6 +232,12 @@ fn leads_inside(conf: &Resolved, numbered: &Numbered, vid: Vid, dst: &Net4) -> b
     }
 }
 
+fn is_same_family(a: Ip, b: Ip) -> bool
+    ensures { result ≡ is_same_family a b }
+{
+    a.family().width == b.family().width
+}
+
 /// Where a key of a VLAN's route is written.
 fn route_site(alloc: Global, placed: &PlacedVlan, at: usize, key: &str) -> Result<Names, NoMemory>
     ensures { IfOk result (λ site. site ≡ route_site (nth (under placed.now.site (codes "routes")) at) key.now) }
@@ -230,6 +245,13 @@ fn route_site(alloc: Global, placed: &PlacedVlan, at: usize, key: &str) -> Resul
     let site = under(alloc, placed.site.copy(alloc)?, "routes")?;
     let site = under(alloc, nth(alloc, site, at)?, "route")?;
     under(alloc, site, key)
+}
+
+/// Whether a route's gateway is a neighbour of the VLAN, of the family of what the route leads to.
+fn is_gateway(vlan: &Vlan, route: &Route) -> bool
+    ensures { result ≡ is_gateway vlan.now route.now }
+{
+    vlan.is_neighbour_address(route.gw) && is_same_family(route.gw, route.dst.address())
 }
 
 fn wrong_route(
@@ -248,7 +270,7 @@ fn wrong_route(
         let site = route_site(alloc, placed, at, "ip_dst")?;
         return broken(alloc, ConfCause::Conflict(14), site);
     }
-    if !vlan.is_neighbour_address(route.gw) {
+    if !is_gateway(vlan, route) {
         let site = route_site(alloc, placed, at, "ip_gw")?;
         return broken(alloc, ConfCause::Conflict(14), site);
     }
@@ -275,7 +297,7 @@ fn wrong_routes_of(
 }
 
 /// A route leads into no VIP network that packets of its VLAN are routed to, and its gateway is a
-/// neighbour of its VLAN.
+/// neighbour of its VLAN, of the family of what it leads to.
 #[tactic(auto, using(conf_rules::proofs::First::zip_rules))]
 fn wrong_routes(alloc: Global, ordered: &OrderedConf, conf: &Resolved) -> Found
     ensures { IfOk result (λ found. found ≡ first (wrong_routes ordered.now conf.now)) }

@@ -1,16 +1,18 @@
 //! How much there is of what limits bound, each count as far as a cap.
 
-ghost use Rattle.std.specs.Prelude.{◌≡◌, ◌+◌, IfOk, length, map, min, sum_by};
+ghost use Rattle.std.specs.Prelude.{◌≡◌, ◌==◌, ◌+◌, IfOk, length, min, sum_by};
+ghost use Rattle.conf_types.specs.Families.{width_of};
+ghost use Rattle.conf_types.specs.Lists.{different};
 ghost use Rattle.conf_types.specs.Routing.{vips_of, vips_in, routes_of, routes_in};
 ghost use Rattle.conf_types.specs.Valid.{route_items};
 ghost use Rattle.conf_rules.specs.Limits.{members, routes, gateways_of};
-ghost use Rattle.conf_limits.specs.Sizes.{capped, members_among};
+ghost use Rattle.conf_limits.specs.Sizes.{capped, members_among, values_of};
 
 use crate::members::Counted;
 use crate::numbered::Numbered;
 use conf_resolve::Resolved;
 use conf_rules::different_len;
-use conf_types::{Dp, Route, Vlan};
+use conf_types::{Dp, Ip, Route, Vlan};
 use net_base::{NoMemory, Vid};
 use std::alloc::Global;
 
@@ -132,22 +134,40 @@ pub(crate) fn all_route_items(conf: &Resolved, cap: usize) -> usize
     add_route_items(conf, &numbered, cap)
 }
 
-/// The addresses of the gateways of routes.
-fn addresses_of(alloc: Global, routes: &[Route]) -> Result<Vec<u64>, NoMemory>
-    ensures { IfOk result (λ made. made.items ≡ map (λ r. r.gw.0) routes.now) }
+fn is_of(ip: Ip, width: u8) -> bool
+    ensures { result ≡ (width_of ip == width) }
 {
-    routes
-        .iter()
-        .map(|route| u64::from(route.gw.0))
-        .collect(alloc)
+    ip.family().width == width
+}
+
+/// The gateways of routes that have so many bits, as numbers.
+fn values_of(alloc: Global, width: u8, routes: &[Route]) -> Result<Vec<u128>, NoMemory>
+    ensures { IfOk result (λ made. made.items ≡ values_of width routes.now) }
+{
+    let mut made = Vec::new(alloc);
+    for route in routes {
+        if is_of(route.gw, width) {
+            made.push(route.gw.value())?;
+        }
+    }
+    Ok(made)
+}
+
+fn different_of(alloc: Global, width: u8, routes: &[Route]) -> Result<usize, NoMemory>
+    ensures { IfOk result (λ count. count ≡ different (values_of width routes.now)) }
+{
+    let values = values_of(alloc, width, routes)?;
+    different_len(alloc, values.as_slice())
 }
 
 /// How many gateways a VLAN's routes have.
-fn gateways_of(alloc: Global, vlan: &Vlan) -> Result<usize, NoMemory>
-    ensures { IfOk result (λ count. count ≡ gateways_of vlan.now) }
+fn gateways_of(alloc: Global, cap: usize, vlan: &Vlan) -> Result<usize, NoMemory>
+    ensures { IfOk result (λ count. count ≡ min cap (gateways_of vlan.now)) }
 {
-    let gateways = addresses_of(alloc, vlan.routes.as_slice())?;
-    different_len(alloc, gateways.as_slice())
+    let routes = vlan.routes.as_slice();
+    let of_ipv4 = different_of(alloc, 32, routes)?;
+    let of_ipv6 = different_of(alloc, 128, routes)?;
+    Ok(add(cap, of_ipv4, of_ipv6))
 }
 
 /// The gateways of each VLAN's routes, VLAN by VLAN.
@@ -156,7 +176,7 @@ pub(crate) fn all_gateways(alloc: Global, conf: &Resolved, cap: usize) -> Result
 {
     let mut sum = 0;
     for vlan in conf.vlans().as_slice() {
-        let gateways = gateways_of(alloc, vlan)?;
+        let gateways = gateways_of(alloc, cap, vlan)?;
         sum = add(cap, sum, gateways);
     }
     Ok(sum)
