@@ -4,4 +4,4 @@
 pub mod laws;
 mod loading;
 
-pub use loading::{load, load_with_text};
+pub use loading::{check_tree, load, load_with_text};

@@ -27,7 +27,8 @@ fn refusal(refused: ConfRefused) -> LoadRefused
     }
 }
 
-fn check_tree(alloc: Global, tree: &Tree) -> Result<Conf, LoadRefused>
+/// The configuration of a gathered document; refused with `Conf` for its first fault.
+pub fn check_tree(alloc: Global, tree: &Tree) -> Result<Conf, LoadRefused>
     ensures told { Gives result (checked tree.now) }
     ensures within { IfErr result IsWithin }
 {
