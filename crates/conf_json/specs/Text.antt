@@ -1,9 +1,13 @@
 -- The JSON text of a configuration.
-use Rattle.std.specs.Prelude.{ℕ, List, [], ◌∷◌, nat_lt, if◌then◌else◌, Option, codes, decimal, fold, map, length}
+use Rattle.std.specs.Prelude.{ℕ, List, [], ◌∷◌, ◌++◌, nat_lt, if◌then◌else◌, Option, codes, decimal, fold, map, length}
 use Rattle.std.specs.Option.{option_map_or}
 use Rattle.net_base.specs.Address.{ip4_text, mac_text, net4_text}
-use Rattle.net_base.specs.declared.net4.Net4.{Net4}
+use Rattle.net_base.specs.Address6.{ip6_text, net6_text}
 use Rattle.conf_types.specs.declared.acl.Acl.{Acl}
+use Rattle.conf_types.specs.declared.address.Ip.{Ip}
+use Rattle.conf_types.specs.declared.address.Ip.TheVariants as ip
+use Rattle.conf_types.specs.declared.address.Net.{Net}
+use Rattle.conf_types.specs.declared.address.Net.TheVariants as net
 use Rattle.conf_types.specs.declared.datapath.Dp.{Dp}
 use Rattle.conf_types.specs.declared.datapath.Port.{Port}
 use Rattle.conf_types.specs.declared.datapath.StackEnd.{StackEnd}
@@ -66,6 +70,10 @@ port_text conf p = object (port_members conf p)
 abbrev pub port_member : Configuration → Port → Member
 port_member conf p = (decimal p.no, port_text conf p)
 
+-- how often links are probed stands only where they are
+abbrev pub lldp_members : Option ℕ → List Member
+lldp_members lldp = option_map_or (λ seconds. (codes "lldp_beacon", decimal seconds) ∷ []) lldp []
+
 abbrev pub dp_members : Configuration → Dp → List Member
 dp_members conf d =
     (codes "arp_neighbor_timeout", decimal d.arp_timeout)
@@ -77,8 +85,9 @@ dp_members conf d =
     ∷ (codes "drop_spoofed_faucet_mac", flag d.drop_spoofed)
     ∷ (codes "hardware", quoted d.hardware)
     ∷ (codes "interfaces", object (map (port_member conf) d.ports))
-    ∷ (codes "stack_priority", number_or_null d.stack_priority)
-    ∷ (codes "timeout", decimal d.timeout) ∷ []
+    ∷ (lldp_members d.lldp
+    ++ (codes "stack_priority", number_or_null d.stack_priority)
+    ∷ (codes "timeout", decimal d.timeout) ∷ [])
 
 unfoldable pub dp_text : Configuration → Dp → List ℕ
 dp_text conf d = object (dp_members conf d)
@@ -88,12 +97,17 @@ dp_member conf d = (d.name, dp_text conf d)
 
 -- ---- VLANs
 
-abbrev pub vip_text : Net4 → List ℕ
-vip_text vip = quoted (net4_text vip.ip.0 vip.len)
+abbrev pub ip_text : Ip → List ℕ
+ip_text (ip.V4 a) = quoted (ip4_text a.0)
+ip_text (ip.V6 a) = quoted (ip6_text a.0)
+
+abbrev pub vip_text : Net → List ℕ
+vip_text (net.V4 n) = quoted (net4_text n.ip.0 n.len)
+vip_text (net.V6 n) = quoted (net6_text n.ip.0 n.len)
 
 abbrev pub route_text : Route → List ℕ
 route_text route =
-    object ((codes "ip_dst", vip_text route.dst) ∷ (codes "ip_gw", quoted (ip4_text route.gw.0)) ∷ [])
+    object ((codes "ip_dst", vip_text route.dst) ∷ (codes "ip_gw", ip_text route.gw) ∷ [])
 
 abbrev pub vlan_members : Vlan → List Member
 vlan_members v =

@@ -1,6 +1,6 @@
-ghost use Rattle.std.specs.Prelude.{◌≡◌, map, IfOk};
-ghost use Rattle.conf_json.specs.Json.{object};
-ghost use Rattle.conf_json.specs.Text.{dp_text, dp_member};
+ghost use Rattle.std.specs.Prelude.{◌≡◌, fold, map, IfOk, OnOk};
+ghost use Rattle.conf_json.specs.Json.{object, with_member};
+ghost use Rattle.conf_json.specs.Text.{lldp_members, dp_text, dp_member};
 
 use crate::lists::number_or_null;
 use crate::port::make_ports;
@@ -8,6 +8,16 @@ use crate::value::{Json, Object};
 use conf_types::{Conf, Dp};
 use net_base::NoMemory;
 use std::alloc::Global;
+
+/// How often links are probed, where they are.
+fn put_lldp(alloc: Global, made: &mut Object, lldp: Option<u32>) -> Result<(), NoMemory>
+    ensures { OnOk result (made.new ≡ fold with_member made.old (lldp_members lldp)) }
+{
+    match lldp {
+        Some(seconds) => made.put_number(alloc, "lldp_beacon", seconds),
+        None => Ok(()),
+    }
+}
 
 fn make_dp(alloc: Global, conf: &Conf, dp: &Dp) -> Result<Json, NoMemory>
     ensures { IfOk result (λ made. made ≡ dp_text conf.now dp.now) }
@@ -23,6 +33,7 @@ fn make_dp(alloc: Global, conf: &Conf, dp: &Dp) -> Result<Json, NoMemory>
     made.put_text(alloc, "hardware", &dp.hardware)?;
     let ports = make_ports(alloc, conf, dp.ports.as_slice())?;
     made.put(alloc, "interfaces", ports)?;
+    put_lldp(alloc, &mut made, dp.lldp)?;
     let priority = number_or_null(dp.stack_priority);
     made.put(alloc, "stack_priority", priority)?;
     made.put_number(alloc, "timeout", dp.timeout)?;

@@ -1,12 +1,12 @@
 ghost use Rattle.std.specs.Prelude.{◌≡◌, map, IfOk};
-ghost use Rattle.net_base.specs.Address.{ip4_text, mac_text};
+ghost use Rattle.net_base.specs.Address.{mac_text};
 ghost use Rattle.conf_json.specs.Json.{quoted, list, object};
-ghost use Rattle.conf_json.specs.Text.{vip_text, route_text, vlan_text, vlan_member};
+ghost use Rattle.conf_json.specs.Text.{ip_text, vip_text, route_text, vlan_text, vlan_member};
 
 use crate::lists::{make_names, put_numbered};
 use crate::value::{Array, Json, Object};
-use conf_types::{Route, Vlan};
-use net_base::{Ip4, Mac, Net4, NoMemory, Text};
+use conf_types::{Ip, Net, Route, Vlan};
+use net_base::{Mac, NoMemory, Text};
 use std::alloc::Global;
 
 fn make_mac(alloc: Global, mac: &Mac) -> Result<Json, NoMemory>
@@ -17,23 +17,29 @@ fn make_mac(alloc: Global, mac: &Mac) -> Result<Json, NoMemory>
     Json::text(alloc, text.as_str())
 }
 
-fn make_ip(alloc: Global, ip: &Ip4) -> Result<Json, NoMemory>
-    ensures { IfOk result (λ made. made ≡ quoted (ip4_text ip.now.0)) }
+fn make_ip(alloc: Global, ip: &Ip) -> Result<Json, NoMemory>
+    ensures { IfOk result (λ made. made ≡ ip_text ip.now) }
 {
     let mut text = Text::new(alloc);
-    ip.print(&mut text)?;
+    match ip {
+        Ip::V4(ip) => ip.print(&mut text)?,
+        Ip::V6(ip) => ip.print(&mut text)?,
+    }
     Json::text(alloc, text.as_str())
 }
 
-fn make_net(alloc: Global, net: &Net4) -> Result<Json, NoMemory>
+fn make_net(alloc: Global, net: &Net) -> Result<Json, NoMemory>
     ensures { IfOk result (λ made. made ≡ vip_text net.now) }
 {
     let mut text = Text::new(alloc);
-    net.print(&mut text)?;
+    match net {
+        Net::V4(net) => net.print(&mut text)?,
+        Net::V6(net) => net.print(&mut text)?,
+    }
     Json::text(alloc, text.as_str())
 }
 
-fn make_vips(alloc: Global, vips: &[Net4]) -> Result<Json, NoMemory>
+fn make_vips(alloc: Global, vips: &[Net]) -> Result<Json, NoMemory>
     ensures { IfOk result (λ made. made ≡ list (map vip_text vips.now)) }
 {
     let mut made = Array::new(alloc);

@@ -1,7 +1,7 @@
-use Rattle.std.proofs.Common.{◌∙◌, codes, ap, refl, map}
-use Rattle.conf_json.specs.Json.{braces, object}
-use Rattle.conf_json.specs.Text.{port_member, dp_text}
-use Rattle.conf_json.proofs.Members.{put_next}
+use Rattle.std.proofs.Common.{◌∙◌, codes, ap, sym, refl, fold, map}
+use Rattle.conf_json.specs.Json.{braces, object, with_member}
+use Rattle.conf_json.specs.Text.{port_member, lldp_members, dp_text}
+use Rattle.conf_json.proofs.Members.{put_next, two_more}
 use Rattle.conf_json.proofs.datapath.make_dp.Goals as goal
 
 -- the members are put one behind the other
@@ -17,6 +17,7 @@ returns c =
     let m7 = put_next (codes "drop_spoofed_faucet_mac") c.in_ok-put_flag-4.ensures m6 refl in
     let m8 = put_next (codes "hardware") c.in_ok-put_text-2.ensures m7 refl in
     let m9 = put_next (codes "interfaces") c.in_ok-put-2.ensures m8 (c.in_ok-ports.ensures ∙ ap (λ ports. object (map (port_member c.args.conf.now) ports)) c.as_slice.ensures) in
-    let m10 = put_next (codes "stack_priority") c.in_ok-put-3.ensures m9 c.number_or_null-priority.ensures in
+    let lldp = c.in_ok-put_lldp.ensures ∙ ap (λ ms. fold with_member ms (lldp_members c.args.dp.now.lldp)) m9 in
+    let m10 = put_next (codes "stack_priority") c.in_ok-put-3.ensures lldp c.number_or_null-priority.ensures in
     let m11 = put_next (codes "timeout") c.in_ok-put_number-2.ensures m10 refl in
-    c.into_json.ensures ∙ ap braces m11
+    c.into_json.ensures ∙ ap braces (m11 ∙ sym (two_more _ c.args.dp.now.lldp _ _))
