@@ -1,5 +1,5 @@
 -- Fields of a match are read exactly where they are spelled.
-use Rattle.std.proofs.Common.{◌≡◌, ℕ, ◌+◌, ◌*◌, ◌/◌, ◌%◌, ◌≤◌, Bool, true, false, not, ◌&&◌, eqb, ltb, List, ◌++◌, length, take, drop, Option, Some, None, Ok, refl, sym, ap, ◌∙◌, subst, arith, inl, inr}
+use Rattle.std.proofs.Common.{◌≡◌, ℕ, ◌+◌, ◌*◌, ◌/◌, ◌%◌, ◌==◌, ◌≤◌, Bool, true, false, not, ◌&&◌, eqb, ltb, List, ◌++◌, length, take, drop, Option, Some, None, Ok, refl, sym, ap, ◌∙◌, subst, arith, inl, inr}
 use Rattle.std.proofs.lemmas.Bool.{eqb-true, eqb-false, le-ltb, eq-eqb, ne_eqb, cases_Bool}
 use Rattle.std.proofs.lemmas.List.{length-drop, length-take-le, length-append, take-append-drop}
 use Rattle.net_base.specs.declared.field.Field.{Field}
@@ -8,6 +8,7 @@ use Rattle.net_base.specs.FieldId.{number_of, byte_len_of, all_ones}
 use Rattle.net_base.specs.WellFormed.{has_prerequisite}
 use Rattle.net_base.proofs.Rows.{one_byte}
 use Rattle.of_wire.specs.declared.fault.PartFault.{PartFault}
+use Rattle.of_wire.specs.Grammar.{◌▷◌, Number}
 use Rattle.of_wire.specs.Numbers.{number_in}
 use Rattle.of_wire.specs.Reading.{field_named, has_mask, payload_len, wanted_len, field_value, known_field, known_step, unknown_step, field_step}
 use Rattle.of_wire.specs.Spelling.{stands, placed, SpellsPlain, SpellsMasked, SpellsField, SpellsUnknown, SpellsItem, MayStand, known}
@@ -91,58 +92,59 @@ pub record FieldAgain (f : Field) (masked : Bool) (bytes : List ℕ) (size : ℕ
   pub size_is : size ≡ 4 + wanted_len f.id masked
   pub value : field_value f.id bytes ≡ f
 
+-- its class, its number with the mask flag, and its length
+record HeadAgain (id : FieldId) (masked : Bool) (back : List ℕ → Type 0) (first bytes : List ℕ) : Type 0 where
+  pub name : field_named bytes ≡ Some id
+  pub flag : has_mask bytes ≡ masked
+  pub len : payload_len bytes ≡ wanted_len id masked
+  pub size : length first ≡ 4 + length (drop 4 first)
+  pub behind : back (drop 4 first)
+
+head_again : (id : FieldId) (masked : Bool) (head : ℕ) (back : List ℕ → Type 0) (first rest : List ℕ) → head / 2 ≡ number_of id → (head % 2 == 1) ≡ masked
+    → (Number 2 0x8000 ▷ Number 1 head ▷ Number 1 (wanted_len id masked) ▷ back) first → HeadAgain id masked back first (first ++ rest)
+head_again id masked head back first rest half odd p =
+    let a = number_again 0 2 0x8000 (Number 1 head ▷ Number 1 (wanted_len id masked) ▷ back) first p in
+    let b = number_again 2 1 head (Number 1 (wanted_len id masked) ▷ back) first a.behind in
+    let c = number_again 3 1 (wanted_len id masked) back first b.behind in
+    let size : length first ≡ 4 + length (drop 4 first) = omega (arith, a.size, b.size, c.size) in
+    let is : number_in 2 1 (first ++ rest) ≡ head = number_of_front 2 1 first rest (omega arith) ∙ b.value in
+    record {
+      name = named_again (first ++ rest) id (number_of_front 0 2 first rest (omega arith) ∙ a.value) (ap (λ n. n / 2) is ∙ half);
+      flag = ap (λ n. n % 2 == 1) is ∙ odd;
+      len = number_of_front 3 1 first rest (omega arith) ∙ c.value;
+      size = size;
+      behind = c.behind;
+    }
+
+with_value : (f : Field) (masked : Bool) (back : List ℕ → Type 0) (first rest : List ℕ) → HeadAgain f.id masked back first (first ++ rest) → length (drop 4 first) ≡ wanted_len f.id masked
+    → field_value f.id (first ++ rest) ≡ f → FieldAgain f masked (first ++ rest) (length first)
+with_value f masked back first rest h long value =
+    let size : length first ≡ 4 + wanted_len f.id masked = h.size ∙ ap (λ n. 4 + n) long in
+    record { name = h.name; flag = h.flag; len = h.len; room = omega (arith, size, length-append first rest); size_is = size; value = value }
+
 pub plain_again : (f : Field) (first rest : List ℕ) → SpellsPlain f first → FieldAgain f false (first ++ rest) (length first)
 unfolding field_value
 plain_again f first rest p =
-    let bytes = first ++ rest in
     let n = byte_len_of f.id in
-    let a = number_again 0 2 0x8000 _ first p.parts in
-    let b = number_again 2 1 (2 * number_of f.id) _ first a.behind in
-    let c = number_again 3 1 n _ first b.behind in
-    let d = number_ends 4 n f.value first c.behind in
-    let size : length first ≡ 4 + n = omega (arith, a.size, b.size, c.size, d.1) in
-    let whole : length bytes ≡ length first + length rest = length-append first rest in
-    let class : number_in 0 2 bytes ≡ 0x8000 = number_of_front 0 2 first rest (omega arith) ∙ a.value in
-    let head : number_in 2 1 bytes ≡ 2 * number_of f.id = number_of_front 2 1 first rest (omega arith) ∙ b.value in
-    let len : number_in 3 1 bytes ≡ n = number_of_front 3 1 first rest (omega (arith, one_byte f.id)) ∙ c.value in
-    let v : number_in 4 n bytes ≡ f.value = number_of_front 4 n first rest (omega arith) ∙ d.0 in
-    let flag : has_mask bytes ≡ false = ne_eqb _ _ (λ e. omega (arith, e, head)) in
+    let h = head_again f.id false (2 * number_of f.id) (Number n f.value) first rest (omega arith) (ne_eqb _ _ (λ e. omega (arith, e))) p.parts in
+    let d = number_ends 4 n f.value first h.behind in
+    let v : number_in 4 n (first ++ rest) ≡ f.value = number_of_front 4 n first rest (omega (arith, h.size, d.1)) ∙ d.0 in
+    let flag = h.flag in
     let m = p.whole_mask in
-    record {
-      name = named_again bytes f.id class (omega (arith, head));
-      flag = flag;
-      len = len;
-      room = omega arith;
-      size_is = size;
-      value = rw (flag, v, sym m) refl;
-    }
+    with_value f false (Number n f.value) first rest h d.1 (rw (flag, v, sym m) refl)
 
 pub masked_again : (f : Field) (first rest : List ℕ) → SpellsMasked f first → FieldAgain f true (first ++ rest) (length first)
 unfolding field_value
 masked_again f first rest p =
-    let bytes = first ++ rest in
     let n = byte_len_of f.id in
-    let a = number_again 0 2 0x8000 _ first p in
-    let b = number_again 2 1 (2 * number_of f.id + 1) _ first a.behind in
-    let c = number_again 3 1 (2 * n) _ first b.behind in
-    let d = number_again 4 n f.value _ first c.behind in
+    let h = head_again f.id true (2 * number_of f.id + 1) (Number n f.value ▷ Number n f.mask) first rest (omega arith) (eq-eqb _ _ (omega arith)) p in
+    let d = number_again 4 n f.value (Number n f.mask) first h.behind in
     let e = number_ends (4 + n) n f.mask first d.behind in
-    let size : length first ≡ 4 + 2 * n = omega (arith, a.size, b.size, c.size, d.size, e.1) in
-    let whole : length bytes ≡ length first + length rest = length-append first rest in
-    let class : number_in 0 2 bytes ≡ 0x8000 = number_of_front 0 2 first rest (omega arith) ∙ a.value in
-    let head : number_in 2 1 bytes ≡ 2 * number_of f.id + 1 = number_of_front 2 1 first rest (omega arith) ∙ b.value in
-    let len : number_in 3 1 bytes ≡ 2 * n = number_of_front 3 1 first rest (omega (arith, one_byte f.id)) ∙ c.value in
-    let v : number_in 4 n bytes ≡ f.value = number_of_front 4 n first rest (omega arith) ∙ d.value in
-    let m : number_in (4 + n) n bytes ≡ f.mask = number_of_front (4 + n) n first rest (omega arith) ∙ e.0 in
-    let flag : has_mask bytes ≡ true = eq-eqb _ _ (omega (arith, head)) in
-    record {
-      name = named_again bytes f.id class (omega (arith, head));
-      flag = flag;
-      len = len;
-      room = omega arith;
-      size_is = size;
-      value = rw (flag, v, m) refl;
-    }
+    let long : length (drop 4 first) ≡ 2 * n = omega (arith, d.size, e.1) in
+    let v : number_in 4 n (first ++ rest) ≡ f.value = number_of_front 4 n first rest (omega (arith, h.size)) ∙ d.value in
+    let m : number_in (4 + n) n (first ++ rest) ≡ f.mask = number_of_front (4 + n) n first rest (omega (arith, h.size)) ∙ e.0 in
+    let flag = h.flag in
+    with_value f true (Number n f.value ▷ Number n f.mask) first rest h long (rw (flag, v, m) refl)
 
 -- ---- a known field among others
 

@@ -9,7 +9,7 @@ use Rattle.of_wire.specs.Numbers.{number_in}
 use Rattle.of_wire.specs.Parts.{up_to_8}
 use Rattle.of_wire.specs.Answers.{fault_at}
 use Rattle.of_wire.specs.Reading.{many, past_end, padding_at, field_step, fields_at, sized_match_at, match_at}
-use Rattle.of_wire.specs.Grammar.{Zeros, Joined}
+use Rattle.of_wire.specs.Grammar.{◌▷◌, Number, Zeros, Joined}
 use Rattle.of_wire.specs.Faults.{fields_of}
 use Rattle.of_wire.specs.Spelling.{SpellsItem, SpellsAnyMatch}
 use Rattle.of_wire.proofs.Grammars.{AreBytes, bytes_take, number_then, front_then, number_again, front_again, number_of_take, number_of_front}
@@ -35,32 +35,37 @@ outer a w xs h =
     let e : a + (w - a) ≡ w = omega arith in
     ap (λ k. drop a (take k xs)) (sym e) ∙ drop-take a (w - a) xs
 
+-- a number, a length, the bytes that it counts, and zeros up to a multiple of 8
+pub padded_front : (kind len : ℕ) (Inside : List ℕ → Type 0) (bytes : List ℕ) → AreBytes bytes → number_in 0 2 bytes ≡ kind → number_in 2 2 bytes ≡ len → 4 ≤ len → up_to_8 len ≤ length bytes
+    → take (up_to_8 len - len) (drop len bytes) ≡ replicate (up_to_8 len - len) 0 → Inside (take (len - 4) (drop 4 bytes)) → (Number 2 kind ▷ Number 2 len ▷ Inside ▷ Zeros (up_to_8 len - len)) (take (up_to_8 len) bytes)
+padded_front kind len Inside bytes h kind_is len_is least room zeros inside =
+    let up = up_to_8 len in
+    let more : len ≤ up = omega arith in
+    let xs = take up bytes in
+    let hx = bytes_take up bytes h in
+    let lx : length xs ≡ up = length-take-le up bytes room in
+    let body : take (len - 4) (drop 4 xs) ≡ take (len - 4) (drop 4 bytes) = inner 4 (len - 4) up bytes (omega arith) in
+    let whole_len : 4 + (len - 4) ≡ len = omega arith in
+    let tail : drop (4 + (len - 4)) xs ≡ replicate (up - len) 0 = ap (λ k. drop k xs) whole_len ∙ outer len up bytes more ∙ zeros in
+    number_then 0 2 kind (Number 2 len ▷ Inside ▷ Zeros (up - len)) xs hx (omega arith) (number_of_take 0 2 up bytes (omega arith) room ∙ kind_is) (
+    number_then 2 2 len (Inside ▷ Zeros (up - len)) xs hx (omega arith) (number_of_take 2 2 up bytes (omega arith) room ∙ len_is) (
+    front_then Inside (Zeros (up - len)) 4 (len - 4) xs (subst Inside (sym body) inside) tail))
+
 pub match_front : (strict : Bool) (fields : List Field) (bytes : List ℕ) → AreBytes bytes → number_in 0 2 bytes ≡ 1 → 4 ≤ number_in 2 2 bytes → Parts (SpellsItem strict) view [] (fields_of bytes) fields
     → up_to_8 (number_in 2 2 bytes) ≤ length bytes
     → take (up_to_8 (number_in 2 2 bytes) - number_in 2 2 bytes) (drop (number_in 2 2 bytes) bytes) ≡ replicate (up_to_8 (number_in 2 2 bytes) - number_in 2 2 bytes) 0
     → Front (SpellsAnyMatch strict fields) (up_to_8 (number_in 2 2 bytes)) bytes
 match_front strict fields bytes h kind least parts room zeros =
     let len = number_in 2 2 bytes in
-    let up = up_to_8 len in
-    let more : len ≤ up = omega arith in
-    let xs = take up bytes in
-    let hx = bytes_take up bytes h in
-    let lx : length xs ≡ up = length-take-le up bytes room in
-    let body : take (len - 4) (drop 4 xs) ≡ fields_of bytes = inner 4 (len - 4) up bytes (omega arith) in
+    let more : len ≤ up_to_8 len = omega arith in
     let size : 4 + length (fields_of bytes) ≡ len = omega (arith, length-take-le (len - 4) (drop 4 bytes) (omega (arith, length-drop 4 bytes))) in
-    let whole_len : 4 + (len - 4) ≡ len = omega arith in
-    let tail : drop (4 + (len - 4)) xs ≡ replicate (up - len) 0 = ap (λ k. drop k xs) whole_len ∙ outer len up bytes more ∙ zeros in
     record {
       room = room;
       some = omega arith;
       spelled = record {
         items = parts.all;
         len = len;
-        parts =
-            number_then 0 2 1 _ xs hx (omega arith) (number_of_take 0 2 up bytes (omega arith) room ∙ kind) (
-            number_then 2 2 len _ xs hx (omega arith) (number_of_take 2 2 up bytes (omega arith) room) (
-            front_then (λ body. (4 + length body ≡ len) × Joined (SpellsItem strict) [] parts.all body) (Zeros (up - len)) 4 (len - 4) xs
-            (subst (λ body. (4 + length body ≡ len) × Joined (SpellsItem strict) [] parts.all body) (sym body) (size, parts.joined)) tail));
+        parts = padded_front 1 len (λ body. (4 + length body ≡ len) × Joined (SpellsItem strict) [] parts.all body) bytes h kind refl least room zeros (size, parts.joined);
         sorted = parts.seen;
       };
     }
