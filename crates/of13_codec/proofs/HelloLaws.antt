@@ -7,9 +7,9 @@ use Rattle.of_wire.specs.Numbers.{number_in}
 use Rattle.of_wire.specs.Parts.{up_to_8}
 use Rattle.of_wire.specs.Reading.{many, padding_at}
 use Rattle.of_wire.specs.Grammar.{Zeros}
-use Rattle.of_wire.proofs.Grammars.{AreBytes, bytes_take, number_then, front_then, number_again, front_again, number_of_front, number_of_take, number_at_drop}
+use Rattle.of_wire.proofs.Grammars.{AreBytes, number_again, front_again, number_of_front, number_of_take, number_at_drop}
 use Rattle.of_wire.proofs.Padding.{padding_complete}
-use Rattle.of_wire.proofs.MatchLaws.{inner, outer}
+use Rattle.of_wire.proofs.MatchLaws.{padded_front}
 use Rattle.of_wire.proofs.Joining.{Part, IsRead, joined_read}
 use Rattle.of13_codec.specs.declared.message.Message.TheVariants.{Hello}
 use Rattle.of13_codec.specs.Decoding.{short, first_bitmap, element_at, hello_step, hello_at}
@@ -48,34 +48,19 @@ pub element_part : (before : List Element) (bytes : List ℕ) → AreBytes bytes
     → take (up_to_8 (number_in 2 2 bytes) - number_in 2 2 bytes) (drop (number_in 2 2 bytes) bytes) ≡ replicate (up_to_8 (number_in 2 2 bytes) - number_in 2 2 bytes) 0
     → Part EachElement bitmap_of before bytes (first_bitmap (bitmap_of before) (number_in 0 2 bytes) bytes, up_to_8 (number_in 2 2 bytes))
 element_part before bytes h least eight room zeros =
-    let kind = number_in 0 2 bytes in
     let len = number_in 2 2 bytes in
-    let up = up_to_8 len in
-    let more : len ≤ up = omega arith in
-    let xs = take up bytes in
-    let hx = bytes_take up bytes h in
-    let lx : length xs ≡ up = length-take-le up bytes room in
+    let more : len ≤ up_to_8 len = omega arith in
+    let lx : length (take (up_to_8 len) bytes) ≡ up_to_8 len = length-take-le (up_to_8 len) bytes room in
     let content = take (len - 4) (drop 4 bytes) in
     let size : length content ≡ len - 4 = length-take-le (len - 4) (drop 4 bytes) (omega (arith, length-drop 4 bytes)) in
-    let element : Element = record { kind = kind; content = content } in
-    let split : 4 + (len - 4) ≡ len = omega arith in
-    let tail : drop (4 + (len - 4)) xs ≡ replicate (up - len) 0 = ap (λ k. drop k xs) split ∙ outer len up bytes more ∙ zeros in
-    let body : take (len - 4) (drop 4 xs) ≡ content = inner 4 (len - 4) up bytes (omega arith) in
+    let element : Element = record { kind = number_in 0 2 bytes; content = content } in
     record {
       part = element;
       parts = record {
-        first = xs;
-        rest = drop up bytes;
-        whole = sym (take-append-drop up bytes);
-        in_front = record {
-          len = len;
-          parts =
-              number_then 0 2 kind _ xs hx (omega arith) (number_of_take 0 2 up bytes (omega arith) room) (
-              number_then 2 2 len _ xs hx (omega arith) (number_of_take 2 2 up bytes (omega arith) room) (
-              front_then (Raw (len - 4) content) (Zeros (up - len)) 4 (len - 4) xs (ap length body ∙ size, body) tail));
-          head = least;
-          bitmap = eight;
-        };
+        first = take (up_to_8 len) bytes;
+        rest = drop (up_to_8 len) bytes;
+        whole = sym (take-append-drop (up_to_8 len) bytes);
+        in_front = record { len = len; parts = padded_front element.kind len (Raw (len - 4) content) bytes h refl refl least room zeros (size, refl); head = least; bitmap = eight };
         behind = omega arith;
       };
       size = lx;
