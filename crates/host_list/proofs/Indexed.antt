@@ -10,6 +10,7 @@ use Rattle.std.proofs.lemmas.Bool.{cases_Bool}
 use Rattle.net_base.specs.declared.numbers.DpId.{DpId}
 use Rattle.net_base.specs.declared.numbers.Moment.{Moment}
 use Rattle.conf_types.specs.declared.state.HostRec.{HostRec}
+use Rattle.conf_types.specs.Configuration.{Configuration}
 use Rattle.indexmap.specs.IndexMap.{IndexMap}
 use Rattle.host_list.specs.declared.addresses.Address.{Address}
 use Rattle.host_list.specs.declared.addresses.Standing.{Standing}
@@ -17,8 +18,8 @@ use Rattle.host_list.specs.declared.counts.Spot.{Spot}
 use Rattle.host_list.specs.declared.shelves.Shelf.{Shelf}
 use Rattle.host_list.specs.Addresses.{Entry, address_of, entries_at, has_address, heard_at, is_address, off_place}
 use Rattle.host_list.specs.Counts.{at_spot, is_spot, one_at}
-use Rattle.host_list.specs.Order.{IsIndexed, both_spot, port_spot, share, vlan_spot}
-use Rattle.host_list.specs.Shelves.{is_shelved, lowered, noted, tightened}
+use Rattle.host_list.specs.Order.{IsIndexed, both_spot, port_spot, share, tightened, vlan_spot}
+use Rattle.host_list.specs.Shelves.{is_shelved, lowered, noted}
 use Rattle.host_list.proofs.Lists.{all_map, all_part, all_push, before_part, before_push, filter_part}
 use Rattle.host_list.proofs.Shelved.{lowered_apart, lowered_here, lowered_keeps, noted_apart, noted_here, noted_keeps, on_dp, tight_apart, tight_shelved}
 use Rattle.host_list.proofs.AtAddress.{flips}
@@ -101,14 +102,14 @@ module _ {S T : Type 0} (next : ℕ) (entries : List Entry) (addresses : IndexMa
     shelves_apart = noted_apart dp t shelves is.shelves_apart;
   }
 
-  pub tight : IsIndexed next entries addresses counts (map (tightened entries) shelves)
-  tight = record {
+  pub tight : (conf : Configuration) (moment : ℕ) → IsIndexed next entries addresses counts (map (tightened conf moment entries) shelves)
+  tight conf moment = record {
     rising = is.rising;
     below = is.below;
     at = is.at;
     counted = is.counted;
-    shelved = tight_shelved entries shelves is.shelved;
-    shelves_apart = tight_apart entries shelves is.shelves_apart;
+    shelved = tight_shelved conf moment entries shelves is.shelved;
+    shelves_apart = tight_apart conf moment entries shelves is.shelves_apart;
   }
 
   one_few : (a b : Spot) → one_at a b ≤ 1

@@ -7,10 +7,11 @@ use Rattle.std.proofs.lemmas.List.Folds.{list_any-append}
 use Rattle.net_base.specs.declared.numbers.DpId.{DpId}
 use Rattle.net_base.specs.declared.numbers.Moment.{Moment}
 use Rattle.conf_types.specs.declared.state.HostRec.{HostRec}
+use Rattle.conf_types.specs.Configuration.{Configuration}
 use Rattle.host_list.specs.declared.shelves.Shelf.{Shelf}
 use Rattle.host_list.specs.Addresses.{Entry}
-use Rattle.host_list.specs.Order.{AreShelves}
-use Rattle.host_list.specs.Shelves.{is_less, is_on, is_shelved, last_moment, least_on, lowered, noted, tightened}
+use Rattle.host_list.specs.Order.{AreShelves, is_due_from, tightened}
+use Rattle.host_list.specs.Shelves.{is_less, is_on, is_shelved, last_moment, least_on, lowered, noted}
 use Rattle.host_list.proofs.Lists.{all_both, all_map, before_push, none_passes}
 
 pub le_true : (a b : ℕ) → a ≤ b → nat_le a b ≡ true
@@ -146,28 +147,37 @@ all_swap : {A D : Type 0} (P : D → A → Type 0) (xs : List A) → ((d : D) �
 all_swap P [] all = tt
 all_swap P (x ∷ xs) all = ((λ d. (all d).0), all_swap P xs (λ d. (all d).1))
 
-module _ (entries : List Entry) where
-  tight_here : (host : HostRec) → ((dp : DpId) → (host.dp.0 == dp.0) ≡ true → (least_on dp last_moment entries).0 ≤ host.learned.0)
-      → (shelves : List Shelf) → list_any (λ (s : Shelf). s.dp.0 == host.dp.0) shelves ≡ true → is_shelved (map (tightened entries) shelves) host ≡ true
-  tight_here host least [] some = some
-  tight_here host least (s ∷ shelves) some =
-      elim (cases_Bool (s.dp.0 == host.dp.0)) [
-        | inl dp ↦ any_first (is_on host (tightened entries s)) (is_shelved (map (tightened entries) shelves) host)
-            (and_from (s.dp.0 == host.dp.0) (nat_le (least_on s.dp last_moment entries).0 host.learned.0) dp (le_true (least_on s.dp last_moment entries).0 host.learned.0 (least s.dp (eq-eqb host.dp.0 s.dp.0 (sym (eqb-true s.dp.0 host.dp.0 dp))))))
-        | inr other ↦ any_of (is_on host (tightened entries s)) (is_shelved (map (tightened entries) shelves) host) (tight_here host least shelves (sym (ap (λ b. b || list_any (λ (r : Shelf). r.dp.0 == host.dp.0) shelves) other) ∙ some))
+module _ (conf : Configuration) (moment : ℕ) (entries : List Entry) where
+  on_tight : (host : HostRec) → ((dp : DpId) → (host.dp.0 == dp.0) ≡ true → (least_on dp last_moment entries).0 ≤ host.learned.0) → (s : Shelf) → is_on host s ≡ true → is_on host (tightened conf moment entries s) ≡ true
+  on_tight host least s on =
+      let both = and_parts (s.dp.0 == host.dp.0) (nat_le s.least.0 host.learned.0) on in
+      let same = eq-eqb host.dp.0 s.dp.0 (sym (eqb-true s.dp.0 host.dp.0 both.0)) in
+      let with = λ (b : Bool). is_on host (record s { least = if b then least_on s.dp last_moment entries else s.least }) in
+      elim (cases_Bool (is_due_from conf moment s)) [
+        | inl due ↦ ap with due ∙ and_from (s.dp.0 == host.dp.0) (nat_le (least_on s.dp last_moment entries).0 host.learned.0) both.0 (le_true (least_on s.dp last_moment entries).0 host.learned.0 (least s.dp same))
+        | inr rests ↦ ap with rests ∙ on
       ]
 
-  pub tight_shelved : (shelves : List Shelf) → AllByRecursion (λ (e : Entry). is_shelved shelves e.1 ≡ true) entries → AllByRecursion (λ (e : Entry). is_shelved (map (tightened entries) shelves) e.1 ≡ true) entries
+  tight_here : (host : HostRec) → ((dp : DpId) → (host.dp.0 == dp.0) ≡ true → (least_on dp last_moment entries).0 ≤ host.learned.0)
+      → (shelves : List Shelf) → is_shelved shelves host ≡ true → is_shelved (map (tightened conf moment entries) shelves) host ≡ true
+  tight_here host least [] on = on
+  tight_here host least (s ∷ shelves) on =
+      elim (cases_Bool (is_on host s)) [
+        | inl here ↦ any_first (is_on host (tightened conf moment entries s)) (is_shelved (map (tightened conf moment entries) shelves) host) (on_tight host least s here)
+        | inr other ↦ any_of (is_on host (tightened conf moment entries s)) (is_shelved (map (tightened conf moment entries) shelves) host) (tight_here host least shelves (sym (ap (λ b. b || is_shelved shelves host) other) ∙ on))
+      ]
+
+  pub tight_shelved : (shelves : List Shelf) → AllByRecursion (λ (e : Entry). is_shelved shelves e.1 ≡ true) entries → AllByRecursion (λ (e : Entry). is_shelved (map (tightened conf moment entries) shelves) e.1 ≡ true) entries
   tight_shelved shelves on =
       let least = all_swap (λ (dp : DpId) (e : Entry). (e.1.dp.0 == dp.0) ≡ true → (least_on dp last_moment entries).0 ≤ e.1.learned.0) entries (λ dp. least_of_each dp last_moment entries) in
-      all_map (λ (e : Entry). (is_shelved shelves e.1 ≡ true) × ((dp : DpId) → (e.1.dp.0 == dp.0) ≡ true → (least_on dp last_moment entries).0 ≤ e.1.learned.0)) (λ (e : Entry). is_shelved (map (tightened entries) shelves) e.1 ≡ true)
-      (λ e both. tight_here e.1 both.1 shelves (on_dp e.1 shelves both.0)) entries
+      all_map (λ (e : Entry). (is_shelved shelves e.1 ≡ true) × ((dp : DpId) → (e.1.dp.0 == dp.0) ≡ true → (least_on dp last_moment entries).0 ≤ e.1.learned.0)) (λ (e : Entry). is_shelved (map (tightened conf moment entries) shelves) e.1 ≡ true)
+      (λ e both. tight_here e.1 both.1 shelves both.0) entries
       (all_both (λ (e : Entry). is_shelved shelves e.1 ≡ true) (λ (e : Entry). (dp : DpId) → (e.1.dp.0 == dp.0) ≡ true → (least_on dp last_moment entries).0 ≤ e.1.learned.0) entries on least)
 
-  pub tight_apart : (shelves : List Shelf) → AreShelves shelves → AreShelves (map (tightened entries) shelves)
+  pub tight_apart : (shelves : List Shelf) → AreShelves shelves → AreShelves (map (tightened conf moment entries) shelves)
   tight_apart [] apart = tt
   tight_apart (s ∷ shelves) apart = (each s shelves apart.0, tight_apart shelves apart.1)
     where
-      each : (s : Shelf) (shelves : List Shelf) → AllByRecursion (λ (r : Shelf). (s.dp.0 == r.dp.0) ≡ false) shelves → AllByRecursion (λ (r : Shelf). (s.dp.0 == r.dp.0) ≡ false) (map (tightened entries) shelves)
+      each : (s : Shelf) (shelves : List Shelf) → AllByRecursion (λ (r : Shelf). (s.dp.0 == r.dp.0) ≡ false) shelves → AllByRecursion (λ (r : Shelf). (s.dp.0 == r.dp.0) ≡ false) (map (tightened conf moment entries) shelves)
       each s [] all = tt
       each s (r ∷ shelves) all = (all.0, each s shelves all.1)

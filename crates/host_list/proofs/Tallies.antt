@@ -1,20 +1,24 @@
--- What the counts at a spot and the shelves tell of the hosts.
-use Rattle.std.proofs.Common.{◌≡◌, ℕ, ◌+◌, ◌≤◌, ◌==◌, ◌&&◌, ◌||◌, Bool, true, false, cond, List, [], ◌∷◌, suc, length, Some, None, inl, inr, refl, sym, ap, ◌∙◌, arith, count_by, sum_by, nat_lt, subst, eq-eqb, if◌then◌else◌}
+-- What the counts at a spot tell of the hosts, also those of the datapaths of a group together.
+use Rattle.std.proofs.Common.{◌≡◌, ℕ, ◌+◌, ◌≤◌, ◌==◌, ◌&&◌, ◌||◌, Bool, true, false, cond, List, [], ◌∷◌, zero, suc, length, Some, None, inl, inr, refl, sym, ap, ◌∙◌, arith, count_by, sum_by, nat_lt, subst, eq-eqb, if◌then◌else◌}
 use Rattle.std.specs.List.{AllByRecursion, list_any}
 use Rattle.std.proofs.lemmas.Bool.{cases_Bool, eqb-true, ltb-false, false≢true}
+use Rattle.std.proofs.lemmas.List.Folds.{Any-from_list_any}
 use Rattle.std.proofs.lemmas.List.Sums.{sum_by-cons}
 use Rattle.net_base.specs.declared.numbers.DpId.{DpId}
+use Rattle.conf_types.specs.declared.datapath.Dp.{Dp}
 use Rattle.conf_types.specs.declared.state.HostRec.{HostRec}
 use Rattle.conf_types.specs.Configuration.{Configuration}
-use Rattle.conf_types.specs.Groups.{group_of}
+use Rattle.conf_types.specs.Groups.{IsDp, Walk, group_of}
+use Rattle.conf_types.specs.Lists.{EachBefore}
 use Rattle.conf_types.specs.State.{is_host_at, is_host_in}
-use Rattle.conf_types.proofs.Reached.{same_id}
+use Rattle.conf_types.proofs.Alone.{group_alone}
+use Rattle.conf_types.proofs.Found.{of_all}
+use Rattle.conf_types.proofs.Reached.{group_is, same_id}
 use Rattle.host_list.specs.declared.counts.Spot.{Spot}
-use Rattle.host_list.specs.declared.shelves.Shelf.{Shelf}
 use Rattle.host_list.specs.Addresses.{Entry}
-use Rattle.host_list.specs.Order.{AreShelves, hosts_of, share, vlan_part}
-use Rattle.host_list.specs.Shelves.{is_shelved}
-use Rattle.host_list.proofs.Shelved.{on_dp}
+use Rattle.host_list.specs.Order.{hosts_of, share, vlan_part}
+use Rattle.host_list.proofs.Entries.{eqb-false}
+use Rattle.host_list.proofs.Lists.{all_map, none_passes}
 
 pub hosts_many : (entries : List Entry) → length (hosts_of entries) ≡ length entries
 hosts_many [] = refl
@@ -68,67 +72,132 @@ some_pass test (h ∷ hosts) =
     positive : (n : ℕ) → nat_lt 0 (1 + n) ≡ true
     positive n = elim (cases_Bool (nat_lt 0 (1 + n))) [ inl is ↦ is | inr is ↦ let at_most : 1 + n ≤ 0 = ltb-false 0 (1 + n) is in absurd (omega arith) ]
 
--- ---- over the shelves
+-- ---- over the datapaths
+
+-- where a walk leads there is a datapath
+walk_ends : (conf : Configuration) (n : ℕ) (c b : DpId) → Walk conf c b n → IsDp conf b
+walk_ends conf zero c b w = subst (λ x. IsDp conf x) w.1 w.0
+walk_ends conf (suc n) c b w = walk_ends conf n w.0 b w.2
+
+flip : (a b : ℕ) → (a == b) ≡ false → (b == a) ≡ false
+flip a b other = elim (cases_Bool (b == a)) [ inl same ↦ absurd (false≢true (sym other ∙ eq-eqb a b (sym (eqb-true b a same)))) | inr is ↦ is ]
+
+module _ (conf : Configuration) where
+  abbrev is_in : DpId → Bool
+  is_in dp = list_any (λ (d : Dp). d.id.0 == dp.0) conf.dps
+
+  in_is : (dp : DpId) → is_in dp ≡ true → IsDp conf dp
+  in_is dp some =
+      let found = Any-from_list_any (λ (d : Dp). d.id.0 == dp.0) conf.dps some in
+      let d : Dp = found.1 in
+      record { dp = d; here = (found.0, found.2, found.3); id_is = same_id d.id dp (eqb-true d.id.0 dp.0 found.4) }
+
+  is_there : (dp : DpId) → IsDp conf dp → is_in dp ≡ true
+  is_there dp known =
+      elim (cases_Bool (is_in dp)) [
+        | inl is ↦ is
+        | inr none ↦
+            let off : (known.dp.id.0 == dp.0) ≡ false = of_all (λ (d : Dp). (d.id.0 == dp.0) ≡ false) conf.dps known.dp (none_passes (λ (d : Dp). d.id.0 == dp.0) conf.dps none) known.here in
+            absurd (false≢true (sym off ∙ eq-eqb known.dp.id.0 dp.0 (ap (λ (x : DpId). x.0) known.id_is)))
+      ]
+
+  -- two of which one alone is a datapath of the configuration
+  in_apart : (a b : DpId) → is_in a ≡ true → is_in b ≡ false → (a.0 == b.0) ≡ false
+  in_apart a b is none =
+      elim (cases_Bool (a.0 == b.0)) [
+        | inl same ↦ absurd (false≢true (sym none ∙ ap is_in (sym (same_id a b (eqb-true a.0 b.0 same))) ∙ is))
+        | inr other ↦ other
+      ]
+
+  not_in : (dp : DpId) → is_in dp ≡ false → dp ≡ group_of conf dp
+  not_in dp none = group_alone conf dp (λ known. false≢true (sym none ∙ is_there dp known))
+
+  group_in : (dp : DpId) → is_in dp ≡ true → is_in (group_of conf dp) ≡ true
+  group_in dp is =
+      let joined = (group_is conf dp (in_is dp is)).joined in
+      is_there (group_of conf dp) (walk_ends conf joined.0 dp (group_of conf dp) joined.1)
 
 module _ (conf : Configuration) (group : DpId) (v : ℕ) where
-  -- what one host adds to a shelf's part
-  abbrev adds : HostRec → Shelf → ℕ
-  adds h s = if (group_of conf s.dp).0 == group.0 then cond (h.dp.0 == s.dp.0 && h.vid == v) 1 0 else 0
+  -- what one host adds to a datapath's part
+  abbrev adds : HostRec → Dp → ℕ
+  adds h d = if (group_of conf d.id).0 == group.0 then cond (h.dp.0 == d.id.0 && h.vid == v) 1 0 else 0
 
-  part_more : (e : Entry) (entries : List Entry) (s : Shelf) → vlan_part conf (e ∷ entries) group v s ≡ adds e.1 s + vlan_part conf entries group v s
-  part_more e entries s =
-      let spot : Spot = record { dp = s.dp; port = None; vid = Some v } in
-      elim (cases_Bool ((group_of conf s.dp).0 == group.0)) [
-        | inl here ↦ ap (λ b. if b then sum_by (λ (e : Entry). share spot e.1) (e ∷ entries) else 0) here ∙ sum_by-cons (λ (e : Entry). share spot e.1) e entries ∙ ap (λ k. k + sum_by (λ (e : Entry). share spot e.1) entries) (vlan_share s.dp v e.1)
-            ∙ sym (ap (λ b. (if b then cond (e.1.dp.0 == s.dp.0 && e.1.vid == v) 1 0 else 0) + (if b then sum_by (λ (e : Entry). share spot e.1) entries else 0)) here)
+  part_more : (e : Entry) (entries : List Entry) (d : Dp) → vlan_part conf (e ∷ entries) group v d ≡ adds e.1 d + vlan_part conf entries group v d
+  part_more e entries d =
+      let spot : Spot = record { dp = d.id; port = None; vid = Some v } in
+      elim (cases_Bool ((group_of conf d.id).0 == group.0)) [
+        | inl here ↦ ap (λ b. if b then sum_by (λ (e : Entry). share spot e.1) (e ∷ entries) else 0) here ∙ sum_by-cons (λ (e : Entry). share spot e.1) e entries ∙ ap (λ k. k + sum_by (λ (e : Entry). share spot e.1) entries) (vlan_share d.id v e.1)
+            ∙ sym (ap (λ b. (if b then cond (e.1.dp.0 == d.id.0 && e.1.vid == v) 1 0 else 0) + (if b then sum_by (λ (e : Entry). share spot e.1) entries else 0)) here)
         | inr other ↦ ap (λ b. if b then sum_by (λ (e : Entry). share spot e.1) (e ∷ entries) else 0) other
-            ∙ sym (ap (λ b. (if b then cond (e.1.dp.0 == s.dp.0 && e.1.vid == v) 1 0 else 0) + (if b then sum_by (λ (e : Entry). share spot e.1) entries else 0)) other)
+            ∙ sym (ap (λ b. (if b then cond (e.1.dp.0 == d.id.0 && e.1.vid == v) 1 0 else 0) + (if b then sum_by (λ (e : Entry). share spot e.1) entries else 0)) other)
       ]
 
-  total_more : (e : Entry) (entries : List Entry) (shelves : List Shelf) → sum_by (vlan_part conf (e ∷ entries) group v) shelves ≡ sum_by (adds e.1) shelves + sum_by (vlan_part conf entries group v) shelves
+  total_more : (e : Entry) (entries : List Entry) (dps : List Dp) → sum_by (vlan_part conf (e ∷ entries) group v) dps ≡ sum_by (adds e.1) dps + sum_by (vlan_part conf entries group v) dps
   total_more e entries [] = refl
-  total_more e entries (s ∷ shelves) =
-      omega (arith, sum_by-cons (vlan_part conf (e ∷ entries) group v) s shelves, sum_by-cons (adds e.1) s shelves, sum_by-cons (vlan_part conf entries group v) s shelves, part_more e entries s, total_more e entries shelves)
+  total_more e entries (d ∷ dps) =
+      omega (arith, sum_by-cons (vlan_part conf (e ∷ entries) group v) d dps, sum_by-cons (adds e.1) d dps, sum_by-cons (vlan_part conf entries group v) d dps, part_more e entries d, total_more e entries dps)
 
-  total_none : (shelves : List Shelf) → sum_by (vlan_part conf [] group v) shelves ≡ 0
+  total_none : (dps : List Dp) → sum_by (vlan_part conf [] group v) dps ≡ 0
   total_none [] = refl
-  total_none (s ∷ shelves) =
-      let zero : vlan_part conf [] group v s ≡ 0 = elim ((group_of conf s.dp).0 == group.0) as (λ b. (if b then sum_by (λ (e : Entry). share (record { dp = s.dp; port = None; vid = Some v }) e.1) [] else 0) ≡ 0) [ true ↦ refl | false ↦ refl ] in
-      omega (arith, sum_by-cons (vlan_part conf [] group v) s shelves, zero, total_none shelves)
+  total_none (d ∷ dps) =
+      let zero : vlan_part conf [] group v d ≡ 0 = elim ((group_of conf d.id).0 == group.0) as (λ b. (if b then sum_by (λ (e : Entry). share (record { dp = d.id; port = None; vid = Some v }) e.1) [] else 0) ≡ 0) [ true ↦ refl | false ↦ refl ] in
+      omega (arith, sum_by-cons (vlan_part conf [] group v) d dps, zero, total_none dps)
 
-  apart_adds : (h : HostRec) (s : Shelf) → (h.dp.0 == s.dp.0) ≡ false → adds h s ≡ 0
-  apart_adds h s other =
-      let none : ◌≡◌ {A = ℕ} (cond (h.dp.0 == s.dp.0 && h.vid == v) 1 0) 0 = ap (λ b. cond (b && h.vid == v) 1 0) other in
-      ap (λ k. if (group_of conf s.dp).0 == group.0 then k else 0) none ∙ elim ((group_of conf s.dp).0 == group.0) as (λ b. ◌≡◌ {A = ℕ} (if b then 0 else 0) 0) [ true ↦ refl | false ↦ refl ]
+  apart_adds : (h : HostRec) (d : Dp) → (h.dp.0 == d.id.0) ≡ false → adds h d ≡ 0
+  apart_adds h d other =
+      let none : ◌≡◌ {A = ℕ} (cond (h.dp.0 == d.id.0 && h.vid == v) 1 0) 0 = ap (λ b. cond (b && h.vid == v) 1 0) other in
+      ap (λ k. if (group_of conf d.id).0 == group.0 then k else 0) none ∙ elim ((group_of conf d.id).0 == group.0) as (λ b. ◌≡◌ {A = ℕ} (if b then 0 else 0) 0) [ true ↦ refl | false ↦ refl ]
 
-  none_adds : (h : HostRec) (shelves : List Shelf) → AllByRecursion (λ (s : Shelf). (h.dp.0 == s.dp.0) ≡ false) shelves → sum_by (adds h) shelves ≡ 0
+  none_adds : (h : HostRec) (dps : List Dp) → AllByRecursion (λ (d : Dp). (h.dp.0 == d.id.0) ≡ false) dps → sum_by (adds h) dps ≡ 0
   none_adds h [] all = refl
-  none_adds h (s ∷ shelves) all = omega (arith, sum_by-cons (adds h) s shelves, apart_adds h s all.0, none_adds h shelves all.1)
+  none_adds h (d ∷ dps) all = omega (arith, sum_by-cons (adds h) d dps, apart_adds h d all.0, none_adds h dps all.1)
 
-  -- a host counts on the one shelf of its datapath
-  one_adds : (h : HostRec) (shelves : List Shelf) → AreShelves shelves → list_any (λ (s : Shelf). s.dp.0 == h.dp.0) shelves ≡ true → sum_by (adds h) shelves ≡ cond (is_host_in conf group v h) 1 0
+  -- a host counts on the one datapath that is its own
+  one_adds : (h : HostRec) (dps : List Dp) → EachBefore (λ (d : Dp) (e : Dp). d.id.0 ≡ e.id.0 → ⊥) dps → list_any (λ (d : Dp). d.id.0 == h.dp.0) dps ≡ true → sum_by (adds h) dps ≡ cond (is_host_in conf group v h) 1 0
   one_adds h [] apart some = absurd (false≢true some)
-  one_adds h (s ∷ shelves) apart some =
-      elim (cases_Bool (s.dp.0 == h.dp.0)) [
+  one_adds h (d ∷ dps) apart some =
+      elim (cases_Bool (d.id.0 == h.dp.0)) [
         | inl here ↦
-            let dp : s.dp ≡ h.dp = same_id s.dp h.dp (eqb-true s.dp.0 h.dp.0 here) in
-            let rest : sum_by (adds h) shelves ≡ 0 = none_adds h shelves (subst (λ (d : DpId). AllByRecursion (λ (r : Shelf). (d.0 == r.dp.0) ≡ false) shelves) dp apart.0) in
+            let dp : d.id ≡ h.dp = same_id d.id h.dp (eqb-true d.id.0 h.dp.0 here) in
+            let others : AllByRecursion (λ (e : Dp). (h.dp.0 == e.id.0) ≡ false) dps =
+            all_map (λ (e : Dp). d.id.0 ≡ e.id.0 → ⊥) (λ (e : Dp). (h.dp.0 == e.id.0) ≡ false) (λ e ne. eqb-false h.dp.0 e.id.0 (λ same. ne (ap (λ (x : DpId). x.0) dp ∙ same))) dps apart.0 in
+            let rest : sum_by (adds h) dps ≡ 0 = none_adds h dps others in
             let own : ◌≡◌ {A = ℕ} (cond (h.dp.0 == h.dp.0 && h.vid == v) 1 0) (cond (h.vid == v) 1 0) = ap (λ b. cond (b && h.vid == v) 1 0) (eq-eqb h.dp.0 h.dp.0 refl) in
-            let first : adds h s ≡ cond (is_host_in conf group v h) 1 0 =
-            ap (λ (d : DpId). adds h (record s { dp = d })) dp
+            let first : adds h d ≡ cond (is_host_in conf group v h) 1 0 =
+            ap (λ (x : DpId). adds h (record d { id = x })) dp
             ∙ ap (λ (k : ℕ). if (group_of conf h.dp).0 == group.0 then k else 0) own
             ∙ elim ((group_of conf h.dp).0 == group.0) as (λ b. ◌≡◌ {A = ℕ} (if b then cond (h.vid == v) 1 0 else 0) (cond (b && h.vid == v) 1 0)) [ true ↦ refl | false ↦ refl ] in
-            omega (arith, sum_by-cons (adds h) s shelves, first, rest)
+            omega (arith, sum_by-cons (adds h) d dps, first, rest)
         | inr other ↦
-            let none : adds h s ≡ 0 = apart_adds h s (flip s.dp.0 h.dp.0 other) in
-            omega (arith, sum_by-cons (adds h) s shelves, none, one_adds h shelves apart.1 (sym (ap (λ b. b || list_any (λ (r : Shelf). r.dp.0 == h.dp.0) shelves) other) ∙ some))
+            let none : adds h d ≡ 0 = apart_adds h d (flip d.id.0 h.dp.0 other) in
+            omega (arith, sum_by-cons (adds h) d dps, none, one_adds h dps apart.1 (sym (ap (λ b. b || list_any (λ (e : Dp). e.id.0 == h.dp.0) dps) other) ∙ some))
       ]
-    where
-      flip : (a b : ℕ) → (a == b) ≡ false → (b == a) ≡ false
-      flip a b other = elim (cases_Bool (b == a)) [ inl same ↦ absurd (false≢true (sym other ∙ eq-eqb a b (sym (eqb-true b a same)))) | inr is ↦ is ]
 
-  pub parts_are : (entries : List Entry) (shelves : List Shelf) → AreShelves shelves → AllByRecursion (λ (e : Entry). is_shelved shelves e.1 ≡ true) entries
-      → sum_by (vlan_part conf entries group v) shelves ≡ count_by (is_host_in conf group v) (hosts_of entries)
-  parts_are [] shelves apart on = total_none shelves
-  parts_are (e ∷ entries) shelves apart on =
-      omega (arith, total_more e entries shelves, one_adds e.1 shelves apart (on_dp e.1 shelves on.0), parts_are entries shelves apart on.1, sum_by-cons (λ (h : HostRec). cond (is_host_in conf group v h) 1 0) e.1 (hosts_of entries))
+  -- a host elsewhere counts nowhere, and isn't one of a group of the configuration
+  else_adds : IsDp conf group → (h : HostRec) → is_in conf h.dp ≡ false → sum_by (adds h) conf.dps ≡ cond (is_host_in conf group v h) 1 0
+  else_adds known h none =
+      let off : AllByRecursion (λ (d : Dp). (h.dp.0 == d.id.0) ≡ false) conf.dps =
+      all_map (λ (d : Dp). (d.id.0 == h.dp.0) ≡ false) (λ (d : Dp). (h.dp.0 == d.id.0) ≡ false) (λ d is. flip d.id.0 h.dp.0 is) conf.dps (none_passes (λ (d : Dp). d.id.0 == h.dp.0) conf.dps none) in
+      let other : ((group_of conf h.dp).0 == group.0) ≡ false = ap (λ (g : DpId). g.0 == group.0) (sym (not_in conf h.dp none)) ∙ flip group.0 h.dp.0 (in_apart conf group h.dp (is_there conf group known) none) in
+      none_adds h conf.dps off ∙ sym (ap (λ b. cond (b && h.vid == v) 1 0) other)
+
+  each_adds : EachBefore (λ (d : Dp) (e : Dp). d.id.0 ≡ e.id.0 → ⊥) conf.dps → IsDp conf group → (h : HostRec) → sum_by (adds h) conf.dps ≡ cond (is_host_in conf group v h) 1 0
+  each_adds apart known h = elim (cases_Bool (is_in conf h.dp)) [ inl is ↦ one_adds h conf.dps apart is | inr none ↦ else_adds known h none ]
+
+  pub parts_are : EachBefore (λ (d : Dp) (e : Dp). d.id.0 ≡ e.id.0 → ⊥) conf.dps → IsDp conf group → (entries : List Entry)
+      → sum_by (vlan_part conf entries group v) conf.dps ≡ count_by (is_host_in conf group v) (hosts_of entries)
+  parts_are apart known [] = total_none conf.dps
+  parts_are apart known (e ∷ entries) =
+      omega (arith, total_more e entries conf.dps, each_adds apart known e.1, parts_are apart known entries, sum_by-cons (λ (h : HostRec). cond (is_host_in conf group v h) 1 0) e.1 (hosts_of entries))
+
+  -- what is no datapath of the configuration is a group of its own
+  same_group : (IsDp conf group → ⊥) → (h : HostRec) → (h.dp.0 == group.0) ≡ ((group_of conf h.dp).0 == group.0)
+  same_group unknown h =
+      let none : is_in conf group ≡ false = elim (cases_Bool (is_in conf group)) [ inl is ↦ absurd (unknown (in_is conf group is)) | inr none ↦ none ] in
+      elim (cases_Bool (is_in conf h.dp)) [
+        | inl is ↦ in_apart conf h.dp group is none ∙ sym (in_apart conf (group_of conf h.dp) group (group_in conf h.dp is) none)
+        | inr off ↦ ap (λ (g : DpId). g.0 == group.0) (not_in conf h.dp off)
+      ]
+
+  pub alone_is : (IsDp conf group → ⊥) → (entries : List Entry) → sum_by (λ (e : Entry). share (record { dp = group; port = None; vid = Some v }) e.1) entries ≡ count_by (is_host_in conf group v) (hosts_of entries)
+  alone_is unknown = sum_is_count (share (record { dp = group; port = None; vid = Some v })) (is_host_in conf group v) (λ h. vlan_share group v h ∙ ap (λ b. cond (b && h.vid == v) 1 0) (same_group unknown h))

@@ -2,6 +2,8 @@
 use Rattle.std.specs.Prelude.{◌≡◌, ◌==◌, ◌<◌, ◌+◌, ◌&&◌, not, map, nat_le, Bool, true, false, ℕ, List, [], ◌∷◌, filter, sum_by, Option, Some, None, if◌then◌else◌}
 use Rattle.std.specs.List.{AllByRecursion}
 use Rattle.net_base.specs.declared.numbers.DpId.{DpId}
+use Rattle.net_base.specs.declared.numbers.Moment.{Moment}
+use Rattle.conf_types.specs.declared.datapath.Dp.{Dp}
 use Rattle.conf_types.specs.declared.state.HostRec.{HostRec}
 use Rattle.conf_types.specs.Configuration.{Configuration}
 use Rattle.conf_types.specs.State.{forgotten_at}
@@ -15,7 +17,7 @@ use Rattle.host_list.specs.declared.shelves.Shelf.{Shelf}
 use Rattle.host_list.specs.Addresses.{Entry, entries_at, has_address}
 use Rattle.host_list.specs.Counts.{one_at, at_spot}
 use Rattle.host_list.specs.Hosts.{is_heard, is_in_place}
-use Rattle.host_list.specs.Shelves.{is_shelved}
+use Rattle.host_list.specs.Shelves.{is_shelved, last_moment, least_on}
 
 -- the place of the first host that passes
 abbrev pub first_place : (HostRec → Bool) → List Entry → Option ℕ
@@ -52,14 +54,21 @@ both_spot host = record { dp = host.dp; port = Some host.port; vid = Some host.v
 abbrev pub share : Spot → HostRec → ℕ
 share spot host = one_at (port_spot host) spot + one_at (vlan_spot host) spot + one_at (both_spot host) spot
 
--- the hosts of a VLAN on a shelf's datapath, where it is one of the group
-abbrev pub vlan_part : Configuration → List Entry → DpId → ℕ → Shelf → ℕ
-vlan_part conf entries group vid shelf =
-    if (group_of conf shelf.dp).0 == group.0 then sum_by (λ (e : Entry). share (record { dp = shelf.dp; port = None; vid = Some vid }) e.1) entries else 0
+-- the hosts of a VLAN on a datapath, where it is one of the group
+abbrev pub vlan_part : Configuration → List Entry → DpId → ℕ → Dp → ℕ
+vlan_part conf entries group vid d =
+    if (group_of conf d.id).0 == group.0 then sum_by (λ (e : Entry). share (record { dp = d.id; port = None; vid = Some vid }) e.1) entries else 0
 
 -- a host that was last heard at the shelf's moment would be to be forgotten
 abbrev pub is_due_from : Configuration → ℕ → Shelf → Bool
 is_due_from conf moment shelf = nat_le (forgotten_at conf shelf.dp shelf.least.0) moment
+
+-- the least moment of the shelf's hosts, where one of them may be to be forgotten
+abbrev pub tight : Configuration → ℕ → List Entry → Shelf → Moment
+tight conf moment entries shelf = if is_due_from conf moment shelf then least_on shelf.dp last_moment entries else shelf.least
+
+abbrev pub tightened : Configuration → ℕ → List Entry → Shelf → Shelf
+tightened conf moment entries shelf = record shelf { least = tight conf moment entries shelf }
 
 -- each place is below those behind it
 abbrev pub AreRising : List Entry → Type 0

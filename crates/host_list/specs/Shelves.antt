@@ -36,6 +36,3 @@ last_moment = record { 0 = 2 ^ 64 - 1 }
 abbrev pub least_on : DpId → Moment → List (ℕ × HostRec) → Moment
 least_on dp least [] = least
 least_on dp least (e ∷ entries) = least_on dp (if is_less dp least e.1 then e.1.learned else least) entries
-
-abbrev pub tightened : List (ℕ × HostRec) → Shelf → Shelf
-tightened entries shelf = record shelf { least = least_on shelf.dp last_moment entries }

@@ -8,17 +8,9 @@ ghost use Rattle.host_list.specs.Passed.{ArePassed, is_due_past, no_earlier, non
 ghost use Rattle.host_list.specs.Hosts.{first_due, without_first};
 
 use crate::order::Order;
-use crate::shelves::Shelf;
+use crate::shelves::{Shelf, is_due_from};
 use conf_types::{Conf, HostRec};
 use net_base::Moment;
-
-/// Whether a host of a datapath that was last heard at the shelf's moment would be to be forgotten, if
-/// its port doesn't keep it for good.
-fn is_due_from(conf: &Conf, now: Moment, shelf: &Shelf) -> bool
-    ensures { result ≡ is_due_from conf.now now.0 shelf.now }
-{
-    conf.forgotten_at(shelf.dp, shelf.least).0 <= now.0
-}
 
 fn any_due_from(conf: &Conf, now: Moment, shelves: &[Shelf]) -> bool
     ensures { result ≡ list_any (is_due_from conf.now now.0) shelves.now }
@@ -98,7 +90,7 @@ fn take_first(order: &mut Order, passed: &mut Passed, conf: &Conf, now: Moment) 
         }
         (None, _) => {
             *passed = Passed::none();
-            order.tighten();
+            order.tighten(conf, now);
             None
         }
     }
@@ -140,6 +132,6 @@ pub(crate) fn leave_any_due(order: &mut Order, conf: &Conf, now: Moment)
 {
     if any_due_from(conf, now, order.shelves()) {
         leave_due(order, conf, now);
-        order.tighten();
+        order.tighten(conf, now);
     }
 }

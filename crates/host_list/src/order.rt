@@ -1,11 +1,13 @@
 //! The hosts in the order of learning, with what is kept to look them up.
 
-ghost use Rattle.std.specs.Prelude.{◌≡◌, ◌<◌, ◌≤◌, ◌+◌, ◌^◌, ◌++◌, ◌∷◌, [], ◌==◌, ◌&&◌, true, None, Some, count_by, length, slice_get, filter, sum_by, IfOk, OnOk, OnErr};
+ghost use Rattle.std.specs.Prelude.{◌≡◌, ◌<◌, ◌≤◌, ◌+◌, ◌^◌, ◌++◌, ◌∷◌, [], ◌==◌, ◌&&◌, true, None, Some, count_by, length, slice_get, slice_index_or, filter, sum_by, IfOk, OnOk, OnErr};
 ghost use Rattle.std.specs.BTreeMap.{is_at};
 ghost use Rattle.std.specs.Map.{lookup};
 ghost use Rattle.std.specs.Option.{option_copied};
 ghost use Rattle.std.specs.Ordering.{nat_cmp};
 ghost use Rattle.std.specs.List.{AllByRecursion};
+ghost use Rattle.conf_types.specs.declared.datapath.Dp.{Dp};
+ghost use Rattle.conf_types.specs.Groups.{IsDp};
 ghost use Rattle.conf_types.specs.State.{is_host_at, is_host_in, is_to_forget};
 ghost use Rattle.indexmap.specs.IndexMap.{spare};
 ghost use Rattle.host_list.specs.Addresses.{address_of, has_address, heard_at, off_place};
@@ -179,31 +181,51 @@ pub(crate) fn vlan_at_count(order: &Order, dp: DpId, port: PortNo, vid: Vid) -> 
     order.count(&at_both(dp, port, vid))
 }
 
-fn vlan_part(conf: &Conf, order: &Order, group: DpId, vid: Vid, shelf: &Shelf) -> usize
-    ensures { result ≡ vlan_part conf.now order.now group vid shelf.now }
+fn at_vlan(dp: DpId, vid: Vid) -> Spot
+    ensures { result ≡ record { dp = dp; port = None; vid = Some vid } }
 {
-    if conf.group_number(shelf.dp) == group {
-        order.count(&Spot {
-            dp: shelf.dp,
-            port: None,
-            vid: Some(vid.get()),
-        })
+    Spot {
+        dp,
+        port: None,
+        vid: Some(vid.get()),
+    }
+}
+
+fn vlan_part(conf: &Conf, order: &Order, group: DpId, vid: Vid, at: usize) -> usize
+    requires { at < length conf.now.dps }
+    ensures { (d : Dp) → result ≡ vlan_part conf.now order.now group vid (slice_index_or conf.now.dps at d) }
+{
+    if conf.group_of_place(at) == group {
+        let dps = conf.dps().as_slice();
+        order.count(&at_vlan(dps[at].id, vid))
     } else {
         0
     }
 }
 
-/// How many hosts of a VLAN stand in the group with this number.
+/// How many hosts of a VLAN stand on the datapaths of a group of the configuration.
+fn group_count(conf: &Conf, order: &Order, group: DpId, vid: Vid) -> usize
+    requires few { length order.now ≤ 2 ^ 32 }
+    requires known { IsDp conf.now group }
+    ensures { result ≡ count_by (is_host_in conf.now group vid) (hosts_of order.now) }
+{
+    let mut count = 0;
+    for at in 0..conf.dps().as_slice().len() {
+        count += vlan_part(conf, order, group, vid, at);
+    }
+    count
+}
+
+/// How many hosts of a VLAN stand in the group with this number, which is a datapath alone where the configuration
+/// has none with this identifier.
 pub(crate) fn vlan_count(conf: &Conf, order: &Order, group: DpId, vid: Vid) -> usize
     requires { length order.now ≤ 2 ^ 32 }
     ensures { result ≡ count_by (is_host_in conf.now group vid) (hosts_of order.now) }
 {
-    let mut count = 0;
-    let shelves = order.shelves();
-    for shelf in shelves {
-        count += vlan_part(conf, order, group, vid, shelf);
+    match conf.group(group) {
+        Some(_) => group_count(conf, order, group, vid),
+        None => order.count(&at_vlan(group, vid)),
     }
-    count
 }
 
 impl Order {
@@ -324,11 +346,11 @@ impl Order {
         hear(&mut self.shelves, dp, moment);
     }
 
-    /// Gives each datapath the least moment of its hosts.
-    pub(crate) fn tighten(&mut self)
+    /// Gives each datapath the least moment of its hosts, where one of them may be to be forgotten.
+    pub(crate) fn tighten(&mut self, conf: &Conf, now: Moment)
         ensures { self.new ≡ self.old }
     {
-        tighten(&mut self.shelves, &self.hosts);
+        tighten(conf, now, &self.hosts, &mut self.shelves);
     }
 
     /// Where the first host stands that is to be forgotten, behind those that were passed; and a moment

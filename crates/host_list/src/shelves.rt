@@ -2,9 +2,10 @@
 
 ghost use Rattle.std.specs.Prelude.{◌≡◌, ◌==◌, map, OnOk, OnErr};
 ghost use Rattle.std.specs.List.{list_any};
-ghost use Rattle.host_list.specs.Shelves.{is_above, is_less, last_moment, least_on, lowered, noted, tightened};
+ghost use Rattle.host_list.specs.Order.{is_due_from, tight, tightened};
+ghost use Rattle.host_list.specs.Shelves.{is_above, is_less, last_moment, least_on, lowered, noted};
 
-use conf_types::HostRec;
+use conf_types::{Conf, HostRec};
 use net_base::{DpId, Moment, NoMemory};
 use std::collections::BTreeMap;
 
@@ -79,18 +80,43 @@ fn least_on(hosts: &BTreeMap<u64, HostRec>, dp: DpId) -> Moment
     least
 }
 
-fn tighten_each(shelves: &mut [Shelf], hosts: &BTreeMap<u64, HostRec>)
-    ensures { shelves.new ≡ map (tightened hosts.now.entries) shelves.old }
+/// Whether a host of a datapath that was last heard at the shelf's moment would be to be forgotten, if
+/// its port doesn't keep it for good.
+pub(crate) fn is_due_from(conf: &Conf, now: Moment, shelf: &Shelf) -> bool
+    ensures { result ≡ is_due_from conf.now now.0 shelf.now }
+{
+    conf.forgotten_at(shelf.dp, shelf.least).0 <= now.0
+}
+
+/// The least moment of the shelf's hosts, where one of them may be to be forgotten. No host is looked at
+/// for another shelf.
+fn tight(conf: &Conf, now: Moment, hosts: &BTreeMap<u64, HostRec>, shelf: &Shelf) -> Moment
+    ensures { result ≡ tight conf.now now.0 hosts.now.entries shelf.now }
+{
+    if is_due_from(conf, now, shelf) {
+        least_on(hosts, shelf.dp)
+    } else {
+        shelf.least
+    }
+}
+
+fn tighten_each(conf: &Conf, now: Moment, hosts: &BTreeMap<u64, HostRec>, shelves: &mut [Shelf])
+    ensures { shelves.new ≡ map (tightened conf.now now.0 hosts.now.entries) shelves.old }
 {
     for shelf in shelves.iter_mut() {
-        let least = least_on(hosts, shelf.dp);
+        let least = tight(conf, now, hosts, shelf);
         shelf.least = least;
     }
 }
 
-/// Gives each shelf the least moment of its hosts.
-pub(crate) fn tighten(shelves: &mut Vec<Shelf>, hosts: &BTreeMap<u64, HostRec>)
-    ensures { shelves.new.items ≡ map (tightened hosts.now.entries) shelves.old.items }
+/// Gives each shelf the least moment of its hosts, where one of them may be to be forgotten.
+pub(crate) fn tighten(
+    conf: &Conf,
+    now: Moment,
+    hosts: &BTreeMap<u64, HostRec>,
+    shelves: &mut Vec<Shelf>,
+)
+    ensures { shelves.new.items ≡ map (tightened conf.now now.0 hosts.now.entries) shelves.old.items }
 {
-    tighten_each(shelves.as_mut_slice(), hosts);
+    tighten_each(conf, now, hosts, shelves.as_mut_slice());
 }

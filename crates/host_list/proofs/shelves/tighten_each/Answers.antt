@@ -2,7 +2,7 @@ use Rattle.std.proofs.Common.{ap, ◌∙◌, get_or, set, arith}
 use Rattle.std.proofs.lemmas.List.Edits.{map_over_more}
 use Rattle.net_base.specs.declared.numbers.Moment.{Moment}
 use Rattle.host_list.specs.declared.shelves.Shelf.{Shelf}
-use Rattle.host_list.specs.Shelves.{tightened}
+use Rattle.host_list.specs.Order.{tightened}
 use Rattle.host_list.proofs.Lists.{same_item}
 use Rattle.host_list.proofs.shelves.tighten_each.Goals as goal
 
@@ -12,5 +12,5 @@ loop-shelf-preserved c =
     let i = c.loop-shelf.shelf-index in
     let none : Shelf = record { dp = record { 0 = 0 }; least = record { 0 = 0 } } in
     let shelf : Shelf = get_or shelves i none in
-    ap (λ (m : Moment). set shelves i (record shelf { least = m })) c.least_on-least.ensures
-    ∙ map_over_more (tightened c.args.hosts.now.entries) c.args.shelves.now shelves i shelf (omega arith) c.loop-shelf.invariant (same_item shelves i none shelf (omega arith))
+    ap (λ (m : Moment). set shelves i (record shelf { least = m })) c.tight-least.ensures
+    ∙ map_over_more (tightened c.args.conf.now c.args.now.0 c.args.hosts.now.entries) c.args.shelves.now shelves i shelf (omega arith) c.loop-shelf.invariant (same_item shelves i none shelf (omega arith))

@@ -32,10 +32,7 @@ invariant_of-self-2 c =
 
 pub returns : goal.returns
 returns c =
-    let o = c.self.inside in
-    let n = c.args.place in
-    let m = c.args.moment in
-    let host = c.in-Some.host.now in
-    let new : HostRec = record host { learned = m } in
     let found = sym c.get_mut.ensures.value ∙ ap option_copied_mut c.in-Some.is in
-    (c.get_mut.follows.holds new).0 ∙ heard n m o.hosts.entries host c.self.invariant.rising found ∙ ap (heard_at n m) c.self.view_is
+    (c.get_mut.follows.holds (record c.in-Some.host.now { learned = c.args.moment })).0
+    ∙ heard c.args.place c.args.moment c.self.inside.hosts.entries c.in-Some.host.now c.self.invariant.rising found
+    ∙ ap (heard_at c.args.place c.args.moment) c.self.view_is

@@ -7,4 +7,4 @@ pub invariant_of-self : goal.invariant_of-self
 invariant_of-self c =
     let o = c.self.inside in
     subst (λ s. IsIndexed o.next o.hosts.entries o.addresses o.counts s) (sym c.tighten.ensures)
-    (tight o.next o.hosts.entries o.addresses o.counts o.shelves.items c.self.invariant)
+    (tight o.next o.hosts.entries o.addresses o.counts o.shelves.items c.self.invariant c.args.conf.now c.args.now.0)
