@@ -7,8 +7,10 @@ use Rattle.std.proofs.lemmas.Bool.Decides.{nat_tests}
 use Rattle.net_base.specs.declared.numbers.DpId.{DpId}
 use Rattle.conf_types.specs.declared.state.NeighRec.{NeighRec}
 use Rattle.conf_types.specs.Configuration.{Configuration}
+use Rattle.conf_types.specs.Families.{is_same_ip}
 use Rattle.conf_types.specs.Lists.{EachBefore}
 use Rattle.conf_types.specs.State.{IsSameNeighbour}
+use Rattle.conf_types.proofs.Families.{is_that_ip, same_ip}
 use Rattle.neighbour_resolve.specs.Due.{after_due, asked, asked_on, is_due, is_gateway, most_tries, next}
 use Rattle.neighbour_resolve.specs.Kept.{kept_neighbours, last_of_each, may_stay, regrouped}
 use Rattle.neighbour_resolve.specs.Parts.{AreSomeOf}
@@ -29,13 +31,13 @@ same_on a b c p q = record { groups = p.groups ∙ q.groups; vlans = p.vlans ∙
 
 pub same_true : (a b : NeighRec) → is_same a b ≡ true → IsSameNeighbour a b
 same_true a b is =
-    let both = and_parts (a.group.0 == b.group.0 && a.vid == b.vid) (a.ip.0 == b.ip.0) is in
+    let both = and_parts (a.group.0 == b.group.0 && a.vid == b.vid) (is_same_ip a.ip b.ip) is in
     let two = and_parts (a.group.0 == b.group.0) (a.vid == b.vid) both.0 in
-    record { groups = eqb-true a.group.0 b.group.0 two.0; vlans = eqb-true a.vid b.vid two.1; ips = eqb-true a.ip.0 b.ip.0 both.1 }
+    record { groups = eqb-true a.group.0 b.group.0 two.0; vlans = eqb-true a.vid b.vid two.1; ips = same_ip a.ip b.ip both.1 }
 
 pub same_is : (a b : NeighRec) → IsSameNeighbour a b → is_same a b ≡ true
 same_is a b same =
-    and_from (a.group.0 == b.group.0 && a.vid == b.vid) (a.ip.0 == b.ip.0) (and_from (a.group.0 == b.group.0) (a.vid == b.vid) (eq-eqb a.group.0 b.group.0 same.groups) (eq-eqb a.vid b.vid same.vlans)) (eq-eqb a.ip.0 b.ip.0 same.ips)
+    and_from (a.group.0 == b.group.0 && a.vid == b.vid) (is_same_ip a.ip b.ip) (and_from (a.group.0 == b.group.0) (a.vid == b.vid) (eq-eqb a.group.0 b.group.0 same.groups) (eq-eqb a.vid b.vid same.vlans)) (is_that_ip a.ip b.ip same.ips)
 
 pub same_false : (a b : NeighRec) → is_same a b ≡ false → IsSameNeighbour a b → ⊥
 same_false a b off same = false≢true (sym off ∙ same_is a b same)
@@ -119,7 +121,7 @@ filter_some p (n ∷ ns) =
       | false ↦ some_skip (filter p ns) n ns (filter_some p ns)
     ]
 
-same_key : (a b : NeighRec) → a.group.0 ≡ b.group.0 → a.vid ≡ b.vid → a.ip.0 ≡ b.ip.0 → IsSameNeighbour a b
+same_key : (a b : NeighRec) → a.group.0 ≡ b.group.0 → a.vid ≡ b.vid → a.ip ≡ b.ip → IsSameNeighbour a b
 same_key a b groups vlans ips = record { groups = groups; vlans = vlans; ips = ips }
 
 next_some : (conf : Configuration) (moment : ℕ) (n : NeighRec) (ns : List NeighRec) → AreSomeOf (option_map_or (λ m. m ∷ ns) (next conf moment n) ns) (n ∷ ns)

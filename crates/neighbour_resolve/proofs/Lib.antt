@@ -1,8 +1,12 @@
 pub mod Alone
+pub mod Asked
 pub mod Keys
+pub mod Messages
+pub mod Options
 pub mod Order
 pub mod Places
 pub mod Regrouped
 pub mod Schedule
 pub mod Silent
+pub mod Summed
 pub mod Valid

@@ -44,7 +44,7 @@ module _ (conf : Configuration) where
 
   stays_same : (running : List DpId) (n : NeighRec) → may_stay_by conf (map (group_of conf) running) n ≡ may_stay conf running n
   stays_same running n =
-      ap (λ b. is_neighbour_address (vips_of conf n.vid) n.ip.0 && b) (any_map (λ (group : DpId). group.0 == n.group.0) (group_of conf) running)
+      ap (λ b. is_neighbour_address (vips_of conf n.vid) n.ip && b) (any_map (λ (group : DpId). group.0 == n.group.0) (group_of conf) running)
 
   pub kept_same : (running : List DpId) (ns : List NeighRec)
       → last_of_each (filter (may_stay_by conf (map (group_of conf) running)) (filter_map (regrouped_by (map (group_row conf) conf.dps)) ns)) ≡ kept_neighbours conf running ns

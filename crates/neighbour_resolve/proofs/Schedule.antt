@@ -4,10 +4,11 @@ use Rattle.std.specs.List.{list_any}
 use Rattle.std.proofs.lemmas.Bool.{cases_Bool}
 use Rattle.std.proofs.lemmas.Bool.Decides.{nat_tests}
 use Rattle.std.proofs.lemmas.List.{map-append}
-use Rattle.net_base.specs.declared.address.Ip4.{Ip4}
+use Rattle.conf_types.specs.declared.address.Ip.{Ip}
 use Rattle.conf_types.specs.declared.state.NeighRec.{NeighRec}
 use Rattle.conf_types.specs.Configuration.{Configuration}
 use Rattle.conf_types.proofs.Found.{all_at}
+use Rattle.conf_types.specs.Families.{is_same_ip}
 use Rattle.conf_types.specs.Lists.{EachBefore}
 use Rattle.conf_types.specs.Routing.{routes_of}
 use Rattle.neighbour_resolve.specs.declared.neighbour.Due.{Due}
@@ -193,7 +194,7 @@ module _ (conf : Configuration) (n : NeighRec) (before : List NeighRec) (answers
       (ten.0, record { group = ten.1.group; vid = ten.1.vid; ip = ten.1.ip; tries = ten.1.tries; due_is = ten.1.due_is ∙ ap (λ t. n.due.0 + t) time }, single.0 ∙ ap (λ course. course.said) whole, single.1 ∙ ap (λ course. course.left) whole)
 
   same_gateway : (m : NeighRec) (due : ℕ) → Tried n m due → is_gateway conf m ≡ is_gateway conf n
-  same_gateway m due tried = ap (λ vid. list_any (λ route. route.gw.0 == m.ip.0) (routes_of conf vid)) tried.vid ∙ ap (λ (ip : Ip4). list_any (λ route. route.gw.0 == ip.0) (routes_of conf n.vid)) tried.ip
+  same_gateway m due tried = ap (λ vid. list_any (λ route. is_same_ip route.gw m.ip) (routes_of conf vid)) tried.vid ∙ ap (λ (ip : Ip). list_any (λ route. is_same_ip route.gw ip) (routes_of conf n.vid)) tried.ip
 
   same_ask : (m : NeighRec) (due : ℕ) → Tried n m due → (moments : List ℕ) → asked_at m moments ≡ asked_at n moments
   same_ask m due tried moments = ap (λ group. map (λ moment. at moment (Ask group m.vid m.ip)) moments) tried.group ∙ ap (λ vid. map (λ moment. at moment (Ask n.group vid m.ip)) moments) tried.vid ∙ ap (λ ip. map (λ moment. at moment (Ask n.group n.vid ip)) moments) tried.ip

@@ -18,7 +18,7 @@ use Rattle.neighbour_resolve.proofs.Keys.{all_map, due_some, filter_some, kept_t
 module _ (conf : Configuration) (state : State) where
   neighbour_by_key : (a b : NeighRec) → IsSameNeighbour a b → IsNeighbour conf state b → IsNeighbour conf state a
   neighbour_by_key a b same is = record {
-    address = ap (λ vid. is_neighbour_address (vips_of conf vid) a.ip.0) same.vlans ∙ ap (is_neighbour_address (vips_of conf b.vid)) same.ips ∙ is.address;
+    address = ap (λ vid. is_neighbour_address (vips_of conf vid) a.ip) same.vlans ∙ ap (is_neighbour_address (vips_of conf b.vid)) same.ips ∙ is.address;
     runs = ap (λ number. list_any (λ dp. (group_of conf dp).0 == number) state.running) same.groups ∙ is.runs;
   }
 
@@ -71,7 +71,7 @@ module _ (conf : Configuration) (state : State) where
       let staying = filter (may_stay conf state.running) (filter_map (regrouped conf) ns) in
       some_each (IsNeighbour conf state) neighbour_by_key (last_of_each staying) staying (last_some staying)
       (all_map (λ n. may_stay conf state.running n ≡ true) (IsNeighbour conf state)
-      (λ n is. let both = and_parts (is_neighbour_address (vips_of conf n.vid) n.ip.0) (list_any (λ dp. (group_of conf dp).0 == n.group.0) state.running) is in record { address = both.0; runs = both.1 })
+      (λ n is. let both = and_parts (is_neighbour_address (vips_of conf n.vid) n.ip) (list_any (λ dp. (group_of conf dp).0 == n.group.0) state.running) is in record { address = both.0; runs = both.1 })
       staying (filter_all (may_stay conf state.running) (filter_map (regrouped conf) ns)))
 
   pub kept_valid : (ns : List NeighRec) → length ns ≤ 2048 → IsValidState conf (record state { neighbours = [] }) → IsValidState conf (record state { neighbours = kept_neighbours conf state.running ns })

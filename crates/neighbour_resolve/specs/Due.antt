@@ -6,6 +6,7 @@ use Rattle.net_base.specs.declared.numbers.Moment.{Moment}
 use Rattle.conf_types.specs.declared.state.NeighRec.{NeighRec}
 use Rattle.conf_types.specs.Configuration.{Configuration}
 use Rattle.conf_types.specs.Count.{sum_up_to_greatest}
+use Rattle.conf_types.specs.Families.{is_same_ip}
 use Rattle.conf_types.specs.Routing.{routes_of}
 use Rattle.neighbour_resolve.specs.declared.neighbour.Due.{Due}
 use Rattle.neighbour_resolve.specs.declared.neighbour.Due.TheVariants.{Ask, Gone}
@@ -38,7 +39,7 @@ most_tries = 10
 
 -- a route of its own VLAN leads over it
 abbrev pub is_gateway : Configuration → NeighRec → Bool
-is_gateway conf n = list_any (λ route. route.gw.0 == n.ip.0) (routes_of conf n.vid)
+is_gateway conf n = list_any (λ route. is_same_ip route.gw n.ip) (routes_of conf n.vid)
 
 abbrev pub later : ℕ → ℕ → Moment
 later moment wait = record { 0 = sum_up_to_greatest moment wait }

@@ -17,7 +17,7 @@ regrouped conf n = option_map (λ d. record n { group = group_of conf d.id }) (d
 
 -- second: those whose address is still a neighbour's of their VLAN, where a datapath of their group runs
 abbrev pub may_stay : Configuration → (running : List DpId) → NeighRec → Bool
-may_stay conf running n = is_neighbour_address (vips_of conf n.vid) n.ip.0 && list_any (λ dp. (group_of conf dp).0 == n.group.0) running
+may_stay conf running n = is_neighbour_address (vips_of conf n.vid) n.ip && list_any (λ dp. (group_of conf dp).0 == n.group.0) running
 
 -- third: of several with one key the last
 abbrev pub last_of_each : List NeighRec → List NeighRec

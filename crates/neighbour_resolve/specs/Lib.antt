@@ -1,6 +1,7 @@
 pub mod Answers
 pub mod Asks
 pub mod Counted
+pub mod Discovery
 pub mod Due
 pub mod Hearing
 pub mod Kept
@@ -9,3 +10,4 @@ pub mod Passed
 pub mod Regroup
 pub mod Runs
 pub mod Table
+pub mod Worked

@@ -23,4 +23,4 @@ is_in groups n = list_any (λ group. group.0 == n.group.0) groups
 
 -- the groups are those of the datapaths that run
 abbrev pub may_stay_by : Configuration → (groups : List DpId) → NeighRec → Bool
-may_stay_by conf groups n = is_neighbour_address (vips_of conf n.vid) n.ip.0 && is_in groups n
+may_stay_by conf groups n = is_neighbour_address (vips_of conf n.vid) n.ip && is_in groups n

@@ -3,6 +3,7 @@ use Rattle.std.specs.Prelude.{◌≡◌, ℕ, ◌+◌, ◌==◌, ◌&&◌, Bool,
 use Rattle.std.specs.List.{find}
 use Rattle.conf_types.specs.declared.state.NeighRec.{NeighRec}
 use Rattle.conf_types.specs.Configuration.{Configuration}
+use Rattle.conf_types.specs.Families.{is_same_ip}
 use Rattle.conf_types.specs.Lists.{EachBefore}
 use Rattle.conf_types.specs.State.{IsSameNeighbour}
 use Rattle.neighbour_resolve.specs.declared.neighbour.Due.{Due}
@@ -28,8 +29,8 @@ Runs conf n moment before (first ∷ more) after =
 
 -- the answer speaks of this neighbour
 abbrev pub is_about : NeighRec → Due → Bool
-is_about n (Ask group vid ip) = n.group.0 == group.0 && n.vid == vid && n.ip.0 == ip.0
-is_about n (Gone group vid ip) = n.group.0 == group.0 && n.vid == vid && n.ip.0 == ip.0
+is_about n (Ask group vid ip) = n.group.0 == group.0 && n.vid == vid && is_same_ip n.ip ip
+is_about n (Gone group vid ip) = n.group.0 == group.0 && n.vid == vid && is_same_ip n.ip ip
 
 -- an answer and its moment
 pub record At : Type 0 where

@@ -1,12 +1,13 @@
 -- A table of neighbours as contracts see it, and what becomes of it where one is wanted or heard.
 use Rattle.std.specs.Prelude.{ℕ, ◌==◌, ◌&&◌, ◌≤◌, not, Bool, Some, None, List, [], ◌∷◌, ◌++◌, length, map, filter, is_some, nat_le, if◌then◌else◌}
 use Rattle.std.specs.List.{list_any}
-use Rattle.net_base.specs.declared.address.Ip4.{Ip4}
 use Rattle.net_base.specs.declared.address.Mac.{Mac}
 use Rattle.net_base.specs.declared.numbers.DpId.{DpId}
 use Rattle.net_base.specs.declared.numbers.Moment.{Moment}
+use Rattle.conf_types.specs.declared.address.Ip.{Ip}
 use Rattle.conf_types.specs.declared.state.NeighRec.{NeighRec}
 use Rattle.conf_types.specs.Count.{sum_up_to_greatest}
+use Rattle.conf_types.specs.Families.{is_same_ip}
 use Rattle.conf_types.specs.Lists.{EachBefore}
 use Rattle.conf_types.specs.State.{IsSameNeighbour}
 use Rattle.neighbour_resolve.specs.declared.neighbour.Want.{Want}
@@ -25,7 +26,7 @@ pub record IsTable (table : Table) : Type 0 where
 
 -- two have one key: the number of the group, the VLAN and the address
 abbrev pub is_same : NeighRec → NeighRec → Bool
-is_same a b = a.group.0 == b.group.0 && a.vid == b.vid && a.ip.0 == b.ip.0
+is_same a b = a.group.0 == b.group.0 && a.vid == b.vid && is_same_ip a.ip b.ip
 
 abbrev pub is_known : List NeighRec → NeighRec → Bool
 is_known neighbours told = list_any (is_same told) neighbours
@@ -33,7 +34,7 @@ is_known neighbours told = list_any (is_same told) neighbours
 -- ---- what is told of a neighbour
 
 -- that a packet wants it: it isn't resolved, was not asked yet, and is to be asked now
-abbrev pub unresolved : DpId → ℕ → Ip4 → Moment → NeighRec
+abbrev pub unresolved : DpId → ℕ → Ip → Moment → NeighRec
 unresolved group vid ip now = record {
   group = group;
   vid = vid;
@@ -44,7 +45,7 @@ unresolved group vid ip now = record {
 }
 
 -- that it was heard: it is resolved, and is to be asked again when so many milliseconds have passed
-abbrev pub resolved : DpId → ℕ → Ip4 → Mac → (timeout : ℕ) → Moment → NeighRec
+abbrev pub resolved : DpId → ℕ → Ip → Mac → (timeout : ℕ) → Moment → NeighRec
 resolved group vid ip mac timeout now = record {
   group = group;
   vid = vid;

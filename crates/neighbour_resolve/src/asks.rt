@@ -1,13 +1,13 @@
 //! What datapaths are told to send, to ask for a neighbour or to answer.
 
 ghost use Rattle.std.specs.Prelude.{◌≡◌, ◌++◌, IfOk, OnOk};
-ghost use Rattle.neighbour_resolve.specs.Asks.{ask, ask_on, native_ports, out_of, send_back, send_in, tag_with, tagged_ports};
+ghost use Rattle.neighbour_resolve.specs.Asks.{ask, ask_on, asking, asking_in, native_ports, out_of, send_back, send_in, tag_with, tagged_ports};
 
-use conf_types::{Conf, Dp, Member, Vlan};
-use net_base::{Bytes, DpId, Field, FieldId, Ip4, NoMemory, PortNo, Vid};
+use conf_types::{Conf, Dp, Ip, Member, Vlan};
+use net_base::{Bytes, DpId, Field, FieldId, Mac, NoMemory, PortNo, Vid};
 use of_match::ether_type::VLAN_TAG;
 use of_match::{Action, Actions};
-use pkt_view::arp_request;
+use pkt_view::{arp_request, nd_solicit};
 use std::alloc::Global;
 
 /// What a datapath is told to send: an untagged frame, and what is done to it (the data and the
@@ -93,25 +93,47 @@ fn tagged_ports(alloc: Global, dp: &Dp, vid: Vid) -> Result<Vec<PortNo>, NoMemor
         .collect(alloc)
 }
 
-fn ask_on(alloc: Global, dp: &Dp, vlan: &Vlan, ip: Ip4) -> Result<Option<Outgoing>, NoMemory>
+/// The frame in which the owner of an address asks for another; `None` exactly where they are of two
+/// families.
+fn asking(alloc: Global, mac: Mac, own: Ip, target: Ip) -> Result<Option<Bytes>, NoMemory>
+    ensures { IfOk result (λ frame. frame ≡ asking mac own target) }
+{
+    match (own, target) {
+        (Ip::V4(own), Ip::V4(target)) => Ok(Some(arp_request(alloc, mac, own, target)?)),
+        (Ip::V6(own), Ip::V6(target)) => Ok(Some(nd_solicit(alloc, mac, own, target)?)),
+        _ => Ok(None),
+    }
+}
+
+/// From the VLAN's gateway address and the VIP whose network holds the address.
+fn asking_in(alloc: Global, vlan: &Vlan, ip: Ip) -> Result<Option<Bytes>, NoMemory>
+    ensures { IfOk result (λ frame. frame ≡ asking_in vlan.now ip) }
+{
+    match vlan.vip_for(ip) {
+        Some(vip) => asking(alloc, vlan.mac, vip.address(), ip),
+        None => Ok(None),
+    }
+}
+
+fn ask_on(alloc: Global, dp: &Dp, vlan: &Vlan, ip: Ip) -> Result<Option<Outgoing>, NoMemory>
     ensures { IfOk result (λ out. out ≡ ask_on dp.now vlan.now ip) }
 {
     if !dp.has_edge_member(vlan.vid) {
         return Ok(None);
     }
-    let Some(vip) = vlan.vip_for(ip) else {
+    let Some(frame) = asking_in(alloc, vlan, ip)? else {
         return Ok(None);
     };
-    let frame = arp_request(alloc, vlan.mac, vip.ip, ip)?;
     let native = native_ports(alloc, dp, vlan.vid)?;
     let tagged = tagged_ports(alloc, dp, vlan.vid)?;
     let actions = send_in(alloc, vlan.vid, native.as_slice(), tagged.as_slice())?;
     Ok(Some(Outgoing { frame, actions }))
 }
 
-/// What a datapath is told to send, to ask for a neighbour: an ARP request (RFC 826) from the VLAN's
-/// gateway address and the VIP whose network holds the neighbour's, out of the native members of the
-/// VLAN and then, with a tag, out of the tagged ones, by number, whether they are up or not.
+/// What a datapath is told to send, to ask for a neighbour: an ARP request (RFC 826) for an IPv4
+/// address, a neighbour's solicitation (RFC 4861, 4.3) for an IPv6 one, from the VLAN's gateway address
+/// and the VIP whose network holds the neighbour's, out of the native members of the VLAN and then, with
+/// a tag, out of the tagged ones, by number, whether they are up or not.
 ///
 /// `None` exactly where there is no such datapath or VLAN, the datapath has no edge member of the
 /// VLAN, or no VIP's network holds the address.
@@ -120,7 +142,7 @@ pub fn ask(
     conf: &Conf,
     dp: DpId,
     vid: Vid,
-    ip: Ip4,
+    ip: Ip,
 ) -> Result<Option<Outgoing>, NoMemory>
     ensures { IfOk result (λ out. out ≡ ask conf.now dp vid ip) }
 {

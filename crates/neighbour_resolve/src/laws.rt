@@ -1,15 +1,20 @@
 //! What holds of the definitions. The functions do nothing: their contracts are the laws.
 
-ghost use Rattle.std.specs.Prelude.{◌≡◌, ◌+◌, ◌*◌, ◌<◌, ◌≤◌, ◌++◌, ℕ, Bool, List, [], ◌∷◌, count_by, length, map, Some, true, false};
+ghost use Rattle.std.specs.Prelude.{◌≡◌, ◌+◌, ◌*◌, ◌<◌, ◌≤◌, ◌++◌, ℕ, Bool, List, [], ◌∷◌, count_by, is_some, length, map, Some, true, false};
 ghost use Rattle.std.specs.List.{list_any};
+ghost use Rattle.conf_types.specs.declared.address.Ip.{Ip};
+ghost use Rattle.conf_types.specs.declared.datapath.Dp.{Dp};
 ghost use Rattle.conf_types.specs.declared.state.NeighRec.{NeighRec};
+ghost use Rattle.conf_types.specs.declared.vlan.Vlan.{Vlan};
 ghost use Rattle.conf_types.specs.Configuration.{Configuration};
 ghost use Rattle.conf_types.specs.Lists.{EachBefore};
+ghost use Rattle.conf_types.specs.Membership.{has_edge_member};
+ghost use Rattle.conf_types.specs.Networks.{is_neighbour_address};
 ghost use Rattle.conf_types.specs.State.{IsNeighbour, IsValidState, State, is_running};
 ghost use Rattle.neighbour_resolve.specs.declared.neighbour.Due.{Due};
 ghost use Rattle.neighbour_resolve.specs.declared.neighbour.Due.TheVariants.{Gone};
 ghost use Rattle.net_base.specs.declared.numbers.DpId.{DpId};
-ghost use Rattle.neighbour_resolve.specs.Asks.{in_order};
+ghost use Rattle.neighbour_resolve.specs.Asks.{ask_on, in_order};
 ghost use Rattle.neighbour_resolve.specs.Due.{after_due, first_due, is_due, is_gateway};
 ghost use Rattle.neighbour_resolve.specs.Kept.{kept_neighbours};
 ghost use Rattle.neighbour_resolve.specs.Runs.{IsFirstRun, Settles, all_tries, asked_at, at, every_64_seconds, said_about, tries_after};
@@ -61,4 +66,9 @@ pub fn datapaths_are_asked_in_order()
     ensures ascends { (ids : List DpId) → EachBefore (λ a b. a.0 < b.0) (in_order ids) }
     ensures same { (ids : List DpId) (dp : DpId) → is_running (in_order ids) dp ≡ is_running ids dp }
     ensures already { (ids : List DpId) → EachBefore (λ a b. a.0 < b.0) ids → in_order ids ≡ ids }
+{}
+
+/// Each neighbour's address, of either family, can be asked for by a datapath with edge ports of its VLAN.
+pub fn each_neighbour_can_be_asked_for()
+    ensures { (d : Dp) (v : Vlan) (ip : Ip) → has_edge_member d v.vid ≡ true → is_neighbour_address v.vips ip ≡ true → is_some (ask_on d v ip) ≡ true }
 {}

@@ -4,8 +4,8 @@ ghost use Rattle.std.specs.Prelude.{◌≡◌, ◌<◌, ◌^◌};
 ghost use Rattle.neighbour_resolve.specs.Due.{asked, asked_on, is_due, is_gateway, is_spent, later, next, said_of, wait_after};
 ghost use Rattle.neighbour_resolve.specs.Table.{is_same};
 
-use conf_types::{Conf, NeighRec};
-use net_base::{DpId, Ip4, Moment, Vid};
+use conf_types::{Conf, Ip, NeighRec};
+use net_base::{DpId, Moment, Vid};
 
 /// What became of a neighbour that is wanted or heard.
 #[derive(Clone, Copy, Debug, PartialEq, Eq)]
@@ -23,9 +23,9 @@ pub enum Want {
 #[derive(Clone, Copy, Debug, PartialEq, Eq)]
 pub enum Due {
     /// It is to be asked.
-    Ask { group: DpId, vid: Vid, ip: Ip4 },
+    Ask { group: DpId, vid: Vid, ip: Ip },
     /// It gave no answer, and stands in the table no more.
-    Gone { group: DpId, vid: Vid, ip: Ip4 },
+    Gone { group: DpId, vid: Vid, ip: Ip },
 }
 
 /// The greatest moment, which never comes.
@@ -44,7 +44,7 @@ const MOST_TRIES: u8 = 10;
 pub(crate) fn is_same(a: &NeighRec, b: &NeighRec) -> bool
     ensures { result ≡ is_same a.now b.now }
 {
-    a.group == b.group && a.vid.get() == b.vid.get() && a.ip == b.ip
+    a.group == b.group && a.vid.get() == b.vid.get() && a.ip.is_same(b.ip)
 }
 
 /// Whether a neighbour's moment has come.
@@ -78,7 +78,7 @@ fn is_gateway(conf: &Conf, neighbour: &NeighRec) -> bool
             .routes
             .as_slice()
             .iter()
-            .any(|route| route.gw == neighbour.ip),
+            .any(|route| route.gw.is_same(neighbour.ip)),
         None => false,
     }
 }

@@ -10,8 +10,8 @@ ghost use Rattle.neighbour_resolve.specs.Table.{after_told, outcome, gives_way, 
 use crate::kept::kept_neighbours;
 use crate::neighbour::{Due, Want, is_due, is_same, is_spent, next};
 use crate::passed::Passed;
-use conf_types::{Conf, NeighRec};
-use net_base::{DpId, Ip4, Mac, Moment, NoMemory, Vid};
+use conf_types::{Conf, Ip, NeighRec};
+use net_base::{DpId, Mac, Moment, NoMemory, Vid};
 use std::alloc::Global;
 use std::marker::Model;
 
@@ -187,7 +187,7 @@ impl Neighbours {
 
     /// Takes in that an address is wanted. A neighbour that isn't resolved begins anew: it was not
     /// asked yet, and is due now.
-    pub fn want(&mut self, group: DpId, vid: Vid, ip: Ip4, now: Moment) -> Want
+    pub fn want(&mut self, group: DpId, vid: Vid, ip: Ip, now: Moment) -> Want
         ensures outcome { result ≡ outcome self.old (unresolved group vid ip now) }
         ensures list { self.new ≡ after_told (stays true) (unresolved group vid ip now) self.old }
     {
@@ -209,7 +209,7 @@ impl Neighbours {
         &mut self,
         group: DpId,
         vid: Vid,
-        ip: Ip4,
+        ip: Ip,
         mac: Mac,
         timeout: u32,
         now: Moment,
