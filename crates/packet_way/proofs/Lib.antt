@@ -1,3 +1,4 @@
+pub mod Prefixes
 pub mod Found
 pub mod Ports
 pub mod Taking

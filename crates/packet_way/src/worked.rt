@@ -4,10 +4,10 @@
 ghost use Rattle.std.specs.Prelude.{◌≡◌, true, false, Some, None, [], ◌∷◌};
 ghost use Rattle.of_match.specs.declared.packet.L4.TheVariants as l4;
 ghost use Rattle.of_match.specs.declared.action.TheConstants.{CONTROLLER};
-ghost use Rattle.conf_types.specs.Worked.{dp, station, gateway, ip, edge, datapath, vlan};
+ghost use Rattle.conf_types.specs.Worked.{dp, station, gateway, edge, datapath, vlan};
 ghost use Rattle.packet_way.specs.Description.{sends};
 ghost use Rattle.packet_way.specs.Leaving.{sent};
-ghost use Rattle.packet_way.specs.Worked.{lldp, LengthsFit, broadcast, bridges, cisco_bridges, tag, frame, plain, nothing_learned, mirrored, settled, two_ports, two_vlans, one_neighbour, v4, udp, ping, arp, two_routes, two_gateways, ring, ring_with, all_up, link_down, host, learned, ruled};
+ghost use Rattle.packet_way.specs.Worked.{lldp, LengthsFit, broadcast, bridges, cisco_bridges, tag, frame, plain, nothing_learned, mirrored, settled, two_ports, ip4, ip6, local, two_vlans, one_neighbour, v4, udp, ping, arp, udp6, icmp6, discovery, solicited, solicited_node, two_routes, two_gateways, ring, ring_with, all_up, link_down, host, learned, ruled};
 
 /// Ports 1 and 2 are native in a VLAN and port 3 is tagged there, and nothing is learned: to a station
 /// that isn't known a packet goes to all others and to the controller. A tag with identifier 0 is a
@@ -86,21 +86,44 @@ pub fn sources_by_what_is_learned()
 /// Two VLANs are tagged on one port and routed, and station 2 is a known neighbour and a host of the
 /// second: a packet of the first goes back by its port only with `hairpin`, and with one hop less.
 pub fn routed_between_two_vlans()
-    ensures no_hairpin { (fit : LengthsFit) → sends (two_vlans fit false) one_neighbour (dp 1) 1 (udp (ip 2 2) 64) ≡ [] }
-    ensures hairpin { (fit : LengthsFit) → sends (two_vlans fit true) one_neighbour (dp 1) 1 (udp (ip 2 2) 64)
-        ≡ sent 1 (v4 (station 2) (gateway 1) (tag 200 ∷ []) (ip 2 2) 17 63 l4.None) ∷ [] }
-    ensures two_hops { (fit : LengthsFit) → sends (two_vlans fit true) one_neighbour (dp 1) 1 (udp (ip 2 2) 2)
-        ≡ sent 1 (v4 (station 2) (gateway 1) (tag 200 ∷ []) (ip 2 2) 17 1 l4.None) ∷ [] }
-    ensures one_hop { (fit : LengthsFit) → sends (two_vlans fit true) one_neighbour (dp 1) 1 (udp (ip 2 2) 1) ≡ [] }
-    ensures no_hop { (fit : LengthsFit) → sends (two_vlans fit true) one_neighbour (dp 1) 1 (udp (ip 2 2) 0) ≡ [] }
-    ensures unresolved { (fit : LengthsFit) → sends (two_vlans fit true) one_neighbour (dp 1) 1 (udp (ip 2 3) 1) ≡ sent CONTROLLER (udp (ip 2 3) 1) ∷ [] }
-    ensures ping { (fit : LengthsFit) → sends (two_vlans fit true) one_neighbour (dp 1) 1 (ping (ip 2 254)) ≡ sent CONTROLLER (ping (ip 2 254)) ∷ [] }
-    ensures to_a_vip { (fit : LengthsFit) → sends (two_vlans fit true) one_neighbour (dp 1) 1 (udp (ip 2 254) 64) ≡ [] }
-    ensures no_prefix { (fit : LengthsFit) → sends (two_vlans fit true) one_neighbour (dp 1) 1 (udp (ip 3 1) 64) ≡ [] }
-    ensures arp_for_a_vip { (fit : LengthsFit) → sends (two_vlans fit true) one_neighbour (dp 1) 1 (arp broadcast (ip 1 254)) ≡ sent CONTROLLER (arp broadcast (ip 1 254)) ∷ [] }
-    ensures arp_for_another { (fit : LengthsFit) → sends (two_vlans fit false) one_neighbour (dp 1) 1 (arp broadcast (ip 2 254)) ≡ [] }
-    ensures arp_to_the_gateway { (fit : LengthsFit) → sends (two_vlans fit false) one_neighbour (dp 1) 1 (arp (gateway 1) (ip 1 9)) ≡ sent CONTROLLER (arp (gateway 1) (ip 1 9)) ∷ [] }
+    ensures no_hairpin { (fit : LengthsFit) → sends (two_vlans fit false) one_neighbour (dp 1) 1 (udp (ip4 2 2) 64) ≡ [] }
+    ensures hairpin { (fit : LengthsFit) → sends (two_vlans fit true) one_neighbour (dp 1) 1 (udp (ip4 2 2) 64)
+        ≡ sent 1 (v4 (station 2) (gateway 1) (tag 200 ∷ []) (ip4 2 2) 17 63 l4.None) ∷ [] }
+    ensures two_hops { (fit : LengthsFit) → sends (two_vlans fit true) one_neighbour (dp 1) 1 (udp (ip4 2 2) 2)
+        ≡ sent 1 (v4 (station 2) (gateway 1) (tag 200 ∷ []) (ip4 2 2) 17 1 l4.None) ∷ [] }
+    ensures one_hop { (fit : LengthsFit) → sends (two_vlans fit true) one_neighbour (dp 1) 1 (udp (ip4 2 2) 1) ≡ [] }
+    ensures no_hop { (fit : LengthsFit) → sends (two_vlans fit true) one_neighbour (dp 1) 1 (udp (ip4 2 2) 0) ≡ [] }
+    ensures unresolved { (fit : LengthsFit) → sends (two_vlans fit true) one_neighbour (dp 1) 1 (udp (ip4 2 3) 1) ≡ sent CONTROLLER (udp (ip4 2 3) 1) ∷ [] }
+    ensures ping { (fit : LengthsFit) → sends (two_vlans fit true) one_neighbour (dp 1) 1 (ping (ip4 2 254)) ≡ sent CONTROLLER (ping (ip4 2 254)) ∷ [] }
+    ensures to_a_vip { (fit : LengthsFit) → sends (two_vlans fit true) one_neighbour (dp 1) 1 (udp (ip4 2 254) 64) ≡ [] }
+    ensures no_prefix { (fit : LengthsFit) → sends (two_vlans fit true) one_neighbour (dp 1) 1 (udp (ip4 3 1) 64) ≡ [] }
+    ensures arp_for_a_vip { (fit : LengthsFit) → sends (two_vlans fit true) one_neighbour (dp 1) 1 (arp broadcast (ip4 1 254)) ≡ sent CONTROLLER (arp broadcast (ip4 1 254)) ∷ [] }
+    ensures arp_for_another { (fit : LengthsFit) → sends (two_vlans fit false) one_neighbour (dp 1) 1 (arp broadcast (ip4 2 254)) ≡ [] }
+    ensures arp_to_the_gateway { (fit : LengthsFit) → sends (two_vlans fit false) one_neighbour (dp 1) 1 (arp (gateway 1) (ip4 1 9)) ≡ sent CONTROLLER (arp (gateway 1) (ip4 1 9)) ∷ [] }
     ensures other_type { (fit : LengthsFit) → sends (two_vlans fit true) one_neighbour (dp 1) 1 (frame (gateway 1) (station 1) (tag 100 ∷ [])) ≡ [] }
+{}
+
+/// The same by IPv6. A link-local network is of one VLAN alone: the neighbour fe80::2 of the second is
+/// unknown in the first.
+pub fn routed_between_two_vlans_by_ipv6()
+    ensures hairpin { (fit : LengthsFit) → sends (two_vlans fit true) one_neighbour (dp 1) 1 (udp6 (ip6 2 2) 64)
+        ≡ sent 1 (record (udp6 (ip6 2 2) 63) { dst = station 2; src = gateway 1; tags = tag 200 ∷ [] }) ∷ [] }
+    ensures one_hop { (fit : LengthsFit) → sends (two_vlans fit true) one_neighbour (dp 1) 1 (udp6 (ip6 2 2) 1) ≡ [] }
+    ensures unresolved { (fit : LengthsFit) → sends (two_vlans fit true) one_neighbour (dp 1) 1 (udp6 (ip6 2 3) 1) ≡ sent CONTROLLER (udp6 (ip6 2 3) 1) ∷ [] }
+    ensures link_local { (fit : LengthsFit) → sends (two_vlans fit true) one_neighbour (dp 1) 1 (udp6 (local 2) 64) ≡ sent CONTROLLER (udp6 (local 2) 64) ∷ [] }
+    ensures vip_of_another_link { (fit : LengthsFit) → sends (two_vlans fit true) one_neighbour (dp 1) 1 (icmp6 (local 0xfd) 128) ≡ sent CONTROLLER (icmp6 (local 0xfd) 128) ∷ [] }
+    ensures ping { (fit : LengthsFit) → sends (two_vlans fit true) one_neighbour (dp 1) 1 (icmp6 (ip6 2 0xfe) 128) ≡ sent CONTROLLER (icmp6 (ip6 2 0xfe) 128) ∷ [] }
+    ensures advertised { (fit : LengthsFit) → sends (two_vlans fit true) one_neighbour (dp 1) 1 (icmp6 (ip6 1 0xfe) 136) ≡ sent CONTROLLER (icmp6 (ip6 1 0xfe) 136) ∷ [] }
+    ensures other_message { (fit : LengthsFit) → sends (two_vlans fit true) one_neighbour (dp 1) 1 (icmp6 (ip6 1 0xfe) 129) ≡ [] }
+    ensures to_a_vip { (fit : LengthsFit) → sends (two_vlans fit true) one_neighbour (dp 1) 1 (udp6 (ip6 2 0xfe) 64) ≡ [] }
+    ensures no_prefix { (fit : LengthsFit) → sends (two_vlans fit true) one_neighbour (dp 1) 1 (udp6 (ip6 3 1) 64) ≡ [] }
+    ensures solicited { (fit : LengthsFit) → sends (two_vlans fit true) one_neighbour (dp 1) 1 (discovery solicited solicited_node 135 (ip6 1 0xfe))
+        ≡ sent CONTROLLER (discovery solicited solicited_node 135 (ip6 1 0xfe)) ∷ [] }
+    ensures solicited_for_another { (fit : LengthsFit) → sends (two_vlans fit false) one_neighbour (dp 1) 1 (discovery solicited solicited_node 135 (ip6 2 0xfe)) ≡ [] }
+    ensures solicited_at_the_gateway { (fit : LengthsFit) → sends (two_vlans fit true) one_neighbour (dp 1) 1 (discovery (gateway 1) (ip6 1 0xfe) 135 (ip6 1 0xfe))
+        ≡ sent CONTROLLER (discovery (gateway 1) (ip6 1 0xfe) 135 (ip6 1 0xfe)) ∷ [] }
+    ensures another_at_the_gateway { (fit : LengthsFit) → sends (two_vlans fit true) one_neighbour (dp 1) 1 (discovery (gateway 1) (ip6 1 0xfe) 135 (ip6 2 0xfe)) ≡ [] }
+    ensures no_destination { (fit : LengthsFit) → sends (two_vlans fit true) one_neighbour (dp 1) 1 (record (frame (gateway 1) (station 1) (tag 100 ∷ [])) { eth_type = 0x86dd }) ≡ [] }
 {}
 
 /// Routes to 10.9.0.0/16, 10.9.1.0/24 and 10.9.2.0/24, of which the last one's gateway isn't known.
@@ -111,8 +134,8 @@ pub fn the_longest_prefix_whose_gateway_is_known()
         ≡ sent 2 (v4 (station 7) (gateway 1) [] (record { 0 = 0x0a090305 }) 17 63 l4.None) ∷ [] }
     ensures unresolved { (fit : LengthsFit) → sends (two_routes fit) two_gateways (dp 1) 1 (v4 (gateway 1) (station 1) [] (record { 0 = 0x0a090205 }) 17 64 l4.None)
         ≡ sent 2 (v4 (station 7) (gateway 1) [] (record { 0 = 0x0a090205 }) 17 63 l4.None) ∷ [] }
-    ensures neighbour { (fit : LengthsFit) → sends (two_routes fit) two_gateways (dp 1) 1 (v4 (gateway 1) (station 1) [] (ip 1 8) 17 64 l4.None)
-        ≡ sent 2 (v4 (station 8) (gateway 1) [] (ip 1 8) 17 63 l4.None) ∷ [] }
+    ensures neighbour { (fit : LengthsFit) → sends (two_routes fit) two_gateways (dp 1) 1 (v4 (gateway 1) (station 1) [] (ip4 1 8) 17 64 l4.None)
+        ≡ sent 2 (v4 (station 8) (gateway 1) [] (ip4 1 8) 17 63 l4.None) ∷ [] }
 {}
 
 /// A ring of three datapaths, of which the first is the root. While its link to the second is down,
@@ -142,8 +165,8 @@ pub fn a_ring_of_three()
 /// The first rule that hits decides: IPv4 goes to port 3 alone, which the rule names twice beside the
 /// ingress, type 0x0801 goes on, and what no rule hits is denied.
 pub fn rules_of_a_port()
-    ensures denied { sends ruled nothing_learned (dp 1) 1 (v4 broadcast (station 1) [] (ip 2 2) 17 64 l4.None)
-        ≡ sent 3 (v4 broadcast (station 1) [] (ip 2 2) 17 64 l4.None) ∷ [] }
+    ensures denied { sends ruled nothing_learned (dp 1) 1 (v4 broadcast (station 1) [] (ip4 2 2) 17 64 l4.None)
+        ≡ sent 3 (v4 broadcast (station 1) [] (ip4 2 2) 17 64 l4.None) ∷ [] }
     ensures allowed { sends ruled nothing_learned (dp 1) 1 (frame broadcast (station 1) [])
         ≡ sent CONTROLLER (frame broadcast (station 1) (tag 100 ∷ [])) ∷ sent 2 (frame broadcast (station 1) []) ∷ [] }
     ensures no_rule { sends ruled nothing_learned (dp 1) 1 (record (frame broadcast (station 1) []) { eth_type = 0x0802 }) ≡ [] }

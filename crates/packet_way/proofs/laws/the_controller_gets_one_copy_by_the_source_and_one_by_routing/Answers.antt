@@ -4,11 +4,11 @@ use Rattle.std.proofs.lemmas.Bool.{both_ways}
 use Rattle.std.proofs.lemmas.List.Elements.{All-contains}
 use Rattle.net_base.specs.Address.{is_group}
 use Rattle.net_base.specs.declared.numbers.DpId.{DpId}
-use Rattle.net_base.specs.declared.net4.Net4.{Net4}
 use Rattle.net_base.specs.Numbers.{IsPortNo}
 use Rattle.of_match.specs.declared.action.TheConstants.{CONTROLLER}
 use Rattle.of_match.specs.declared.packet.Packet.{Packet}
 use Rattle.of_match.specs.declared.packet.Sent.{Sent}
+use Rattle.conf_types.specs.declared.address.Net.{Net}
 use Rattle.conf_types.specs.declared.datapath.Dp.{Dp}
 use Rattle.conf_types.specs.declared.datapath.Port.{Port}
 use Rattle.conf_types.specs.declared.vlan.Vlan.{Vlan}
@@ -72,7 +72,7 @@ pub returns-clause-routed : goal.returns-clause-routed
 returns-clause-routed c = λ conf now id port p valid group. all_at_most conf now valid id port p 0 1 (omega arith) (λ single. absurd (both_ways (is_group p.src) single group)) (λ v c vips. omega arith)
 
 pub returns-clause-learned : goal.returns-clause-learned
-returns-clause-learned c = λ conf now id port p valid no_vips. all_at_most conf now valid id port p 1 0 (omega arith) (λ single. omega arith) (λ v c vips. absurd (both_ways (length v.vips == 0) vips (ap (λ (nets : List Net4). length nets == 0) (All-contains (λ (w : Vlan). w.vips ≡ []) conf.vlans v no_vips c))))
+returns-clause-learned c = λ conf now id port p valid no_vips. all_at_most conf now valid id port p 1 0 (omega arith) (λ single. omega arith) (λ v c vips. absurd (both_ways (length v.vips == 0) vips (ap (λ (nets : List Net). length nets == 0) (All-contains (λ (w : Vlan). w.vips ≡ []) conf.vlans v no_vips c))))
 
 told_alone : (conf : Configuration) (now : State) (d : Dp) (i : Port) (p : Packet) → is_stack i ≡ true → is_bare_lldp p ≡ true → from_port conf now d p i ≡ to_controller p
 unfolding from_stack

@@ -5,4 +5,4 @@ use Rattle.packet_way.proofs.routes.longest.Given as goal
 
 -- the longest of the items so far
 abbrev pub invariant-loop-item : goal.invariant-loop-item
-invariant-loop-item l = l.best ≡ reduce longer (filter (item_holds l.ip.0) (take l.item-index l.items))
+invariant-loop-item l = l.best ≡ reduce longer (filter (item_holds l.ip) (take l.item-index l.items))
