@@ -9,12 +9,12 @@ ghost use Rattle.conf_types.specs.Routing.{vips_of};
 ghost use Rattle.conf_types.specs.State.{IsNeighbour, IsSameNeighbour};
 ghost use Rattle.packet_way.specs.Present.{state_of};
 
-use conf_types::{Conf, NeighRec};
+use conf_types::{Conf, Ip, NeighRec};
 use net_base::DpId;
 use packet_way::Now;
 
 fn has_address(conf: &Conf, neighbour: &NeighRec) -> bool
-    ensures { result ≡ is_neighbour_address (vips_of conf.now neighbour.now.vid) neighbour.now.ip.0 }
+    ensures { result ≡ is_neighbour_address (vips_of conf.now neighbour.now.vid) neighbour.now.ip }
 {
     match conf.vlan(neighbour.vid) {
         Some(vlan) => vlan.is_neighbour_address(neighbour.ip),
@@ -46,11 +46,17 @@ pub(crate) fn are_neighbours(conf: &Conf, now: &Now, neighbours: &[NeighRec]) ->
     }
 }
 
+fn is_same_ip(a: Ip, b: Ip) -> bool
+    ensures { (result ≡ true) ↔ (a ≡ b) }
+{
+    a.is_same(b)
+}
+
 /// Whether two neighbours have one key.
 fn is_same_neighbour(a: &NeighRec, b: &NeighRec) -> bool
     ensures { (result ≡ true) ↔ IsSameNeighbour a.now b.now }
 {
-    a.group.0 == b.group.0 && a.vid.get() == b.vid.get() && a.ip.0 == b.ip.0
+    a.group.0 == b.group.0 && a.vid.get() == b.vid.get() && is_same_ip(a.ip, b.ip)
 }
 
 /// Whether no other neighbour has the key of this one.
