@@ -1,5 +1,5 @@
 -- Facts of each element, along what makes one list of another.
-use Rattle.std.proofs.Common.{◌≡◌, suc, arith, Bool, true, false, cond, List, [], ◌∷◌, ◌++◌, map, filter, Option, Some, None, refl, ap, sym, ◌∙◌, true≢false}
+use Rattle.std.proofs.Common.{◌≡◌, suc, arith, Bool, true, false, cond, List, [], ◌∷◌, ◌++◌, map, filter, Option, Some, None, refl, sym, ◌∙◌, true≢false}
 use Rattle.std.specs.Prelude.{Contains}
 use Rattle.std.specs.List.{AllByRecursion, filter_map, flat_map, cons_option}
 use Rattle.std.proofs.lemmas.List.Elements.{All-contains, All-from_recursion}
@@ -24,6 +24,15 @@ all_filter P p (x ∷ xs) all = kept (p x) all.0 (all_filter P p xs all.1)
     kept : (b : Bool) → P x → AllByRecursion P (filter p xs) → AllByRecursion P (cond b (x ∷ filter p xs) (filter p xs))
     kept true h more = (h, more)
     kept false h more = more
+
+-- and of those alone that pass
+pub all_passing : {A : Type 0} (P : A → Type 0) (p : A → Bool) (xs : List A) → AllByRecursion (λ x. p x ≡ true → P x) xs → AllByRecursion P (filter p xs)
+all_passing P p [] all = tt
+all_passing P p (x ∷ xs) all = kept (p x) refl (all_passing P p xs all.1)
+  where
+    kept : (b : Bool) → p x ≡ b → AllByRecursion P (filter p xs) → AllByRecursion P (cond b (x ∷ filter p xs) (filter p xs))
+    kept true is more = (all.0 is, more)
+    kept false is more = more
 
 pub all_filter_map : {A B : Type 0} (f : A → Option B) (P : B → Type 0) (xs : List A) → AllByRecursion (λ x. (y : B) → f x ≡ Some y → P y) xs → AllByRecursion P (filter_map f xs)
 all_filter_map {B = B} f P [] all = tt
@@ -80,6 +89,14 @@ before_of_append R (x ∷ xs) ys all =
 pub before_map : {A B : Type 0} (f : A → B) (R : B → B → Type 0) (xs : List A) → EachBefore (λ x y. R (f x) (f y)) xs → EachBefore R (map f xs)
 before_map f R [] all = tt
 before_map f R (x ∷ xs) all = (all_map f (R (f x)) xs all.0, before_map f R xs all.1)
+
+pub before_filter : {A : Type 0} (R : A → A → Type 0) (p : A → Bool) (xs : List A) → EachBefore R xs → EachBefore R (filter p xs)
+before_filter R p [] all = tt
+before_filter R p (x ∷ xs) all = kept (p x) (before_filter R p xs all.1)
+  where
+    kept : (b : Bool) → EachBefore R (filter p xs) → EachBefore R (cond b (x ∷ filter p xs) (filter p xs))
+    kept true more = (all_filter (R x) p xs all.0, more)
+    kept false more = more
 
 pub before_filter_map : {A B : Type 0} (f : A → Option B) (R : B → B → Type 0) (xs : List A)
     → EachBefore (λ x y. (a b : B) → f x ≡ Some a → f y ≡ Some b → R a b) xs → EachBefore R (filter_map f xs)

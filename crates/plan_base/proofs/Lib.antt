@@ -1,3 +1,4 @@
 pub mod Each
 pub mod MatchFields
+pub mod Families
 pub mod Accepted

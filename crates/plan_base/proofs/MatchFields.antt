@@ -2,21 +2,21 @@
 use Rattle.std.proofs.Common.{◌≡◌, ℕ, ◌-◌, ◌*◌, ◌/◌, ◌^◌, ◌<◌, ◌≤◌, ◌⊎◌, true, List, refl, ap, ◌∙◌, inl, inr, arith, lit<}
 use Rattle.std.specs.Prelude.{bit_and, IsTrue}
 use Rattle.std.specs.List.{AllByRecursion}
-use Rattle.std.proofs.Math.Nat.{div-mul-le_self, mul-div_cancel, mod-eq_of_lt, pow-le-pow_right}
-use Rattle.std.proofs.lemmas.Nat.{and_mask, pow_pos}
+use Rattle.std.proofs.Math.Nat.{mod-eq_of_lt, pow-le-pow_right}
+use Rattle.std.proofs.lemmas.Nat.{and_mask}
 use Rattle.std.proofs.lemmas.Nat.Bits.{and_high_mask}
 use Rattle.net_base.specs.declared.address.Mac.{Mac}
 use Rattle.net_base.specs.declared.field.Field.{Field}
 use Rattle.net_base.specs.declared.field.FieldId.{FieldId}
-use Rattle.net_base.specs.declared.field.FieldId.TheVariants.{InPort, EthDst, EthSrc, EthType, VlanVid, IpProto, Ipv4Dst, Icmpv4Type, ArpTpa}
+use Rattle.net_base.specs.declared.field.FieldId.TheVariants.{InPort, EthDst, EthSrc, EthType, VlanVid, IpProto, Icmpv4Type, ArpTpa, Icmpv6Type, Ipv6NdTarget}
 use Rattle.net_base.specs.Address.{IsSixBytes}
-use Rattle.net_base.specs.Field.{exact, prefix}
+use Rattle.net_base.specs.Field.{exact}
 use Rattle.net_base.specs.FieldId.{bits_of, byte_len_of, may_be_masked, all_ones}
 use Rattle.net_base.specs.Numbers.{IsVid, IsPortNo}
 use Rattle.net_base.specs.WellFormed.{Fits, AreAscending, IsWellFormed, has_prerequisite}
 use Rattle.net_base.proofs.Macs.{mac_below}
 use Rattle.net_base.proofs.Rows.{in_bounds}
-use Rattle.plan_base.specs.Fields.{in_port, eth_dst, eth_src, group_dst, group_src, eth_type, vid_field, untagged, ip_proto, icmpv4_type, arp_tpa}
+use Rattle.plan_base.specs.Fields.{in_port, eth_dst, eth_src, group_dst, group_src, eth_type, vid_field, untagged, ip_proto, icmpv4_type, arp_tpa, icmpv6_type, nd_target}
 use Rattle.plan_base.specs.MatchFields.{IsMatchField}
 use Rattle.plan_base.proofs.Each.{all_from}
 
@@ -72,6 +72,12 @@ is_icmpv4_type n h = is_exact Icmpv4Type n h
 pub is_arp_tpa : (ip : ℕ) → ip < 2 ^ 32 → IsMatchField (arp_tpa ip)
 is_arp_tpa ip h = is_exact ArpTpa ip h
 
+pub is_icmpv6_type : (n : ℕ) → n < 2 ^ 8 → IsMatchField (icmpv6_type n)
+is_icmpv6_type n h = is_exact Icmpv6Type n h
+
+pub is_nd_target : (ip : ℕ) → ip < 2 ^ 128 → IsMatchField (nd_target ip)
+is_nd_target ip h = is_exact Ipv6NdTarget ip h
+
 -- ---- fields with a mask
 
 pub is_group_dst : IsMatchField group_dst
@@ -83,18 +89,6 @@ is_group_src = record { bits = lit< tt; within = refl; mask = inr (refl, lit< tt
 -- a prefix's mask leaves an address without host bits as it is
 pub without_host_bits : (bits value k : ℕ) → k ≤ bits → value < 2 ^ bits → value / 2 ^ k * 2 ^ k ≡ value → bit_and value (2 ^ bits - 2 ^ k) ≡ value
 without_host_bits bits value k within fits none = and_high_mask bits k within value fits ∙ none
-
-pub is_prefix_field : (ip len : ℕ) → ip < 2 ^ 32 → IsMatchField (prefix Ipv4Dst ip len)
-is_prefix_field ip len h =
-    let k : ℕ = 32 - len in
-    let size : ℕ = 2 ^ k in
-    let some : 0 < size = pow_pos k in
-    let below : ip / size * size < 2 ^ 32 = omega (arith, div-mul-le_self ip size) in
-    record {
-      bits = below;
-      within = without_host_bits 32 (ip / size * size) k (omega arith) below (ap (λ n. n * size) (mul-div_cancel (ip / size) some));
-      mask = inr (refl, omega arith);
-    }
 
 -- ---- a match of such fields
 
@@ -110,4 +104,4 @@ are_fields fields ascending each prerequisites = record {
 
 -- ---- all of them
 
-pub ruleset field_laws = (is_in_port, is_eth_dst, is_eth_src, is_group_dst, is_group_src, is_vid_field, is_untagged, is_arp_tpa, fits)
+pub ruleset field_laws = (is_in_port, is_eth_dst, is_eth_src, is_group_dst, is_group_src, is_vid_field, is_untagged, is_arp_tpa, is_nd_target, fits)

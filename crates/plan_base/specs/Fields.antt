@@ -2,9 +2,10 @@
 use Rattle.std.specs.Prelude.{ℕ, ◌+◌, ◌==◌, Option, Some, None, if◌then◌else◌}
 use Rattle.net_base.specs.declared.address.Mac.{Mac}
 use Rattle.net_base.specs.declared.field.Field.{Field}
-use Rattle.net_base.specs.declared.field.FieldId.TheVariants.{InPort, EthDst, EthSrc, EthType, VlanVid, IpProto, Ipv4Dst, Icmpv4Type, ArpTpa}
+use Rattle.net_base.specs.declared.field.FieldId.TheVariants.{InPort, EthDst, EthSrc, EthType, VlanVid, IpProto, Icmpv4Type, ArpTpa, Icmpv6Type, Ipv6NdTarget}
 use Rattle.net_base.specs.Address.{mac_value, group_bit}
-use Rattle.net_base.specs.Field.{exact, bits, prefix}
+use Rattle.net_base.specs.Field.{exact, bits, prefix_in}
+use Rattle.conf_types.specs.declared.family.Family.{Family}
 
 -- the port that a packet came in by
 abbrev pub in_port : ℕ → Field
@@ -44,6 +45,14 @@ icmpv4_type number = exact Icmpv4Type number
 abbrev pub arp_tpa : ℕ → Field
 arp_tpa ip = exact ArpTpa ip
 
--- the destination is of the network; a prefix without bits takes every address, and has no field
-abbrev pub ipv4_dst : ℕ → ℕ → Option Field
-ipv4_dst ip len = if len == 0 then None else Some (prefix Ipv4Dst ip len)
+abbrev pub icmpv6_type : ℕ → Field
+icmpv6_type number = exact Icmpv6Type number
+
+-- the target of a message of neighbour discovery
+abbrev pub nd_target : ℕ → Field
+nd_target ip = exact Ipv6NdTarget ip
+
+-- the destination is of the network of a family; a prefix without bits takes every address, and has no
+-- field
+abbrev pub ip_dst : Family → ℕ → ℕ → Option Field
+ip_dst f ip len = if len == 0 then None else Some (prefix_in f.width f.destination ip len)

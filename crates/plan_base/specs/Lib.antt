@@ -1,3 +1,4 @@
+pub mod Families
 pub mod Fields
 pub mod Actions
 pub mod Entries

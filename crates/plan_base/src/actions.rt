@@ -74,7 +74,7 @@ pub fn set_eth_dst(mac: Mac) -> Action
     Action::Set(eth_dst(mac))
 }
 
-/// Lowers the TTL by one.
+/// Lowers the TTL or the hop limit by one.
 pub fn dec_ttl() -> Action
     ensures { result ≡ dec_ttl }
 {

@@ -1,7 +1,10 @@
 ghost use Rattle.std.specs.Prelude.{◌≡◌};
-ghost use Rattle.plan_base.specs.Fields.{in_port, eth_dst, eth_src, group_dst, group_src, eth_type, vid_field, untagged, ip_proto, icmpv4_type, arp_tpa, ipv4_dst};
+ghost use Rattle.net_base.specs.Field.{prefix_in};
+ghost use Rattle.conf_types.specs.Families.{family_of, ip_value, address_of, len_of};
+ghost use Rattle.plan_base.specs.Fields.{in_port, eth_dst, eth_src, group_dst, group_src, eth_type, vid_field, untagged, ip_proto, icmpv4_type, arp_tpa, icmpv6_type, nd_target, ip_dst};
 
-use net_base::{Field, FieldId, GROUP_BIT, Ip4, Mac, Net4, PortNo, Vid};
+use conf_types::Net;
+use net_base::{Field, FieldId, GROUP_BIT, Ip4, Ip6, Mac, PortNo, Vid};
 
 /// The port that a packet came in by.
 pub fn in_port(port: PortNo) -> Field
@@ -59,7 +62,7 @@ pub fn untagged() -> Field
     Field::exact(FieldId::VlanVid, 0)
 }
 
-/// The protocol above IPv4. It asks for the EtherType of IPv4 before it.
+/// The protocol above IP. It asks for the EtherType of IPv4 or IPv6 before it.
 pub fn ip_proto(number: u8) -> Field
     ensures { result ≡ ip_proto number }
 {
@@ -80,14 +83,37 @@ pub fn arp_tpa(ip: Ip4) -> Field
     Field::exact(FieldId::ArpTpa, u128::from(ip.0))
 }
 
-/// The destination's IPv4 address in a network: `None` where the prefix has no bits, so that every
-/// address is of the network. It asks for the EtherType of IPv4 before it.
-pub fn ipv4_dst(net: Net4) -> Option<Field>
-    ensures { result ≡ ipv4_dst net.ip.0 net.len }
+/// The type of an ICMPv6 message. It asks for protocol 58 of IPv6 before it.
+pub fn icmpv6_type(number: u8) -> Field
+    ensures { result ≡ icmpv6_type number }
 {
-    if net.len == 0 {
+    Field::exact(FieldId::Icmpv6Type, u128::from(number))
+}
+
+/// The target of a message of neighbour discovery. It asks for ICMPv6's type 135 or 136 before it.
+pub fn nd_target(ip: Ip6) -> Field
+    ensures { result ≡ nd_target ip.0 }
+{
+    Field::exact(FieldId::Ipv6NdTarget, ip.0)
+}
+
+fn prefix_of(net: &Net) -> Field
+    ensures { result ≡ prefix_in (family_of (address_of net.now)).width (family_of (address_of net.now)).destination (ip_value (address_of net.now)) (len_of net.now) }
+{
+    match net {
+        Net::V4(net) => Field::prefix(FieldId::Ipv4Dst, *net),
+        Net::V6(net) => Field::prefix6(FieldId::Ipv6Dst, *net),
+    }
+}
+
+/// The destination's IP address in a network of its family: `None` where the prefix has no bits, so
+/// that every address is of the network. It asks for the family's EtherType before it.
+pub fn ip_dst(net: &Net) -> Option<Field>
+    ensures { result ≡ ip_dst (family_of (address_of net.now)) (ip_value (address_of net.now)) (len_of net.now) }
+{
+    if net.len() == 0 {
         None
     } else {
-        Some(Field::prefix(FieldId::Ipv4Dst, net))
+        Some(prefix_of(net))
     }
 }

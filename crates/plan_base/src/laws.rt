@@ -5,17 +5,18 @@ ghost use Rattle.std.specs.List.{AllByRecursion};
 ghost use Rattle.net_base.specs.declared.address.Mac.{Mac};
 ghost use Rattle.net_base.specs.declared.field.Field.{Field};
 ghost use Rattle.net_base.specs.Address.{IsSixBytes};
-ghost use Rattle.net_base.specs.Field.{prefix};
+ghost use Rattle.net_base.specs.Field.{prefix_in};
 ghost use Rattle.net_base.specs.Numbers.{IsVid, IsPortNo};
 ghost use Rattle.net_base.specs.WellFormed.{Fits};
-ghost use Rattle.net_base.specs.declared.field.FieldId.TheVariants.{Ipv4Dst};
 ghost use Rattle.of_match.specs.declared.action.Action.{Action};
 ghost use Rattle.of_match.specs.declared.action.Action.TheVariants.{Output, PushVlan};
 ghost use Rattle.of_match.specs.WellFormed.{IsAction, AreInstrs};
 ghost use Rattle.conf_types.specs.declared.datapath.Dp.{Dp};
 ghost use Rattle.conf_types.specs.declared.datapath.Port.{Port};
+ghost use Rattle.conf_types.specs.declared.family.Family.{Family};
 ghost use Rattle.plan_base.specs.declared.table.Table.{Table};
-ghost use Rattle.plan_base.specs.Fields.{in_port, eth_dst, eth_src, group_dst, group_src, vid_field, untagged, arp_tpa};
+ghost use Rattle.plan_base.specs.Families.{IsFamily};
+ghost use Rattle.plan_base.specs.Fields.{in_port, eth_dst, eth_src, group_dst, group_src, vid_field, untagged, arp_tpa, nd_target};
 ghost use Rattle.plan_base.specs.MatchFields.{IsMatchField};
 ghost use Rattle.plan_base.specs.Actions.{out, to_controller, to_ingress, push_tag, set_vid, set_eth_src, set_eth_dst};
 ghost use Rattle.plan_base.specs.Entries.{leads_to};
@@ -32,7 +33,8 @@ pub fn fields_are_accepted()
     ensures groups { IsMatchField group_dst × IsMatchField group_src }
     ensures without_tag { IsMatchField untagged }
     ensures targets { (ip : ℕ) → ip < 2 ^ 32 → IsMatchField (arp_tpa ip) }
-    ensures prefixes { (ip len : ℕ) → ip < 2 ^ 32 → IsMatchField (prefix Ipv4Dst ip len) }
+    ensures solicited { (ip : ℕ) → ip < 2 ^ 128 → IsMatchField (nd_target ip) }
+    ensures prefixes { (f : Family) → IsFamily f → (ip len : ℕ) → ip < 2 ^ f.width → IsMatchField (prefix_in f.width f.destination ip len) }
     ensures fit { (f : Field) → IsMatchField f → Fits f }
 {}
 

@@ -14,8 +14,8 @@ pub use actions::{
 };
 pub use entries::{leads_to, make_entry};
 pub use fields::{
-    arp_tpa, eth_dst, eth_src, eth_type, group_dst, group_src, icmpv4_type, in_port, ip_proto,
-    ipv4_dst, untagged, vid_field,
+    arp_tpa, eth_dst, eth_src, eth_type, group_dst, group_src, icmpv4_type, icmpv6_type, in_port,
+    ip_dst, ip_proto, nd_target, untagged, vid_field,
 };
 pub use sending::{push_copied, push_mirrored, push_sent};
 pub use table::Table;

@@ -14,7 +14,7 @@ pub enum Table {
     Source,
     /// Table 4: the routes of IPv4.
     Ipv4Route,
-    /// Table 5: the routes of IPv6; it has no entry yet but the one that leads on.
+    /// Table 5: the routes of IPv6.
     Ipv6Route,
     /// Table 6: what is for a VLAN's gateway itself.
     Vip,
