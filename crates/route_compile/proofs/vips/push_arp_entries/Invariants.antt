@@ -1,7 +1,0 @@
-use Rattle.std.proofs.Common.{◌≡◌, ◌++◌, map, take}
-use Rattle.route_compile.specs.Vips.{arp_entry}
-use Rattle.route_compile.proofs.vips.push_arp_entries.Given as goal
-
--- those of the VIPs so far
-abbrev pub invariant-loop-vip : goal.invariant-loop-vip
-invariant-loop-vip l = l.out ≡ l.fn.out ++ map (arp_entry l.vlan) (take l.vip-index l.vips)
