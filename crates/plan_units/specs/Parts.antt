@@ -1,24 +1,26 @@
 -- What holds of each entry of a plan: by the entries that each part of it is made of, and by its parts.
-use Rattle.std.specs.Prelude.{◌≡◌, ℕ, ◌+◌, ◌==◌, ◌&&◌, ◌||◌, Bool, List, [], ◌∷◌, ◌++◌, map, filter, Option, Some, None, Contains, option_to_list, if◌then◌else◌}
+use Rattle.std.specs.Prelude.{◌≡◌, ℕ, ◌+◌, ◌==◌, ◌&&◌, ◌||◌, Bool, true, List, [], ◌∷◌, ◌++◌, map, filter, Option, Some, None, Contains, option_to_list, if◌then◌else◌}
 use Rattle.std.specs.List.{AllByRecursion, filter_map, flat_map, enumerate_from, cons_option}
 use Rattle.std.specs.Option.{option_map, option_map_or}
-use Rattle.std.proofs.Common.{refl}
+use Rattle.std.proofs.Common.{refl, inl, inr}
 use Rattle.net_base.specs.declared.field.Field.{Field}
 use Rattle.net_base.specs.declared.field.FieldId.TheVariants.{EthDst, EthSrc}
 use Rattle.net_base.specs.declared.address.Mac.{Mac}
-use Rattle.net_base.specs.declared.net4.Net4.{Net4}
 use Rattle.net_base.specs.Field.{exact}
 use Rattle.of_match.specs.declared.entry.Entry.{Entry}
 use Rattle.stack_paths.specs.Stack.{Stack}
 use Rattle.stack_paths.specs.Chosen.{hop_of}
 use Rattle.conf_types.specs.declared.acl.Rule.{Rule}
+use Rattle.conf_types.specs.declared.address.Net.{Net}
 use Rattle.conf_types.specs.declared.datapath.Dp.{Dp}
 use Rattle.conf_types.specs.declared.datapath.Port.{Port}
+use Rattle.conf_types.specs.declared.family.Family.{Family}
 use Rattle.conf_types.specs.declared.state.HostRec.{HostRec}
 use Rattle.conf_types.specs.declared.state.NeighRec.{NeighRec}
 use Rattle.conf_types.specs.declared.vlan.Vlan.{Vlan}
 use Rattle.conf_types.specs.Attached.{rules_of}
 use Rattle.conf_types.specs.Configuration.{Configuration, port_with}
+use Rattle.conf_types.specs.Families.{ipv4, ipv6}
 use Rattle.conf_types.specs.Groups.{group_of}
 use Rattle.conf_types.specs.Membership.{is_stack, is_accepting, has_edge_member}
 use Rattle.conf_types.specs.State.{State, is_permanent}
@@ -27,6 +29,7 @@ use Rattle.of_match.specs.declared.ether_type.TheConstants.{LLDP}
 use Rattle.packet_way.specs.declared.routes.RouteItem.{RouteItem}
 use Rattle.packet_way.specs.Known.{stack_of}
 use Rattle.packet_way.specs.Routes.{route_list}
+use Rattle.plan_base.specs.Families.{IsFamily}
 use Rattle.plan_base.specs.Fields.{eth_src, eth_type}
 use Rattle.acl_compile.specs.declared.place.Place.{Place}
 use Rattle.acl_compile.specs.declared.place.Place.TheVariants.{AtPort, AtVlan}
@@ -43,9 +46,9 @@ use Rattle.vlan_compile.specs.Destinations.{destinations, at_port, from_its_port
 use Rattle.vlan_compile.specs.Floods.{floods, floods_to, flood_entry, has_flooded, is_apart}
 use Rattle.vlan_compile.specs.Vlans.{native_vlan, tagged_vlans, vlans_of}
 use Rattle.route_compile.specs.Gateways.{has_gateway}
-use Rattle.route_compile.specs.Routes.{fib, item_entry, no_route}
-use Rattle.route_compile.specs.Vips.{vip_slice, arp_entry, echo_entry, heard_entry, end_entry}
-use Rattle.law_runs.specs.Members.{all_joined, all_mapped, all_flat, all_if, all_by, head_of, tail_of}
+use Rattle.route_compile.specs.Routes.{fib, fib_of, family_fib, is_item_of, item_entry, no_route}
+use Rattle.route_compile.specs.Vips.{vip_slice, asked_entry, echo_entry, echo6_entry, advert_entry, heard_entry, end_entry, messages}
+use Rattle.law_runs.specs.Members.{all_joined, all_mapped, all_filtered, all_flat, all_if, all_by, head_of, tail_of}
 use Rattle.plan_units.specs.Fixed.{drops, bridge_drops, lldp_drops, broadcast_drops, drop, gateways, from_group, passes, fixed}
 use Rattle.plan_units.specs.Units.{of_port, of_vlan, of_host, of_routes, hosts_of, plan}
 
@@ -126,18 +129,31 @@ module _ (P : Entry → Type 0) where
       all_joined P (if h.dp.0 == d.id.0 then at_its_port conf moment h ∷ [] else []) _
       (when (h.dp.0 == d.id.0) (at_its_port conf moment h ∷ []) (here, tt)) (when (is_permanent conf h) (elsewhere h ∷ []) (other, tt))
 
-  -- ---- tables 4 and 6
+  -- ---- tables 4 to 6
 
-  pub fib_by : (conf : Configuration) (neighbours : List NeighRec) (d : Dp) (v : Vlan)
-      → ((item : RouteItem) → Contains (route_list conf neighbours (group_of conf d.id) v.vid) item → P (item_entry v item)) → P (no_route v) → Each (fib conf neighbours d v)
-  fib_by conf neighbours d v each end =
+  pub family_by : (f : Family) (conf : Configuration) (neighbours : List NeighRec) (d : Dp) (v : Vlan)
+      → ((item : RouteItem) → Contains (route_list conf neighbours (group_of conf d.id) v.vid) item → is_item_of f item ≡ true → P (item_entry f v item)) → P (no_route f v)
+      → Each (fib_of f conf neighbours d v)
+  family_by f conf neighbours d v each end =
       let items = route_list conf neighbours (group_of conf d.id) v.vid in
-      when (has_gateway d v) (map (item_entry v) items ++ no_route v ∷ []) (all_joined P (map (item_entry v) items) (no_route v ∷ []) (each_of (item_entry v) items each) (end, tt))
+      when (has_gateway d v) (family_fib f v items)
+      (all_joined P (map (item_entry f v) (filter (is_item_of f) items)) (no_route f v ∷ [])
+      (all_mapped P (item_entry f v) (filter (is_item_of f) items)
+      (all_filtered (λ item. P (item_entry f v item)) (is_item_of f) items (all_by (λ item. is_item_of f item ≡ true → P (item_entry f v item)) items each))) (end, tt))
 
-  pub vips_by : (d : Dp) (v : Vlan) → ((vip : Net4) → P (arp_entry v vip)) → P (echo_entry v) → P (heard_entry v) → P (end_entry v) → Each (vip_slice d v)
-  vips_by d v arp echo heard end =
-      when (has_gateway d v) (map (arp_entry v) v.vips ++ echo_entry v ∷ heard_entry v ∷ end_entry v ∷ [])
-      (all_joined P (map (arp_entry v) v.vips) _ (each_of (arp_entry v) v.vips (λ vip c. arp vip)) (echo, (heard, (end, tt))))
+  -- each family in turn
+  pub fib_by : (conf : Configuration) (neighbours : List NeighRec) (d : Dp) (v : Vlan)
+      → ((f : Family) → IsFamily f → (item : RouteItem) → Contains (route_list conf neighbours (group_of conf d.id) v.vid) item → is_item_of f item ≡ true → P (item_entry f v item))
+      → ((f : Family) → IsFamily f → P (no_route f v)) → Each (fib conf neighbours d v)
+  fib_by conf neighbours d v each end =
+      all_joined P (fib_of ipv4 conf neighbours d v) (fib_of ipv6 conf neighbours d v)
+      (family_by ipv4 conf neighbours d v (each ipv4 (inl refl)) (end ipv4 (inl refl)))
+      (family_by ipv6 conf neighbours d v (each ipv6 (inr refl)) (end ipv6 (inr refl)))
+
+  pub vips_by : (d : Dp) (v : Vlan) → ((vip : Net) → P (asked_entry v vip)) → P (echo_entry v) → P (echo6_entry v) → P (advert_entry v) → P (heard_entry v) → P (end_entry v) → Each (vip_slice d v)
+  vips_by d v asked echo echo6 advert heard end =
+      when (has_gateway d v) (map (asked_entry v) v.vips ++ messages v)
+      (all_joined P (map (asked_entry v) v.vips) (messages v) (each_of (asked_entry v) v.vips (λ vip c. asked vip)) (echo, (echo6, (advert, (heard, (end, tt))))))
 
   -- ---- table 7
 
