@@ -10,15 +10,20 @@ use Rattle.net_base.specs.FieldId.{number_of}
 use Rattle.of_match.specs.declared.entry.Entry.{Entry}
 use Rattle.of_match.specs.declared.entry.Key.{Key}
 use Rattle.conf_types.specs.declared.acl.Rule.{Rule}
+use Rattle.conf_types.specs.declared.address.Net.{Net}
+use Rattle.conf_types.specs.declared.address.Net.TheVariants.{V4, V6}
 use Rattle.conf_types.specs.declared.datapath.Dp.{Dp}
 use Rattle.conf_types.specs.declared.datapath.Port.{Port}
+use Rattle.conf_types.specs.declared.family.Family.{Family}
 use Rattle.conf_types.specs.declared.state.HostRec.{HostRec}
 use Rattle.conf_types.specs.declared.vlan.Vlan.{Vlan}
 use Rattle.conf_types.specs.Configuration.{Configuration}
 use Rattle.conf_types.specs.State.{State}
 use Rattle.packet_way.specs.Known.{stack_of}
 use Rattle.packet_way.specs.declared.routes.RouteItem.{RouteItem}
+use Rattle.plan_base.specs.Families.{IsFamily}
 use Rattle.plan_base.specs.Fields.{in_port, vid_field}
+use Rattle.plan_base.proofs.Families.{of_families}
 use Rattle.plan_base.proofs.Each.{all_append}
 use Rattle.acl_compile.specs.declared.place.Place.TheVariants.{AtPort, AtVlan}
 use Rattle.acl_compile.specs.Rows.{rule_entry_for, rule_fields, asks_for_another, with_vid}
@@ -30,8 +35,8 @@ use Rattle.vlan_compile.specs.declared.flood.Ingress.TheVariants.{Any, At}
 use Rattle.vlan_compile.specs.Admissions.{admissions}
 use Rattle.vlan_compile.specs.Sources.{sources}
 use Rattle.vlan_compile.specs.Floods.{flood_entry}
-use Rattle.route_compile.specs.Routes.{item_entry}
-use Rattle.route_compile.specs.Vips.{vip_slice}
+use Rattle.route_compile.specs.Routes.{item_entry, no_route}
+use Rattle.route_compile.specs.Vips.{vip_slice, asked_entry}
 use Rattle.plan_units.specs.Fixed.{drops, fixed}
 use Rattle.plan_units.specs.Parts.{port_acl_by, vlan_acl_by, admissions_by, drops_by, misses_by, sources_by, fib_by, vips_by, destinations_by, floods_by}
 use Rattle.plan_units.specs.Units.{of_port, of_vlan, of_host, of_routes}
@@ -67,7 +72,7 @@ owner_in table priority fields =
     else if table == 2 then (2, (value_of 6 fields, 0))
     else if table == 3 then (if priority == 40 then datapath else if priority == 10 then interface (value_of 0 fields) else (3, (value_of 6 fields, value_of 4 fields)))
     else if table == 4 then (if priority == 0 then datapath else (4, (value_of 6 fields, 0)))
-    else if table == 5 then datapath
+    else if table == 5 then (if priority == 0 then datapath else (4, (value_of 6 fields, 0)))
     else if table == 6 then (if priority == 0 then datapath else (2, (value_of 6 fields, 0)))
     else if table == 7 then (if priority == 0 then datapath else (3, (value_of 6 fields, value_of 3 fields)))
     else (2, (value_of 6 fields, 0))
@@ -126,19 +131,25 @@ module _ (conf : Configuration) (now : State) (d : Dp) (v : Vlan) where
   flood_owned Unicast Any = refl
   flood_owned Unicast (At ingress) = refl
 
+  asked_owned : (vip : Net) → IsOfVlan (asked_entry v vip)
+  asked_owned (V4 net) = refl
+  asked_owned (V6 net) = refl
+
   pub vlan_owned : Owned (vlan v.vid) (of_vlan conf now d v)
   vlan_owned =
       all_append IsOfVlan (vlan_acl conf d v) _ (vlan_acl_by IsOfVlan conf d v (λ priority rule fields c is. at_vlan_rule d v.vid priority rule fields is) refl)
-      (all_append IsOfVlan (vip_slice d v) _ (vips_by IsOfVlan d v (λ vip. refl) refl refl refl) (floods_by IsOfVlan d v (stack_of conf now.ups) flood_owned))
+      (all_append IsOfVlan (vip_slice d v) _ (vips_by IsOfVlan d v asked_owned refl refl refl refl refl) (floods_by IsOfVlan d v (stack_of conf now.ups) flood_owned))
 
   not_zero : (n : ℕ) → (10 + n == 0) ≡ false
   not_zero n = grind (arith, nat_tests)
 
-  item_owned : (item : RouteItem) → owner (item_entry v item).key ≡ routes v.vid
-  item_owned item = rw (not_zero item.len) refl
+  item_owned : (f : Family) → IsFamily f → (item : RouteItem) → owner (item_entry f v item).key ≡ routes v.vid
+  item_owned f is item = of_families (λ f. owner (item_entry f v item).key ≡ routes v.vid) (rw (not_zero item.len) refl) (rw (not_zero item.len) refl) f is
 
   pub routes_owned : Owned (routes v.vid) (of_routes conf now d v)
-  routes_owned = fib_by (λ e. owner e.key ≡ routes v.vid) conf now.neighbours d v (λ item c. item_owned item) refl
+  routes_owned =
+      fib_by (λ e. owner e.key ≡ routes v.vid) conf now.neighbours d v (λ f is item c own. item_owned f is item)
+      (of_families (λ f. owner (no_route f v).key ≡ routes v.vid) refl refl)
 
 module _ (conf : Configuration) (now : State) (d : Dp) (h : HostRec) where
   abbrev IsOfHost : Entry → Type 0
