@@ -14,6 +14,7 @@ use Rattle.conf_types.specs.Changes.{AreNamed, mac_of_neighbour}
 use Rattle.conf_types.specs.declared.datapath.Port.{Port}
 use Rattle.conf_types.specs.declared.state.NeighRec.{NeighRec}
 use Rattle.conf_types.specs.Configuration.{Configuration, port_at}
+use Rattle.conf_types.specs.Families.{is_same_ip}
 use Rattle.conf_types.specs.Groups.{IsDp, IsGroup, group_of}
 use Rattle.conf_types.specs.Links.{is_up, link_from, links_of, links}
 use Rattle.conf_types.specs.Lists.{EachBefore}
@@ -36,19 +37,19 @@ module _ (conf : Configuration) (old new : State) (changes : List Change) (named
   -- ---- neighbours
 
   module _ (none : list_any names_neighbour changes ≡ false) (apart : EachBefore (λ a b. IsSameNeighbour a b → ⊥) new.neighbours) (were : HaveAddresses old.neighbours) where
-    told : (n : NeighRec) (mac : Mac) (o : Option NeighRec) → find (λ m. m.group.0 == n.group.0 && m.vid == n.vid && m.ip.0 == n.ip.0) old.neighbours ≡ o → option_and_then (λ m. m.mac) o ≡ Some mac → IsSixBytes mac.0
+    told : (n : NeighRec) (mac : Mac) (o : Option NeighRec) → find (λ m. m.group.0 == n.group.0 && m.vid == n.vid && is_same_ip m.ip n.ip) old.neighbours ≡ o → option_and_then (λ m. m.mac) o ≡ Some mac → IsSixBytes mac.0
     told n mac None is e = absurd (none-some mac e)
     told n mac (Some m) is e =
-        let f = found (λ (x : NeighRec). x.group.0 == n.group.0 && x.vid == n.vid && x.ip.0 == n.ip.0) old.neighbours m is in
+        let f = found (λ (x : NeighRec). x.group.0 == n.group.0 && x.vid == n.vid && is_same_ip x.ip n.ip) old.neighbours m is in
         subst (λ (o : Option Mac). IfSome o (λ a. IsSixBytes a.0)) e (of_all (λ (x : NeighRec). IfSome x.mac (λ a. IsSixBytes a.0)) old.neighbours were m f.within)
 
-    still : (n : NeighRec) → mac_of_neighbour old.neighbours n.group n.vid n.ip.0 ≡ mac_of_neighbour new.neighbours n.group n.vid n.ip.0
+    still : (n : NeighRec) → mac_of_neighbour old.neighbours n.group n.vid n.ip ≡ mac_of_neighbour new.neighbours n.group n.vid n.ip
     still n = stable_mac _ _ (λ differ. not_there names_neighbour changes none (change.Neighbour n.group n.vid n.ip) refl (named.neighbours n.group n.vid n.ip differ))
 
     has_six : (n : NeighRec) → Contains new.neighbours n → (o : Option Mac) → n.mac ≡ o → IfSome o (λ mac. IsSixBytes mac.0)
     has_six n c None is = tt
     has_six n c (Some mac) is =
-        told n mac (find (λ m. m.group.0 == n.group.0 && m.vid == n.vid && m.ip.0 == n.ip.0) old.neighbours) refl (still n ∙ own new.neighbours apart n c n.group n.vid refl refl ∙ is)
+        told n mac (find (λ m. m.group.0 == n.group.0 && m.vid == n.vid && is_same_ip m.ip n.ip) old.neighbours) refl (still n ∙ own new.neighbours apart n c n.group n.vid refl refl ∙ is)
 
     addresses_stay : HaveAddresses new.neighbours
     addresses_stay = all_by (λ (n : NeighRec). IfSome n.mac (λ mac. IsSixBytes mac.0)) new.neighbours (λ n c. has_six n c n.mac refl)

@@ -87,22 +87,6 @@ fn is_held(conf: &Conf, dp: &Dp, hosts: &Hosts, vid: Vid, mac: Mac) -> bool
     hosts.get(conf, dp.id, vid, mac).is_some()
 }
 
-fn own_unit(
-    alloc: Global,
-    conf: &Conf,
-    dp: &Dp,
-    hosts: &Hosts,
-    host: &HostEffect,
-) -> Result<Items<Unit>, NoMemory>
-    ensures { IfOk result (λ made. made ≡ own_unit conf.now dp.now hosts.now host.now) }
-{
-    let mut made = Items::new(alloc);
-    if host.is_ours && is_held(conf, dp, hosts, host.vid, host.mac) {
-        made.push(Unit::Host(host.vid, host.mac))?;
-    }
-    Ok(made)
-}
-
 fn ports_by(
     alloc: Global,
     ports: &[Port],
@@ -128,7 +112,10 @@ fn host_units(
 ) -> Result<Items<Unit>, NoMemory>
     ensures { IfOk result (λ made. made ≡ own_unit conf.now dp.now hosts.now host.now ++ touched_ports conf.now dp.now hosts.now host.now) }
 {
-    let mut made = own_unit(alloc, conf, dp, hosts, host)?;
+    let mut made = Items::new(alloc);
+    if host.is_ours && is_held(conf, dp, hosts, host.vid, host.mac) {
+        made.push(Unit::Host(host.vid, host.mac))?;
+    }
     let ports = ports_by(alloc, dp.ports.as_slice(), dp, host)?;
     made.append(ports.as_slice())?;
     Ok(made)

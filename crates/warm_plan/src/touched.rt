@@ -12,7 +12,7 @@ ghost use Rattle.warm_plan.specs.Touched.{KeepTold};
 use crate::plan::Keys;
 use crate::sound::are_ordered;
 use net_base::{NoMemory, TryCopy};
-use of_match::{Commands, Entries, Entry, Key, Tables, apply};
+use of_match::{Command, Commands, Entries, Entry, Key, Tables};
 use plan_difference::difference_at;
 use std::alloc::Global;
 use std::collections::BTreeSet;
@@ -87,11 +87,28 @@ pub(crate) fn remove_all(
     Ok(())
 }
 
-fn apply_all(alloc: Global, tables: &mut Tables, commands: Commands) -> Result<(), NoMemory>
+/// Does a command, whose entry is handed on and not copied.
+fn apply_one(tables: &mut Tables, command: Command) -> Result<(), NoMemory>
+    ensures { OnOk result (tables.new ≡ after tables.old command) }
+{
+    match command {
+        Command::Add(entry) => tables.add(entry),
+        Command::DeleteStrict(key) => {
+            tables.remove(&key);
+            Ok(())
+        }
+        Command::DeleteAll => {
+            tables.clear();
+            Ok(())
+        }
+    }
+}
+
+fn apply_all(tables: &mut Tables, commands: Commands) -> Result<(), NoMemory>
     ensures { OnOk result (tables.new ≡ after_all tables.old commands) }
 {
     for command in commands.into_vec() {
-        apply(alloc, tables, &command)?;
+        apply_one(tables, command)?;
     }
     Ok(())
 }
@@ -111,7 +128,7 @@ pub(crate) fn bring(
     are_ordered(tables);
     are_ordered(to);
     let batch = difference_at(alloc, tables, to, touched)?;
-    apply_all(alloc, tables, batch)?;
+    apply_all(tables, batch)?;
     touched.clear();
     Ok(())
 }
