@@ -2,8 +2,8 @@
 use Rattle.std.proofs.Common.{◌≡◌, ℕ, ◌==◌, true, false, Option, Some, None, refl, sym, ap, ◌∙◌, if◌then◌else◌}
 use Rattle.std.specs.Option.{option_and_then, option_map_or}
 use Rattle.std.proofs.lemmas.Bool.{eqb-true}
-use Rattle.net_base.specs.declared.address.Ip4.{Ip4}
 use Rattle.net_base.specs.declared.numbers.DpId.{DpId}
+use Rattle.conf_types.specs.declared.address.Ip.{Ip}
 use Rattle.conf_types.specs.declared.vlan.Vlan.{Vlan}
 use Rattle.conf_types.specs.Configuration.{vlan_with}
 use Rattle.conf_types.specs.Groups.{group_of}
@@ -12,8 +12,8 @@ use Rattle.pkt_view.specs.Frame.{FrameParts}
 use Rattle.ctl_world.specs.World.{World}
 use Rattle.ctl_packets.specs.Packets.{destination, glean, glean_at, glean_to, is_for_gateway}
 
-module _ (dp : DpId) (vid : ℕ) (frame : FrameParts) (w : World) (ip : Ip4) where
-  abbrev gleaned_at : Vlan → Option Ip4
+module _ (dp : DpId) (vid : ℕ) (frame : FrameParts) (w : World) (ip : Ip) where
+  abbrev gleaned_at : Vlan → Option Ip
   gleaned_at v = if is_for_gateway v frame then destination frame.upper else None
 
   abbrev to : ℕ → World

@@ -2,8 +2,8 @@
 -- neighbours.
 use Rattle.std.specs.Prelude.{Bool, true, false, None, ℕ, Option, Some, if◌then◌else◌, ◌==◌, ◌&&◌}
 use Rattle.std.specs.Option.{option_map_or}
-use Rattle.net_base.specs.declared.address.Ip4.{Ip4}
 use Rattle.net_base.specs.declared.numbers.DpId.{DpId}
+use Rattle.conf_types.specs.declared.address.Ip.{Ip}
 use Rattle.conf_types.specs.declared.vlan.Vlan.{Vlan}
 use Rattle.conf_types.specs.Configuration.{vlan_with}
 use Rattle.conf_types.specs.Groups.{group_of}
@@ -11,7 +11,7 @@ use Rattle.pkt_view.specs.Frame.{FrameParts, parts}
 use Rattle.neighbour_resolve.specs.Hearing.{heard_sender}
 use Rattle.neighbour_resolve.specs.Table.{Table as Neighbours}
 use Rattle.ctl_world.specs.World.{World, running, ups}
-use Rattle.ctl_packets.specs.Packets.{destination, glean, glean_at, glean_in, glean_to, hear_neighbour, hear_sender, is_for_gateway, is_resolved, network_vlan, want, gateways, learn, outgoing, packet_at, packet_by, packet_in, packet_of_table, reply, routes, sources}
+use Rattle.ctl_packets.specs.Packets.{destination, glean, glean_at, glean_in, glean_to, hear_neighbour, hear_sender, is_for_gateway, is_resolved, is_route_table, network_vlan, want, gateways, learn, outgoing, packet_at, packet_by, packet_in, packet_of_table, reply, sources}
 use Rattle.net_base.specs.declared.address.Mac.{Mac}
 use Rattle.of_match.specs.InPort.{in_port}
 use Rattle.conf_types.specs.declared.state.HostRec.{HostRec}
@@ -36,16 +36,16 @@ module _ (K : World → Type 0) where
   with_any f None w each none = none
 
 module _ (K : World → Type 0) (meets : (neighbours : Neighbours) (w : World) → K w → K (record w { neighbours = neighbours })) where
-  glean_in_kept : (group : DpId) (ip : Ip4) (w : World) (vid : ℕ) → K w → K (glean_in group ip w vid)
+  glean_in_kept : (group : DpId) (ip : Ip) (w : World) (vid : ℕ) → K w → K (glean_in group ip w vid)
   glean_in_kept group ip w vid holds =
-      either K (is_resolved w.neighbours.neighbours group vid ip.0) w (want group vid ip w) holds (meets (want group vid ip w).neighbours w holds)
+      either K (is_resolved w.neighbours.neighbours group vid ip) w (want group vid ip w) holds (meets (want group vid ip w).neighbours w holds)
 
-  glean_to_kept : (group : DpId) (vid : ℕ) (ip : Ip4) (w : World) → K w → K (glean_to group vid ip w)
-  glean_to_kept group vid ip w holds = with_any K (glean_in group ip w) (network_vlan w.conf vid ip.0) w (λ v. glean_in_kept group ip w v holds) holds
+  glean_to_kept : (group : DpId) (vid : ℕ) (ip : Ip) (w : World) → K w → K (glean_to group vid ip w)
+  glean_to_kept group vid ip w holds = with_any K (glean_in group ip w) (network_vlan w.conf vid ip) w (λ v. glean_in_kept group ip w v holds) holds
 
   glean_at_kept : (dp : DpId) (frame : FrameParts) (w : World) (v : Vlan) → K w → K (glean_at dp frame w v)
   glean_at_kept dp frame w v holds =
-      let to : Ip4 → World = λ ip. glean_to (group_of w.conf dp) v.vid ip w in
+      let to : Ip → World = λ ip. glean_to (group_of w.conf dp) v.vid ip w in
       either K (is_for_gateway v frame) (option_map_or to (destination frame.upper) w) w
       (with_any K to (destination frame.upper) w (λ ip. glean_to_kept (group_of w.conf dp) v.vid ip w holds) holds) holds
 
@@ -76,8 +76,8 @@ module _ (K : World → Type 0) (sends : (number : ℕ) (out : Outgoing) (w : Wo
       let learned : World = learn dp port vid frame.src w in
       let gleaned : World = glean dp vid frame w in
       let answered : World = reply number dp port vid frame (hear_neighbour dp vid frame w) in
-      either K (table == sources) learned (if table == routes then gleaned else if table == gateways then answered else w) (learn_kept dp port vid frame.src w holds)
-      (either K (table == routes) gleaned (if table == gateways then answered else w) (glean_kept K meets dp vid frame w holds)
+      either K (table == sources) learned (if is_route_table table frame.upper then gleaned else if table == gateways then answered else w) (learn_kept dp port vid frame.src w holds)
+      (either K (is_route_table table frame.upper) gleaned (if table == gateways then answered else w) (glean_kept K meets dp vid frame w holds)
       (either K (table == gateways) answered w (reply_kept number dp port vid frame (hear_neighbour dp vid frame w) (hear_kept K meets dp vid frame w holds)) holds))
 
   at_kept : (m : PacketIn) (number : ℕ) (dp : DpId) (w : World) (port : ℕ) (frame : FrameParts) → K w → K (packet_at m number dp w port frame)

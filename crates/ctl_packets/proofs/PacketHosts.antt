@@ -17,7 +17,7 @@ use Rattle.neighbour_resolve.specs.Counted.{counted_vid}
 use Rattle.ctl_world.specs.Connections.{conn_with, with_said}
 use Rattle.ctl_world.specs.Saying.{packet_out, say, say_by}
 use Rattle.ctl_world.specs.World.{World, running, ups}
-use Rattle.ctl_packets.specs.Packets.{gateways, glean, hear_neighbour, learn, outgoing, packet_at, packet_by, packet_in, packet_of_table, reply, routes, sources}
+use Rattle.ctl_packets.specs.Packets.{gateways, glean, hear_neighbour, is_route_table, learn, outgoing, packet_at, packet_by, packet_in, packet_of_table, reply, sources}
 use Rattle.ctl_packets.specs.Told.{told_at, told_by, told_in}
 use Rattle.ctl_packets.proofs.Keeping.{glean_kept, hear_kept, with_any}
 
@@ -55,7 +55,7 @@ module _ (m : PacketIn) (number : ℕ) (dp : DpId) (w : World) where
       if b then option_and_then (λ vid. if is_up (ups w) dp port then Some (record { dp = dp; port = port; vid = vid; mac = frame.src; learned = w.moment }) else None) o else None
 
   table_hosts : (table port vid : ℕ) (frame : FrameParts) (b : Bool) → (table == sources) ≡ b
-      → (if b then learn dp port vid frame.src w else if table == routes then glean dp vid frame w else if table == gateways then reply number dp port vid frame (hear_neighbour dp vid frame w) else w).hosts
+      → (if b then learn dp port vid frame.src w else if is_route_table table frame.upper then glean dp vid frame w else if table == gateways then reply number dp port vid frame (hear_neighbour dp vid frame w) else w).hosts
       ≡ hosts_told w (of_vid b port frame (Some vid))
   table_hosts table port vid frame true is =
       let l : HostRec = record { dp = dp; port = port; vid = vid; mac = frame.src; learned = w.moment } in
@@ -64,7 +64,7 @@ module _ (m : PacketIn) (number : ℕ) (dp : DpId) (w : World) where
       let gleaned : World = glean dp vid frame w in
       let heard : World = hear_neighbour dp vid frame w in
       let answered : World = reply number dp port vid frame heard in
-      elim (table == routes) as (λ c. (if c then gleaned else if table == gateways then answered else w).hosts ≡ w.hosts) [
+      elim (is_route_table table frame.upper) as (λ c. (if c then gleaned else if table == gateways then answered else w).hosts ≡ w.hosts) [
         | true ↦ glean_same w dp vid frame
         | false ↦ elim (table == gateways) as (λ c. (if c then answered else w).hosts ≡ w.hosts) [ true ↦ reply_same number dp port vid frame heard ∙ heard_same w dp vid frame | false ↦ refl ]
       ]
@@ -74,10 +74,10 @@ module _ (m : PacketIn) (number : ℕ) (dp : DpId) (w : World) where
   vid_hosts port frame true is None = refl
   vid_hosts port frame false is None = refl
   vid_hosts port frame true is (Some vid) =
-      ap (λ (c : Bool). (if c then learn dp port vid frame.src w else if m.table == routes then glean dp vid frame w else if m.table == gateways then reply number dp port vid frame (hear_neighbour dp vid frame w) else w).hosts) is
+      ap (λ (c : Bool). (if c then learn dp port vid frame.src w else if is_route_table m.table frame.upper then glean dp vid frame w else if m.table == gateways then reply number dp port vid frame (hear_neighbour dp vid frame w) else w).hosts) is
       ∙ table_hosts m.table port vid frame true is
   vid_hosts port frame false is (Some vid) =
-      ap (λ (c : Bool). (if c then learn dp port vid frame.src w else if m.table == routes then glean dp vid frame w else if m.table == gateways then reply number dp port vid frame (hear_neighbour dp vid frame w) else w).hosts) is
+      ap (λ (c : Bool). (if c then learn dp port vid frame.src w else if is_route_table m.table frame.upper then glean dp vid frame w else if m.table == gateways then reply number dp port vid frame (hear_neighbour dp vid frame w) else w).hosts) is
       ∙ table_hosts m.table port vid frame false is
 
   parts_hosts : (port : ℕ) (b : Bool) → (m.table == sources) ≡ b → (o : Option FrameParts) → (option_map_or (packet_at m number dp w port) o w).hosts ≡ hosts_told w (of_parts b port o)

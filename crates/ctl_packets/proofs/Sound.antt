@@ -1,12 +1,13 @@
 -- What a packet does leaves a sound world sound.
 use Rattle.std.proofs.Common.{◌≡◌, ℕ, ◌==◌, ◌*◌, ◌&&◌, ◌||◌, not, Bool, true, false, Option, Some, None, List, [], ◌∷◌, inl, inr, refl, ap, ◌∙◌, sym, arith, eq-eqb, if◌then◌else◌}
 use Rattle.std.specs.List.{list_any}
-use Rattle.std.specs.Option.{option_map_or}
+use Rattle.std.specs.Option.{option_and_then, option_map_or}
 use Rattle.std.proofs.lemmas.Bool.{and_parts, cases_Bool, eqb-true}
 use Rattle.net_base.specs.Address.{is_group}
-use Rattle.net_base.specs.declared.address.Ip4.{Ip4}
 use Rattle.net_base.specs.declared.address.Mac.{Mac}
 use Rattle.net_base.specs.declared.numbers.DpId.{DpId}
+use Rattle.conf_types.specs.declared.address.Ip.{Ip}
+use Rattle.conf_types.specs.declared.address.Ip.TheVariants as ips
 use Rattle.conf_types.specs.declared.state.HostRec.{HostRec}
 use Rattle.conf_types.specs.declared.state.NeighRec.{NeighRec}
 use Rattle.conf_types.specs.declared.vlan.Vlan.{Vlan}
@@ -25,16 +26,18 @@ use Rattle.of_match.specs.InPort.{in_port}
 use Rattle.of13_codec.specs.declared.packet_in.PacketIn.{PacketIn}
 use Rattle.flow_messages.specs.declared.messages.TheConstants.{COOKIE}
 use Rattle.pkt_view.specs.Frame.{FrameParts, UpperParts, Unknown, Arp, V4, V6, parts}
+use Rattle.neighbour_resolve.specs.declared.discovery.NdMessage.{NdMessage}
 use Rattle.neighbour_resolve.specs.declared.hearing.Sender.{Sender}
 use Rattle.neighbour_resolve.specs.Answers.{answer}
 use Rattle.neighbour_resolve.specs.Counted.{counted_vid}
-use Rattle.neighbour_resolve.specs.Hearing.{heard_sender, upper_sender}
+use Rattle.neighbour_resolve.specs.Discovery.{nd_message, who}
+use Rattle.neighbour_resolve.specs.Hearing.{heard_sender, nd_sender, sender_at, upper_sender}
 use Rattle.neighbour_resolve.specs.Table.{after_told, resolved, stays, unresolved}
 use Rattle.neighbour_resolve.proofs.Valid.{told_valid}
 use Rattle.ctl_world.specs.Saying.{packet_out, say}
 use Rattle.ctl_world.specs.World.{IsSound, World, now, running, ups}
 use Rattle.ctl_world.proofs.SoundChanges.{say_sound}
-use Rattle.ctl_packets.specs.Packets.{destination, gateways, glean, glean_at, glean_in, glean_to, hear_neighbour, hear_sender, is_for_gateway, is_resolved, learn, least_time, network_vlan, outgoing, packet_at, packet_by, packet_in, packet_of_table, reply, routes, sources, want}
+use Rattle.ctl_packets.specs.Packets.{destination, gateways, glean, glean_at, glean_in, glean_to, hear_neighbour, hear_sender, is_for_gateway, is_resolved, is_route_table, is_sought, learn, least_time, network_vlan, outgoing, packet_at, packet_by, packet_in, packet_of_table, reply, sources, want}
 
 -- what holds with any value, and without one, holds with what there is
 with_any : {A : Type 0} (f : A → World) (o : Option A) (w : World) → ((a : A) → o ≡ Some a → IsSound (f a)) → IsSound w → IsSound (option_map_or f o w)
@@ -80,22 +83,22 @@ group_runs conf dp (id ∷ ids) is =
     ]
 
 module _ (dp : DpId) (w : World) (runs : is_running (running w) dp ≡ true) (sound : IsSound w) where
-  glean_in_sound : (vid : ℕ) (ip : Ip4) → is_neighbour_address (vips_of w.conf vid) ip.0 ≡ true → IsSound (glean_in (group_of w.conf dp) ip w vid)
+  glean_in_sound : (vid : ℕ) (ip : Ip) → is_neighbour_address (vips_of w.conf vid) ip ≡ true → IsSound (glean_in (group_of w.conf dp) ip w vid)
   glean_in_sound vid ip address =
       let group = group_of w.conf dp in
-      elim (is_resolved w.neighbours.neighbours group vid ip.0) as (λ b. IsSound (if b then w else want group vid ip w)) [
+      elim (is_resolved w.neighbours.neighbours group vid ip) as (λ b. IsSound (if b then w else want group vid ip w)) [
         | true ↦ sound
         | false ↦ told_sound (stays true) (unresolved group vid ip w.moment) w (record { address = address; runs = group_runs w.conf dp (running w) runs }) sound
       ]
 
-  glean_to_sound : (vid : ℕ) (ip : Ip4) → IsSound (glean_to (group_of w.conf dp) vid ip w)
+  glean_to_sound : (vid : ℕ) (ip : Ip) → IsSound (glean_to (group_of w.conf dp) vid ip w)
   glean_to_sound vid ip =
-      with_any (glean_in (group_of w.conf dp) ip w) (network_vlan w.conf vid ip.0) w
-      (λ v some. glean_in_sound v ip (found_passes (λ n. is_neighbour_address (vips_of w.conf n) ip.0) (routing_set w.conf vid) v some)) sound
+      with_any (glean_in (group_of w.conf dp) ip w) (network_vlan w.conf vid ip) w
+      (λ v some. glean_in_sound v ip (and_parts _ _ (found_passes (is_sought w.conf vid ip) (routing_set w.conf vid) v some)).0) sound
 
   glean_at_sound : (frame : FrameParts) (v : Vlan) → IsSound (glean_at dp frame w v)
   glean_at_sound frame v =
-      let to : Ip4 → World = λ ip. glean_to (group_of w.conf dp) v.vid ip w in
+      let to : Ip → World = λ ip. glean_to (group_of w.conf dp) v.vid ip w in
       elim (is_for_gateway v frame) as (λ b. IsSound (if b then option_map_or to (destination frame.upper) w else w)) [
         | true ↦ with_any to (destination frame.upper) w (λ ip some. glean_to_sound v.vid ip) sound
         | false ↦ sound
@@ -105,20 +108,30 @@ module _ (dp : DpId) (w : World) (runs : is_running (running w) dp ≡ true) (so
   glean_sound vid frame = with_any (glean_at dp frame w) (vlan_with w.conf.vlans vid) w (λ v some. glean_at_sound frame v) sound
 
   -- the sender that is heard is a neighbour
-  sender_address : (vid : ℕ) (from : Mac) (upper : UpperParts) (s : Sender) → upper_sender w.conf vid from upper ≡ Some s → is_neighbour_address (vips_of w.conf vid) s.ip.0 ≡ true
-  sender_address vid from Unknown s is = absurd (cc)
-  sender_address vid from (V4 header body) s is = absurd (cc)
-  sender_address vid from (V6 header body) s is = absurd (cc)
-  sender_address vid from (Arp op sha spa tha tpa) s is =
-      let address : Bool = is_neighbour_address (vips_of w.conf vid) spa.0 in
-      elim (cases_Bool (address && not (is_group sha) && is_same sha.0 from.0)) [
+  sender_at_address : (vid : ℕ) (from : Mac) (ip : Ip) (s : Sender) → sender_at w.conf vid from ip ≡ Some s → is_neighbour_address (vips_of w.conf vid) s.ip ≡ true
+  sender_at_address vid from ip s is =
+      let address : Bool = is_neighbour_address (vips_of w.conf vid) ip in
+      elim (cases_Bool (address && not (is_group from))) [
         | inl all ↦
-            let e : Some (record { ip = spa; mac = sha }) ≡ Some s = rw all at is in
-            let same : record { ip = spa; mac = sha } ≡ s = cc in
-            ap (λ (x : Sender). is_neighbour_address (vips_of w.conf vid) x.ip.0) (sym same)
-            ∙ (and_parts address (not (is_group sha)) (and_parts (address && not (is_group sha)) (is_same sha.0 from.0) all).0).0
+            let e : Some (record { ip = ip; mac = from }) ≡ Some s = rw all at is in
+            let same : record { ip = ip; mac = from } ≡ s = cc in
+            ap (λ (x : Sender). is_neighbour_address (vips_of w.conf vid) x.ip) (sym same) ∙ (and_parts address (not (is_group from)) all).0
         | inr other ↦ let e = rw other at is in absurd (cc)
       ]
+
+  where_true : (b : Bool) (vid : ℕ) (from : Mac) (ip : Ip) (s : Sender) → (if b then sender_at w.conf vid from ip else None) ≡ Some s → is_neighbour_address (vips_of w.conf vid) s.ip ≡ true
+  where_true true vid from ip s is = sender_at_address vid from ip s is
+  where_true false vid from ip s is = absurd (cc)
+
+  sender_address : (vid : ℕ) (from : Mac) (upper : UpperParts) (s : Sender) → upper_sender w.conf vid from upper ≡ Some s → is_neighbour_address (vips_of w.conf vid) s.ip ≡ true
+  sender_address vid from Unknown s is = absurd (cc)
+  sender_address vid from (V4 header body) s is = absurd (cc)
+  sender_address vid from (Arp op sha spa tha tpa) s is = where_true (is_same sha.0 from.0) vid from (ips.V4 spa) s is
+  sender_address vid from (V6 header body) s is = told (nd_message from header body) is
+    where
+      told : (o : Option NdMessage) → option_and_then (nd_sender w.conf vid from) o ≡ Some s → is_neighbour_address (vips_of w.conf vid) s.ip ≡ true
+      told None none = absurd (cc)
+      told (Some m) some = where_true m.is_own vid from (who m) s some
 
   hear_sound : (vid : ℕ) (frame : FrameParts) → IsSound (hear_neighbour dp vid frame w)
   hear_sound vid frame =
@@ -141,9 +154,9 @@ module _ (m : PacketIn) (number : ℕ) (dp : DpId) (w : World) (valid : IsValid 
       let learned = learn dp port vid frame.src w in
       let gleaned = glean dp vid frame w in
       let answered = reply number dp port vid frame (hear_neighbour dp vid frame w) in
-      elim (m.table == sources) as (λ b. IsSound (if b then learned else if m.table == routes then gleaned else if m.table == gateways then answered else w)) [
+      elim (m.table == sources) as (λ b. IsSound (if b then learned else if is_route_table m.table frame.upper then gleaned else if m.table == gateways then answered else w)) [
         | true ↦ learn_sound dp port vid frame.src w valid runs sound
-        | false ↦ elim (m.table == routes) as (λ b. IsSound (if b then gleaned else if m.table == gateways then answered else w)) [
+        | false ↦ elim (is_route_table m.table frame.upper) as (λ b. IsSound (if b then gleaned else if m.table == gateways then answered else w)) [
           | true ↦ glean_sound dp w runs sound vid frame
           | false ↦ elim (m.table == gateways) as (λ b. IsSound (if b then answered else w)) [
             | true ↦ reply_sound number dp port vid frame (hear_neighbour dp vid frame w) (hear_sound dp w runs sound vid frame)

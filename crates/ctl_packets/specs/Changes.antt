@@ -1,9 +1,9 @@
 -- When a packet changes what is known: its host is learned, or there is room for the neighbour that it looks for or tells of.
 use Rattle.std.specs.Prelude.{ℕ, ◌==◌, ◌*◌, ◌&&◌, not, Bool, true, false, if◌then◌else◌, Option, None}
 use Rattle.std.specs.Option.{option_and_then, option_map_or}
-use Rattle.net_base.specs.declared.address.Ip4.{Ip4}
 use Rattle.net_base.specs.declared.address.Mac.{Mac}
 use Rattle.net_base.specs.declared.numbers.DpId.{DpId}
+use Rattle.conf_types.specs.declared.address.Ip.{Ip}
 use Rattle.conf_types.specs.Configuration.{Configuration, vlan_with}
 use Rattle.conf_types.specs.Groups.{group_of}
 use Rattle.conf_types.specs.Links.{is_up}
@@ -22,7 +22,7 @@ use Rattle.neighbour_resolve.specs.Counted.{counted_vid}
 use Rattle.neighbour_resolve.specs.Hearing.{heard_sender}
 use Rattle.neighbour_resolve.specs.Table as neighbours
 use Rattle.ctl_world.specs.World.{World, running, ups}
-use Rattle.ctl_packets.specs.Packets.{destination, gateways, is_for_gateway, is_resolved, least_time, network_vlan, routes, sources}
+use Rattle.ctl_packets.specs.Packets.{destination, gateways, is_for_gateway, is_resolved, is_route_table, least_time, network_vlan, sources}
 
 -- ---- hosts
 
@@ -46,16 +46,16 @@ has_room wants.Added = true
 has_room wants.Known = true
 has_room wants.Full = false
 
-abbrev pub has_room_for_wanted : (group : DpId) → (vid : ℕ) → Ip4 → World → Bool
+abbrev pub has_room_for_wanted : (group : DpId) → (vid : ℕ) → Ip → World → Bool
 has_room_for_wanted group vid ip w = has_room (neighbours.outcome w.neighbours (neighbours.unresolved group vid ip w.moment))
 
 -- the address lies in the network of a VLAN, and isn't known there
-abbrev pub gleans_to : (group : DpId) → (vid : ℕ) → Ip4 → World → Bool
+abbrev pub gleans_to : (group : DpId) → (vid : ℕ) → Ip → World → Bool
 gleans_to group vid ip w =
-    option_map_or (λ v. not (is_resolved w.neighbours.neighbours group v ip.0) && has_room_for_wanted group v ip w) (network_vlan w.conf vid ip.0) false
+    option_map_or (λ v. not (is_resolved w.neighbours.neighbours group v ip) && has_room_for_wanted group v ip w) (network_vlan w.conf vid ip) false
 
--- the address that an IPv4 packet for the gateway of its VLAN looks for
-abbrev pub gleaned : Configuration → (vid : ℕ) → FrameParts → Option Ip4
+-- the address that a packet for the gateway of its VLAN looks for
+abbrev pub gleaned : Configuration → (vid : ℕ) → FrameParts → Option Ip
 gleaned conf vid frame = option_and_then (λ v. if is_for_gateway v frame then destination frame.upper else None) (vlan_with conf.vlans vid)
 
 abbrev pub gleans : DpId → (vid : ℕ) → FrameParts → World → Bool
@@ -75,7 +75,7 @@ hears_neighbour dp vid frame w = option_map_or (has_room_for_heard dp vid w) (he
 abbrev pub table_changes : (table : ℕ) → DpId → (port vid : ℕ) → FrameParts → World → Bool
 table_changes table dp port vid frame w =
     if table == sources then learns dp port vid frame.src w
-    else if table == routes then gleans dp vid frame w
+    else if is_route_table table frame.upper then gleans dp vid frame w
     else table == gateways && hears_neighbour dp vid frame w
 
 -- its one tag is of a VLAN that the port is an edge member of

@@ -1,20 +1,21 @@
-ghost use Rattle.std.specs.Prelude.{◌≡◌, ◌==◌, ◌&&◌, false, is_some, IfOk, OnOk};
+ghost use Rattle.std.specs.Prelude.{◌≡◌, ◌==◌, ◌&&◌, ◌||◌, not, false, is_some, IfOk, OnOk};
+ghost use Rattle.conf_types.specs.Families.{is_same_ip};
 ghost use Rattle.conf_types.specs.Lists.{is_same};
-ghost use Rattle.conf_types.specs.Networks.{is_neighbour_address};
-ghost use Rattle.conf_types.specs.Routing.{vips_of};
+ghost use Rattle.conf_types.specs.Networks.{is_held, is_link_local};
 ghost use Rattle.pkt_view.specs.Frame.{shown, shown_upper, HasFixedPart};
 ghost use Rattle.ctl_packets.specs.Changes.{gleaned, gleans, gleans_to, has_room_for_wanted};
-ghost use Rattle.ctl_packets.specs.Packets.{destination, glean, glean_to, is_for_gateway, is_resolved, network_vlan, want};
+ghost use Rattle.ctl_packets.specs.Packets.{destination, glean, glean_to, is_for_gateway, is_reached, is_resolved, is_route_table, is_sought, network_vlan, want};
 
-use conf_types::{Conf, NeighRec, Vlan};
+use conf_types::{Conf, Ip, NeighRec, Net, Vlan};
 use ctl_world::World;
 use neighbour_resolve::Want;
-use net_base::{DpId, Ip4, Mac, NoMemory, Vid};
-use pkt_view::{FrameView, UpperView, ip4_at};
+use net_base::{DpId, Mac, NoMemory, Vid};
+use pkt_view::{FrameView, UpperView, ip4_at, ip6_at};
+use plan_base::Table;
 use std::alloc::Global;
 
 /// An address is wanted in a group of datapaths and a VLAN. Answers whether there was room for it.
-fn want(world: &mut World, group: DpId, vid: Vid, ip: Ip4) -> bool
+fn want(world: &mut World, group: DpId, vid: Vid, ip: Ip) -> bool
     ensures done { world.new ≡ want group vid ip world.old }
     ensures same { result ≡ false → world.new ≡ world.old }
     ensures told { result ≡ has_room_for_wanted group vid ip world.old }
@@ -26,44 +27,61 @@ fn want(world: &mut World, group: DpId, vid: Vid, ip: Ip4) -> bool
 }
 
 /// Whether a neighbour has this key, and its Ethernet address is known.
-fn is_neighbour(neighbour: &NeighRec, group: DpId, vid: Vid, ip: Ip4) -> bool
-    ensures { result ≡ (neighbour.now.group.0 == group.0 && neighbour.now.vid == vid && neighbour.now.ip.0 == ip.0 && is_some neighbour.now.mac) }
+fn is_neighbour(neighbour: &NeighRec, group: DpId, vid: Vid, ip: Ip) -> bool
+    ensures { result ≡ (neighbour.now.group.0 == group.0 && neighbour.now.vid == vid && is_same_ip neighbour.now.ip ip && is_some neighbour.now.mac) }
 {
     neighbour.group == group
         && neighbour.vid.get() == vid.get()
-        && neighbour.ip.0 == ip.0
+        && neighbour.ip.is_same(ip)
         && neighbour.mac.is_some()
 }
 
 /// Whether the Ethernet address of a neighbour is known.
-fn is_resolved(neighbours: &[NeighRec], group: DpId, vid: Vid, ip: Ip4) -> bool
-    ensures { result ≡ is_resolved neighbours.now group vid ip.0 }
+fn is_resolved(neighbours: &[NeighRec], group: DpId, vid: Vid, ip: Ip) -> bool
+    ensures { result ≡ is_resolved neighbours.now group vid ip }
 {
     neighbours
         .iter()
         .any(|neighbour| is_neighbour(neighbour, group, vid, ip))
 }
 
-/// Whether an address is a neighbour's of a VLAN.
-fn is_address_of(conf: &Conf, vid: Vid, ip: Ip4) -> bool
-    ensures { result ≡ is_neighbour_address (vips_of conf.now vid) ip.0 }
+/// Whether a network of a VLAN holds an address, and packets of VLAN `from` are routed by it.
+fn is_reached_by(from: Vid, vid: Vid, vip: &Net, ip: Ip) -> bool
+    ensures { result ≡ (is_held vip.now ip && (vid == from || not (is_link_local vip.now))) }
+{
+    vip.holds(ip) && (vid.get() == from.get() || !vip.is_link_local())
+}
+
+/// Whether an address lies in a network of a VLAN that packets of VLAN `from` are routed by.
+fn is_reached(from: Vid, vlan: &Vlan, ip: Ip) -> bool
+    ensures { result ≡ is_reached from vlan.now ip }
+{
+    vlan.vips
+        .as_slice()
+        .iter()
+        .any(|vip| is_reached_by(from, vlan.vid, vip, ip))
+}
+
+/// Whether an address is a neighbour's of a VLAN, in such a network.
+fn is_sought(conf: &Conf, from: Vid, ip: Ip, vid: Vid) -> bool
+    ensures { result ≡ is_sought conf.now from ip vid }
 {
     match conf.vlan(vid) {
-        Some(vlan) => vlan.is_neighbour_address(ip),
+        Some(vlan) => vlan.is_neighbour_address(ip) && is_reached(from, vlan, ip),
         None => false,
     }
 }
 
-/// The VLAN in whose network an address lies, of those that packets of a VLAN are routed to.
-fn network_vlan(alloc: Global, conf: &Conf, vid: Vid, ip: Ip4) -> Result<Option<Vid>, NoMemory>
-    ensures { IfOk result (λ found. found ≡ network_vlan conf.now vid ip.0) }
+/// The VLAN of which an address is a neighbour's, of those that packets of a VLAN are routed to.
+fn network_vlan(alloc: Global, conf: &Conf, vid: Vid, ip: Ip) -> Result<Option<Vid>, NoMemory>
+    ensures { IfOk result (λ found. found ≡ network_vlan conf.now vid ip) }
 {
     let vids = conf.routing_set(alloc, vid)?;
     Ok(
         vids.as_slice()
             .iter()
             .copied()
-            .find(|other| is_address_of(conf, *other, ip)),
+            .find(|other| is_sought(conf, vid, ip, *other)),
     )
 }
 
@@ -73,7 +91,7 @@ fn glean_to(
     world: &mut World,
     group: DpId,
     vid: Vid,
-    ip: Ip4,
+    ip: Ip,
 ) -> Result<bool, NoMemory>
     ensures done { OnOk result (world.new ≡ glean_to group vid ip world.old) }
     ensures same { IfOk result (λ changed. changed ≡ false → world.new ≡ world.old) }
@@ -102,19 +120,20 @@ fn is_for_gateway(vlan: &Vlan, frame: &FrameView<'_>) -> bool
     !vlan.vips.is_empty() && is_same(frame.dst, vlan.mac)
 }
 
-/// The address that a frame's IPv4 packet is for (RFC 791, 3.1).
-fn destination(frame: &FrameView<'_>) -> Option<Ip4>
+/// The address that a frame's packet is for (RFC 791, 3.1; RFC 8200, 3).
+fn destination(frame: &FrameView<'_>) -> Option<Ip>
     requires { HasFixedPart (shown_upper frame.now.upper) }
     ensures { result ≡ destination (shown_upper frame.now.upper) }
 {
     match frame.upper {
-        UpperView::V4 { header, .. } => Some(ip4_at(header, 16)),
-        _ => None,
+        UpperView::V4 { header, .. } => Some(Ip::V4(ip4_at(header, 16))),
+        UpperView::V6 { header, .. } => Some(Ip::V6(ip6_at(header, 24))),
+        UpperView::Arp { .. } | UpperView::None => None,
     }
 }
 
-/// The address that a frame of a VLAN looks for: that of its IPv4 packet, where it is for the gateway.
-fn gleaned(conf: &Conf, vid: Vid, frame: &FrameView<'_>) -> Option<Ip4>
+/// The address that a frame of a VLAN looks for: that of its packet, where it is for the gateway.
+fn gleaned(conf: &Conf, vid: Vid, frame: &FrameView<'_>) -> Option<Ip>
     requires { HasFixedPart (shown_upper frame.now.upper) }
     ensures { result ≡ gleaned conf.now vid (shown frame.now) }
 {
@@ -126,7 +145,7 @@ fn gleaned(conf: &Conf, vid: Vid, frame: &FrameView<'_>) -> Option<Ip4>
     }
 }
 
-/// The address that an IPv4 packet for a VLAN's gateway looks for is wanted, unless it is known. Answers
+/// The address that a packet for a VLAN's gateway looks for is wanted, unless it is known. Answers
 /// whether it was.
 pub(crate) fn glean(
     alloc: Global,
@@ -146,5 +165,16 @@ pub(crate) fn glean(
             glean_to(alloc, world, group, vid, ip)
         }
         None => Ok(false),
+    }
+}
+
+/// Whether a table is that of the routes of a frame's packet: of IPv4 or of IPv6.
+pub fn is_route_table(table: u8, frame: &FrameView<'_>) -> bool
+    ensures { result ≡ is_route_table table (shown_upper frame.now.upper) }
+{
+    match frame.upper {
+        UpperView::V4 { .. } => table == Table::Ipv4Route.number(),
+        UpperView::V6 { .. } => table == Table::Ipv6Route.number(),
+        UpperView::Arp { .. } | UpperView::None => false,
     }
 }

@@ -10,4 +10,5 @@ mod learning;
 mod packet;
 mod reply;
 
+pub use gleaning::is_route_table;
 pub use packet::packet_in;

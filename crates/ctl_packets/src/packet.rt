@@ -5,7 +5,7 @@ ghost use Rattle.ctl_packets.specs.Changes.{packet_changes, port_changes, table_
 ghost use Rattle.ctl_packets.specs.Packets.{packet_by, packet_in, packet_of_table};
 
 use crate::arrival::Arrival;
-use crate::gleaning::glean;
+use crate::gleaning::{glean, is_route_table};
 use crate::hearing::hear_neighbour;
 use crate::learning::learn;
 use crate::reply::reply;
@@ -20,7 +20,7 @@ use plan_base::Table;
 use std::alloc::Global;
 
 /// What a frame of a VLAN does, by the table that sent it: an entry of that of sources sends the packets of
-/// hosts that aren't fresh, one of that of routes those for neighbours that aren't known, and the next one
+/// hosts that aren't fresh, one of those of routes those for neighbours that aren't known, and the next one
 /// those for gateways themselves. Answers whether something was learned.
 fn packet_of_table(
     alloc: Global,
@@ -37,7 +37,7 @@ fn packet_of_table(
     let Arrival { dp, port, vid, .. } = arrival;
     if table == Table::Source.number() {
         learn(world, dp, port, vid, frame.src)
-    } else if table == Table::Ipv4Route.number() {
+    } else if is_route_table(table, frame) {
         glean(alloc, world, dp, vid, frame)
     } else if table == Table::Vip.number() {
         let changed = hear_neighbour(world, dp, vid, frame);

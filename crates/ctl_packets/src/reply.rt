@@ -23,7 +23,7 @@ fn outgoing(
     ensures { IfOk result (λ out. out ≡ outgoing conf.now dp port vid reply) }
 {
     match reply {
-        Reply::ArpReply(frame) | Reply::EchoReply(frame) => {
+        Reply::ArpReply(frame) | Reply::EchoReply(frame) | Reply::Advert(frame) => {
             let actions = send_back(alloc, vid, port, conf.member(dp, port, vid))?;
             Ok(Some(Outgoing { frame, actions }))
         }
