@@ -3,7 +3,7 @@ use Rattle.std.proofs.Common.{◌≡◌, ℕ, ◌+◌, ◌<◌, ◌==◌, true, 
 use Rattle.std.specs.List.{cons_option, filter_map}
 use Rattle.std.specs.Option.{option_map, option_map_or}
 use Rattle.std.proofs.lemmas.List.{at_drop_more}
-use Rattle.net_base.specs.declared.address.Ip4.{Ip4}
+use Rattle.conf_types.specs.declared.address.Ip.{Ip}
 use Rattle.net_base.specs.declared.numbers.DpId.{DpId}
 use Rattle.conf_types.specs.Configuration.{Configuration}
 use Rattle.conf_types.specs.Groups.{group_of}
@@ -25,7 +25,7 @@ ask_on_conf a w =
       | None ↦ refl
     ]
 
-module _ (group : DpId) (vid : ℕ) (ip : Ip4) where
+module _ (group : DpId) (vid : ℕ) (ip : Ip) where
   -- the asks of these datapaths, by a configuration
   abbrev asks_by : Configuration → List DpId → List AskOn
   asks_by conf dps = filter_map (λ dp. option_map (λ out. record { dp = dp; out = out }) (ask_frame conf dp vid ip)) (filter (λ dp. (group_of conf dp).0 == group.0) dps)

@@ -6,15 +6,17 @@ use Rattle.std.specs.Option.{option_map, option_map_or}
 use Rattle.std.proofs.lemmas.Bool.{and_from, and_parts, cases_Bool}
 use Rattle.std.proofs.lemmas.Bool.Decides.{nat_tests}
 use Rattle.std.proofs.lemmas.Option.{none-some, same_Some}
-use Rattle.net_base.specs.declared.address.Ip4.{Ip4}
+use Rattle.conf_types.specs.declared.address.Ip.{Ip}
 use Rattle.net_base.specs.declared.address.Mac.{Mac}
 use Rattle.net_base.specs.declared.numbers.DpId.{DpId}
 use Rattle.net_base.specs.declared.numbers.Moment.{Moment}
 use Rattle.conf_types.specs.declared.change.Change.{Change}
+use Rattle.conf_types.specs.Families.{is_same_ip}
 use Rattle.conf_types.specs.declared.state.NeighRec.{NeighRec}
 use Rattle.conf_types.specs.Changes.{mac_of_neighbour}
 use Rattle.conf_types.specs.Configuration.{Configuration}
 use Rattle.conf_types.specs.State.{State, IsSameNeighbour, IsValidState}
+use Rattle.conf_types.proofs.Families.{is_that_ip}
 use Rattle.of13_codec.specs.declared.message.Message.{Message}
 use Rattle.plan_units.specs.Facts.{found}
 use Rattle.law_names.specs.Differing.{neighbour}
@@ -24,19 +26,19 @@ use Rattle.law_names.proofs.Stepped.{join, nothing}
 use Rattle.law_runs.specs.Members.{all_joined, of_all, tail_of}
 use Rattle.neighbour_resolve.specs.declared.neighbour.Due.{Due}
 use Rattle.neighbour_resolve.specs.declared.neighbour.Due.TheVariants.{Ask, Gone}
-use Rattle.neighbour_resolve.specs.Asks.{AskOn, asks}
+use Rattle.neighbour_resolve.specs.Asks.{asks}
 use Rattle.neighbour_resolve.specs.Due.{after_due, asked as asked_once, asked_on, due_said, first_due, is_due, is_gateway, is_lost, is_spent, last_wait, most_tries, next, said_of, wait_after}
 use Rattle.neighbour_resolve.specs.Table.{Table}
 use Rattle.neighbour_resolve.proofs.Alone.{by_next, some_wait}
-use Rattle.ctl_world.specs.declared.conns.Conn.{Conn}
-use Rattle.ctl_world.specs.Connections.{conn_of, conn_with, with_said}
-use Rattle.ctl_world.specs.Saying.{packet_out, say, say_by}
-use Rattle.ctl_world.specs.World.{IsSound, World, running}
+use Rattle.ctl_world.specs.Connections.{conn_with, with_said}
+use Rattle.ctl_world.specs.Saying.{say, say_by}
+use Rattle.ctl_world.specs.World.{IsSound, World}
 use Rattle.ctl_settle.specs.Asked.{IsLost, all_asked, asked, lost}
-use Rattle.ctl_settle.specs.Settling.{ask_all, ask_due, ask_each, ask_on, say_due, take_due}
+use Rattle.ctl_settle.specs.Settling.{ask_all, ask_due, say_due, take_due}
+use Rattle.ctl_settle.proofs.Asks.{due_said_kept}
 use Rattle.ctl_settle.proofs.Following.{all_same}
 use Rattle.ctl_settle.proofs.Lost.{AreApart, lost_named, mac_in, none_behind, one_key, test}
-use Rattle.ctl_settle.proofs.Sound.{due_said_sound, taken_sound}
+use Rattle.ctl_settle.proofs.Sound.{taken_sound}
 
 -- ---- one that is due
 
@@ -67,7 +69,7 @@ module _ (conf : Configuration) (moment : ℕ) where
       behind x xs n on (zero, lt, is) = (zero, omega arith, is)
       behind x xs n on (suc k, lt, is) = tail_of x xs n (on (k, omega (arith, lt), is))
 
-  module _ (group : DpId) (vid : ℕ) (ip : Ip4) where
+  module _ (group : DpId) (vid : ℕ) (ip : Ip) where
     abbrev key : NeighRec → Bool
     key n = test group vid ip n
 
@@ -142,20 +144,8 @@ module _ (conf : Configuration) (moment : Moment) (table : Table) where
   say_has : (number : ℕ) (m : Message) (w : World) → Has w → Has (say number m w)
   say_has number m w has = elim (conn_with w.conns number) as (λ o. Has (option_map_or (say_by with_said m w) o w)) [ Some c ↦ has | None ↦ has ]
 
-  on_has : (a : AskOn) (w : World) → Has w → Has (ask_on a w)
-  on_has a w has =
-      elim (conn_of w.conns a.dp) as (λ o. Has (option_map_or (λ (c : Conn). say c.number (packet_out a.out) w) o w)) [
-        | Some c ↦ say_has c.number (packet_out a.out) w has
-        | None ↦ has
-      ]
-
-  frames_has : (frames : List AskOn) (w : World) → Has w → Has (ask_each frames w)
-  frames_has [] w has = has
-  frames_has (a ∷ more) w has = frames_has more (ask_on a w) (on_has a w has)
-
   said_has : (d : Due) (w : World) → Has w → Has (say_due d w)
-  said_has (Ask group vid ip) w has = frames_has (asks w.conf (running w) group vid ip) w has
-  said_has (Gone group vid ip) w has = has
+  said_has d w has = due_said_kept Has say_has d w has
 
 -- ---- all that are due
 
@@ -166,10 +156,10 @@ then_has : (d : Due) (w : World) → Has w.conf w.moment (take_due w).neighbours
 then_has d w = said_has w.conf w.moment (take_due w).neighbours d (take_due w) (refl, (refl, refl))
 
 abbrev known_in : World → NeighRec → Option Mac
-known_in w n = mac_of_neighbour w.neighbours.neighbours n.group n.vid n.ip.0
+known_in w n = mac_of_neighbour w.neighbours.neighbours n.group n.vid n.ip
 
 its_key : (n : NeighRec) → test n.group n.vid n.ip n ≡ true
-its_key n = and_from (n.group.0 == n.group.0 && n.vid == n.vid) (n.ip.0 == n.ip.0) (and_from (n.group.0 == n.group.0) (n.vid == n.vid) (eq-eqb n.group.0 n.group.0 refl) (eq-eqb n.vid n.vid refl)) (eq-eqb n.ip.0 n.ip.0 refl)
+its_key n = and_from (n.group.0 == n.group.0 && n.vid == n.vid) (is_same_ip n.ip n.ip) (and_from (n.group.0 == n.group.0) (n.vid == n.vid) (eq-eqb n.group.0 n.group.0 refl) (eq-eqb n.vid n.vid refl)) (is_that_ip n.ip n.ip refl)
 
 due_is : (conf : Configuration) (moment : ℕ) (n : NeighRec) → due (said_of conf moment n) ≡ neighbour n
 due_is conf moment n = elim (is_some (next conf moment n)) as (λ b. due (if b then Ask n.group n.vid n.ip else Gone n.group n.vid n.ip) ≡ neighbour n) [ true ↦ refl | false ↦ refl ]
@@ -177,11 +167,11 @@ due_is conf moment n = elim (is_some (next conf moment n)) as (λ b. due (if b t
 module _ (say_kept : (number : ℕ) (m : Message) (w : World) → IsSound w → IsSound (say number m w))
     (due_kept : (conf : Configuration) (state : State) (moment : ℕ) → IsValidState conf state → IsValidState conf (record state { neighbours = after_due conf moment state.neighbours })) where
   then_sound : (d : Due) (w : World) → IsSound w → IsSound (then_world d w)
-  then_sound d w sound = due_said_sound say_kept d (take_due w) (taken_sound say_kept due_kept w sound)
+  then_sound d w sound = due_said_kept IsSound say_kept d (take_due w) (taken_sound say_kept due_kept w sound)
 
   then_unknown : (n : NeighRec) (d : Due) (w : World) → IsSound w → known_in w n ≡ None → known_in (then_world d w) n ≡ None
   then_unknown n d w sound none =
-      ap (λ (t : Table). mac_of_neighbour t.neighbours n.group n.vid n.ip.0) (then_has d w).1.1
+      ap (λ (t : Table). mac_of_neighbour t.neighbours n.group n.vid n.ip) (then_has d w).1.1
       ∙ stays_unknown w.conf w.moment.0 n.group n.vid n.ip w.neighbours.neighbours sound.valid.neighbour_keys none
 
   all_unknown : (n : NeighRec) (most : ℕ) (w : World) → IsSound w → known_in w n ≡ None → known_in (ask_due most w) n ≡ None
@@ -210,7 +200,7 @@ module _ (say_kept : (number : ℕ) (m : Message) (w : World) → IsSound w → 
               spent = spent;
               named = ap due (sym (same_Some (said_of w.conf w.moment.0 n) d e)) ∙ due_is w.conf w.moment.0 n;
               gone = all_unknown n most v (then_sound d w sound)
-                  (ap (λ (t : Table). mac_of_neighbour t.neighbours n.group n.vid n.ip.0) (then_has d w).1.1
+                  (ap (λ (t : Table). mac_of_neighbour t.neighbours n.group n.vid n.ip) (then_has d w).1.1
                   ∙ lost_gone w.conf w.moment.0 n.group n.vid n.ip w.neighbours.neighbours n sound.valid.neighbour_keys (its_key n) at spent);
             }
 

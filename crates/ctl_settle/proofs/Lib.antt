@@ -1,6 +1,7 @@
 pub mod Apart
 pub mod Asked
 pub mod AskedNames
+pub mod Asks
 pub mod Batches
 pub mod Brought
 pub mod Counting

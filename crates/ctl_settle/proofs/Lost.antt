@@ -3,14 +3,16 @@ use Rattle.std.proofs.Common.{◌≡◌, ℕ, ◌==◌, ◌&&◌, not, Bool, tru
 use Rattle.std.specs.List.{AllByRecursion}
 use Rattle.std.specs.Option.{option_and_then, option_map_or}
 use Rattle.std.proofs.lemmas.Bool.{and_parts, cases_Bool}
-use Rattle.net_base.specs.declared.address.Ip4.{Ip4}
+use Rattle.conf_types.specs.declared.address.Ip.{Ip}
 use Rattle.net_base.specs.declared.address.Mac.{Mac}
 use Rattle.net_base.specs.declared.numbers.DpId.{DpId}
 use Rattle.conf_types.specs.declared.state.NeighRec.{NeighRec}
+use Rattle.conf_types.specs.Families.{is_same_ip}
 use Rattle.conf_types.specs.Changes.{mac_of_neighbour}
 use Rattle.conf_types.specs.Configuration.{Configuration}
 use Rattle.conf_types.specs.Lists.{EachBefore}
 use Rattle.conf_types.specs.State.{IsSameNeighbour}
+use Rattle.conf_types.proofs.Families.{same_ip}
 use Rattle.neighbour_resolve.specs.declared.neighbour.Due.{Due}
 use Rattle.neighbour_resolve.specs.Due.{after_due, asked as asked_once, asked_on, due_said, first_due, is_due, is_gateway, is_lost, is_spent, most_tries, next}
 use Rattle.ctl_world.specs.World.{World}
@@ -29,7 +31,7 @@ unknown : (o : Option Mac) → (is_some o && true) ≡ false → o ≡ None
 unknown None is = refl
 unknown (Some m) is = absurd (true≢false is)
 
-module _ (group : DpId) (vid : ℕ) (ip : Ip4) where
+module _ (group : DpId) (vid : ℕ) (ip : Ip) where
   abbrev pub test : NeighRec → Bool
   test n = key group vid ip n
 
@@ -38,14 +40,14 @@ module _ (group : DpId) (vid : ℕ) (ip : Ip4) where
 
   pub one_key : (m n : NeighRec) → test m ≡ true → test n ≡ true → IsSameNeighbour m n
   one_key m n is_m is_n =
-      let om = and_parts (m.group.0 == group.0 && m.vid == vid) (m.ip.0 == ip.0) is_m in
+      let om = and_parts (m.group.0 == group.0 && m.vid == vid) (is_same_ip m.ip ip) is_m in
       let im = and_parts (m.group.0 == group.0) (m.vid == vid) om.0 in
-      let on = and_parts (n.group.0 == group.0 && n.vid == vid) (n.ip.0 == ip.0) is_n in
+      let on = and_parts (n.group.0 == group.0 && n.vid == vid) (is_same_ip n.ip ip) is_n in
       let in_n = and_parts (n.group.0 == group.0) (n.vid == vid) on.0 in
       record {
         groups = eqb-true m.group.0 group.0 im.0 ∙ sym (eqb-true n.group.0 group.0 in_n.0);
         vlans = eqb-true m.vid vid im.1 ∙ sym (eqb-true n.vid vid in_n.1);
-        ips = eqb-true m.ip.0 ip.0 om.1 ∙ sym (eqb-true n.ip.0 ip.0 on.1);
+        ips = same_ip m.ip ip om.1 ∙ sym (same_ip n.ip ip on.1);
       }
 
   pub none_behind : (n : NeighRec) (ns : List NeighRec) → test n ≡ true → AllByRecursion (λ m. IsSameNeighbour n m → ⊥) ns → find test ns ≡ None
@@ -72,7 +74,7 @@ module _ (group : DpId) (vid : ℕ) (ip : Ip4) where
               | inr off ↦ sym (ap (λ (b : Bool). mac_in (cond b (Some n) (find test ns))) off)
             ]
 
-    pub kept_mac : (ns : List NeighRec) → AreApart ns → is_lost moment ns ≡ false → mac_of_neighbour (after_due conf moment ns) group vid ip.0 ≡ mac_of_neighbour ns group vid ip.0
+    pub kept_mac : (ns : List NeighRec) → AreApart ns → is_lost moment ns ≡ false → mac_of_neighbour (after_due conf moment ns) group vid ip ≡ mac_of_neighbour ns group vid ip
     kept_mac [] apart kept = refl
     kept_mac (n ∷ ns) apart kept =
         elim (cases_Bool (is_due moment n)) [

@@ -1,5 +1,5 @@
 -- Asks and batches leave a sound world sound.
-use Rattle.std.proofs.Common.{◌≡◌, ℕ, zero, suc, true, false, List, [], ◌∷◌, Some, None, is_some, length, refl, if◌then◌else◌}
+use Rattle.std.proofs.Common.{◌≡◌, ℕ, true, false, List, [], ◌∷◌, Some, None, is_some, refl, if◌then◌else◌}
 use Rattle.std.specs.Option.{option_map_or}
 use Rattle.net_base.specs.declared.numbers.DpId.{DpId}
 use Rattle.of_match.specs.declared.entry.Command.{Command}
@@ -9,55 +9,23 @@ use Rattle.of13_codec.specs.declared.message.Message.TheVariants as messages
 use Rattle.conf_types.specs.Configuration.{Configuration}
 use Rattle.conf_types.specs.State.{State, IsValidState}
 use Rattle.plan_difference.specs.Difference.{difference}
-use Rattle.flow_messages.specs.Messages.{command_message}
-use Rattle.neighbour_resolve.specs.declared.neighbour.Due.{Due}
-use Rattle.neighbour_resolve.specs.declared.neighbour.Due.TheVariants.{Ask, Gone}
-use Rattle.neighbour_resolve.specs.Asks.{AskOn, asks}
-use Rattle.neighbour_resolve.specs.Due.{after_due, due_said}
+use Rattle.neighbour_resolve.specs.Due.{after_due}
 use Rattle.ctl_world.specs.declared.conns.Conn.{Conn}
 use Rattle.ctl_world.specs.Connections.{change, conn_of, with_sent}
-use Rattle.ctl_world.specs.Saying.{ask, packet_out, say}
-use Rattle.ctl_world.specs.World.{IsSound, World, now, running}
-use Rattle.ctl_settle.specs.Settling.{ask_all, ask_due, ask_each, ask_on, batch, batch_on, say_batch, say_due, say_each, take_due, wanted}
+use Rattle.ctl_world.specs.Saying.{ask, say}
+use Rattle.ctl_world.specs.World.{IsSound, World, now}
+use Rattle.ctl_settle.specs.Settling.{ask_all, batch, batch_on, say_batch, say_each, take_due, wanted}
+use Rattle.ctl_settle.proofs.Asks.{asks_kept, commands_kept}
 
 module _ (say_kept : (number : ℕ) (m : Message) (w : World) → IsSound w → IsSound (say number m w)) where
-  -- ---- asks
-
-  on_sound : (a : AskOn) (w : World) → IsSound w → IsSound (ask_on a w)
-  on_sound a w sound =
-      elim (conn_of w.conns a.dp) as (λ o. IsSound (option_map_or (λ (c : Conn). say c.number (packet_out a.out) w) o w)) [
-        | Some c ↦ say_kept c.number (packet_out a.out) w sound
-        | None ↦ sound
-      ]
-
-  each_sound : (frames : List AskOn) (w : World) → IsSound w → IsSound (ask_each frames w)
-  each_sound [] w sound = sound
-  each_sound (a ∷ more) w sound = each_sound more (ask_on a w) (on_sound a w sound)
-
-  pub due_said_sound : (due : Due) (w : World) → IsSound w → IsSound (say_due due w)
-  due_said_sound (Ask group vid ip) w sound = each_sound (asks w.conf (running w) group vid ip) w sound
-  due_said_sound (Gone group vid ip) w sound = sound
-
   module _ (due_kept : (conf : Configuration) (state : State) (moment : ℕ) → IsValidState conf state → IsValidState conf (record state { neighbours = after_due conf moment state.neighbours })) where
     pub taken_sound : (w : World) → IsSound w → IsSound (take_due w)
     taken_sound w sound = record { valid = due_kept w.conf (now w) w.moment.0 sound.valid; hosts = sound.hosts; neighbours = sound.neighbours }
 
-    due_sound : (most : ℕ) (w : World) → IsSound w → IsSound (ask_due most w)
-    due_sound zero w sound = sound
-    due_sound (suc most) w sound =
-        elim (due_said w.conf w.moment.0 w.neighbours.neighbours) as (λ o. IsSound (option_map_or (λ due. ask_due most (say_due due (take_due w))) o w)) [
-          | Some due ↦ due_sound most (say_due due (take_due w)) (due_said_sound due (take_due w) (taken_sound w sound))
-          | None ↦ sound
-        ]
-
     pub all_sound : (w : World) → IsSound w → IsSound (ask_all w)
-    all_sound w sound = due_sound (length w.neighbours.neighbours) w sound
+    all_sound w sound = asks_kept IsSound say_kept taken_sound w sound
 
   -- ---- batches
-
-  commands_sound : (number : ℕ) (commands : List Command) (w : World) → IsSound w → IsSound (say_each number commands w)
-  commands_sound number [] w sound = sound
-  commands_sound number (c ∷ more) w sound = commands_sound number more (say number (command_message c) w) (say_kept number (command_message c) w sound)
 
   module _ (ask_kept : (number : ℕ) (m : Message) (w : World) → IsSound w → IsSound (ask number m w))
       (change_kept : (number : ℕ) (w : World) (f : Conn → Conn) → ((c : Conn) → (f c).dp ≡ c.dp) → ((c : Conn) → (f c).session.state.stage ≡ c.session.state.stage)
@@ -66,7 +34,7 @@ module _ (say_kept : (number : ℕ) (m : Message) (w : World) → IsSound w → 
     one_sound number [] entries w sound = sound
     one_sound number (c ∷ more) entries w sound =
         change_kept number (ask number messages.BarrierRequest (say_each number (c ∷ more) w)) (with_sent entries) (λ c. refl) (λ c. refl) (λ c. refl)
-        (ask_kept number messages.BarrierRequest (say_each number (c ∷ more) w) (commands_sound number (c ∷ more) w sound))
+        (ask_kept number messages.BarrierRequest (say_each number (c ∷ more) w) (commands_kept IsSound say_kept number (c ∷ more) w sound))
 
     pub batch_sound : (w : World) (dp : DpId) → IsSound w → IsSound (batch dp w)
     batch_sound w dp sound =

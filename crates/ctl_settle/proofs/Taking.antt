@@ -1,5 +1,5 @@
 -- What asks and batches leave of how the plans fit.
-use Rattle.std.proofs.Common.{◌≡◌, ℕ, zero, suc, ◌==◌, Bool, true, false, Option, Some, None, List, [], ◌∷◌, is_some, length, refl, inl, inr, sym, ap, subst, ◌∙◌, eqb-true, true≢false, if◌then◌else◌}
+use Rattle.std.proofs.Common.{◌≡◌, ℕ, ◌==◌, Bool, true, false, Option, Some, None, List, [], ◌∷◌, is_some, refl, inl, inr, sym, ap, subst, ◌∙◌, eqb-true, true≢false, if◌then◌else◌}
 use Rattle.std.specs.Prelude.{◌↔◌, IsSomeAnd}
 use Rattle.std.specs.Option.{option_map, option_map_or}
 use Rattle.std.proofs.lemmas.Bool.{cases_Bool}
@@ -14,19 +14,17 @@ use Rattle.conf_types.specs.State.{State, is_running}
 use Rattle.cold_start.specs.Cold.{cold, cold_at}
 use Rattle.plan_difference.specs.Difference.{difference}
 use Rattle.warm_plan.specs.Kept.{Kept}
-use Rattle.neighbour_resolve.specs.declared.neighbour.Due.{Due}
-use Rattle.neighbour_resolve.specs.declared.neighbour.Due.TheVariants.{Ask, Gone}
-use Rattle.neighbour_resolve.specs.Asks.{AskOn, asks}
-use Rattle.neighbour_resolve.specs.Due.{due_said}
+use Rattle.neighbour_resolve.specs.Asks.{asks}
 use Rattle.ctl_world.specs.declared.conns.Conn.{Conn}
 use Rattle.ctl_world.specs.Connections.{change, conn_of, conn_with, with_said}
-use Rattle.ctl_world.specs.Saying.{packet_out, say}
+use Rattle.ctl_world.specs.Saying.{say}
 use Rattle.ctl_world.specs.World.{World, now, running}
 use Rattle.ctl_world.proofs.Numbered.{changed_other, changed_own, unlike}
 use Rattle.ctl_settle.specs.declared.plans.Held.{Held}
 use Rattle.ctl_settle.specs.Plans.{AreBrought, AreCurrent, AreFresh, Fit, Fits, IsPlanOf, IsReady, has_run, is_for, plan_for, taken, taken_on, took, with_batch}
 use Rattle.ctl_settle.specs.Rest.{AreInOrder}
-use Rattle.ctl_settle.specs.Settling.{ask_all, ask_due, ask_each, ask_on, batch, batch_on, say_batch, say_due, take_due, wanted}
+use Rattle.ctl_settle.specs.Settling.{ask_all, batch, batch_on, say_batch, wanted}
+use Rattle.ctl_settle.proofs.Asks.{asks_kept}
 use Rattle.ctl_settle.proofs.Batches.{AreByNumber, IsNoted, found_all, noted_case, said_quiet, say_step, step_conf, step_conns, step_none, step_now, step_other, step_own}
 use Rattle.ctl_settle.proofs.Fitting.{IsStill, fit_changed, fit_one, its_dp, number_found}
 use Rattle.ctl_settle.proofs.PlanPlaces.{all_taken, taken_other, taken_own, taken_some}
@@ -45,31 +43,8 @@ module _ (held : List Held) where
   said_fit number m w fit =
       subst (λ (cs : List Conn). Fit cs held) (sym (step_conns number with_said said_quiet w (say number m w) (say_step number m w))) (fit_changed with_said said_still number w.conns held fit)
 
-  on_fit : (a : AskOn) (w : World) → FitIn w → FitIn (ask_on a w)
-  on_fit a w fit =
-      elim (conn_of w.conns a.dp) as (λ o. FitIn (option_map_or (λ (c : Conn). say c.number (packet_out a.out) w) o w)) [
-        | Some c ↦ said_fit c.number (packet_out a.out) w fit
-        | None ↦ fit
-      ]
-
-  each_fit : (frames : List AskOn) (w : World) → FitIn w → FitIn (ask_each frames w)
-  each_fit [] w fit = fit
-  each_fit (a ∷ more) w fit = each_fit more (ask_on a w) (on_fit a w fit)
-
-  due_said_fit : (due : Due) (w : World) → FitIn w → FitIn (say_due due w)
-  due_said_fit (Ask group vid ip) w fit = each_fit (asks w.conf (running w) group vid ip) w fit
-  due_said_fit (Gone group vid ip) w fit = fit
-
-  due_fit : (most : ℕ) (w : World) → FitIn w → FitIn (ask_due most w)
-  due_fit zero w fit = fit
-  due_fit (suc most) w fit =
-      elim (due_said w.conf w.moment.0 w.neighbours.neighbours) as (λ o. FitIn (option_map_or (λ due. ask_due most (say_due due (take_due w))) o w)) [
-        | Some due ↦ due_fit most (say_due due (take_due w)) (due_said_fit due (take_due w) fit)
-        | None ↦ fit
-      ]
-
   pub asks_fit : (w : World) → FitIn w → FitIn (ask_all w)
-  asks_fit w fit = due_fit (length w.neighbours.neighbours) w fit
+  asks_fit w fit = asks_kept FitIn said_fit (λ v is. is) w fit
 
 -- ---- a plan is taken
 

@@ -1,5 +1,5 @@
 -- Where a turn has settled, each running datapath has a barrier outstanding or the entries that it is to have.
-use Rattle.std.proofs.Common.{◌≡◌, ℕ, zero, suc, ◌==◌, Bool, true, false, Option, Some, None, List, [], ◌∷◌, is_some, length, refl, inl, inr, sym, ap, subst, ◌∙◌, arith, eqb-true, if◌then◌else◌}
+use Rattle.std.proofs.Common.{◌≡◌, ℕ, ◌==◌, Bool, true, false, Option, Some, None, List, [], ◌∷◌, is_some, refl, inl, inr, sym, ap, subst, ◌∙◌, arith, eqb-true, if◌then◌else◌}
 use Rattle.std.specs.Prelude.{◌⊎◌, ◌↔◌}
 use Rattle.std.specs.Option.{option_map_or}
 use Rattle.std.proofs.lemmas.Bool.{cases_Bool}
@@ -13,15 +13,13 @@ use Rattle.conf_types.specs.Configuration.{Configuration, dp_with}
 use Rattle.conf_types.specs.State.{State, is_running}
 use Rattle.cold_start.specs.Cold.{cold}
 use Rattle.plan_difference.specs.Difference.{difference}
-use Rattle.neighbour_resolve.specs.declared.neighbour.Due.{Due}
-use Rattle.neighbour_resolve.specs.declared.neighbour.Due.TheVariants.{Ask, Gone}
-use Rattle.neighbour_resolve.specs.Asks.{AskOn, asks, in_order}
-use Rattle.neighbour_resolve.specs.Due.{due_said}
+use Rattle.neighbour_resolve.specs.Asks.{asks, in_order}
 use Rattle.ctl_world.specs.declared.conns.Conn.{Conn}
 use Rattle.ctl_world.specs.Connections.{conn_of, with_said}
-use Rattle.ctl_world.specs.Saying.{packet_out, say}
+use Rattle.ctl_world.specs.Saying.{say}
 use Rattle.ctl_world.specs.World.{World, now, running}
-use Rattle.ctl_settle.specs.Settling.{ask_all, ask_due, ask_each, ask_on, batch, batch_on, batches, say_batch, say_due, settle, take_due, wanted}
+use Rattle.ctl_settle.specs.Settling.{ask_all, batch, batch_on, batches, say_batch, settle, wanted}
+use Rattle.ctl_settle.proofs.Asks.{asks_kept}
 use Rattle.ctl_settle.proofs.Batches.{AreByNumber, AreInKeyOrder, IsSaid, found_all, said_case, said_quiet, say_step, step_keys, step_none, step_now, step_numbers, step_other, step_own, step_wanted}
 
 abbrev AreOrdered : World → Type 0
@@ -34,31 +32,8 @@ said_ordered number m w ordered =
     let step = say_step number m w in
     (step_numbers number with_said said_quiet w (say number m w) step ordered.0, step_keys number with_said said_quiet w (say number m w) step (λ c keys. keys) ordered.1)
 
-on_ordered : (a : AskOn) (w : World) → AreOrdered w → AreOrdered (ask_on a w)
-on_ordered a w ordered =
-    elim (conn_of w.conns a.dp) as (λ o. AreOrdered (option_map_or (λ (c : Conn). say c.number (packet_out a.out) w) o w)) [
-      | Some c ↦ said_ordered c.number (packet_out a.out) w ordered
-      | None ↦ ordered
-    ]
-
-frames_ordered : (frames : List AskOn) (w : World) → AreOrdered w → AreOrdered (ask_each frames w)
-frames_ordered [] w ordered = ordered
-frames_ordered (a ∷ more) w ordered = frames_ordered more (ask_on a w) (on_ordered a w ordered)
-
-due_said_ordered : (due : Due) (w : World) → AreOrdered w → AreOrdered (say_due due w)
-due_said_ordered (Ask group vid ip) w ordered = frames_ordered (asks w.conf (running w) group vid ip) w ordered
-due_said_ordered (Gone group vid ip) w ordered = ordered
-
-due_ordered : (most : ℕ) (w : World) → AreOrdered w → AreOrdered (ask_due most w)
-due_ordered zero w ordered = ordered
-due_ordered (suc most) w ordered =
-    elim (due_said w.conf w.moment.0 w.neighbours.neighbours) as (λ o. AreOrdered (option_map_or (λ due. ask_due most (say_due due (take_due w))) o w)) [
-      | Some due ↦ due_ordered most (say_due due (take_due w)) (due_said_ordered due (take_due w) ordered)
-      | None ↦ ordered
-    ]
-
 pub asks_ordered : (w : World) → AreByNumber w.conns → AreInKeyOrder w.conns → AreByNumber (ask_all w).conns × AreInKeyOrder (ask_all w).conns
-asks_ordered w numbers keys = due_ordered (length w.neighbours.neighbours) w (numbers, keys)
+asks_ordered w numbers keys = asks_kept AreOrdered said_ordered (λ v is. is) w (numbers, keys)
 
 -- ---- batches
 
@@ -131,7 +106,7 @@ module _ (cold_order : (conf : Configuration) (state : State) (d : Dp) → IsInK
   pub settled_ordered : (w : World) → AreByNumber w.conns → AreInKeyOrder w.conns → AreByNumber (settle w).conns × AreInKeyOrder (settle w).conns
   settled_ordered w numbers keys =
       let v : World = ask_all w in
-      batches_ordered (in_order (running v)) v (due_ordered (length w.neighbours.neighbours) w (numbers, keys))
+      batches_ordered (in_order (running v)) v (asks_ordered w numbers keys)
 
   running_kept : (dps : List DpId) (w : World) → running (batches dps w) ≡ running w
   running_kept [] w = refl
@@ -181,6 +156,6 @@ module _ (cold_order : (conf : Configuration) (state : State) (d : Dp) → IsInK
         → (dp : DpId) → is_running (running (settle w)) dp ≡ true → IsDone (settle w) dp
     settled_done same_ids w numbers keys dp runs =
         let v : World = ask_all w in
-        let ordered : AreOrdered v = due_ordered (length w.neighbours.neighbours) w (numbers, keys) in
+        let ordered : AreOrdered v = asks_ordered w numbers keys in
         let ids : List DpId = in_order (running v) in
         each_done ids v ordered dp (same_ids (running v) dp ∙ ap (λ (rs : List DpId). is_running rs dp) (sym (running_kept ids v)) ∙ runs)

@@ -35,4 +35,4 @@ pub record IsLost (w v : World) (c : Change) : Type 0 where
   pub comes : is_due w.moment.0 one ≡ true
   pub spent : is_spent one ≡ true
   pub named : c ≡ neighbour one
-  pub gone : mac_of_neighbour v.neighbours.neighbours one.group one.vid one.ip.0 ≡ None
+  pub gone : mac_of_neighbour v.neighbours.neighbours one.group one.vid one.ip ≡ None

@@ -2,7 +2,7 @@
 -- outstanding, what leads from the entries that it has to those that it is to have.
 use Rattle.std.specs.Prelude.{ℕ, zero, suc, ◌==◌, is_some, nat_le, if◌then◌else◌, List, [], ◌∷◌, length}
 use Rattle.std.specs.Option.{option_map_or}
-use Rattle.net_base.specs.declared.address.Ip4.{Ip4}
+use Rattle.conf_types.specs.declared.address.Ip.{Ip}
 use Rattle.net_base.specs.declared.numbers.DpId.{DpId}
 use Rattle.conf_types.specs.Groups.{group_of}
 use Rattle.of_match.specs.declared.entry.Command.{Command}
@@ -31,11 +31,11 @@ ask_each [] w = w
 ask_each (a ∷ more) w = ask_each more (ask_on a w)
 
 -- each of these datapaths, where it is of the group, asks; those without edge ports of the VLAN are passed over
-abbrev pub ask_by : (group : DpId) → (vid : ℕ) → Ip4 → DpId → World → World
+abbrev pub ask_by : (group : DpId) → (vid : ℕ) → Ip → DpId → World → World
 ask_by group vid ip dp w =
     if (group_of w.conf dp).0 == group.0 then option_map_or (λ out. ask_on (record { dp = dp; out = out }) w) (ask_frame w.conf dp vid ip) w else w
 
-abbrev pub ask_by_each : (group : DpId) → (vid : ℕ) → Ip4 → List DpId → World → World
+abbrev pub ask_by_each : (group : DpId) → (vid : ℕ) → Ip → List DpId → World → World
 ask_by_each group vid ip [] w = w
 ask_by_each group vid ip (dp ∷ dps) w = ask_by_each group vid ip dps (ask_by group vid ip dp w)
 

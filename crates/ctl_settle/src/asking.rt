@@ -9,9 +9,10 @@ ghost use Rattle.ctl_settle.specs.Settling.{ask_all, ask_by, ask_by_each, ask_du
 
 use crate::order::in_order;
 use crate::touched::Touched;
+use conf_types::Ip;
 use ctl_world::{World, packet_out};
 use neighbour_resolve::{Due, Outgoing, ask};
-use net_base::{DpId, Ip4, NoMemory, Vid};
+use net_base::{DpId, NoMemory, Vid};
 use std::alloc::Global;
 use warm_plan::Change;
 
@@ -34,7 +35,7 @@ fn ask_by(
     world: &mut World,
     group: DpId,
     vid: Vid,
-    ip: Ip4,
+    ip: Ip,
     dp: DpId,
 ) -> Result<(), NoMemory>
     ensures { OnOk result (world.new ≡ ask_by group vid ip dp world.old) }
@@ -53,7 +54,7 @@ fn ask_by_each(
     world: &mut World,
     group: DpId,
     vid: Vid,
-    ip: Ip4,
+    ip: Ip,
     dps: &[DpId],
 ) -> Result<(), NoMemory>
     ensures { OnOk result (world.new ≡ ask_by_each group vid ip dps.now world.old) }
@@ -65,7 +66,7 @@ fn ask_by_each(
 }
 
 /// A neighbour is asked for by each running datapath of its group, in order.
-fn ask_for(alloc: Global, world: &mut World, group: DpId, vid: Vid, ip: Ip4) -> Result<(), NoMemory>
+fn ask_for(alloc: Global, world: &mut World, group: DpId, vid: Vid, ip: Ip) -> Result<(), NoMemory>
     ensures { OnOk result (world.new ≡ ask_each (asks world.old.conf (running world.old) group vid ip) world.old) }
 {
     let running = world.running(alloc)?;

@@ -1,4 +1,4 @@
-ghost use Rattle.std.specs.Prelude.{◌≡◌};
+ghost use Rattle.std.specs.Prelude.{◌≡◌, min};
 ghost use Rattle.ctl_settle.specs.Rest.{AreBounded, IsAtRest, IsBound, RestsUntil, host_until, hosts_until, neighbours_until, rests_until};
 
 use conf_types::{Conf, HostRec, NeighRec};
@@ -24,12 +24,24 @@ pub fn host_until(conf: &Conf, now: Moment, host: &HostRec) -> u64
     moment.0
 }
 
+/// The lesser of a moment and the one at which a host turns stale or is to be forgotten. Its port is looked up only
+/// where that comes first.
+fn sooner(conf: &Conf, now: Moment, least: u64, host: &HostRec) -> u64
+    ensures { result ≡ min least (host_until conf.now now.0 host.now) }
+{
+    let stale = conf.stale_at(host.dp, host.learned).0;
+    if least <= stale {
+        return least;
+    }
+    least.min(host_until(conf, now, host))
+}
+
 fn hosts_until(world: &World) -> u64
     ensures { result ≡ hosts_until world.now.conf world.now.moment.0 world.now.hosts.hosts }
 {
     let mut least = NEVER;
     for host in world.hosts.iter() {
-        least = least.min(host_until(&world.conf, world.moment, host));
+        least = sooner(&world.conf, world.moment, least, host);
     }
     least
 }

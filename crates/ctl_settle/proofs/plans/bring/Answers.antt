@@ -5,10 +5,11 @@ use Rattle.std.proofs.lemmas.Result.{on_ok_weaker}
 use Rattle.net_base.specs.declared.numbers.DpId.{DpId}
 use Rattle.conf_types.specs.State.{State, is_running}
 use Rattle.packet_way.specs.Present.{state_of}
+use Rattle.ctl_world.specs.declared.conns.Conn.{Conn}
 use Rattle.ctl_world.specs.World.{World, now, running}
 use Rattle.ctl_settle.specs.declared.plans.Held.{Held}
 use Rattle.ctl_settle.specs.Counted.{all_again, all_anew}
-use Rattle.ctl_settle.specs.Plans.{AreApart, renewed, runs_on, with_plans}
+use Rattle.ctl_settle.specs.Plans.{AreApart, numbers, renewed, runs_on, with_plans}
 use Rattle.ctl_settle.specs.Touched.{Follows}
 use Rattle.ctl_settle.proofs.Apart.{apart_by, apart_left}
 use Rattle.ctl_settle.proofs.Counting.{all_within}
@@ -19,6 +20,12 @@ use Rattle.ctl_settle.proofs.plans.bring.Goals as goal
 -- those that run, as they were renewed
 written : (n : ℕ) (xs ys : List Held) → n ≡ length xs → take n (xs ++ ys) ≡ xs
 written n xs ys is = ap (λ (k : ℕ). take k (xs ++ ys)) is ∙ take-append_seam xs ys
+
+-- and they are for connections apart, as those were that stay
+written_apart : (conns : List Conn) (plans held stay new rest : List Held) (n : ℕ) → held ≡ plans → AreApart held → stay ≡ filter (λ h. runs_on conns h.conn) plans → numbers new ≡ numbers stay
+    → n ≡ length new → AreApart (take n (new ++ rest))
+written_apart conns plans held stay new rest n was apart left same len =
+    subst AreApart (sym (written n new rest len)) (apart_by new stay same (subst AreApart (sym left) (apart_left (λ h. runs_on conns h.conn) plans (subst AreApart was apart))))
 
 pub renew_each-requires-clause-follow : goal.renew_each-requires-clause-follow
 renew_each-requires-clause-follow g c =
@@ -32,12 +39,9 @@ renew_each-requires-clause-follow g c =
 
 pub invariant_of-plans : goal.invariant_of-plans
 invariant_of-plans g c =
-    let w : World = c.args.world.now in
-    let was : c.plans.inside.held.items ≡ c.args.plans.now = cc (c.plans.view_is) in
-    let left : c.as_mut_slice.result.now ≡ filter (λ h. runs_on w.conns h.conn) c.args.plans.now = cc (c.as_mut_slice.ensures.value, c.drop_idle.ensures, c.plans.view_is) in
-    let apart : AreApart c.as_mut_slice.result.now = subst AreApart (sym left) (apart_left (λ h. runs_on w.conns h.conn) c.args.plans.now (subst AreApart was c.plans.invariant)) in
-    let len : c.drop_idle.new.held.len ≡ length c.renew_each.new.held = omega (arith, c.renew_each.auto.held, c.as_mut_slice.ensures.len) in
-    subst AreApart (sym (written c.drop_idle.new.held.len c.renew_each.new.held _ len)) (apart_by c.renew_each.new.held c.as_mut_slice.result.now c.renew_each.ensures.numbers apart)
+    let left : c.as_mut_slice.result.now ≡ filter (λ h. runs_on c.args.world.now.conns h.conn) c.args.plans.now = cc (c.as_mut_slice.ensures.value, c.drop_idle.ensures, c.plans.view_is) in
+    written_apart c.args.world.now.conns c.args.plans.now c.plans.inside.held.items c.as_mut_slice.result.now c.renew_each.new.held _ c.drop_idle.new.held.len
+    (cc (c.plans.view_is)) c.plans.invariant left c.renew_each.ensures.numbers (omega (arith, c.renew_each.auto.held, c.as_mut_slice.ensures.len))
 
 pub returns-in_err-renew_each-clause-most : goal.returns-in_err-renew_each-clause-most
 returns-in_err-renew_each-clause-most g c =
@@ -52,12 +56,9 @@ returns-in_err-renew_each-clause-most g c =
 
 pub open_plans-requires-clause-apart : goal.open_plans-requires-clause-apart
 open_plans-requires-clause-apart g c =
-    let w : World = c.args.world.now in
-    let was : c.plans.inside.held.items ≡ c.args.plans.now = cc (c.plans.view_is) in
-    let left : c.as_mut_slice.result.now ≡ filter (λ h. runs_on w.conns h.conn) c.args.plans.now = cc (c.as_mut_slice.ensures.value, c.drop_idle.ensures, c.plans.view_is) in
-    let apart : AreApart c.as_mut_slice.result.now = subst AreApart (sym left) (apart_left (λ h. runs_on w.conns h.conn) c.args.plans.now (subst AreApart was c.plans.invariant)) in
-    let len : c.drop_idle.new.held.len ≡ length c.renew_each.new.held = omega (arith, c.renew_each.auto.held, c.as_mut_slice.ensures.len) in
-    subst AreApart (sym (written c.drop_idle.new.held.len c.renew_each.new.held _ len)) (apart_by c.renew_each.new.held c.as_mut_slice.result.now c.renew_each.ensures.numbers apart)
+    let left : c.as_mut_slice.result.now ≡ filter (λ h. runs_on c.args.world.now.conns h.conn) c.args.plans.now = cc (c.as_mut_slice.ensures.value, c.drop_idle.ensures, c.plans.view_is) in
+    written_apart c.args.world.now.conns c.args.plans.now c.plans.inside.held.items c.as_mut_slice.result.now c.renew_each.new.held _ c.drop_idle.new.held.len
+    (cc (c.plans.view_is)) c.plans.invariant left c.renew_each.ensures.numbers (omega (arith, c.renew_each.auto.held, c.as_mut_slice.ensures.len))
 
 pub open_plans-requires-clause-run : goal.open_plans-requires-clause-run
 open_plans-requires-clause-run g c =
