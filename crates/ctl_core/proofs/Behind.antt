@@ -5,7 +5,7 @@ use Rattle.std.specs.List.{find, list_any}
 use Rattle.std.specs.Option.{option_and_then, option_eq, option_map, option_map_or}
 use Rattle.std.proofs.lemmas.Bool.{and_from, and_parts}
 use Rattle.std.proofs.lemmas.Option.{none-some, same_Some}
-use Rattle.net_base.specs.declared.address.Ip4.{Ip4}
+use Rattle.conf_types.specs.declared.address.Ip.{Ip}
 use Rattle.net_base.specs.declared.address.Mac.{Mac}
 use Rattle.net_base.specs.declared.numbers.DpId.{DpId}
 use Rattle.conf_types.specs.declared.change.Change.{Change}
@@ -106,23 +106,23 @@ module _ (conf : Configuration) (from to : State) (only : (test : HostRec → Bo
 -- ---- neighbours
 
 abbrev known_mac : List NeighRec → Change → Option Mac
-known_mac ns (change.Neighbour group vid ip) = mac_of_neighbour ns group vid ip.0
+known_mac ns (change.Neighbour group vid ip) = mac_of_neighbour ns group vid ip
 known_mac ns c = None
 
-module _ (group : DpId) (vid : ℕ) (ip : Ip4) where
+module _ (group : DpId) (vid : ℕ) (ip : Ip) where
   abbrev neighbour_c : Change
   neighbour_c = change.Neighbour group vid ip
 
-  module _ (from to : List NeighRec) (m : Mac) (is : mac_of_neighbour from group vid ip.0 ≡ Some m) (other : mac_of_neighbour from group vid ip.0 ≡ mac_of_neighbour to group vid ip.0 → ⊥) where
+  module _ (from to : List NeighRec) (m : Mac) (is : mac_of_neighbour from group vid ip ≡ Some m) (other : mac_of_neighbour from group vid ip ≡ mac_of_neighbour to group vid ip → ⊥) where
     neighbour_by : (o : Option NeighRec) → find (neighbours.key group vid ip) from ≡ o → option_and_then (λ (n : NeighRec). n.mac) o ≡ Some m → Contains (neighbours_left from to) neighbour_c
     neighbour_by None none e = absurd (none-some m e)
     neighbour_by (Some n) there e =
         let f = found_in (neighbours.key group vid ip) from n there in
         let named = neighbours.key_named group vid ip n f.passes in
-        let looked : mac_of_neighbour to n.group n.vid n.ip.0 ≡ mac_of_neighbour to group vid ip.0 = ap (known_mac to) named in
-        let left : not (option_eq is_one_address n.mac (mac_of_neighbour to n.group n.vid n.ip.0)) ≡ true =
-        no_longer (option_eq is_one_address n.mac (mac_of_neighbour to n.group n.vid n.ip.0))
-        (λ same. one_by is_one_address one_address n.mac (mac_of_neighbour to n.group n.vid n.ip.0) same)
+        let looked : mac_of_neighbour to n.group n.vid n.ip ≡ mac_of_neighbour to group vid ip = ap (known_mac to) named in
+        let left : not (option_eq is_one_address n.mac (mac_of_neighbour to n.group n.vid n.ip)) ≡ true =
+        no_longer (option_eq is_one_address n.mac (mac_of_neighbour to n.group n.vid n.ip))
+        (λ same. one_by is_one_address one_address n.mac (mac_of_neighbour to n.group n.vid n.ip) same)
         (λ same. other (is ∙ sym e ∙ same ∙ looked)) in
         subst (λ d. Contains (neighbours_left from to) d) named
         (in_mapped neighbour (filter (is_unlike to) from) n (in_filtered (is_unlike to) from n f.within (and_from (is_some n.mac) _ (ap is_some e) left)))
@@ -180,13 +180,13 @@ module _ (conf : Configuration) (from to : State) (only : (test : HostRec → Bo
       (in_front (hosts_behind conf from to ++ neighbours_left from.neighbours to.neighbours) (neighbours_left to.neighbours from.neighbours) x
       (in_front (hosts_behind conf from to) (neighbours_left from.neighbours to.neighbours) x (host_named conf from to only group vid mac other)))
 
-  neighbour_behind : (group : DpId) (vid : ℕ) (ip : Ip4) → (mac_of_neighbour from.neighbours group vid ip.0 ≡ mac_of_neighbour to.neighbours group vid ip.0 → ⊥) → Contains (behind conf from to) (change.Neighbour group vid ip)
-  neighbour_behind group vid ip other = by (mac_of_neighbour from.neighbours group vid ip.0) refl (mac_of_neighbour to.neighbours group vid ip.0) refl
+  neighbour_behind : (group : DpId) (vid : ℕ) (ip : Ip) → (mac_of_neighbour from.neighbours group vid ip ≡ mac_of_neighbour to.neighbours group vid ip → ⊥) → Contains (behind conf from to) (change.Neighbour group vid ip)
+  neighbour_behind group vid ip other = by (mac_of_neighbour from.neighbours group vid ip) refl (mac_of_neighbour to.neighbours group vid ip) refl
     where
       x : Change
       x = change.Neighbour group vid ip
 
-      by : (a : Option Mac) → mac_of_neighbour from.neighbours group vid ip.0 ≡ a → (b : Option Mac) → mac_of_neighbour to.neighbours group vid ip.0 ≡ b → Contains (behind conf from to) x
+      by : (a : Option Mac) → mac_of_neighbour from.neighbours group vid ip ≡ a → (b : Option Mac) → mac_of_neighbour to.neighbours group vid ip ≡ b → Contains (behind conf from to) x
       by (Some m) is b too =
           of_learned x
           (in_front (hosts_behind conf from to ++ neighbours_left from.neighbours to.neighbours) (neighbours_left to.neighbours from.neighbours) x

@@ -27,7 +27,7 @@ use Rattle.neighbour_resolve.specs.Hearing.{heard_sender}
 use Rattle.ctl_world.specs.Connections.{conn_with, with_said}
 use Rattle.ctl_world.specs.Saying.{packet_out, say_by}
 use Rattle.ctl_world.specs.World.{World, running, ups}
-use Rattle.ctl_packets.specs.Packets.{gateways, packet_in, routes, sources}
+use Rattle.ctl_packets.specs.Packets.{gateways, is_route_table, packet_in, sources}
 use Rattle.ctl_packets.specs.Told.{told_at, told_by, told_in}
 use Rattle.ctl_packets.proofs.Keeping.{packet_in_kept}
 use Rattle.ctl_packets.proofs.PacketHosts.{hosts_told, packet_hosts}
@@ -109,7 +109,7 @@ module _ (m : PacketIn) (dp : DpId) (w : World) where
   -- of a table that isn't that of sources
   abbrev elsewhere : ℕ → FrameParts → Found
   elsewhere vid frame =
-      if m.table == routes then Due
+      if is_route_table m.table frame.upper then Due
       else if m.table == gateways then option_map_or (λ s. One (change.Neighbour (group_of w.conf dp) vid s.ip)) (heard_sender w.conf vid frame) Due
       else Due
 
@@ -198,10 +198,10 @@ table_names table dp port vid frame w =
     let of_sender : Sender → Found = λ s. One (change.Neighbour (group_of w.conf dp) vid s.ip) in
     let sender : Found = option_map_or of_sender (heard_sender w.conf vid frame) Due in
     let named : List Change = option_map_or (λ (s : Sender). change.Neighbour (group_of w.conf dp) vid s.ip ∷ []) (heard_sender w.conf vid frame) [] in
-    elim (table == sources) as (λ b. names_of w.conf (if b then Heard (record { dp = dp; port = port; vid = vid; mac = frame.src; learned = w.moment }) else if table == routes then Due else if table == gateways then sender else Due)
-    ≡ (if b then change.Host (group_of w.conf dp) vid frame.src ∷ [] else if table == routes then [] else if table == gateways then named else [])) [
+    elim (table == sources) as (λ b. names_of w.conf (if b then Heard (record { dp = dp; port = port; vid = vid; mac = frame.src; learned = w.moment }) else if is_route_table table frame.upper then Due else if table == gateways then sender else Due)
+    ≡ (if b then change.Host (group_of w.conf dp) vid frame.src ∷ [] else if is_route_table table frame.upper then [] else if table == gateways then named else [])) [
       | true ↦ refl
-      | false ↦ elim (table == routes) as (λ b. names_of w.conf (if b then Due else if table == gateways then sender else Due) ≡ (if b then [] else if table == gateways then named else [])) [
+      | false ↦ elim (is_route_table table frame.upper) as (λ b. names_of w.conf (if b then Due else if table == gateways then sender else Due) ≡ (if b then [] else if table == gateways then named else [])) [
         | true ↦ refl
         | false ↦ elim (table == gateways) as (λ b. names_of w.conf (if b then sender else Due) ≡ (if b then named else [])) [
           | true ↦ of_option (names_of w.conf) of_sender (λ s. change.Neighbour (group_of w.conf dp) vid s.ip ∷ []) refl (heard_sender w.conf vid frame) (λ s. refl)
@@ -228,9 +228,9 @@ table_touched : (table : ℕ) (dp : DpId) (port vid : ℕ) (frame : FrameParts) 
 table_touched table dp port vid frame w =
     let of_sender : Sender → Found = λ s. One (change.Neighbour (group_of w.conf dp) vid s.ip) in
     let sender : Found = option_map_or of_sender (heard_sender w.conf vid frame) Due in
-    elim (table == sources) as (λ b. is_touched (if b then Heard (record { dp = dp; port = port; vid = vid; mac = frame.src; learned = w.moment }) else if table == routes then Due else if table == gateways then sender else Due) ≡ true) [
+    elim (table == sources) as (λ b. is_touched (if b then Heard (record { dp = dp; port = port; vid = vid; mac = frame.src; learned = w.moment }) else if is_route_table table frame.upper then Due else if table == gateways then sender else Due) ≡ true) [
       | true ↦ refl
-      | false ↦ elim (table == routes) as (λ b. is_touched (if b then Due else if table == gateways then sender else Due) ≡ true) [
+      | false ↦ elim (is_route_table table frame.upper) as (λ b. is_touched (if b then Due else if table == gateways then sender else Due) ≡ true) [
         | true ↦ refl
         | false ↦ elim (table == gateways) as (λ b. is_touched (if b then sender else Due) ≡ true) [
           | true ↦ option_touched of_sender (heard_sender w.conf vid frame) (λ s. refl)

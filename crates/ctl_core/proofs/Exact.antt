@@ -13,10 +13,12 @@ use Rattle.conf_types.specs.declared.state.NeighRec.{NeighRec}
 use Rattle.conf_types.specs.declared.state.UpRec.{UpRec}
 use Rattle.conf_types.specs.Changes.{host_by, mac_of_neighbour, standing, standing_of}
 use Rattle.conf_types.specs.Configuration.{Configuration}
+use Rattle.conf_types.specs.Families.{is_same_ip}
 use Rattle.conf_types.specs.Groups.{group_of}
 use Rattle.conf_types.specs.Links.{is_up}
 use Rattle.conf_types.specs.Lists.{EachBefore}
 use Rattle.conf_types.specs.State.{IsSameNeighbour, IsValidState, State, is_running}
+use Rattle.conf_types.proofs.Families.{is_that_ip, same_ip}
 use Rattle.law_runs.specs.Members.{all_by, all_filtered, all_joined, all_mapped}
 use Rattle.law_units.proofs.Hosts.{is_found, own}
 use Rattle.plan_units.specs.Agrees.{equal_bytes}
@@ -54,15 +56,15 @@ its_place ups up within =
     any_member (λ (u : UpRec). u.dp.0 == up.dp.0 && u.port == up.port) ups up within (and_from (up.dp.0 == up.dp.0) (up.port == up.port) (eq-eqb up.dp.0 up.dp.0 refl) (eq-eqb up.port up.port refl))
 
 -- a neighbour is the one of its key
-pub own_mac : (ns : List NeighRec) → EachBefore (λ a b. IsSameNeighbour a b → ⊥) ns → (n : NeighRec) → Contains ns n → mac_of_neighbour ns n.group n.vid n.ip.0 ≡ n.mac
+pub own_mac : (ns : List NeighRec) → EachBefore (λ a b. IsSameNeighbour a b → ⊥) ns → (n : NeighRec) → Contains ns n → mac_of_neighbour ns n.group n.vid n.ip ≡ n.mac
 own_mac ns apart n within =
     ap (λ (o : Option NeighRec). option_and_then (λ (m : NeighRec). m.mac) o)
     (is_found (neighbours.key n.group n.vid n.ip) ns n within
-    (and_from _ _ (and_from _ _ (eq-eqb n.group.0 n.group.0 refl) (eq-eqb n.vid n.vid refl)) (eq-eqb n.ip.0 n.ip.0 refl))
+    (and_from _ _ (and_from _ _ (eq-eqb n.group.0 n.group.0 refl) (eq-eqb n.vid n.vid refl)) (is_that_ip n.ip n.ip refl))
     (λ m cm is.
-    let outer = and_parts (m.group.0 == n.group.0 && m.vid == n.vid) (m.ip.0 == n.ip.0) is in
+    let outer = and_parts (m.group.0 == n.group.0 && m.vid == n.vid) (is_same_ip m.ip n.ip) is in
     let inner = and_parts (m.group.0 == n.group.0) (m.vid == n.vid) outer.0 in
-    let same : IsSameNeighbour m n = record { groups = eqb-true m.group.0 n.group.0 inner.0; vlans = eqb-true m.vid n.vid inner.1; ips = eqb-true m.ip.0 n.ip.0 outer.1 } in
+    let same : IsSameNeighbour m n = record { groups = eqb-true m.group.0 n.group.0 inner.0; vlans = eqb-true m.vid n.vid inner.1; ips = same_ip m.ip n.ip outer.1 } in
     apart_or_one (λ (a b : NeighRec). IsSameNeighbour a b → ⊥) ns apart m n cm within (λ ne. ne same)
     (λ ne. ne (record { groups = sym same.groups; vlans = sym same.vlans; ips = sym same.ips }))))
 
@@ -136,7 +138,7 @@ module _ (conf : Configuration) (from to : State) where
   -- ---- neighbours
 
   abbrev mac_in : List NeighRec → NeighRec → Option Mac
-  mac_in ns n = mac_of_neighbour ns n.group n.vid n.ip.0
+  mac_in ns n = mac_of_neighbour ns n.group n.vid n.ip
 
   neighbours_differ : IsValidState conf from → AllByRecursion Differs (neighbours_left from.neighbours to.neighbours)
   neighbours_differ valid =

@@ -1,7 +1,7 @@
 -- What is told of a packet, where all of it differs.
 use Rattle.std.proofs.Common.{◌≡◌, ℕ, ◌==◌, not, Bool, true, false, cond, Option, Some, None, List, [], ◌∷◌, refl, sym, ap, ◌∙◌, subst, if◌then◌else◌}
 use Rattle.std.specs.Option.{option_eq, option_map, option_map_or}
-use Rattle.net_base.specs.declared.address.Ip4.{Ip4}
+use Rattle.conf_types.specs.declared.address.Ip.{Ip}
 use Rattle.net_base.specs.declared.numbers.DpId.{DpId}
 use Rattle.conf_types.specs.declared.change.Change.{Change}
 use Rattle.conf_types.specs.declared.change.Change.TheVariants as change
@@ -18,7 +18,7 @@ use Rattle.of_match.specs.InPort.{in_port}
 use Rattle.of13_codec.specs.declared.packet_in.PacketIn.{PacketIn}
 use Rattle.pkt_view.specs.Frame.{FrameParts, parts}
 use Rattle.ctl_world.specs.World.{World, now}
-use Rattle.ctl_packets.specs.Packets.{gateways, routes, sources}
+use Rattle.ctl_packets.specs.Packets.{gateways, is_route_table, sources}
 use Rattle.ctl_settle.specs.Names.{host}
 use Rattle.ctl_core.specs.declared.found.Found.{Found}
 use Rattle.ctl_core.specs.declared.found.Found.TheVariants.{Nothing, Again, Due, Heard, One, Named, Any}
@@ -57,7 +57,7 @@ packet_of m dp w =
   where
     of_table : (port vid : ℕ) (frame : FrameParts) → OfPacket (by_table m.table dp port vid frame w)
     of_table port vid frame =
-        either_of (m.table == sources) _ _ tt (either_of (m.table == routes) _ _ tt (either_of (m.table == gateways) _ _
+        either_of (m.table == sources) _ _ tt (either_of (is_route_table m.table frame.upper) _ _ tt (either_of (m.table == gateways) _ _
         (by_option (λ s. One (change.Neighbour (group_of w.conf dp) vid s.ip)) (heard_sender w.conf vid frame) (λ s. tt)) tt))
 
 again_of : (w : World) (found : Found) → OfPacket found → OfPacket (or_again w found)
@@ -90,8 +90,8 @@ module _ (w v : World) where
       same_places w.conf (now w) (now v) (host_by w.conf w.hosts.hosts (group_of w.conf h.dp) h.vid h.mac) (host_by w.conf v.hosts.hosts (group_of w.conf h.dp) h.vid h.mac)
       ∙ (λ i. not (option_eq is_same_place (place_at w h) (option_map (place (sym conf i) v.moment.0) (host_by (sym conf i) v.hosts.hosts (group_of (sym conf i) h.dp) h.vid h.mac))))
 
-  abbrev is_same_mac : DpId → ℕ → Ip4 → Bool
-  is_same_mac group vid ip = option_eq is_one_address (mac_of_neighbour w.neighbours.neighbours group vid ip.0) (mac_of_neighbour v.neighbours.neighbours group vid ip.0)
+  abbrev is_same_mac : DpId → ℕ → Ip → Bool
+  is_same_mac group vid ip = option_eq is_one_address (mac_of_neighbour w.neighbours.neighbours group vid ip) (mac_of_neighbour v.neighbours.neighbours group vid ip)
 
   pub exactly_tells : (found : Found) → Tells w v found → Tells w v (exactly w v found)
   exactly_tells Nothing told = told

@@ -26,7 +26,7 @@ use Rattle.neighbour_resolve.specs.declared.hearing.Sender.{Sender}
 use Rattle.neighbour_resolve.specs.Counted.{counted_vid}
 use Rattle.neighbour_resolve.specs.Hearing.{heard_sender}
 use Rattle.ctl_world.specs.World.{IsSound, World, now, running, ups}
-use Rattle.ctl_packets.specs.Packets.{gateways, glean, hear_neighbour, learn, packet_at, packet_by, packet_in, packet_of_table, reply, routes, sources}
+use Rattle.ctl_packets.specs.Packets.{gateways, glean, hear_neighbour, is_route_table, learn, packet_at, packet_by, packet_in, packet_of_table, reply, sources}
 use Rattle.ctl_packets.specs.Told.{told_in}
 use Rattle.ctl_packets.proofs.PacketHosts.{hosts_told, packet_hosts}
 use Rattle.law_runs.specs.Members.{all_by}
@@ -160,8 +160,8 @@ module _ (m : PacketIn) (number : ℕ) (dp : DpId) (w : World) where
       let of_sender : Sender → Found = λ s. One (change.Neighbour (group_of w.conf dp) vid s.ip) in
       let sender : Found = option_map_or of_sender (heard_sender w.conf vid frame) Due in
       let h : HostRec = record { dp = dp; port = port; vid = vid; mac = frame.src; learned = w.moment } in
-      ap (λ b. of_host (if b then Heard h else if m.table == routes then Due else if m.table == gateways then sender else Due)) out
-      ∙ elim (m.table == routes) as (λ b. of_host (if b then Due else if m.table == gateways then sender else Due) ≡ false) [
+      ap (λ b. of_host (if b then Heard h else if is_route_table m.table frame.upper then Due else if m.table == gateways then sender else Due)) out
+      ∙ elim (is_route_table m.table frame.upper) as (λ b. of_host (if b then Due else if m.table == gateways then sender else Due) ≡ false) [
         | true ↦ refl
         | false ↦ elim (m.table == gateways) as (λ b. of_host (if b then sender else Due) ≡ false) [
           | true ↦ of_none of_sender (heard_sender w.conf vid frame) (λ s. refl)
@@ -198,7 +198,7 @@ module _ (m : PacketIn) (number : ℕ) (dp : DpId) (w : World) where
       with_any Only (λ vid. packet_of_table m.table number dp port vid frame w) (counted_vid w.conf dp port frame) w (λ vid.
       let gleaned : World = glean dp vid frame w in
       let answered : World = reply number dp port vid frame (hear_neighbour dp vid frame w) in
-      subst (λ b. Only (if b then learn dp port vid frame.src w else if m.table == routes then gleaned else if m.table == gateways then answered else w)) (sym here)
+      subst (λ b. Only (if b then learn dp port vid frame.src w else if is_route_table m.table frame.upper then gleaned else if m.table == gateways then answered else w)) (sym here)
       (learn_only port vid frame.src)) refl) refl) refl) refl
 
   -- the one that is told is the one that is found

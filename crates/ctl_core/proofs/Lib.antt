@@ -37,3 +37,4 @@ pub mod Telling
 pub mod TurnedDiffer
 pub mod Unmoved
 pub mod Walk
+pub mod WhereDue

@@ -2,7 +2,7 @@
 -- message that goes out with a packet.
 use Rattle.std.specs.Prelude.{ℕ, ◌==◌, ◌&&◌, Option, Some, List, if◌then◌else◌}
 use Rattle.std.specs.Option.{option_map_or}
-use Rattle.net_base.specs.declared.address.Ip4.{Ip4}
+use Rattle.conf_types.specs.declared.address.Ip.{Ip}
 use Rattle.net_base.specs.declared.address.Mac.{Mac}
 use Rattle.net_base.specs.declared.numbers.DpId.{DpId}
 use Rattle.of_match.specs.InPort.{in_port}
@@ -26,7 +26,7 @@ use Rattle.ctl_world.specs.declared.conns.Conn.{Conn}
 use Rattle.ctl_world.specs.declared.said.Said.{Said}
 use Rattle.ctl_world.specs.Saying.{packet_out, say}
 use Rattle.ctl_world.specs.World.{World, running, ups}
-use Rattle.ctl_packets.specs.Packets.{destination, gateways, glean, glean_at, glean_in, glean_to, hear_neighbour, hear_sender, is_for_gateway, is_resolved, learn, network_vlan, outgoing, packet_at, packet_by, packet_in, packet_of_table, reply, routes, sources, want}
+use Rattle.ctl_packets.specs.Packets.{destination, gateways, glean, glean_at, glean_in, glean_to, hear_neighbour, hear_sender, is_for_gateway, is_resolved, is_route_table, learn, network_vlan, outgoing, packet_at, packet_by, packet_in, packet_of_table, reply, sources, want}
 use Rattle.ctl_core.specs.Hearing.{packet}
 use Rattle.ctl_core.proofs.Walk.{either, with_any}
 
@@ -40,15 +40,15 @@ module _ (J : Configuration → List Conn → List Said → Type 0)
       let heard : HostRec = record { dp = dp; port = port; vid = vid; mac = mac; learned = w.moment } in
       either Kept (is_up (ups w) dp port) (record w { hosts = learned w.conf w.hosts heard }) w holds holds
 
-  glean_in_kept : (group : DpId) (ip : Ip4) (w : World) (vid : ℕ) → Kept w → Kept (glean_in group ip w vid)
-  glean_in_kept group ip w vid holds = either Kept (is_resolved w.neighbours.neighbours group vid ip.0) w (want group vid ip w) holds holds
+  glean_in_kept : (group : DpId) (ip : Ip) (w : World) (vid : ℕ) → Kept w → Kept (glean_in group ip w vid)
+  glean_in_kept group ip w vid holds = either Kept (is_resolved w.neighbours.neighbours group vid ip) w (want group vid ip w) holds holds
 
-  glean_to_kept : (group : DpId) (vid : ℕ) (ip : Ip4) (w : World) → Kept w → Kept (glean_to group vid ip w)
-  glean_to_kept group vid ip w holds = with_any Kept (glean_in group ip w) (network_vlan w.conf vid ip.0) w (λ v. glean_in_kept group ip w v holds) holds
+  glean_to_kept : (group : DpId) (vid : ℕ) (ip : Ip) (w : World) → Kept w → Kept (glean_to group vid ip w)
+  glean_to_kept group vid ip w holds = with_any Kept (glean_in group ip w) (network_vlan w.conf vid ip) w (λ v. glean_in_kept group ip w v holds) holds
 
   glean_at_kept : (dp : DpId) (frame : FrameParts) (w : World) (v : Vlan) → Kept w → Kept (glean_at dp frame w v)
   glean_at_kept dp frame w v holds =
-      let to : Ip4 → World = λ ip. glean_to (group_of w.conf dp) v.vid ip w in
+      let to : Ip → World = λ ip. glean_to (group_of w.conf dp) v.vid ip w in
       either Kept (is_for_gateway v frame) (option_map_or to (destination frame.upper) w) w
       (with_any Kept to (destination frame.upper) w (λ ip. glean_to_kept (group_of w.conf dp) v.vid ip w holds) holds) holds
 
@@ -67,8 +67,8 @@ module _ (J : Configuration → List Conn → List Said → Type 0)
       let learned : World = learn dp port vid frame.src w in
       let gleaned : World = glean dp vid frame w in
       let answered : World = reply number dp port vid frame (hear_neighbour dp vid frame w) in
-      either Kept (table == sources) learned (if table == routes then gleaned else if table == gateways then answered else w) (learn_kept dp port vid frame.src w holds)
-      (either Kept (table == routes) gleaned (if table == gateways then answered else w) (glean_kept dp vid frame w holds)
+      either Kept (table == sources) learned (if is_route_table table frame.upper then gleaned else if table == gateways then answered else w) (learn_kept dp port vid frame.src w holds)
+      (either Kept (is_route_table table frame.upper) gleaned (if table == gateways then answered else w) (glean_kept dp vid frame w holds)
       (either Kept (table == gateways) answered w (reply_kept number dp port vid frame (hear_neighbour dp vid frame w) (hear_kept dp vid frame w holds)) holds))
 
   at_kept : (m : PacketIn) (number : ℕ) (dp : DpId) (w : World) (port : ℕ) (frame : FrameParts) → Kept w → Kept (packet_at m number dp w port frame)

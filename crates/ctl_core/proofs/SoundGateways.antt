@@ -33,14 +33,14 @@ module _ (group : DpId) (w : World) (runs : has_any group w ≡ true) where
   abbrev holding : Table → World
   holding table = record w { neighbours = table }
 
-  routes_sound : (v : Vlan) → vlan_with w.conf.vlans v.vid ≡ Some v → (routes : List Route) → AllByRecursion (λ (r : Route). IsTrue (is_neighbour_address v.vips r.gw.0)) routes
+  routes_sound : (v : Vlan) → vlan_with w.conf.vlans v.vid ≡ Some v → (routes : List Route) → AllByRecursion (λ (r : Route). IsTrue (is_neighbour_address v.vips r.gw)) routes
       → (table : Table) → IsSound (holding table) → IsSound (holding (want_routes group v.vid routes w.moment table))
   routes_sound v found [] reached table sound = sound
   routes_sound v found (r ∷ rs) reached table sound =
       let told : NeighRec = unresolved group v.vid r.gw w.moment in
       routes_sound v found rs reached.1 (after_told (stays true) told table)
       (told_sound (stays true) told (holding table)
-      (record { address = ap (λ o. is_neighbour_address (option_map_or (λ (x : Vlan). x.vips) o []) r.gw.0) found ∙ reached.0; runs = runs }) sound)
+      (record { address = ap (λ o. is_neighbour_address (option_map_or (λ (x : Vlan). x.vips) o []) r.gw) found ∙ reached.0; runs = runs }) sound)
 
   gateways_sound : (vlans : List Vlan) → AllByRecursion (λ (v : Vlan). vlan_with w.conf.vlans v.vid ≡ Some v) vlans → AllByRecursion (RoutesAreValid w.conf) vlans
       → (table : Table) → IsSound (holding table) → IsSound (holding (want_gateways group vlans w.moment table))

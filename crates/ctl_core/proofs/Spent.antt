@@ -2,7 +2,7 @@
 use Rattle.std.proofs.Common.{◌≡◌, ℕ, zero, suc, ◌*◌, ◌==◌, ◌&&◌, Bool, true, false, cond, Option, Some, None, List, [], ◌∷◌, ◌++◌, map, filter, refl, sym, ap, ◌∙◌, arith, true≢false, if◌then◌else◌}
 use Rattle.std.specs.Prelude.{Contains}
 use Rattle.std.specs.Option.{option_map_or}
-use Rattle.net_base.specs.declared.address.Ip4.{Ip4}
+use Rattle.conf_types.specs.declared.address.Ip.{Ip}
 use Rattle.net_base.specs.declared.address.Mac.{Mac}
 use Rattle.net_base.specs.declared.numbers.DpId.{DpId}
 use Rattle.net_base.specs.declared.numbers.Moment.{Moment}
@@ -39,7 +39,7 @@ use Rattle.ctl_world.specs.Saying.{packet_out, say, say_by}
 use Rattle.ctl_world.specs.World.{World, running, ups}
 use Rattle.switch_session.specs.Connections.{opened}
 use Rattle.ctl_life.specs.Life.{open_conn}
-use Rattle.ctl_packets.specs.Packets.{destination, gateways, glean, glean_at, glean_in, glean_to, hear_neighbour, hear_sender, is_for_gateway, is_resolved, learn, least_time, network_vlan, outgoing, packet_at, packet_by, packet_in, packet_of_table, reply, routes, sources, want}
+use Rattle.ctl_packets.specs.Packets.{destination, gateways, glean, glean_at, glean_in, glean_to, hear_neighbour, hear_sender, is_for_gateway, is_resolved, is_route_table, learn, least_time, network_vlan, outgoing, packet_at, packet_by, packet_in, packet_of_table, reply, sources, want}
 use Rattle.ctl_core.specs.Hearing.{hear_frame, packet, want_gateways, want_routes}
 use Rattle.ctl_core.specs.Turns.{pass}
 use Rattle.ctl_core.proofs.Walk.{Setup, Steps, either, heard_kept, pass_kept, wants_by, with_any}
@@ -137,16 +137,16 @@ module _ (was : List NeighRec) where
 
   -- ---- packets
 
-  glean_in_old : (group : DpId) (ip : Ip4) (w : World) (vid : ℕ) → Kept w → Kept (glean_in group ip w vid)
+  glean_in_old : (group : DpId) (ip : Ip) (w : World) (vid : ℕ) → Kept w → Kept (glean_in group ip w vid)
   glean_in_old group ip w vid old =
-      either Kept (is_resolved w.neighbours.neighbours group vid ip.0) w (want group vid ip w) old (old_told (unresolved group vid ip w.moment) refl (stays true) w.neighbours old)
+      either Kept (is_resolved w.neighbours.neighbours group vid ip) w (want group vid ip w) old (old_told (unresolved group vid ip w.moment) refl (stays true) w.neighbours old)
 
-  glean_to_old : (group : DpId) (vid : ℕ) (ip : Ip4) (w : World) → Kept w → Kept (glean_to group vid ip w)
-  glean_to_old group vid ip w old = with_any Kept (glean_in group ip w) (network_vlan w.conf vid ip.0) w (λ v. glean_in_old group ip w v old) old
+  glean_to_old : (group : DpId) (vid : ℕ) (ip : Ip) (w : World) → Kept w → Kept (glean_to group vid ip w)
+  glean_to_old group vid ip w old = with_any Kept (glean_in group ip w) (network_vlan w.conf vid ip) w (λ v. glean_in_old group ip w v old) old
 
   glean_at_old : (dp : DpId) (frame : FrameParts) (w : World) (v : Vlan) → Kept w → Kept (glean_at dp frame w v)
   glean_at_old dp frame w v old =
-      let to : Ip4 → World = λ ip. glean_to (group_of w.conf dp) v.vid ip w in
+      let to : Ip → World = λ ip. glean_to (group_of w.conf dp) v.vid ip w in
       either Kept (is_for_gateway v frame) (option_map_or to (destination frame.upper) w) w
       (with_any Kept to (destination frame.upper) w (λ ip. glean_to_old (group_of w.conf dp) v.vid ip w old) old) old
 
@@ -172,8 +172,8 @@ module _ (was : List NeighRec) where
       let learned : World = learn dp port vid frame.src w in
       let gleaned : World = glean dp vid frame w in
       let answered : World = reply number dp port vid frame (hear_neighbour dp vid frame w) in
-      either Kept (table == sources) learned (if table == routes then gleaned else if table == gateways then answered else w) (learn_old dp port vid frame.src w old)
-      (either Kept (table == routes) gleaned (if table == gateways then answered else w) (glean_old dp vid frame w old)
+      either Kept (table == sources) learned (if is_route_table table frame.upper then gleaned else if table == gateways then answered else w) (learn_old dp port vid frame.src w old)
+      (either Kept (is_route_table table frame.upper) gleaned (if table == gateways then answered else w) (glean_old dp vid frame w old)
       (either Kept (table == gateways) answered w (reply_old number dp port vid frame (hear_neighbour dp vid frame w) (hear_old dp vid frame w old)) old))
 
   at_old : (m : PacketIn) (number : ℕ) (dp : DpId) (w : World) (port : ℕ) (frame : FrameParts) → Kept w → Kept (packet_at m number dp w port frame)

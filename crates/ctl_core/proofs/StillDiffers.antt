@@ -26,7 +26,7 @@ not_alone None is = absurd (true≢false (sym is))
 not_alone (Some m) is = refl
 
 abbrev mac_in : World → NeighRec → Option Mac
-mac_in w n = mac_of_neighbour w.neighbours.neighbours n.group n.vid n.ip.0
+mac_in w n = mac_of_neighbour w.neighbours.neighbours n.group n.vid n.ip
 
 module _ (was w is : World) (sound_was : IsSound was) (sound : IsSound w) (old : AreOld was.neighbours.neighbours w.neighbours.neighbours) (conf : Configuration) where
   known : (n : NeighRec) → Contains w.neighbours.neighbours n → is_spent n ≡ true → mac_in was n ≡ n.mac

@@ -25,7 +25,7 @@ ports_left from to = map (λ up. change.Port up.dp up.port) (filter (λ up. not 
 
 -- its Ethernet address is known, and another list tells none or another
 abbrev pub is_unlike : List NeighRec → NeighRec → Bool
-is_unlike to n = is_some n.mac && not (option_eq is_one_address n.mac (mac_of_neighbour to n.group n.vid n.ip.0))
+is_unlike to n = is_some n.mac && not (option_eq is_one_address n.mac (mac_of_neighbour to n.group n.vid n.ip))
 
 abbrev pub neighbours_left : (from to : List NeighRec) → List Change
 neighbours_left from to = map neighbour (filter (is_unlike to) from)

@@ -20,7 +20,7 @@ use Rattle.switch_session.specs.declared.state.Step.TheVariants as steps
 use Rattle.ctl_world.specs.declared.conns.Conn.{Conn}
 use Rattle.ctl_world.specs.Alike.{IsAlike}
 use Rattle.ctl_world.specs.World.{IsSound, World, now, runs}
-use Rattle.ctl_packets.specs.Packets.{gateways, routes, sources}
+use Rattle.ctl_packets.specs.Packets.{gateways, is_route_table, sources}
 use Rattle.ctl_settle.specs.Rest.{AreBounded, host_until}
 use Rattle.ctl_settle.specs.Settling.{wanted}
 use Rattle.ctl_settle.specs.Touched.{AreAmong, MayDiffer}
@@ -76,7 +76,7 @@ Leaves w v e = (until : ℕ) → AreBounded until w → Bounds e until v
 abbrev pub by_table : (table : ℕ) → DpId → (port vid : ℕ) → FrameParts → World → Found
 by_table table dp port vid frame w =
     if table == sources then Heard (record { dp = dp; port = port; vid = vid; mac = frame.src; learned = w.moment })
-    else if table == routes then Due
+    else if is_route_table table frame.upper then Due
     else if table == gateways then option_map_or (λ s. One (change.Neighbour (group_of w.conf dp) vid s.ip)) (heard_sender w.conf vid frame) Due
     else Due
 

@@ -35,14 +35,14 @@ place_of w (Heard h) = place_at w h
 place_of w found = None
 
 abbrev pub address_of : World → Found → Option Mac
-address_of w (One (change.Neighbour group vid ip)) = mac_of_neighbour w.neighbours.neighbours group vid ip.0
+address_of w (One (change.Neighbour group vid ip)) = mac_of_neighbour w.neighbours.neighbours group vid ip
 address_of w found = None
 
 -- where that was known before, what differs
 abbrev pub exactly_by : Option Standing → Option Mac → World → Found → Found
 exactly_by was address v (Heard h) = if option_eq is_same_place was (place_at v h) then Named (Some []) else Heard h
 exactly_by was address v (One (change.Neighbour group vid ip)) =
-    if option_eq is_one_address address (mac_of_neighbour v.neighbours.neighbours group vid ip.0) then Due else One (change.Neighbour group vid ip)
+    if option_eq is_one_address address (mac_of_neighbour v.neighbours.neighbours group vid ip) then Due else One (change.Neighbour group vid ip)
 exactly_by was address v found = found
 
 abbrev pub exactly : (w v : World) → Found → Found

@@ -4,6 +4,7 @@ ghost use Rattle.std.specs.Prelude.{◌≡◌, ◌==◌, ◌&&◌, ◌++◌, Som
 ghost use Rattle.std.specs.List.{find};
 ghost use Rattle.std.specs.Option.{option_copied, option_map};
 ghost use Rattle.conf_types.specs.Changes.{mac_of_neighbour};
+ghost use Rattle.conf_types.specs.Families.{is_same_ip};
 ghost use Rattle.conf_types.specs.Lists.{is_same};
 ghost use Rattle.conf_types.specs.State.{is_running};
 ghost use Rattle.ctl_world.specs.World.{now};
@@ -11,12 +12,12 @@ ghost use Rattle.ctl_core.specs.Behind.{behind, dps_left, hosts_left, is_still, 
 ghost use Rattle.ctl_settle.specs.Names.{host, is_other};
 
 use conf_types::{
-    Change, Conf, DpIds, HostRec, HostRecs, NeighRec, NeighRecs, UpRec, UpRecs, is_up,
+    Change, Conf, DpIds, HostRec, HostRecs, Ip, NeighRec, NeighRecs, UpRec, UpRecs, is_up,
 };
 use ctl_settle::Touched;
 use ctl_world::World;
 use host_learn::HostTable;
-use net_base::{DpId, Ip4, Mac, Moment, NoMemory, Vid};
+use net_base::{DpId, Mac, Moment, NoMemory, Vid};
 use std::alloc::Global;
 use std::marker::Model;
 
@@ -67,14 +68,14 @@ fn ports_left(alloc: Global, from: &[UpRec], to: &[UpRec]) -> Result<Vec<Change>
         .collect(alloc)
 }
 
-fn is_neighbour(neighbour: &NeighRec, group: DpId, vid: Vid, ip: Ip4) -> bool
-    ensures { result ≡ (neighbour.now.group.0 == group.0 && neighbour.now.vid == vid && neighbour.now.ip.0 == ip.0) }
+fn is_neighbour(neighbour: &NeighRec, group: DpId, vid: Vid, ip: Ip) -> bool
+    ensures { result ≡ (neighbour.now.group.0 == group.0 && neighbour.now.vid == vid && is_same_ip neighbour.now.ip ip) }
 {
-    neighbour.group == group && neighbour.vid.get() == vid.get() && neighbour.ip.0 == ip.0
+    neighbour.group == group && neighbour.vid.get() == vid.get() && neighbour.ip.is_same(ip)
 }
 
-fn find_neighbour(neighbours: &[NeighRec], group: DpId, vid: Vid, ip: Ip4) -> Option<&NeighRec>
-    ensures { option_copied result ≡ find (λ n. n.group.0 == group.0 && n.vid == vid && n.ip.0 == ip.0) neighbours.now }
+fn find_neighbour(neighbours: &[NeighRec], group: DpId, vid: Vid, ip: Ip) -> Option<&NeighRec>
+    ensures { option_copied result ≡ find (λ n. n.group.0 == group.0 && n.vid == vid && is_same_ip n.ip ip) neighbours.now }
 {
     neighbours
         .iter()
@@ -82,8 +83,8 @@ fn find_neighbour(neighbours: &[NeighRec], group: DpId, vid: Vid, ip: Ip4) -> Op
 }
 
 /// The Ethernet address that a list tells of a neighbour.
-pub(crate) fn mac_of(neighbours: &[NeighRec], group: DpId, vid: Vid, ip: Ip4) -> Option<Mac>
-    ensures { result ≡ mac_of_neighbour neighbours.now group vid ip.0 }
+pub(crate) fn mac_of(neighbours: &[NeighRec], group: DpId, vid: Vid, ip: Ip) -> Option<Mac>
+    ensures { result ≡ mac_of_neighbour neighbours.now group vid ip }
 {
     match find_neighbour(neighbours, group, vid, ip) {
         Some(neighbour) => neighbour.mac,

@@ -11,6 +11,7 @@ ghost use Rattle.ctl_core.specs.Found.{by_packet, by_port, by_table, ends_of, is
 
 use crate::ends::Ends;
 use conf_types::{Change, Conf, HostRec};
+use ctl_packets::is_route_table;
 use ctl_settle::Touched;
 use ctl_world::World;
 use neighbour_resolve::{counted_vid, heard_sender};
@@ -124,7 +125,7 @@ fn by_table(
             mac: frame.src,
             learned: world.moment,
         })
-    } else if table == Table::Ipv4Route.number() {
+    } else if is_route_table(table, frame) {
         Found::Due
     } else if table == Table::Vip.number() {
         by_sender(&world.conf, dp, vid, frame)

@@ -9,10 +9,16 @@ use ctl_world::World;
 use net_base::{Moment, NoMemory};
 use std::alloc::Global;
 
-/// Whether a host is fresh at one of two moments alone, or is to be forgotten at the later one.
+/// Whether a host is fresh at one of two moments alone, or is to be forgotten at the later one. Of one that turns stale
+/// behind both nothing else is looked up.
 fn turns(conf: &Conf, before: Moment, moment: Moment, host: &HostRec) -> bool
     ensures { result ≡ turns conf.now before.0 moment.0 host.now }
 {
+    let latest = before.0.max(moment.0);
+    let stale = conf.stale_at(host.dp, host.learned).0;
+    if latest < stale {
+        return false;
+    }
     conf.is_fresh(before, host) != conf.is_fresh(moment, host) || conf.is_to_forget(moment, host)
 }
 

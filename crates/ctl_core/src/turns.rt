@@ -4,15 +4,15 @@ ghost use Rattle.std.specs.Prelude.{◌≡◌, ◌<◌, Some, None, if◌then◌
 ghost use Rattle.std.specs.List.{list_any};
 ghost use Rattle.fg_outside.specs.declared.hub.Happening.TheVariants.{Opened, Heard, Closed, Moment as Shown, Reload};
 ghost use Rattle.cold_start.specs.Counts.{RisesAtMost};
-ghost use Rattle.ctl_core.specs.Allowed.{allows, unread_allows};
+ghost use Rattle.ctl_core.specs.Allowed.{allows};
 ghost use Rattle.ctl_life.specs.Silence.{closes, falls_silent, is_silent, look, look_each, show, stir};
-ghost use Rattle.ctl_core.specs.Changes.{changes, latest, unread_changes};
+ghost use Rattle.ctl_core.specs.Changes.{changes, latest};
 ghost use Rattle.ctl_world.specs.World.{now};
 ghost use Rattle.ctl_settle.specs.Rest.{IsBound, RestsUntil, rests_until};
 ghost use Rattle.ctl_core.specs.Known.{HasSettled, IsEarly};
 ghost use Rattle.ctl_life.specs.Life.{closing_for, feed, open_conn};
 ghost use Rattle.ctl_core.specs.Turning.{aged, turned};
-ghost use Rattle.ctl_core.specs.Turns.{age, hear, pass, pass_in, turn, work};
+ghost use Rattle.ctl_core.specs.Turns.{age, pass, pass_in, turn, work};
 
 use crate::before::Before;
 use crate::ends::Ends;
@@ -56,25 +56,6 @@ fn feed(known: &mut Known, conn: u32, piece: &[u8]) -> Result<(), NoMemory>
     alike_worlds_have_the_same_plans();
     let moment = known.world.moment;
     known.world.conns.feed(conn, piece, moment)
-}
-
-/// Bytes came on a connection: their frames are heard.
-fn hear<T: Tally>(
-    alloc: Global,
-    known: &mut Known,
-    conn: u32,
-    piece: &[u8],
-    units: &mut T,
-) -> Result<(), NoMemory>
-    requires { HasSettled known.old }
-    ensures heard { OnOk result (known.new.world ≡ hear conn piece.now known.old.world) }
-    ensures settled { OnOk result (HasSettled known.new) }
-    ensures left_out { unread_changes conn (feed conn piece.now known.old.world) ≡ false → IsEarly known.old → T.count units.new ≡ T.count units.old }
-    ensures most { RisesAtMost (unread_allows conn (feed conn piece.now known.old.world)) (T.count units.old) (T.count units.new) }
-{
-    feed(known, conn, piece)?;
-    let most = known.world.conns.unread_len(conn);
-    hear_frames(alloc, known, conn, most, units)
 }
 
 /// Forgets the hosts whose time is over.
@@ -129,6 +110,7 @@ fn opened<T: Tally>(
     settle_anew(alloc, known, Touched::nothing(alloc), Ends::Later, units)
 }
 
+/// Bytes came on a connection: their frames are heard.
 fn heard<T: Tally>(
     alloc: Global,
     known: &mut Known,
@@ -145,7 +127,9 @@ fn heard<T: Tally>(
     if !known.world.conns.is_open(conn) {
         return Ok(());
     }
-    hear(alloc, known, conn, piece, units)
+    feed(known, conn, piece)?;
+    let most = known.world.conns.unread_len(conn);
+    hear_frames(alloc, known, conn, most, units)
 }
 
 fn closed<T: Tally>(

@@ -1,4 +1,4 @@
-use Rattle.std.proofs.Common.{◌≡◌, ◌||◌, ℕ, Bool, true, false, List, Some, refl, sym, ap, subst, ◌∙◌, true≢false}
+use Rattle.std.proofs.Common.{◌≡◌, ◌||◌, ℕ, Bool, true, false, List, Option, Some, refl, sym, ap, subst, ◌∙◌, true≢false}
 use Rattle.std.specs.Option.{option_copied, option_map_or}
 use Rattle.std.proofs.lemmas.Result.{IfOk-weaker, on_ok_weaker}
 use Rattle.of13_codec.specs.declared.message.Message.{Message}
@@ -82,27 +82,26 @@ returns c =
     }
 
 -- the state of the connection changes
+leaves_not : (m : Message) (xid : ℕ) (d : Conn) (o : Option Conn) (stays quiet : Bool) → o ≡ Some d → stays ≡ option_map_or (λ (e : Conn). leaves e.session.state m xid) o true
+    → quiet ≡ (stays || option_map_or (λ (e : Conn). is_reply e m) o false) → quiet ≡ false → leaves d.session.state m xid ≡ false
+leaves_not m xid d o stays quiet at exact asked off =
+    sym (exact ∙ ap (λ p. option_map_or (λ (e : Conn). leaves e.session.state m xid) p true) at) ∙ (neither stays (option_map_or (λ (e : Conn). is_reply e m) o false) (sym asked ∙ off)).first
+
 pub hear_change-requires : goal.hear_change-requires
 hear_change-requires c =
     let d : Conn = c.in-Some.found.now in
-    let m = c.args.message.now in
-    let xid = c.args.xid in
     let at : conn_with c.args.world.now.conns c.args.conn ≡ Some d = sym c.get.ensures ∙ ap option_copied c.in-Some.is in
-    let none = neither c.stays-stays.result _ (sym c.is_quiet.ensures ∙ c.if-not-is_quiet.true) in
-    let other_state : leaves d.session.state m xid ≡ false = (rw at at (sym c.stays-stays.ensures.exact)) ∙ none.first in
-    subst (Changes m xid d.dp) (sym at) (refl, other_state)
+    let changes = leaves_not c.args.message.now c.args.xid d (conn_with c.args.world.now.conns c.args.conn) c.stays-stays.result c.is_quiet.result at c.stays-stays.ensures.exact c.is_quiet.ensures c.if-not-is_quiet.true in
+    subst (Changes c.args.message.now c.args.xid d.dp) (sym at) (refl, changes)
 
 pub returns-then-not-is_quiet : goal.returns-then-not-is_quiet
 returns-then-not-is_quiet c =
     let d : Conn = c.in-Some.found.now in
-    let m = c.args.message.now in
-    let xid = c.args.xid in
     let at : conn_with c.args.world.now.conns c.args.conn ≡ Some d = sym c.get.ensures ∙ ap option_copied c.in-Some.is in
-    let none = neither c.stays-stays.result _ (sym c.is_quiet.ensures ∙ c.if-not-is_quiet.true) in
-    let other_state : leaves d.session.state m xid ≡ false = (rw at at (sym c.stays-stays.ensures.exact)) ∙ none.first in
+    let changes = leaves_not c.args.message.now c.args.xid d (conn_with c.args.world.now.conns c.args.conn) c.stays-stays.result c.is_quiet.result at c.stays-stays.ensures.exact c.is_quiet.ensures c.if-not-is_quiet.true in
     record {
       heard = c.hear_change.ensures.heard;
       tells = c.hear_change.ensures.tells;
-      told = rw at (rw other_state (IfOk-weaker c.hear_change.result _ _ (λ found tells none. absurd (true≢false none)) c.hear_change.ensures.tells));
+      told = rw at (rw changes (IfOk-weaker c.hear_change.result _ _ (λ found tells none. absurd (true≢false none)) c.hear_change.ensures.tells));
       exact = c.hear_change.ensures.exact;
     }

@@ -1,42 +1,28 @@
 use Rattle.std.proofs.Common.{◌≡◌, ◌<◌, false, subst, sym}
 use Rattle.std.proofs.lemmas.Result.{on_ok_weaker}
-use Rattle.std.specs.List.{AllByRecursion}
 use Rattle.net_base.specs.declared.numbers.Moment.{Moment}
-use Rattle.conf_types.specs.Configuration.{Configuration}
-use Rattle.conf_types.specs.State.{IsValidState}
 use Rattle.ctl_world.specs.World.{IsSound, World}
 use Rattle.ctl_settle.specs.Plans.{Fit}
 use Rattle.ctl_settle.specs.Rest.{AreInOrder}
-use Rattle.ctl_settle.proofs.Until.{are_bounded}
 use Rattle.ctl_life.specs.Life.{says}
 use Rattle.cold_start.specs.Counts.{RisesAtMost}
 use Rattle.ctl_core.specs.Allowed.{settling}
-use Rattle.ctl_core.specs.Found.{IsStill, is_touched, may_differ}
+use Rattle.ctl_core.specs.Found.{is_touched, may_differ}
 use Rattle.ctl_core.proofs.Bound.{rises_exactly}
 use Rattle.ctl_core.proofs.Spent.{AreOld, old_heard}
 use Rattle.ctl_core.specs.Known.{IsEarly}
-use Rattle.ctl_core.proofs.Still.{still_held, still_rests, still_until}
-use Rattle.ctl_core.proofs.Telling.{tells_bounds, tells_follow, tells_still}
+use Rattle.ctl_core.proofs.Telling.{tells_still}
+use Rattle.ctl_core.proofs.WhereDue.{may_settle}
 use Rattle.ctl_core.proofs.hearing.hear_one.Goals as goal
 
 pub settle_where_due-requires : goal.settle_where_due-requires
 settle_where_due-requires g c =
     let k = c.args.known.now in
-    let w : World = k.world in
-    let v : World = c.hear_frame.new.world in
     let heard = sym c.in_ok-found.ensures.heard in
-    let still : is_touched c.in_ok-found.found ≡ false → IsStill w v = λ none. tells_still w v c.in_ok-found.found none c.requires.sound c.in_ok-found.ensures.tells in
-    record {
-      sound = subst IsSound heard (c.a_frame_leaves_it_sound.ensures.heard (says c.args.frame.now) c.args.conn w c.a_configuration_is_valid.ensures c.requires.sound);
-      in_order = subst AreInOrder heard (c.what_happens_keeps_connections_in_order.ensures.heard (says c.args.frame.now) c.args.conn w c.requires.in_order);
-      fit = subst (λ (u : World). Fit u.conns k.plans) heard (c.what_happens_keeps_the_plans.ensures.heard (says c.args.frame.now) c.args.conn w k.plans c.requires.held.fit);
-      follow = tells_follow w v c.in_ok-found.found c.requires.sound c.in_ok-found.ensures.tells k.plans c.requires.follow;
-      states = λ none. subst (λ (conf : Configuration). AllByRecursion (λ h. IsValidState conf h.plan.state) k.plans) (sym (still none).alike.conf) c.requires.states;
-      held = λ none. still_held w v (still none) c.alike_worlds_have_the_same_plans.ensures k.plans c.requires.held;
-      rests = λ none early. still_rests w v (still none) c.alike_worlds_rest_alike.ensures.rest k.until c.requires.until c.requires.rests early;
-      until = λ none early. still_until w v (still none) c.alike_worlds_rest_alike.ensures.rest k.until c.requires.until c.requires.rests early;
-      bounds = tells_bounds w v c.in_ok-found.found c.requires.sound c.in_ok-found.ensures.tells k.until (are_bounded w k.until c.requires.until.least);
-    }
+    may_settle c.alike_worlds_have_the_same_plans.ensures c.alike_worlds_rest_alike.ensures.rest k c.hear_frame.new.world c.in_ok-found.found c.requires c.in_ok-found.ensures.tells
+    (subst IsSound heard (c.a_frame_leaves_it_sound.ensures.heard (says c.args.frame.now) c.args.conn k.world c.a_configuration_is_valid.ensures c.requires.sound))
+    (subst AreInOrder heard (c.what_happens_keeps_connections_in_order.ensures.heard (says c.args.frame.now) c.args.conn k.world c.requires.in_order))
+    (subst (λ (u : World). Fit u.conns k.plans) heard (c.what_happens_keeps_the_plans.ensures.heard (says c.args.frame.now) c.args.conn k.world k.plans c.requires.held.fit))
 
 pub returns-clause-left_out : goal.returns-clause-left_out
 returns-clause-left_out g c = λ same early.
