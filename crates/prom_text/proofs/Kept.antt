@@ -1,8 +1,7 @@
 -- The items that count, one by one.
-use Rattle.std.proofs.Common.{◌≡◌, ◌≢◌, ℕ, ◌+◌, ◌≤◌, ◌<◌, Bool, true, false, ◌||◌, ◌==◌, List, [], ◌∷◌, ◌++◌, length, take, get_or, map, refl, sym, ap, ◌∙◌, subst}
-use Rattle.std.specs.BTreeSet.{BTreeSet, contains, contains_text}
+use Rattle.std.proofs.Common.{◌≡◌, ◌≢◌, ℕ, ◌+◌, ◌≤◌, ◌<◌, Bool, true, false, ◌||◌, List, [], ◌∷◌, ◌++◌, length, take, get_or, map, refl, sym, ap, ◌∙◌, subst}
+use Rattle.std.specs.BTreeSet.{BTreeSet, contains_text}
 use Rattle.std.specs.List.{AllByRecursion, list_any}
-use Rattle.std.specs.Ordering.{nat_cmp}
 use Rattle.std.specs.Str.{bytes_eq}
 use Rattle.std.specs.declared.alloc.Global.{Global}
 use Rattle.std.specs.declared.string.String.{String}
@@ -13,6 +12,7 @@ use Rattle.prom_text.specs.Blocks.{flow_name}
 use Rattle.prom_text.specs.Counted.{counted_flows, counted_ports, is_same_flow, is_same_port, most_flows, most_ports}
 use Rattle.prom_text.proofs.Counting.{SoFar, all_more, any_more, ended, full, none_yet, passed, taken}
 use Rattle.prom_text.proofs.FlowNames.{found_by_name}
+use Rattle.prom_text.proofs.PortsKept.{PortsSoFar}
 
 map_it : {A : Type 0} (xs : List A) → map (λ x. x) xs ≡ xs
 map_it [] = refl
@@ -20,39 +20,16 @@ map_it (x ∷ xs) = ap (λ l. x ∷ l) (map_it xs)
 
 -- ---- ports
 
-abbrev it_port : PortStats → PortStats
+abbrev pub it_port : PortStats → PortStats
 it_port p = p
 
-pub record PortsSoFar (items : List PortStats) (i : ℕ) (seen : BTreeSet ℕ) (made : List PortStats) : Type 0 where
-  pub seen_are : (n : ℕ) → contains nat_cmp seen n ≡ list_any (λ p. p.no == n) (take i items)
-  pub far : SoFar is_same_port it_port most_ports items i made
-
-pub ports_full : (items : List PortStats) (i : ℕ) (seen : BTreeSet ℕ) (made : List PortStats) → length made ≡ most_ports → PortsSoFar items i seen made → made ≡ counted_ports items
+pub ports_full : (items : List PortStats) (i : ℕ) (seen : BTreeSet ℕ) (made : List PortStats) → length made ≡ most_ports → PortsSoFar it_port items i seen made → made ≡ counted_ports items
 unfolding counted_ports
 ports_full items i seen made all p = full is_same_port it_port most_ports items i made all p.far ∙ map_it (counted_ports items)
 
-pub ports_ended : (items : List PortStats) (i : ℕ) (seen : BTreeSet ℕ) (made : List PortStats) → length items ≤ i → PortsSoFar items i seen made → made ≡ counted_ports items
+pub ports_ended : (items : List PortStats) (i : ℕ) (seen : BTreeSet ℕ) (made : List PortStats) → length items ≤ i → PortsSoFar it_port items i seen made → made ≡ counted_ports items
 unfolding counted_ports
 ports_ended items i seen made past p = ended is_same_port it_port most_ports items i made past p.far ∙ map_it (counted_ports items)
-
-module _ (items : List PortStats) (i : ℕ) (x : PortStats) (seen more : BTreeSet ℕ) (made : List PortStats) (within : i < length items) (is : x ≡ get_or items i x)
-    (grown : (n : ℕ) → contains nat_cmp more n ≡ (contains nat_cmp seen n || x.no == n)) where
-  see_port : PortsSoFar items i seen made → (n : ℕ) → contains nat_cmp more n ≡ list_any (λ p. p.no == n) (take (i + 1) items)
-  see_port p n = grown n ∙ ap (λ b. b || x.no == n) (p.seen_are n) ∙ sym (any_more (λ q. q.no == n) items i x within is)
-
-  pub port_passed : (was : Bool) → was ≡ contains nat_cmp seen x.no → was ≡ true → PortsSoFar items i seen made → PortsSoFar items (i + 1) more made
-  port_passed was told e p = record { seen_are = see_port p; far = passed is_same_port it_port most_ports items i x made within is (sym (p.seen_are x.no) ∙ sym told ∙ e) p.far }
-
-  pub port_taken : (was : Bool) (one : PortStats) → was ≡ contains nat_cmp seen x.no → was ≡ false → length made ≢ most_ports → one ≡ x → PortsSoFar items i seen made
-      → PortsSoFar items (i + 1) more (made ++ one ∷ [])
-  port_taken was one told e room same p = record {
-    seen_are = see_port p;
-    far = subst (λ r. SoFar is_same_port it_port most_ports items (i + 1) (made ++ r ∷ [])) (sym same)
-        (taken is_same_port it_port most_ports items i x made within is (sym (p.seen_are x.no) ∙ sym told ∙ e) room p.far);
-  }
-
-pub no_ports : (items : List PortStats) (seen : BTreeSet ℕ) → ((n : ℕ) → contains nat_cmp seen n ≡ false) → PortsSoFar items 0 seen []
-no_ports items seen none = record { seen_are = none; far = none_yet is_same_port it_port most_ports items }
 
 -- ---- flow entries
 

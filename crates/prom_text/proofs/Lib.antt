@@ -3,6 +3,7 @@ pub mod Apart
 pub mod Counting
 pub mod FlowNames
 pub mod Kept
+pub mod PortsKept
 pub mod ReadBack
 pub mod RowLaws
 pub mod Utf8

@@ -1,8 +1,7 @@
 -- Rows of items that count, and the metrics of rows.
-use Rattle.std.proofs.Common.{◌≡◌, ◌≢◌, ℕ, zero, suc, ◌+◌, ◌≤◌, ◌<◌, Bool, true, false, ◌||◌, ◌==◌, List, [], ◌∷◌, ◌++◌, length, take, drop, get_or, slice_get, map, Some, refl, sym, ap, ◌∙◌, subst, arith, append_assoc}
-use Rattle.std.specs.BTreeSet.{BTreeSet, contains, contains_text}
+use Rattle.std.proofs.Common.{◌≡◌, ◌≢◌, ℕ, suc, ◌+◌, ◌≤◌, ◌<◌, Bool, true, false, ◌||◌, List, [], ◌∷◌, ◌++◌, length, take, drop, get_or, slice_get, map, Some, refl, sym, ap, ◌∙◌, subst, arith, append_assoc}
+use Rattle.std.specs.BTreeSet.{BTreeSet, contains_text}
 use Rattle.std.specs.List.{AllByRecursion, flat_map, list_any}
-use Rattle.std.specs.Ordering.{nat_cmp}
 use Rattle.std.specs.Str.{bytes_eq}
 use Rattle.std.specs.declared.alloc.Global.{Global}
 use Rattle.std.specs.declared.string.String.{String}
@@ -20,53 +19,23 @@ use Rattle.prom_text.specs.Samples.{metric_text, sample_line, sample_text, type_
 use Rattle.prom_text.specs.Spelled.{AreSpelled, spelled}
 use Rattle.prom_text.proofs.Counting.{SoFar, all_more, any_more, ended, full, map_map, none_yet, passed, taken}
 use Rattle.prom_text.proofs.FlowNames.{found_by_name}
+use Rattle.prom_text.proofs.PortsKept.{PortsSoFar}
 
 -- ---- ports
 
 abbrev pub made_port : Dp → PortStats → Spelled
 made_port d p = spelled (port_row d p)
 
-pub record PortsSoFar (d : Dp) (items : List PortStats) (i : ℕ) (seen : BTreeSet ℕ) (rows : List Spelled) : Type 0 where
-  pub seen_are : (n : ℕ) → contains nat_cmp seen n ≡ list_any (λ p. p.no == n) (take i items)
-  pub far : SoFar is_same_port (made_port d) most_ports items i rows
-
 pub ports_done : (d : Dp) (items : List PortStats) (rows : List Spelled) → rows ≡ map (made_port d) (counted_ports items) → AreSpelled rows (port_rows d items)
 ports_done d items rows e = e ∙ sym (map_map (port_row d) spelled (counted_ports items))
 
-pub ports_full : (d : Dp) (items : List PortStats) (i : ℕ) (seen : BTreeSet ℕ) (rows : List Spelled) → length rows ≡ most_ports → PortsSoFar d items i seen rows → AreSpelled rows (port_rows d items)
+pub ports_full : (d : Dp) (items : List PortStats) (i : ℕ) (seen : BTreeSet ℕ) (rows : List Spelled) → length rows ≡ most_ports → PortsSoFar (made_port d) items i seen rows → AreSpelled rows (port_rows d items)
 unfolding counted_ports
 ports_full d items i seen rows all p = ports_done d items rows (full is_same_port (made_port d) most_ports items i rows all p.far)
 
-pub ports_ended : (d : Dp) (items : List PortStats) (i : ℕ) (seen : BTreeSet ℕ) (rows : List Spelled) → length items ≤ i → PortsSoFar d items i seen rows → AreSpelled rows (port_rows d items)
+pub ports_ended : (d : Dp) (items : List PortStats) (i : ℕ) (seen : BTreeSet ℕ) (rows : List Spelled) → length items ≤ i → PortsSoFar (made_port d) items i seen rows → AreSpelled rows (port_rows d items)
 unfolding counted_ports
 ports_ended d items i seen rows past p = ports_done d items rows (ended is_same_port (made_port d) most_ports items i rows past p.far)
-
-module _ (d : Dp) (items : List PortStats) (i : ℕ) (x : PortStats) (seen more : BTreeSet ℕ) (rows : List Spelled) (within : i < length items) (is : x ≡ get_or items i x)
-    (grown : (n : ℕ) → contains nat_cmp more n ≡ (contains nat_cmp seen n || x.no == n)) where
-  see_port : PortsSoFar d items i seen rows → (n : ℕ) → contains nat_cmp more n ≡ list_any (λ p. p.no == n) (take (i + 1) items)
-  see_port p n = grown n ∙ ap (λ b. b || x.no == n) (p.seen_are n) ∙ sym (any_more (λ q. q.no == n) items i x within is)
-
-  pub port_passed : (was : Bool) → was ≡ contains nat_cmp seen x.no → was ≡ true → PortsSoFar d items i seen rows → PortsSoFar d items (i + 1) more rows
-  port_passed was told e p = record { seen_are = see_port p; far = passed is_same_port (made_port d) most_ports items i x rows within is (sym (p.seen_are x.no) ∙ sym told ∙ e) p.far }
-
-  pub port_taken : (was : Bool) (row : Spelled) → was ≡ contains nat_cmp seen x.no → was ≡ false → length rows ≢ most_ports → row ≡ made_port d x → PortsSoFar d items i seen rows
-      → PortsSoFar d items (i + 1) more (rows ++ row ∷ [])
-  port_taken was row told e room made p = record {
-    seen_are = see_port p;
-    far = subst (λ r. SoFar is_same_port (made_port d) most_ports items (i + 1) (rows ++ r ∷ [])) (sym made)
-        (taken is_same_port (made_port d) most_ports items i x rows within is (sym (p.seen_are x.no) ∙ sym told ∙ e) room p.far);
-  }
-
-other_default : (items : List PortStats) (i : ℕ) (d e : PortStats) → i < length items → get_or items i d ≡ get_or items i e
-other_default [] i d e within = absurd (omega arith)
-other_default (x ∷ more) zero d e within = refl
-other_default (x ∷ more) (suc i) d e within = other_default more i d e (omega arith)
-
-pub item_is : (items : List PortStats) (i : ℕ) (d : PortStats) → i < length items → get_or items i d ≡ get_or items i (get_or items i d)
-item_is items i d within = other_default items i d (get_or items i d) within
-
-pub no_ports : (d : Dp) (items : List PortStats) (seen : BTreeSet ℕ) → ((n : ℕ) → contains nat_cmp seen n ≡ false) → PortsSoFar d items 0 seen []
-no_ports d items seen none = record { seen_are = none; far = none_yet is_same_port (made_port d) most_ports items }
 
 -- ---- flow entries
 

@@ -1,10 +1,11 @@
-use Rattle.std.proofs.Common.{[], get_or, rules, arith}
-use Rattle.prom_text.proofs.RowLaws.{item_is, no_ports, port_passed, port_taken, ports_ended, ports_full}
+use Rattle.std.proofs.Common.{rules, arith}
+use Rattle.prom_text.proofs.PortsKept.{no_ports, port_passed, port_taken}
+use Rattle.prom_text.proofs.RowLaws.{made_port, ports_ended, ports_full}
 use Rattle.prom_text.proofs.rows.make_port_rows.Goals as goal
 use Rattle.prom_text.proofs.rows.make_port_rows.Goals.{then-not-was+in_ok-make_port_row+in_ok-push, else-not-was}
 
 pub loop-item-init : goal.loop-item-init
-loop-item-init c = rw c.new-rows.ensures (no_ports c.args.dp.now c.args.items.now c.new-seen.result (λ n. search rules))
+loop-item-init c = rw c.new-rows.ensures (no_ports (made_port c.args.dp.now) c.args.items.now c.new-seen.result (λ n. search rules))
 
 pub returns-then-len-eq-MOST_PORTS : goal.returns-then-len-eq-MOST_PORTS
 returns-then-len-eq-MOST_PORTS c =
@@ -12,21 +13,19 @@ returns-then-len-eq-MOST_PORTS c =
 
 pub loop-item-preserved : goal.loop-item-preserved
 loop-item-preserved c =
-    let d = c.args.dp.now in
+    let make = made_port c.args.dp.now in
     let items = c.args.items.now in
     let i = c.loop-item.item-index in
-    let x = get_or items i (record { no = 0; counters = []; sec = 0; nsec = 0 }) in
-    let is = item_is items i (record { no = 0; counters = []; sec = 0; nsec = 0 }) c.loop-item-test.true in
     let seen = c.loop-item.seen in
     let more = c.see_port.new.seen in
     let rows = c.loop-item.rows in
     let told = c.in_ok-was.ensures in
     elim c.if-not-was.branch [
       | then-not-was+in_ok-make_port_row+in_ok-push w ↦ rw (w.rows-is, w.in_ok-push.ensures.ok)
-          (port_taken d items i x seen more rows c.loop-item-test.true is told.is c.in_ok-was.was' w.in_ok-make_port_row.field-0 told.was w.if-not-was.true
+          (port_taken make items i seen more rows c.loop-item-test.true told.is c.in_ok-was.was' w.in_ok-make_port_row.field-0 told.was w.if-not-was.true
           (λ e. omega (arith, c.if-len-eq-MOST_PORTS.false, c.len.ensures, e)) w.in_ok-make_port_row.ensures c.loop-item.invariant)
       | else-not-was w ↦ rw w.rows-is
-          (port_passed d items i x seen more rows c.loop-item-test.true is told.is c.in_ok-was.was' told.was w.if-not-was.false c.loop-item.invariant)
+          (port_passed make items i seen more rows c.loop-item-test.true told.is c.in_ok-was.was' told.was w.if-not-was.false c.loop-item.invariant)
     ]
 
 pub returns : goal.returns
