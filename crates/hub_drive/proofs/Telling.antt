@@ -1,12 +1,13 @@
 -- What a hub gave and was told over many calls, and over a front of them.
-use Rattle.std.proofs.Common.{◌≡◌, ℕ, zero, suc, ◌-◌, true, List, [], ◌∷◌, ◌++◌, length, take, refl, sym, ap, subst, ◌∙◌, append_assoc, arith}
-use Rattle.std.specs.List.{AllByRecursion}
+use Rattle.std.proofs.Common.{◌≡◌, ℕ, zero, suc, ◌+◌, ◌-◌, ◌<◌, true, List, [], ◌∷◌, ◌++◌, length, get_or, take, refl, sym, ap, subst, ◌∙◌, append_assoc, arith}
+use Rattle.std.specs.List.{AllByRecursion, flat_map}
 use Rattle.std.proofs.lemmas.List.{append-nil}
 use Rattle.fg_outside.specs.HubStep.{HubStep, Event, start, next, story, told_by}
 use Rattle.fg_outside.proofs.StoryLemmas.{Leads-append, story-append}
 use Rattle.hub_drive.specs.Driving.{Deed, IsFront, deeds}
 use Rattle.hub_drive.specs.Driven.{Goes, Tells, TellsPart, goes_on}
 use Rattle.hub_drive.proofs.Deeds.{deeds-append}
+use Rattle.hub_drive.proofs.Pieces.{flat_map-next}
 
 pub deeds-story : (xs ys : List HubStep) → deeds (story (xs ++ ys)) ≡ deeds (story xs) ++ deeds (story ys)
 deeds-story xs ys = ap (λ (l : List Event). deeds l) (story-append xs ys) ∙ deeds-append (story xs) (story ys)
@@ -90,6 +91,12 @@ module _ {H : Type 0} (may : H → HubStep → H → Type 0) where
         ∙ ap (λ (l : List Deed). xs ++ l) second.deeds;
     went_on = all_of_both (λ step. goes_on step ≡ true) first.steps second.steps first.went_on second.went_on;
   }
+
+  -- of one item more of a list
+  pub Tells-next : {X : Type 0} (f : X → List Deed) (xs : List X) (i : ℕ) (x : X) → i < length xs → x ≡ get_or xs i x → (old mid new : H)
+      → Tells may old (flat_map f (take i xs)) mid → Tells may mid (f x) new → Tells may old (flat_map f (take (i + 1) xs)) new
+  Tells-next f xs i x lt is old mid new first second =
+      Tells-same old new (flat_map f (take i xs) ++ f x) (flat_map f (take (i + 1) xs)) (sym (flat_map-next f xs i x lt is)) (Tells-then old mid new (flat_map f (take i xs)) (f x) first second)
 
   pub Goes-of : (old new : H) (told : List Deed) → Tells may old told new → Goes may old new
   Goes-of old new told tells = (tells.steps, tells.leads)
