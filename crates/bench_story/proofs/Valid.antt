@@ -136,6 +136,7 @@ datapath_valid = record {
   timeout = record { least = omega arith; most = omega arith };
   arp_timeout = record { least = omega arith; most = omega arith };
   stack_priority = tt;
+  lldp = tt;
   ports = each (IsPort setup) 48 port_valid;
   in_order = before (λ p q. p.no < q.no) 48 (λ j k less high. less);
   port_names = before (λ p q. p.name ≡ q.name → ⊥) 48 (λ j k less high same. let equal = decimal_injective j k (omega (arith, less, high)) (omega (arith, high)) same in omega (arith, less, equal));
@@ -166,9 +167,11 @@ routing_valid = record {
   vlans = tt;
   once = tt;
   apart = tt;
+  peers = tt;
+  own_vips = (tt, tt);
   vips = (tt, tt);
   routes = (tt, tt);
-  each = (record { reached = tt; outside = tt }, tt);
+  each = (record { reached = tt; one_family = tt; outside = tt }, tt);
 }
 
 none_attached : attached setup datapath ≡ []

@@ -80,6 +80,7 @@ fn make_datapath(alloc: Global) -> Result<Dp, NoMemory>
         timeout: 300,
         arp_timeout: 30,
         stack_priority: None,
+        lldp: None,
         drop_spoofed: true,
         drop_broadcast: true,
         drop_bpdu: true,
