@@ -8,5 +8,6 @@ pub mod ReplayLemmas
 pub mod ReplyLemmas
 pub mod ServeLemmas
 pub mod ServedLemmas
+pub mod SpeakLemmas
 pub mod TopLemmas
 pub mod WatchLemmas

@@ -1,5 +1,6 @@
 -- From the reply to a run over a recording to what its status says.
-use Rattle.std.proofs.Common.{◌≡◌, ◌≢◌, ℕ, ◌⊎◌, inl, inr, List, [], ◌++◌, Option, Some, None, unwrap_or, Result, Ok, Err, refl, sym, ap, subst, ◌∙◌, arith}
+use Rattle.std.proofs.Common.{◌≡◌, ◌≢◌, ℕ, ◌⊎◌, inl, inr, List, [], ◌∷◌, ◌++◌, Option, Some, None, unwrap_or, Result, Ok, Err, refl, sym, ap, subst, ◌∙◌, arith}
+use Rattle.std.specs.List.{AllByRecursion}
 use Rattle.fg_outside.specs.Contents.{Contents}
 use Rattle.fg_outside.specs.Wrote.{appended}
 use Rattle.fg_outside.specs.declared.hub.Happening.{Happening}
@@ -25,9 +26,16 @@ use Rattle.hub_drive.specs.Replay.{Replays}
 use Rattle.ctl_drive.specs.Controller.{controller}
 use Rattle.ctl_drive.specs.Driving.{records_of}
 use Rattle.gauge_drive.specs.Gauge.{joined, monitor}
-use Rattle.faucet_top.specs.Answer.{Answer, GaugeLoad, Load, refusal, last_line}
+use Rattle.bgp_load.specs.declared.found.LoadedPeer.{LoadedPeer}
+use Rattle.bgp_load.specs.declared.found.PeerLacks.{PeerLacks}
+use Rattle.bgp_load.specs.declared.found.PeerLacks.TheVariants as lacks
+use Rattle.bgp_load.specs.Peers.{FoundPeer, loaded_peer}
+use Rattle.bgp_texts.specs.Taking.{IsAccepted}
+use Rattle.bgp_speaker.specs.Speaking.{Speaking, turn as speak}
+use Rattle.bgp_drive.specs.Speech.{speaks}
+use Rattle.faucet_top.specs.Answer.{Answer, GaugeLoad, Load, refusal, last_line, PeerLoad, lacks_answer}
 use Rattle.faucet_top.specs.Ends.{status_after}
-use Rattle.faucet_top.specs.Given.{GaugeLoads, Loads, LoadsBy, GoesByFile, RepliesGauge, RepliesReplay, RepliesRun, StatusFor, IsRun, IsRunStatus, IsLoadedStatus, IsReplayed, IsWatched}
+use Rattle.faucet_top.specs.Given.{GaugeLoads, Loads, LoadsBy, GoesByFile, RepliesGauge, RepliesReplay, RepliesRun, StatusFor, IsRun, IsRunStatus, IsLoadedStatus, IsReplayed, IsWatched, IsPeerStatus, IsSpoken, PeerLoads, RepliesPeerRun, speaking_with, texts_of, with_text}
 use Rattle.faucet_top.specs.Status.{number_of_status}
 use Rattle.faucet_top.proofs.RefusalLemmas.{IsInner, refusal_inner, refusal_undone, refusal_unread_record, refusal_unread}
 
@@ -60,6 +68,33 @@ end_refused replayed.Unread s = absurd (omega (arith, s))
 end_refused replayed.Spent s = absurd (omega (arith, s))
 end_refused replayed.WriteFault s = absurd (omega (arith, s))
 end_refused replayed.Memory s = absurd (omega (arith, s))
+
+-- ---- the peer of a router
+
+-- what a file gives of it
+abbrev pub by_router : (router : List ℕ) → Held → List ℕ → Result FoundPeer LoadRefused
+by_router router held name = loaded_peer held name router
+
+pub lacks_status : (config router : List ℕ) (why : PeerLacks) → (lacks_answer config router why).status ≡ 2
+lacks_status config router lacks.Router = refl
+lacks_status config router lacks.Peer = refl
+lacks_status config router lacks.Room = refl
+
+-- an answer that there is none
+lacks_other : (n : ℕ) → (n ≡ 2 → ⊥) → (config router : List ℕ) (why : PeerLacks) (a : Answer) → a ≡ lacks_answer config router why → a.status ≡ n → ⊥
+lacks_other n two config router why a is s = two (sym s ∙ ap (λ (b : Answer). b.status) is ∙ lacks_status config router why)
+
+-- each text that a turn of a speaker gives is accepted, so each that a story gives is
+abbrev pub EachIsAccepted : Type 0
+EachIsAccepted = (h : Happening) (s : Speaking) (text : List ℕ) → (speak h s).text ≡ Some text → IsAccepted text
+
+with_accepted : (given : Option (List ℕ)) (texts : List (List ℕ)) → ((text : List ℕ) → given ≡ Some text → IsAccepted text) → AllByRecursion IsAccepted texts → AllByRecursion IsAccepted (with_text given texts)
+with_accepted None texts each all = all
+with_accepted (Some text) texts each all = (each text refl, all)
+
+pub texts_accepted : EachIsAccepted → (s : Speaking) (hs : List Happening) → AllByRecursion IsAccepted (texts_of s hs)
+texts_accepted each s [] = tt
+texts_accepted each s (h ∷ hs) = with_accepted (speak h s).text (texts_of (speak h s) hs) (each h s) (texts_accepted each (speak h s) hs)
 
 -- ---- its status
 
@@ -96,6 +131,15 @@ module _ (contents : Option Contents) (absence fault : Type 0) where
   gauge_inner config recording (Err why) a is = subst (λ (b : Answer). IsInner b.status) (sym is) (refusal_inner config why)
   gauge_inner config recording (Ok conf) a replies = run_inner monitor outlets.Nowhere recording (begun conf) a replies
 
+  pub bgp_inner : (config router recording : List ℕ) (made : PeerLoad) (a : Answer) → RepliesPeerRun contents absence fault config router recording made a → IsInner a.status
+  bgp_inner config router recording (Err why) a is = subst (λ (b : Answer). IsInner b.status) (sym is) (refusal_inner config why)
+  bgp_inner config router recording (Ok (Err why)) a is = (
+    lacks_other 1 (λ e. omega (arith, e)) config router why a is,
+    lacks_other 4 (λ e. omega (arith, e)) config router why a is,
+    lacks_other 6 (λ e. omega (arith, e)) config router why a is,
+  )
+  bgp_inner config router recording (Ok (Ok peer)) a replies = run_inner speaks outlets.Nowhere recording (speaking_with peer) a replies
+
   -- a file is missing, or a read failed, where the status says so
   pub replay_unread : (refused config recording : List ℕ) (made : Load) (a : Answer) → Loads contents absence fault refused config made → RepliesReplay contents absence fault config recording made a
       → a.status ≡ 3 → absence ⊎ fault
@@ -106,6 +150,12 @@ module _ (contents : Option Contents) (absence fault : Type 0) where
       → a.status ≡ 3 → absence ⊎ fault
   gauge_unread refused config recording (Err why) a loads is s = refusal_unread gauge_of contents absence fault refused config config why loads (sym (ap (λ (b : Answer). b.status) is) ∙ s)
   gauge_unread refused config recording (Ok conf) a loads replies s = run_unread monitor outlets.Nowhere recording (begun conf) a replies s
+
+  pub bgp_unread : (refused config router recording : List ℕ) (made : PeerLoad) (a : Answer) → PeerLoads contents absence fault refused config router made → RepliesPeerRun contents absence fault config router recording made a
+      → a.status ≡ 3 → absence ⊎ fault
+  bgp_unread refused config router recording (Err why) a loads is s = refusal_unread (by_router router) contents absence fault refused config config why loads (sym (ap (λ (b : Answer). b.status) is) ∙ s)
+  bgp_unread refused config router recording (Ok (Err why)) a loads is s = absurd (lacks_other 3 (λ e. omega (arith, e)) config router why a is s)
+  bgp_unread refused config router recording (Ok (Ok peer)) a loads replies s = run_unread speaks outlets.Nowhere recording (speaking_with peer) a replies s
 
 -- ---- what is replied, where the files are told
 
@@ -174,6 +224,20 @@ module _ (held : Contents) (absence fault : Type 0) where
         (refusal_told gauge_of refused config (λ conf. IsRunStatus monitor (begun conf) (held 0 recording)) why loads)
     gauge_told (Ok conf) loads replies =
         accepted_told gauge_of refused config (λ c. IsRunStatus monitor (begun c) (held 0 recording)) conf a.status loads (run_told monitor outlets.Nowhere recording (begun conf) a replies)
+
+  module _ (refused config router recording : List ℕ) (a : Answer) where
+    abbrev IsBgpStatus : FoundPeer → ℕ → Type 0
+    IsBgpStatus found n = IsPeerStatus (λ peer. IsRunStatus speaks (speaking_with peer) (held 0 recording)) found n
+
+    pub bgp_told : (made : PeerLoad) → PeerLoads (Some held) absence fault refused config router made → RepliesPeerRun (Some held) absence fault config router recording made a
+        → StatusFor a.status (IsLoadedStatus config (loaded_peer (held 0) config router) IsBgpStatus) fault
+    bgp_told (Err why) loads is =
+        subst (λ (b : Answer). StatusFor b.status (IsLoadedStatus config (loaded_peer (held 0) config router) IsBgpStatus) fault) (sym is)
+        (refusal_told (by_router router) refused config IsBgpStatus why loads)
+    bgp_told (Ok (Err why)) loads is =
+        accepted_told (by_router router) refused config IsBgpStatus (Err why) a.status loads (inl (ap (λ (b : Answer). b.status) is ∙ lacks_status config router why))
+    bgp_told (Ok (Ok peer)) loads replies =
+        accepted_told (by_router router) refused config IsBgpStatus (Ok peer) a.status loads (run_told speaks outlets.Nowhere recording (speaking_with peer) a replies)
 
   -- ---- at status 0, and at status 5
 
@@ -245,3 +309,20 @@ module _ (held : Contents) (absence fault : Type 0) where
       gauge_refused (Ok conf) loads replies s =
           let ran = run_refused monitor outlets.Nowhere recording (begun conf) (λ story. joined (gauge_lines (begun conf) story)) (lines_are (begun conf)) o0 o1 e0 e1 a wrote said replies s in
           (ran.0, record { conf = conf; accepted = loads.told held refl; run = ran.1 })
+
+  module _ (refused config router recording : List ℕ) (o0 o1 e0 e1 : Option (List ℕ)) (a : Answer) (wrote : o1 ≡ appended o0 a.out) (said : e1 ≡ appended e0 a.err) (each : EachIsAccepted) where
+    pub bgp_done : (made : PeerLoad) → PeerLoads (Some held) absence fault refused config router made → RepliesPeerRun (Some held) absence fault config router recording made a
+        → a.status ≡ 0 → IsSpoken config router recording None (held 0) o0 o1 e0 e1
+    bgp_done (Err why) loads is s = absurd (refusal_undone config why (sym (ap (λ (b : Answer). b.status) is) ∙ s))
+    bgp_done (Ok (Err why)) loads is s = absurd (lacks_other 0 (λ e. omega (arith, e)) config router why a is s)
+    bgp_done (Ok (Ok peer)) loads replies s =
+        let ran = run_done speaks outlets.Nowhere recording (speaking_with peer) (λ story. out_of speaks outlets.Nowhere (speaking_with peer) story) (λ story. refl) o0 o1 e0 e1 a wrote said replies s in
+        record { peer = peer; accepted = loads.told held refl; run = ran; texts = texts_accepted each (speaking_with peer) ran.story }
+
+    pub bgp_refused : (made : PeerLoad) → PeerLoads (Some held) absence fault refused config router made → RepliesPeerRun (Some held) absence fault config router recording made a
+        → a.status ≡ 5 → (why : RecordRefused) × IsSpoken config router recording (Some why) (held 0) o0 o1 e0 e1
+    bgp_refused (Err why) loads is s = absurd (refusal_unread_record config why (sym (ap (λ (b : Answer). b.status) is) ∙ s))
+    bgp_refused (Ok (Err why)) loads is s = absurd (lacks_other 5 (λ e. omega (arith, e)) config router why a is s)
+    bgp_refused (Ok (Ok peer)) loads replies s =
+        let ran = run_refused speaks outlets.Nowhere recording (speaking_with peer) (λ story. out_of speaks outlets.Nowhere (speaking_with peer) story) (λ story. refl) o0 o1 e0 e1 a wrote said replies s in
+        (ran.0, record { peer = peer; accepted = loads.told held refl; run = ran.1; texts = texts_accepted each (speaking_with peer) ran.1.story })

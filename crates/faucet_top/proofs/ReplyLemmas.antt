@@ -14,7 +14,7 @@ use Rattle.gauge_conf.specs.declared.gauge.GaugeConf.{GaugeConf}
 use Rattle.gauge_load.specs.Loaded.{gauge_of}
 use Rattle.gauge_poll.specs.Monitoring.{begun}
 use Rattle.command_line.specs.declared.meaning.Job.{Job}
-use Rattle.command_line.specs.declared.meaning.Job.TheVariants.{Gauge, Replay}
+use Rattle.command_line.specs.declared.meaning.Job.TheVariants.{Bgp, Gauge, Replay}
 use Rattle.ctl_world.specs.World.{first}
 use Rattle.hub_drive.specs.declared.replay.Replayed.{Replayed}
 use Rattle.hub_drive.specs.declared.replay.Replayed.TheVariants as replayed
@@ -27,15 +27,19 @@ use Rattle.hub_drive.specs.Replay.{Replays, WritesFront}
 use Rattle.hub_drive.proofs.Stories.{fronts_but_last, none_begun}
 use Rattle.ctl_drive.specs.Controller.{controller}
 use Rattle.gauge_drive.specs.Gauge.{monitor}
+use Rattle.bgp_load.specs.declared.found.LoadedPeer.{LoadedPeer}
+use Rattle.bgp_load.specs.declared.found.PeerLacks.{PeerLacks}
+use Rattle.bgp_load.specs.Peers.{loaded_peer}
+use Rattle.bgp_drive.specs.Speech.{speaks}
 use Rattle.ctl_serve.proofs.Serving.{front_of_nothing}
 use Rattle.faucet_top.specs.declared.deliver.Status.{Status}
 use Rattle.faucet_top.specs.declared.deliver.Status.TheVariants as statuses
-use Rattle.faucet_top.specs.Answer.{Answer, out_of_memory, refusal, last_line}
+use Rattle.faucet_top.specs.Answer.{Answer, lacks_answer, out_of_memory, refusal, last_line}
 use Rattle.faucet_top.specs.Ends.{Ends, status_after}
-use Rattle.faucet_top.specs.Given.{GaugeLoads, Loads, GoesByFile, BreaksOff, Delivers, Gives, GivesRun, RepliesJob, RepliesRun}
+use Rattle.faucet_top.specs.Given.{GaugeLoads, Loads, PeerLoads, GoesByFile, BreaksOff, Delivers, Gives, GivesBgp, GivesRun, RepliesJob, RepliesRun, speaking_with}
 use Rattle.faucet_top.specs.Status.{number_of_status}
 use Rattle.faucet_top.proofs.CheckLemmas.{accepted_loads, line_delivered}
-use Rattle.faucet_top.proofs.ReplayLemmas.{number_after, ends_differ}
+use Rattle.faucet_top.proofs.ReplayLemmas.{by_router, number_after, ends_differ}
 
 -- ---- what is written on two streams, by what would be on empty ones
 
@@ -244,6 +248,23 @@ module _ (contents : Option Contents) (a0 a1 a2 f0 f1 f2 : ℕ) (le_a : a0 ≤ a
   gauge_given conf told gives =
       job_given monitor outlets.Nowhere (begun conf) (Gauge config recording)
       (λ a replies. (Ok conf, accepted_loads gauge_of contents (Rose a0 a2) (Rose f0 f2) refused config conf told, replies)) gives
+
+  pub bgp_given : (router : List ℕ) (peer : LoadedPeer) → ((held : Contents) → contents ≡ Some held → loaded_peer (held 0) config router ≡ Ok (Ok peer))
+      → GivesRun speaks outlets.Nowhere contents (Rose a1 a2) (Rose f1 f2) recording (speaking_with peer) status o0 o1 e0 e1 m0 m1 n0 n1
+      → GivesBgp contents (Rose a0 a2) (Rose f0 f2) refused config router recording status o0 o1 e0 e1 m0 m1 n0 n1
+  bgp_given router peer told gives =
+      job_given speaks outlets.Nowhere (speaking_with peer) (Bgp config router recording)
+      (λ a replies. (Ok (Ok peer), accepted_loads (by_router router) contents (Rose a0 a2) (Rose f0 f2) refused config (Ok peer) told, replies)) gives
+
+module _ (contents : Option Contents) (absence fault : Type 0) (refused : List ℕ) (o0 o1 e0 e1 : Option (List ℕ)) (m0 m1 n0 n1 : ℕ) (config router recording : List ℕ) (status : ℕ) where
+  -- the configuration was refused, or has no peer, and that was the whole reply
+  pub bgp_refusal_given : (why : LoadRefused) → Delivers (refusal config why) status o0 o1 e0 e1 m0 m1 n0 n1 → PeerLoads contents absence fault refused config router (Err why)
+      → GivesBgp contents absence fault refused config router recording status o0 o1 e0 e1 m0 m1 n0 n1
+  bgp_refusal_given why delivers loads = (refusal config why, inl (Err why, loads, refl), delivers)
+
+  pub bgp_lacks_given : (why : PeerLacks) → Delivers (lacks_answer config router why) status o0 o1 e0 e1 m0 m1 n0 n1 → PeerLoads contents absence fault refused config router (Ok (Err why))
+      → GivesBgp contents absence fault refused config router recording status o0 o1 e0 e1 m0 m1 n0 n1
+  bgp_lacks_given why delivers loads = (lacks_answer config router why, inl (Ok (Err why), loads, refl), delivers)
 
 module _ (contents : Option Contents) (absence fault : Type 0) (refused : List ℕ) (o0 o1 e0 e1 : Option (List ℕ)) (m0 m1 n0 n1 : ℕ) (config recording : List ℕ) (why : LoadRefused) (status : ℕ) (delivers : Delivers (refusal config why) status o0 o1 e0 e1 m0 m1 n0 n1) where
   -- the configuration was refused, and that was the whole reply

@@ -10,7 +10,7 @@ use Rattle.conf_types.specs.Valid.{IsValid}
 use Rattle.conf_gather.specs.Gathered.{Held}
 use Rattle.conf_load.specs.Loaded.{loaded}
 use Rattle.command_line.specs.declared.meaning.Job.{Job}
-use Rattle.command_line.specs.declared.meaning.Job.TheVariants.{Bench, Check, Gauge, GaugeServe, Plan, Replay, Serve, Trace, Walk}
+use Rattle.command_line.specs.declared.meaning.Job.TheVariants.{Bench, Check, Gauge, GaugeServe, Plan, Replay, Serve, Trace, Walk, Bgp, BgpServe}
 use Rattle.command_line.specs.declared.values.Listen.{Listen}
 use Rattle.watch_hub.specs.Look.{text_of}
 use Rattle.opening_batch.specs.Opened.{Opens}
@@ -19,6 +19,8 @@ use Rattle.law_stories.specs.Right.{IsRight}
 use Rattle.bench_story.specs.Setup.{configuration}
 use Rattle.gauge_conf.specs.declared.gauge.GaugeConf.{GaugeConf}
 use Rattle.gauge_load.specs.Loaded.{gauge_of}
+use Rattle.bgp_load.specs.declared.found.LoadedPeer.{LoadedPeer}
+use Rattle.bgp_load.specs.Peers.{loaded_peer}
 use Rattle.gauge_poll.specs.Monitoring.{Monitor, lines_of as gauge_lines}
 use Rattle.recording.specs.declared.refused.RecordRefused.{RecordRefused}
 use Rattle.hub_drive.specs.declared.sayings.Outlet.TheVariants as outlets
@@ -29,21 +31,23 @@ use Rattle.hub_drive.specs.declared.drive.Drove.{Drove}
 use Rattle.hub_drive.specs.declared.drive.Drove.TheVariants as drove
 use Rattle.ctl_drive.specs.Driving.{lines_of}
 use Rattle.ctl_serve.specs.Served.{Ended, Served}
-use Rattle.faucet_top.specs.Answer.{Answer, GaugeLoad, Load, out_of_memory}
+use Rattle.faucet_top.specs.Answer.{Answer, GaugeLoad, Load, PeerLoad, out_of_memory}
 use Rattle.trace_story.specs.declared.showing.How.{How}
 use Rattle.trace_story.specs.declared.showing.How.TheVariants as hows
 use Rattle.trace_story.specs.declared.showing.Shown.TheVariants.{Lines, NotReady}
 use Rattle.faucet_top.specs.Ends.{status_served}
 use Rattle.faucet_top.specs.Follow.{IsCutShort, IsFollowed, Traced, job_for}
-use Rattle.faucet_top.specs.Given.{AreAccepted, Delivers, Gives, IsLoadedStatus, IsMeasured, IsOpened, IsReplayed, IsServeStatus, IsStatusOf, IsWatched, Loads, StatusFor}
+use Rattle.faucet_top.specs.Given.{AreAccepted, Delivers, Gives, IsLoadedStatus, IsMeasured, IsOpened, IsReplayed, IsPeerStatus, IsServeStatus, IsSpoken, IsStatusOf, IsWatched, Loads, StatusFor}
 use Rattle.faucet_top.specs.Any.{GivesAny}
 use Rattle.faucet_top.specs.Serving.{IsItsEnd, IsLocal, IsServed, RepliesServe, ServesUntil, UnservedAnswer, served_answer}
+use Rattle.faucet_top.specs.Speaking.{IsHubSpoken}
 use Rattle.faucet_top.specs.Watching.{IsHubWatched}
 use Rattle.faucet_top.specs.Status.{number_of_status}
 use Rattle.faucet_top.proofs.RefusalLemmas.{refusal_not, refusal_unread}
-use Rattle.faucet_top.proofs.ReplayLemmas.{refusal_told}
+use Rattle.faucet_top.proofs.ReplayLemmas.{EachIsAccepted, refusal_told}
 use Rattle.faucet_top.proofs.EndLemmas.{Broke, Whole, delivered_fault, delivered_kept, delivered_status, its_end_not_four, its_end_not_refused, number_served, same_end, served_not, unfailed_not_four}
 use Rattle.faucet_top.proofs.TopLemmas as by
+use Rattle.faucet_top.proofs.SpeakLemmas.{spoken_fault, spoken_kept, spoken_meant, spoken_right, spoken_told, spoken_unasked, spoken_unread}
 use Rattle.faucet_top.proofs.WatchLemmas.{watched_fault, watched_kept, watched_meant, watched_right, watched_told, watched_unasked, watched_unread}
 
 module _ (status : ℕ) (o0 o1 e0 e1 : Option (List ℕ)) (m0 m1 n0 n1 : ℕ) where
@@ -234,17 +238,24 @@ module _ {H F : Type 0} (may : H → HubStep → H → Type 0) (contents : F →
       (config : List ℕ) × (events : ℕ) × (listen : Listen)
       × (j ≡ Some (GaugeServe config events listen)) × Any (Some (GaugeServe config events listen))
 
-  either : (j : Option Job) → Any j → (IsLocal j × Ours j) ⊎ (Serves j ⊎ Watches j)
-  either None gives = inl ((λ config events reload_ms listen is. absurd cc, λ config events listen is. absurd cc), gives)
-  either (Some (Check names)) gives = inl ((λ config events reload_ms listen is. absurd cc, λ config events listen is. absurd cc), gives)
-  either (Some (Plan config dp)) gives = inl ((λ c events reload_ms listen is. absurd cc, λ c events listen is. absurd cc), gives)
-  either (Some (Replay config recording)) gives = inl ((λ c events reload_ms listen is. absurd cc, λ c events listen is. absurd cc), gives)
-  either (Some (Gauge config recording)) gives = inl ((λ c events reload_ms listen is. absurd cc, λ c events listen is. absurd cc), gives)
-  either (Some (Bench hosts)) gives = inl ((λ c events reload_ms listen is. absurd cc, λ c events listen is. absurd cc), gives)
-  either (Some (Trace config recording dp port frame)) gives = inl ((λ c events reload_ms listen is. absurd cc, λ c events listen is. absurd cc), gives)
-  either (Some (Walk config recording dp port frame)) gives = inl ((λ c events reload_ms listen is. absurd cc, λ c events listen is. absurd cc), gives)
+  abbrev Speaks : Option Job → Type 0
+  Speaks j =
+      (config : List ℕ) × (router : List ℕ) × (events : ℕ) × (listen : Listen)
+      × (j ≡ Some (BgpServe config router events listen)) × Any (Some (BgpServe config router events listen))
+
+  either : (j : Option Job) → Any j → (IsLocal j × Ours j) ⊎ (Serves j ⊎ (Watches j ⊎ Speaks j))
+  either None gives = inl ((λ config events reload_ms listen is. absurd cc, λ config events listen is. absurd cc, λ config router events listen is. absurd cc), gives)
+  either (Some (Check names)) gives = inl ((λ config events reload_ms listen is. absurd cc, λ config events listen is. absurd cc, λ config router events listen is. absurd cc), gives)
+  either (Some (Plan config dp)) gives = inl ((λ c events reload_ms listen is. absurd cc, λ c events listen is. absurd cc, λ c router events listen is. absurd cc), gives)
+  either (Some (Replay config recording)) gives = inl ((λ c events reload_ms listen is. absurd cc, λ c events listen is. absurd cc, λ c router events listen is. absurd cc), gives)
+  either (Some (Gauge config recording)) gives = inl ((λ c events reload_ms listen is. absurd cc, λ c events listen is. absurd cc, λ c router events listen is. absurd cc), gives)
+  either (Some (Bench hosts)) gives = inl ((λ c events reload_ms listen is. absurd cc, λ c events listen is. absurd cc, λ c router events listen is. absurd cc), gives)
+  either (Some (Trace config recording dp port frame)) gives = inl ((λ c events reload_ms listen is. absurd cc, λ c events listen is. absurd cc, λ c router events listen is. absurd cc), gives)
+  either (Some (Walk config recording dp port frame)) gives = inl ((λ c events reload_ms listen is. absurd cc, λ c events listen is. absurd cc, λ c router events listen is. absurd cc), gives)
+  either (Some (Bgp config router recording)) gives = inl ((λ c events reload_ms listen is. absurd cc, λ c events listen is. absurd cc, λ c r events listen is. absurd cc), gives)
   either (Some (Serve config events reload_ms listen)) gives = inr (inl (config, events, reload_ms, listen, refl, gives))
-  either (Some (GaugeServe config events listen)) gives = inr (inr (config, events, listen, refl, gives))
+  either (Some (GaugeServe config events listen)) gives = inr (inr (inl (config, events, listen, refl, gives)))
+  either (Some (BgpServe config router events listen)) gives = inr (inr (inr (config, router, events, listen, refl, gives)))
 
   pub local_any : (j : Option Job) → IsLocal j → Ours j → Any j
   local_any None local gives = gives
@@ -255,8 +266,10 @@ module _ {H F : Type 0} (may : H → HubStep → H → Type 0) (contents : F →
   local_any (Some (Bench hosts)) local gives = gives
   local_any (Some (Trace config recording dp port frame)) local gives = gives
   local_any (Some (Walk config recording dp port frame)) local gives = gives
+  local_any (Some (Bgp config router recording)) local gives = gives
   local_any (Some (Serve config events reload_ms listen)) local gives = absurd (local.0 config events reload_ms listen refl)
   local_any (Some (GaugeServe config events listen)) local gives = absurd (local.1 config events listen refl)
+  local_any (Some (BgpServe config router events listen)) local gives = absurd (local.2 config router events listen refl)
 
   -- memory ran out before anything was done
   pub any_memory : (j : Option Job) → Delivers out_of_memory status o0 o1 e0 e1 m0 m1 n0 n1 → hub1 ≡ hub0 → contents files1 ≡ contents files0 → Any j
@@ -268,8 +281,10 @@ module _ {H F : Type 0} (may : H → HubStep → H → Type 0) (contents : F →
   any_memory (Some (Bench hosts)) delivers hub files = (out_of_memory, inr refl, delivers)
   any_memory (Some (Trace config recording dp port frame)) delivers hub files = (out_of_memory, inr refl, delivers)
   any_memory (Some (Walk config recording dp port frame)) delivers hub files = (out_of_memory, inr refl, delivers)
+  any_memory (Some (Bgp config router recording)) delivers hub files = (out_of_memory, inr refl, delivers)
   any_memory (Some (Serve config events reload_ms listen)) delivers hub files = inl (out_of_memory, inl refl, delivers, hub, files)
   any_memory (Some (GaugeServe config events listen)) delivers hub files = (out_of_memory, inl (inl refl, hub), delivers)
+  any_memory (Some (BgpServe config router events listen)) delivers hub files = (out_of_memory, inl (inl refl, hub), delivers)
 
   module _ (gives : Any job) where
     pub write_fault : status ≡ 4 → Rose m0 m1 ⊎ Rose n0 n1
@@ -277,7 +292,8 @@ module _ {H F : Type 0} (may : H → HubStep → H → Type 0) (contents : F →
         elim (either job gives) [
           | inl ours ↦ by.write_fault job (contents files0) absence fault refused status o0 o1 e0 e1 m0 m1 n0 n1 ours.1 s
           | inr (inl serves) ↦ served_fault status o0 o1 e0 e1 m0 m1 n0 n1 may contents faults absence fault refused serves.0 serves.2 serves.1 hub0 hub1 files0 files1 serves.5 s
-          | inr (inr watches) ↦ watched_fault may (contents files0) absence fault refused watches.0 watches.1 hub0 hub1 status o0 o1 e0 e1 m0 m1 n0 n1 watches.4 s
+          | inr (inr (inl watches)) ↦ watched_fault may (contents files0) absence fault refused watches.0 watches.1 hub0 hub1 status o0 o1 e0 e1 m0 m1 n0 n1 watches.4 s
+          | inr (inr (inr speaks)) ↦ spoken_fault may (contents files0) absence fault refused speaks.0 speaks.1 speaks.2 hub0 hub1 status o0 o1 e0 e1 m0 m1 n0 n1 speaks.5 s
         ]
 
     pub kept : (status ≡ 4 → ⊥) → (m1 ≡ m0) × (n1 ≡ n0)
@@ -285,7 +301,8 @@ module _ {H F : Type 0} (may : H → HubStep → H → Type 0) (contents : F →
         elim (either job gives) [
           | inl ours ↦ by.kept job (contents files0) absence fault refused status o0 o1 e0 e1 m0 m1 n0 n1 ours.1 other
           | inr (inl serves) ↦ served_kept status o0 o1 e0 e1 m0 m1 n0 n1 may contents faults absence fault refused serves.0 serves.2 serves.1 hub0 hub1 files0 files1 serves.5 other
-          | inr (inr watches) ↦ watched_kept may (contents files0) absence fault refused watches.0 watches.1 hub0 hub1 status o0 o1 e0 e1 m0 m1 n0 n1 watches.4 other
+          | inr (inr (inl watches)) ↦ watched_kept may (contents files0) absence fault refused watches.0 watches.1 hub0 hub1 status o0 o1 e0 e1 m0 m1 n0 n1 watches.4 other
+          | inr (inr (inr speaks)) ↦ spoken_kept may (contents files0) absence fault refused speaks.0 speaks.1 speaks.2 hub0 hub1 status o0 o1 e0 e1 m0 m1 n0 n1 speaks.5 other
         ]
 
     pub unread_only : status ≡ 3 → absence ⊎ fault
@@ -293,7 +310,8 @@ module _ {H F : Type 0} (may : H → HubStep → H → Type 0) (contents : F →
         elim (either job gives) [
           | inl ours ↦ by.unread_only job (contents files0) absence fault refused status o0 o1 e0 e1 m0 m1 n0 n1 ours.1 s
           | inr (inl serves) ↦ served_unread status o0 o1 e0 e1 m0 m1 n0 n1 may contents faults absence fault refused serves.0 serves.2 serves.1 hub0 hub1 files0 files1 serves.5 s
-          | inr (inr watches) ↦ watched_unread may (contents files0) absence fault refused watches.0 watches.1 hub0 hub1 status o0 o1 e0 e1 m0 m1 n0 n1 watches.4 s
+          | inr (inr (inl watches)) ↦ watched_unread may (contents files0) absence fault refused watches.0 watches.1 hub0 hub1 status o0 o1 e0 e1 m0 m1 n0 n1 watches.4 s
+          | inr (inr (inr speaks)) ↦ spoken_unread may (contents files0) absence fault refused speaks.0 speaks.1 speaks.2 hub0 hub1 status o0 o1 e0 e1 m0 m1 n0 n1 speaks.5 s
         ]
 
     pub unasked : (IsLocal job → hub1 ≡ hub0) → (status ≡ 2) ⊎ (status ≡ 3) → hub1 ≡ hub0
@@ -301,7 +319,8 @@ module _ {H F : Type 0} (may : H → HubStep → H → Type 0) (contents : F →
         elim (either job gives) [
           | inl ours ↦ same ours.0
           | inr (inl serves) ↦ served_unasked status o0 o1 e0 e1 m0 m1 n0 n1 may contents faults absence fault refused serves.0 serves.2 serves.1 hub0 hub1 files0 files1 serves.5 s
-          | inr (inr watches) ↦ watched_unasked may (contents files0) absence fault refused watches.0 watches.1 hub0 hub1 status o0 o1 e0 e1 m0 m1 n0 n1 watches.4 s
+          | inr (inr (inl watches)) ↦ watched_unasked may (contents files0) absence fault refused watches.0 watches.1 hub0 hub1 status o0 o1 e0 e1 m0 m1 n0 n1 watches.4 s
+          | inr (inr (inr speaks)) ↦ spoken_unasked may (contents files0) absence fault refused speaks.0 speaks.1 speaks.2 hub0 hub1 status o0 o1 e0 e1 m0 m1 n0 n1 speaks.5 s
         ]
 
     pub usage_only : status ≡ 1 → job ≡ None
@@ -309,7 +328,8 @@ module _ {H F : Type 0} (may : H → HubStep → H → Type 0) (contents : F →
         elim (either job gives) [
           | inl ours ↦ by.usage_only job (contents files0) absence fault refused status o0 o1 e0 e1 m0 m1 n0 n1 ours.1 s
           | inr (inl serves) ↦ absurd (served_meant status o0 o1 e0 e1 m0 m1 n0 n1 may contents faults absence fault refused serves.0 serves.2 serves.1 hub0 hub1 files0 files1 serves.5 s)
-          | inr (inr watches) ↦ absurd (watched_meant may (contents files0) absence fault refused watches.0 watches.1 hub0 hub1 status o0 o1 e0 e1 m0 m1 n0 n1 watches.4 s)
+          | inr (inr (inl watches)) ↦ absurd (watched_meant may (contents files0) absence fault refused watches.0 watches.1 hub0 hub1 status o0 o1 e0 e1 m0 m1 n0 n1 watches.4 s)
+          | inr (inr (inr speaks)) ↦ absurd (spoken_meant may (contents files0) absence fault refused speaks.0 speaks.1 speaks.2 hub0 hub1 status o0 o1 e0 e1 m0 m1 n0 n1 speaks.5 s)
         ]
 
     -- the reply to a job that needs no hub
@@ -318,12 +338,13 @@ module _ {H F : Type 0} (may : H → HubStep → H → Type 0) (contents : F →
         elim (either job gives) [
           | inl ours ↦ ours.1
           | inr (inl serves) ↦ absurd (local.0 serves.0 serves.1 serves.2 serves.3 serves.4)
-          | inr (inr watches) ↦ absurd (local.1 watches.0 watches.1 watches.2 watches.3)
+          | inr (inr (inl watches)) ↦ absurd (local.1 watches.0 watches.1 watches.2 watches.3)
+          | inr (inr (inr speaks)) ↦ absurd (local.2 speaks.0 speaks.1 speaks.2 speaks.3 speaks.4)
         ]
 
     pub no_meaning : job ≡ None → (status ≡ 1) ⊎ ((status ≡ 4) ⊎ (status ≡ 8))
     no_meaning none =
-        by.no_meaning job (contents files0) absence fault refused status o0 o1 e0 e1 m0 m1 n0 n1 (ours_where (λ config events reload_ms listen is. absurd cc, λ config events listen is. absurd cc)) none
+        by.no_meaning job (contents files0) absence fault refused status o0 o1 e0 e1 m0 m1 n0 n1 (ours_where (λ config events reload_ms listen is. absurd cc, λ config events listen is. absurd cc, λ config router events listen is. absurd cc)) none
 
     pub told : (held : Contents) → contents files0 ≡ Some held → StatusFor status (IsStatusOf job (held 0)) fault
     told held is =
@@ -331,8 +352,10 @@ module _ {H F : Type 0} (may : H → HubStep → H → Type 0) (contents : F →
           | inl ours ↦ by.told job (contents files0) absence fault refused status o0 o1 e0 e1 m0 m1 n0 n1 ours.1 held is
           | inr (inl serves) ↦ subst (λ (j : Option Job). StatusFor status (IsStatusOf j (held 0)) fault) (sym serves.4)
               (served_told status o0 o1 e0 e1 m0 m1 n0 n1 may contents faults absence fault refused serves.0 serves.2 serves.1 hub0 hub1 files0 files1 serves.5 held is)
-          | inr (inr watches) ↦ subst (λ (j : Option Job). StatusFor status (IsStatusOf j (held 0)) fault) (sym watches.3)
+          | inr (inr (inl watches)) ↦ subst (λ (j : Option Job). StatusFor status (IsStatusOf j (held 0)) fault) (sym watches.3)
               (watched_told may (contents files0) absence fault refused watches.0 watches.1 hub0 hub1 status o0 o1 e0 e1 m0 m1 n0 n1 watches.4 held is)
+          | inr (inr (inr speaks)) ↦ subst (λ (j : Option Job). StatusFor status (IsStatusOf j (held 0)) fault) (sym speaks.4)
+              (spoken_told may (contents files0) absence fault refused speaks.0 speaks.1 speaks.2 hub0 hub1 status o0 o1 e0 e1 m0 m1 n0 n1 speaks.5 held is)
         ]
 
     -- an end by the hub or the words, where nothing failed and memory didn't run out
@@ -359,25 +382,46 @@ module _ {H F : Type 0} (may : H → HubStep → H → Type 0) (contents : F →
           completes_by (subst (λ (l : GaugeLoad). StatusFor status (IsLoadedStatus config l (λ c. IsServeStatus)) fault) accepted
           (subst (λ (j : Option Job). StatusFor status (IsStatusOf j (held 0)) fault) is (told held told_so)))
 
+      pub bgp_completes : (config router : List ℕ) (events : ℕ) (listen : Listen) (held : Contents) (peer : LoadedPeer) → job ≡ Some (BgpServe config router events listen) → contents files0 ≡ Some held
+          → loaded_peer (held 0) config router ≡ Ok (Ok peer) → (status ≡ 0) ⊎ ((status ≡ 7) ⊎ (status ≡ 8))
+      bgp_completes config router events listen held peer is told_so accepted =
+          completes_by (subst (λ (l : PeerLoad). StatusFor status (IsLoadedStatus config l (IsPeerStatus (λ p. IsServeStatus))) fault) accepted
+          (subst (λ (j : Option Job). StatusFor status (IsStatusOf j (held 0)) fault) is (told held told_so)))
+
     pub checked : (names : List (List ℕ)) (held : Contents) → job ≡ Some (Check names) → contents files0 ≡ Some held → status ≡ 0 → AreAccepted names (held 0) o0 o1
     checked names held is told_so s =
-        by.checked job (contents files0) absence fault refused status o0 o1 e0 e1 m0 m1 n0 n1 (ours_where (λ config events reload_ms listen other. absurd cc, λ config events listen other. absurd cc)) names held is told_so s
+        by.checked job (contents files0) absence fault refused status o0 o1 e0 e1 m0 m1 n0 n1 (ours_where (λ config events reload_ms listen other. absurd cc, λ config events listen other. absurd cc, λ config router events listen other. absurd cc)) names held is told_so s
 
     pub opened : ((held : Held) (name : List ℕ) (conf : Configuration) → loaded held name ≡ Ok conf → IsValid conf)
         → ((conf : Configuration) (dp batch : List ℕ) → IsValid conf → opening_of conf dp ≡ Some batch → Opens conf dp batch)
         → (config dp : List ℕ) (held : Contents) → job ≡ Some (Plan config dp) → contents files0 ≡ Some held → status ≡ 0 → IsOpened config dp (held 0) o0 o1
     opened valid opens config dp held is told_so s =
-        by.opened job (contents files0) absence fault refused status o0 o1 e0 e1 m0 m1 n0 n1 (ours_where (λ c events reload_ms listen other. absurd cc, λ c events listen other. absurd cc)) valid opens config dp held is told_so s
+        by.opened job (contents files0) absence fault refused status o0 o1 e0 e1 m0 m1 n0 n1 (ours_where (λ c events reload_ms listen other. absurd cc, λ c events listen other. absurd cc, λ c router events listen other. absurd cc)) valid opens config dp held is told_so s
 
     pub story_measured : ((conf : Configuration) (story : List Happening) → IsValid conf → IsRight conf story) → IsValid configuration
         → (hosts : ℕ) → job ≡ Some (Bench hosts) → status ≡ 0 → IsMeasured hosts o0 o1
     story_measured right valid hosts is s =
-        by.story_measured job (contents files0) absence fault refused status o0 o1 e0 e1 m0 m1 n0 n1 (ours_where (λ c events reload_ms listen other. absurd cc, λ c events listen other. absurd cc)) right valid hosts is s
+        by.story_measured job (contents files0) absence fault refused status o0 o1 e0 e1 m0 m1 n0 n1 (ours_where (λ c events reload_ms listen other. absurd cc, λ c events listen other. absurd cc, λ c router events listen other. absurd cc)) right valid hosts is s
+
+    pub spoken : EachIsAccepted → (config router recording : List ℕ) (held : Contents) → job ≡ Some (Bgp config router recording) → contents files0 ≡ Some held → status ≡ 0 → IsSpoken config router recording None (held 0) o0 o1 e0 e1
+    spoken each config router recording held is told_so s =
+        by.spoken job (contents files0) absence fault refused status o0 o1 e0 e1 m0 m1 n0 n1 (ours_where (λ c events reload_ms listen other. absurd cc, λ c events listen other. absurd cc, λ c r events listen other. absurd cc)) each config router recording held is told_so s
+
+    pub spoken_to : EachIsAccepted → (config router recording : List ℕ) (held : Contents) → job ≡ Some (Bgp config router recording) → contents files0 ≡ Some held → status ≡ 5
+        → (why : RecordRefused) × IsSpoken config router recording (Some why) (held 0) o0 o1 e0 e1
+    spoken_to each config router recording held is told_so s =
+        by.spoken_to job (contents files0) absence fault refused status o0 o1 e0 e1 m0 m1 n0 n1 (ours_where (λ c events reload_ms listen other. absurd cc, λ c events listen other. absurd cc, λ c r events listen other. absurd cc)) each config router recording held is told_so s
+
+    pub hub_spoken : EachIsAccepted → (config router : List ℕ) (events : ℕ) (listen : Listen) (held : Contents) (end : Drove) → job ≡ Some (BgpServe config router events listen) → contents files0 ≡ Some held
+        → IsItsEnd end → status ≡ number_of_status (status_served end) → IsHubSpoken may config router (held 0) events end hub0 hub1 o0 o1 e0 e1
+    hub_spoken each config router events listen held end is told_so its s =
+        let replies : Any (Some (BgpServe config router events listen)) = subst Any is gives in
+        spoken_right may (contents files0) absence fault refused config router events hub0 hub1 status o0 o1 e0 e1 m0 m1 n0 n1 replies held told_so each end its s
 
     -- a job that follows a frame needs no hub
     job_local : (how : How) (traced : Traced) → IsLocal (Some (job_for how traced))
-    job_local hows.Trace traced = (λ c events reload_ms listen other. absurd cc, λ c events listen other. absurd cc)
-    job_local hows.Walk traced = (λ c events reload_ms listen other. absurd cc, λ c events listen other. absurd cc)
+    job_local hows.Trace traced = (λ c events reload_ms listen other. absurd cc, λ c events listen other. absurd cc, λ c router events listen other. absurd cc)
+    job_local hows.Walk traced = (λ c events reload_ms listen other. absurd cc, λ c events listen other. absurd cc, λ c router events listen other. absurd cc)
 
     module _ (valid : (held : Held) (name : List ℕ) (conf : Configuration) → loaded held name ≡ Ok conf → IsValid conf)
         (right : (conf : Configuration) (story : List Happening) → IsValid conf → IsRight conf story) where
@@ -396,11 +440,11 @@ module _ {H F : Type 0} (may : H → HubStep → H → Type 0) (contents : F →
 
       pub replayed : (config recording : List ℕ) (held : Contents) → job ≡ Some (Replay config recording) → contents files0 ≡ Some held → status ≡ 0 → IsReplayed config recording None (held 0) o0 o1 e0 e1
       replayed config recording held is told_so s =
-          by.replayed job (contents files0) absence fault refused status o0 o1 e0 e1 m0 m1 n0 n1 (ours_where (λ c events reload_ms listen other. absurd cc, λ c events listen other. absurd cc)) valid right config recording held is told_so s
+          by.replayed job (contents files0) absence fault refused status o0 o1 e0 e1 m0 m1 n0 n1 (ours_where (λ c events reload_ms listen other. absurd cc, λ c events listen other. absurd cc, λ c router events listen other. absurd cc)) valid right config recording held is told_so s
 
       pub refused_record : (config recording : List ℕ) (held : Contents) → job ≡ Some (Replay config recording) → contents files0 ≡ Some held → status ≡ 5 → (why : RecordRefused) × IsReplayed config recording (Some why) (held 0) o0 o1 e0 e1
       refused_record config recording held is told_so s =
-          by.refused_record job (contents files0) absence fault refused status o0 o1 e0 e1 m0 m1 n0 n1 (ours_where (λ c events reload_ms listen other. absurd cc, λ c events listen other. absurd cc)) valid right config recording held is told_so s
+          by.refused_record job (contents files0) absence fault refused status o0 o1 e0 e1 m0 m1 n0 n1 (ours_where (λ c events reload_ms listen other. absurd cc, λ c events listen other. absurd cc, λ c router events listen other. absurd cc)) valid right config recording held is told_so s
 
       pub served : (config : List ℕ) (events reload_ms : ℕ) (listen : Listen) (held : Contents) (end : Drove) → job ≡ Some (Serve config events reload_ms listen) → contents files0 ≡ Some held
           → IsItsEnd end → status ≡ number_of_status (status_served end) → IsServed may contents faults config (held 0) reload_ms events end hub0 hub1 files0 files1 o0 o1 e0 e1
@@ -412,11 +456,11 @@ module _ {H F : Type 0} (may : H → HubStep → H → Type 0) (contents : F →
         (served_lines : (k : Monitor) (story : List Happening) → out_of monitor outlets.Hub k story ≡ joined (gauge_lines k story)) where
       pub watched : (config recording : List ℕ) (held : Contents) → job ≡ Some (Gauge config recording) → contents files0 ≡ Some held → status ≡ 0 → IsWatched config recording None (held 0) o0 o1 e0 e1
       watched config recording held is told_so s =
-          by.watched job (contents files0) absence fault refused status o0 o1 e0 e1 m0 m1 n0 n1 (ours_where (λ c events reload_ms listen other. absurd cc, λ c events listen other. absurd cc)) recorded config recording held is told_so s
+          by.watched job (contents files0) absence fault refused status o0 o1 e0 e1 m0 m1 n0 n1 (ours_where (λ c events reload_ms listen other. absurd cc, λ c events listen other. absurd cc, λ c router events listen other. absurd cc)) recorded config recording held is told_so s
 
       pub watched_to : (config recording : List ℕ) (held : Contents) → job ≡ Some (Gauge config recording) → contents files0 ≡ Some held → status ≡ 5 → (why : RecordRefused) × IsWatched config recording (Some why) (held 0) o0 o1 e0 e1
       watched_to config recording held is told_so s =
-          by.watched_to job (contents files0) absence fault refused status o0 o1 e0 e1 m0 m1 n0 n1 (ours_where (λ c events reload_ms listen other. absurd cc, λ c events listen other. absurd cc)) recorded config recording held is told_so s
+          by.watched_to job (contents files0) absence fault refused status o0 o1 e0 e1 m0 m1 n0 n1 (ours_where (λ c events reload_ms listen other. absurd cc, λ c events listen other. absurd cc, λ c router events listen other. absurd cc)) recorded config recording held is told_so s
 
       pub hub_watched : (config : List ℕ) (events : ℕ) (listen : Listen) (held : Contents) (end : Drove) → job ≡ Some (GaugeServe config events listen) → contents files0 ≡ Some held
           → IsItsEnd end → status ≡ number_of_status (status_served end) → IsHubWatched may config (held 0) events end hub0 hub1 o0 o1 e0 e1

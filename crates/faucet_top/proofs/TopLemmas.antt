@@ -13,7 +13,7 @@ use Rattle.conf_gather.specs.declared.refused.LoadRefused.TheVariants.{Read, Yam
 use Rattle.conf_gather.specs.Gathered.{Held}
 use Rattle.conf_load.specs.Loaded.{loaded}
 use Rattle.command_line.specs.declared.meaning.Job.{Job}
-use Rattle.command_line.specs.declared.meaning.Job.TheVariants.{Bench, Check, Gauge, GaugeServe, Plan, Replay, Serve, Trace, Walk}
+use Rattle.command_line.specs.declared.meaning.Job.TheVariants.{Bench, Check, Gauge, GaugeServe, Plan, Replay, Serve, Trace, Walk, Bgp, BgpServe}
 use Rattle.opening_batch.specs.Opened.{Opens}
 use Rattle.opening_batch.specs.Opening.{opening_of}
 use Rattle.law_stories.specs.Right.{IsRight}
@@ -33,12 +33,12 @@ use Rattle.faucet_top.specs.declared.deliver.Status.TheVariants as statuses
 use Rattle.faucet_top.specs.Answer.{Answer, Load, bench_answer, usage, out_of_memory, refusal, behind_bytes, json_line, check_step, check_answer, planned, plan_answer, job_answer, shown_answer}
 use Rattle.faucet_top.specs.Ends.{Ends}
 use Rattle.faucet_top.specs.Follow.{IsCutShort, IsFollowed, Traced, job_for, traced_by}
-use Rattle.faucet_top.specs.Given.{Loads, RepliesJob, RepliesLoaded, Replies, AnswersSoFar, Delivers, Gives, Checks, StatusFor, IsStatusOf, AreAccepted, IsMeasured, IsOpened, IsReplayed, IsWatched}
+use Rattle.faucet_top.specs.Given.{Loads, RepliesJob, RepliesLoaded, Replies, AnswersSoFar, Delivers, Gives, Checks, StatusFor, IsStatusOf, AreAccepted, IsMeasured, IsOpened, IsReplayed, IsWatched, IsSpoken}
 use Rattle.faucet_top.specs.Status.{number_of_status}
 use Rattle.faucet_top.proofs.CheckLemmas.{line_delivered}
 use Rattle.faucet_top.proofs.FollowLemmas.{follow_cut, follow_inner, follow_shown, follow_told, follow_unread}
 use Rattle.faucet_top.proofs.RefusalLemmas.{IsInner, refusal_inner, refusal_undone, refusal_unread}
-use Rattle.faucet_top.proofs.ReplayLemmas.{gauge_done, gauge_inner, gauge_refused, gauge_told, gauge_unread, replay_inner, replay_unread, replay_told, replay_done, replay_refused}
+use Rattle.faucet_top.proofs.ReplayLemmas.{EachIsAccepted, gauge_done, gauge_inner, gauge_refused, gauge_told, gauge_unread, replay_inner, replay_unread, replay_told, replay_done, replay_refused, bgp_inner, bgp_unread, bgp_told, bgp_done, bgp_refused}
 
 abbrev pub File : Type 0
 File = List ℕ × Load
@@ -100,6 +100,10 @@ module _ (contents : Option Contents) (absence fault : Type 0) (refused : List �
   job_inner (Some (Walk config recording dp port frame)) a reply =
       let inner = follow_inner hows.Walk contents absence fault (traced_by config recording dp port frame) reply.0 a reply.2 in
       (λ s. absurd (inner.0 s), inner.1, inner.2)
+  job_inner (Some (Bgp config router recording)) a reply =
+      let inner = bgp_inner contents absence fault config router recording reply.0 a reply.2 in
+      (λ s. absurd (inner.0 s), inner.1, inner.2)
+  job_inner (Some (BgpServe config router events listen)) a reply = absurd reply
 
   job_unread : (job : Option Job) (a : Answer) → RepliesJob job contents absence fault refused a → a.status ≡ 3 → absence ⊎ fault
   job_unread None a is s = let at = ap (λ (b : Answer). b.status) is in absurd (omega (arith, at, s))
@@ -112,6 +116,8 @@ module _ (contents : Option Contents) (absence fault : Type 0) (refused : List �
   job_unread (Some (Bench hosts)) a is s = let at = ap (λ (b : Answer). b.status) is in absurd (omega (arith, at, s))
   job_unread (Some (Trace config recording dp port frame)) a reply s = follow_unread hows.Trace contents absence fault (traced_by config recording dp port frame) refused reply.0 a reply.1 reply.2 s
   job_unread (Some (Walk config recording dp port frame)) a reply s = follow_unread hows.Walk contents absence fault (traced_by config recording dp port frame) refused reply.0 a reply.1 reply.2 s
+  job_unread (Some (Bgp config router recording)) a reply s = bgp_unread contents absence fault refused config router recording reply.0 a reply.1 reply.2 s
+  job_unread (Some (BgpServe config router events listen)) a reply s = absurd reply
 
 -- ---- what is replied, where the files are told
 
@@ -181,6 +187,8 @@ module _ (held : Contents) (absence fault : Type 0) (refused : List ℕ) where
   job_told (Some (Bench hosts)) a whole is reply = is_whole a (bench_answer (measured hosts)) whole is (inl reply)
   job_told (Some (Trace config recording dp port frame)) a whole is reply = absurd cc
   job_told (Some (Walk config recording dp port frame)) a whole is reply = absurd cc
+  job_told (Some (Bgp config router recording)) a whole is reply = absurd cc
+  job_told (Some (BgpServe config router events listen)) a whole is reply = absurd reply
 
   pub told_replied : (job : Option Job) (a whole : Answer) → job_answer job given ≡ Some whole → Replies job (Some held) absence fault refused a → AnswersSoFar a whole fault
   told_replied job a whole is (inl reply) = job_told job a whole is reply
@@ -202,6 +210,8 @@ module _ (held : Contents) (absence fault : Type 0) (refused : List ℕ) where
   job_status (Some (Bench hosts)) a is = inl (ap (λ (b : Answer). b.status) is)
   job_status (Some (Trace config recording dp port frame)) a reply = follow_told hows.Trace held absence fault (traced_by config recording dp port frame) refused reply.0 a reply.1 reply.2
   job_status (Some (Walk config recording dp port frame)) a reply = follow_told hows.Walk held absence fault (traced_by config recording dp port frame) refused reply.0 a reply.1 reply.2
+  job_status (Some (Bgp config router recording)) a reply = bgp_told held absence fault refused config router recording a reply.0 reply.1 reply.2
+  job_status (Some (BgpServe config router events listen)) a reply = absurd reply
 
   reply_status : (job : Option Job) (a : Answer) → Replies job (Some held) absence fault refused a → StatusFor a.status (IsStatusOf job (held 0)) fault
   reply_status job a (inl reply) = job_status job a reply
@@ -372,6 +382,20 @@ module _ (job : Option Job) (contents : Option Contents) (absence fault : Type 0
         let five = at 5 s (λ e. omega (arith, e)) in
         let reply = job_reply held told 5 five.0 (λ e. omega arith) (Some (Gauge config recording)) is in
         gauge_refused held absence fault refused config recording o0 o1 e0 e1 gives.0 five.1 five.2 lines_are reply.0 reply.1 reply.2 five.0
+
+  pub spoken : EachIsAccepted → (config router recording : List ℕ) (held : Contents) → job ≡ Some (Bgp config router recording) → contents ≡ Some held → status ≡ 0
+      → IsSpoken config router recording None (held 0) o0 o1 e0 e1
+  spoken each config router recording held is told s =
+      let done = at 0 s (λ e. omega (arith, e)) in
+      let reply = done_reply held told done.0 (Some (Bgp config router recording)) is in
+      bgp_done held absence fault refused config router recording o0 o1 e0 e1 gives.0 done.1 done.2 each reply.0 reply.1 reply.2 done.0
+
+  pub spoken_to : EachIsAccepted → (config router recording : List ℕ) (held : Contents) → job ≡ Some (Bgp config router recording) → contents ≡ Some held → status ≡ 5
+      → (why : RecordRefused) × IsSpoken config router recording (Some why) (held 0) o0 o1 e0 e1
+  spoken_to each config router recording held is told s =
+      let five = at 5 s (λ e. omega (arith, e)) in
+      let reply = job_reply held told 5 five.0 (λ e. omega arith) (Some (Bgp config router recording)) is in
+      bgp_refused held absence fault refused config router recording o0 o1 e0 e1 gives.0 five.1 five.2 each reply.0 reply.1 reply.2 five.0
 
   pub story_measured : ((conf : Configuration) (story : List Happening) → IsValid conf → IsRight conf story) → IsValid configuration
       → (hosts : ℕ) → job ≡ Some (Bench hosts) → status ≡ 0 → IsMeasured hosts o0 o1

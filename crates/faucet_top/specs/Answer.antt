@@ -4,12 +4,15 @@ use Rattle.std.specs.Fmt.{decimal}
 use Rattle.std.specs.List.{concat}
 use Rattle.yaml_subset.specs.Fault.{cause_text}
 use Rattle.conf_types.specs.Configuration.{Configuration}
+use Rattle.bgp_load.specs.declared.found.PeerLacks.{PeerLacks}
+use Rattle.bgp_load.specs.declared.found.PeerLacks.TheVariants as lacks
+use Rattle.bgp_load.specs.Peers.{FoundPeer}
 use Rattle.conf_gather.specs.declared.refused.LoadRefused.{LoadRefused}
 use Rattle.conf_gather.specs.declared.refused.LoadRefused.TheVariants.{Read, Yaml, Conf, IncludeTwice, IncludeDepth, Absent, Memory}
 use Rattle.conf_json.specs.Text.{json_text}
 use Rattle.gauge_conf.specs.declared.gauge.GaugeConf.{GaugeConf}
 use Rattle.command_line.specs.declared.meaning.Job.{Job}
-use Rattle.command_line.specs.declared.meaning.Job.TheVariants.{Bench, Check, Gauge, GaugeServe, Plan, Replay, Serve, Trace, Walk}
+use Rattle.command_line.specs.declared.meaning.Job.TheVariants.{Bench, Check, Gauge, GaugeServe, Plan, Replay, Serve, Trace, Walk, Bgp, BgpServe}
 use Rattle.opening_batch.specs.Opening.{opening_of}
 use Rattle.bench_story.specs.declared.measuring.Measured.{Measured}
 use Rattle.bench_story.specs.Measured.{measured}
@@ -34,7 +37,7 @@ abbrev pub line : List (List ℕ) → List ℕ
 line pieces = concat pieces ++ 10 ∷ []
 
 abbrev pub usage : Answer
-usage = record { out = []; err = line (codes "usage: faucet check, plan, replay, serve, gauge, gauge-serve, bench, trace or walk" ∷ []); status = 1 }
+usage = record { out = []; err = line (codes "usage: faucet check, plan, replay, serve, gauge, gauge-serve, bench, trace, walk, bgp or bgp-serve" ∷ []); status = 1 }
 
 abbrev pub out_of_memory : Answer
 out_of_memory = record { out = []; err = line (codes "out of memory" ∷ []); status = 8 }
@@ -101,6 +104,18 @@ plan_answer config dp (Ok (Some batch)) = record { out = batch; err = []; status
 plan_answer config dp (Ok None) = refused_with (config ∷ codes ": dps." ∷ dp ∷ codes ": Unresolved" ∷ [])
 plan_answer config dp (Err why) = refusal config why
 
+-- ---- `bgp` and `bgp-serve`
+
+-- what a file gave of the peer of a router
+abbrev pub PeerLoad : Type 0
+PeerLoad = Result FoundPeer LoadRefused
+
+-- there is no peer to speak with
+abbrev pub lacks_answer : (config router : List ℕ) → PeerLacks → Answer
+lacks_answer config router lacks.Router = refused_with (config ∷ codes ": routers." ∷ router ∷ codes ": Unresolved" ∷ [])
+lacks_answer config router lacks.Peer = refused_with (config ∷ codes ": routers." ∷ router ∷ codes ".bgp: Missing" ∷ [])
+lacks_answer config router lacks.Room = refused_with (config ∷ codes ": TooMany Text" ∷ [])
+
 -- ---- `replay` and `gauge`
 
 -- the line behind those that were written, by how the run over the recording ended
@@ -147,7 +162,7 @@ shown_answer config (NotReady name) = record { out = []; err = line (config ∷ 
 -- ---- the words
 
 -- the answer to a job, where files give these configurations; those to the commands that take in what happens are said by relations
--- (Given, Serving, Watching, Follow)
+-- (Given, Serving, Watching, Speaking, Follow)
 abbrev pub job_answer : Option Job → (List ℕ → Load) → Option Answer
 job_answer None load = Some usage
 job_answer (Some (Check files)) load = Some (check_answer (map (λ file. (file, load file)) files))
@@ -159,3 +174,5 @@ job_answer (Some (GaugeServe config events listen)) load = None
 job_answer (Some (Bench hosts)) load = Some (bench_answer (measured hosts))
 job_answer (Some (Trace config recording dp port frame)) load = None
 job_answer (Some (Walk config recording dp port frame)) load = None
+job_answer (Some (Bgp config router recording)) load = None
+job_answer (Some (BgpServe config router events listen)) load = None

@@ -3,10 +3,11 @@ use Rattle.std.specs.Prelude.{ℕ, List, Option, Some, None}
 use Rattle.fg_outside.specs.Contents.{Contents}
 use Rattle.fg_outside.specs.HubStep.{HubStep}
 use Rattle.command_line.specs.declared.meaning.Job.{Job}
-use Rattle.command_line.specs.declared.meaning.Job.TheVariants.{Bench, Check, Gauge, GaugeServe, Plan, Replay, Serve, Trace, Walk}
+use Rattle.command_line.specs.declared.meaning.Job.TheVariants.{Bench, Check, Gauge, GaugeServe, Plan, Replay, Serve, Trace, Walk, Bgp, BgpServe}
 use Rattle.faucet_top.specs.Answer.{Answer}
 use Rattle.faucet_top.specs.Given.{BreaksOff, Delivers, Gives}
 use Rattle.faucet_top.specs.Serving.{RepliesServe}
+use Rattle.faucet_top.specs.Speaking.{RepliesSpeak}
 use Rattle.faucet_top.specs.Watching.{RepliesWatch}
 
 -- one reply was delivered
@@ -29,8 +30,12 @@ GivesAny may contents faults absence fault refused (Some (Trace config recording
     Gives (Some (Trace config recording dp port frame)) (contents files_old) absence fault refused status o0 o1 e0 e1 m0 m1 n0 n1
 GivesAny may contents faults absence fault refused (Some (Walk config recording dp port frame)) hub_old hub_new files_old files_new status o0 o1 e0 e1 m0 m1 n0 n1 =
     Gives (Some (Walk config recording dp port frame)) (contents files_old) absence fault refused status o0 o1 e0 e1 m0 m1 n0 n1
+GivesAny may contents faults absence fault refused (Some (Bgp config router recording)) hub_old hub_new files_old files_new status o0 o1 e0 e1 m0 m1 n0 n1 =
+    Gives (Some (Bgp config router recording)) (contents files_old) absence fault refused status o0 o1 e0 e1 m0 m1 n0 n1
 GivesAny may contents faults absence fault refused (Some (Serve config events reload_ms listen)) hub_old hub_new files_old files_new status o0 o1 e0 e1 m0 m1 n0 n1 =
     RepliesServe may contents faults absence fault refused config reload_ms events hub_old hub_new files_old files_new
     (λ a. Delivers a status o0 o1 e0 e1 m0 m1 n0 n1) (λ a. BreaksOff a status o0 o1 e0 e1 m0 m1 n0 n1)
 GivesAny may contents faults absence fault refused (Some (GaugeServe config events listen)) hub_old hub_new files_old files_new status o0 o1 e0 e1 m0 m1 n0 n1 =
     (a : Answer) × RepliesWatch may (contents files_old) absence fault refused config events hub_old hub_new a × Delivers a status o0 o1 e0 e1 m0 m1 n0 n1
+GivesAny may contents faults absence fault refused (Some (BgpServe config router events listen)) hub_old hub_new files_old files_new status o0 o1 e0 e1 m0 m1 n0 n1 =
+    (a : Answer) × RepliesSpeak may (contents files_old) absence fault refused config router events hub_old hub_new a × Delivers a status o0 o1 e0 e1 m0 m1 n0 n1

@@ -1,5 +1,5 @@
 -- What a call did, whatever the outside did: which answer it gave, and how much of it was written.
-use Rattle.std.specs.Prelude.{◌≡◌, ◌≢◌, ℕ, ◌-◌, ◌^◌, ◌<◌, ◌⊎◌, List, [], ◌++◌, length, map, Option, Some, None, Result, Ok, Err, IsErrOf}
+use Rattle.std.specs.Prelude.{◌≡◌, ◌≢◌, ℕ, ◌-◌, ◌^◌, ◌<◌, ◌⊎◌, List, [], ◌∷◌, ◌++◌, length, map, Option, Some, None, Result, Ok, Err, IsErrOf}
 use Rattle.std.specs.List.{AllByRecursion, flat_map}
 use Rattle.fg_outside.specs.Contents.{Contents, Tells}
 use Rattle.fg_outside.specs.Counts.{Rose}
@@ -13,8 +13,13 @@ use Rattle.conf_gather.specs.Gives as load
 use Rattle.conf_load.specs.Loaded.{loaded}
 use Rattle.gauge_conf.specs.declared.gauge.GaugeConf.{GaugeConf}
 use Rattle.gauge_load.specs.Loaded.{gauge_of}
+use Rattle.bgp_load.specs.declared.found.LoadedPeer.{LoadedPeer}
+use Rattle.bgp_load.specs.Peers.{FoundPeer, loaded_peer}
+use Rattle.bgp_texts.specs.Taking.{IsAccepted}
+use Rattle.bgp_speaker.specs.Speaking.{Speaking, begun as begun_speaking, turn as speak}
+use Rattle.bgp_drive.specs.Speech.{speaks}
 use Rattle.command_line.specs.declared.meaning.Job.{Job}
-use Rattle.command_line.specs.declared.meaning.Job.TheVariants.{Bench, Check, Gauge, GaugeServe, Plan, Replay, Serve, Trace, Walk}
+use Rattle.command_line.specs.declared.meaning.Job.TheVariants.{Bench, Check, Gauge, GaugeServe, Plan, Replay, Serve, Trace, Walk, Bgp, BgpServe}
 use Rattle.opening_batch.specs.Opened.{Opens}
 use Rattle.recording.specs.declared.refused.RecordRefused.{RecordRefused}
 use Rattle.recording.specs.Written.{written_records}
@@ -26,7 +31,7 @@ use Rattle.bench_story.specs.Story.{story as story_of}
 use Rattle.gauge_poll.specs.Monitoring.{begun, lines_of as gauge_lines}
 use Rattle.hub_drive.specs.declared.sayings.Outlet.{Outlet}
 use Rattle.hub_drive.specs.declared.sayings.Outlet.TheVariants as outlets
-use Rattle.hub_drive.specs.Driving.{IsFront, closings_of, lines_of as hub_lines}
+use Rattle.hub_drive.specs.Driving.{IsFront, closings_of, lines_of as hub_lines, out_of}
 use Rattle.hub_drive.specs.Machine.{Workings}
 use Rattle.hub_drive.specs.Replay as runs
 use Rattle.recording.specs.Script.{IsStoryOf, IsStorySoFar}
@@ -38,7 +43,7 @@ use Rattle.hub_drive.specs.declared.replay.Replayed.TheVariants as replayed
 use Rattle.trace_story.specs.declared.showing.How.{How}
 use Rattle.trace_story.specs.declared.showing.How.TheVariants as hows
 use Rattle.faucet_top.specs.declared.deliver.Status.{Status}
-use Rattle.faucet_top.specs.Answer.{Answer, GaugeLoad, Load, usage, out_of_memory, refusal, json_line, check_step, check_answer, bench_answer, bench_line, last_line, planned, plan_answer, unread as unread_answer}
+use Rattle.faucet_top.specs.Answer.{Answer, GaugeLoad, Load, PeerLoad, lacks_answer, usage, out_of_memory, refusal, json_line, check_step, check_answer, bench_answer, bench_line, last_line, planned, plan_answer, unread as unread_answer}
 use Rattle.faucet_top.specs.Ends.{status_after}
 use Rattle.faucet_top.specs.Follow.{IsFollowStatus, RepliesFollow, Traced, traced_by}
 use Rattle.faucet_top.specs.Status.{number_of_status}
@@ -60,6 +65,10 @@ Loads contents absence fault refused name made = LoadsBy loaded contents absence
 -- the same of Gauge's file
 abbrev pub GaugeLoads : Option Contents → (absence fault : Type 0) → (refused : List ℕ) → (name : List ℕ) → GaugeLoad → Type 0
 GaugeLoads contents absence fault refused name made = LoadsBy gauge_of contents absence fault refused name made
+
+-- the same of the peer of a router
+abbrev pub PeerLoads : Option Contents → (absence fault : Type 0) → (refused config router : List ℕ) → PeerLoad → Type 0
+PeerLoads contents absence fault refused config router made = LoadsBy (λ held name. loaded_peer held name router) contents absence fault refused config made
 
 -- files with these names were loaded, and this is what each gave
 abbrev pub EachLoads : Option Contents → (absence fault : Type 0) → (refused : List ℕ) → List (List ℕ) → List (List ℕ × Load) → Type 0
@@ -88,6 +97,35 @@ abbrev pub RepliesGauge : Option Contents → (absence fault : Type 0) → (conf
 RepliesGauge contents absence fault config recording (Err why) a = a ≡ refusal config why
 RepliesGauge contents absence fault config recording (Ok conf) a = RepliesRun monitor outlets.Nowhere contents absence fault recording (begun conf) a
 
+-- a speaker for a peer, before anything happened
+abbrev pub speaking_with : LoadedPeer → Speaking
+speaking_with peer = begun_speaking peer.peering peer.vlan peer.tree
+
+-- the texts that a speaker gives in a story, in order
+abbrev pub with_text : Option (List ℕ) → List (List ℕ) → List (List ℕ)
+with_text None texts = texts
+with_text (Some text) texts = text ∷ texts
+
+abbrev pub texts_of : Speaking → List Happening → List (List ℕ)
+texts_of s [] = []
+texts_of s (h ∷ hs) = with_text (speak h s).text (texts_of (speak h s) hs)
+
+-- the reply by what a file gave of the peer of a router, where this is the one by a peer
+abbrev pub RepliesPeer : (config router : List ℕ) → (IsReply : LoadedPeer → Answer → Type 0) → PeerLoad → Answer → Type 0
+RepliesPeer config router IsReply (Err why) a = a ≡ refusal config why
+RepliesPeer config router IsReply (Ok (Err lacks)) a = a ≡ lacks_answer config router lacks
+RepliesPeer config router IsReply (Ok (Ok peer)) a = IsReply peer a
+
+-- the reply to `bgp` by what a file gave
+abbrev pub RepliesPeerRun : Option Contents → (absence fault : Type 0) → (config router recording : List ℕ) → PeerLoad → Answer → Type 0
+RepliesPeerRun contents absence fault config router recording made a =
+    RepliesPeer config router (λ peer. RepliesRun speaks outlets.Nowhere contents absence fault recording (speaking_with peer)) made a
+
+-- the reply to `bgp`
+abbrev pub RepliesBgp : Option Contents → (absence fault : Type 0) → (refused config router recording : List ℕ) → Answer → Type 0
+RepliesBgp contents absence fault refused config router recording a =
+    (made : PeerLoad) × PeerLoads contents absence fault refused config router made × RepliesPeerRun contents absence fault config router recording made a
+
 -- the reply to `trace` or `walk`
 abbrev pub RepliesLoaded : How → Option Contents → (absence fault : Type 0) → (refused : List ℕ) → Traced → Answer → Type 0
 RepliesLoaded how contents absence fault refused traced a =
@@ -105,6 +143,8 @@ RepliesJob (Some (GaugeServe config events listen)) contents absence fault refus
 RepliesJob (Some (Bench hosts)) contents absence fault refused a = a ≡ bench_answer (measured hosts)
 RepliesJob (Some (Trace config recording dp port frame)) contents absence fault refused a = RepliesLoaded hows.Trace contents absence fault refused (traced_by config recording dp port frame) a
 RepliesJob (Some (Walk config recording dp port frame)) contents absence fault refused a = RepliesLoaded hows.Walk contents absence fault refused (traced_by config recording dp port frame) a
+RepliesJob (Some (Bgp config router recording)) contents absence fault refused a = RepliesBgp contents absence fault refused config router recording a
+RepliesJob (Some (BgpServe config router events listen)) contents absence fault refused a = ⊥
 
 -- the same, or that memory ran out before the job was known or begun
 abbrev pub Replies : Option Job → Option Contents → (absence fault : Type 0) → (refused : List ℕ) → Answer → Type 0
@@ -154,6 +194,12 @@ GivesFollow how contents absence fault refused traced status out_old out_new err
     (a : Answer) × (RepliesLoaded how contents absence fault refused traced a ⊎ (a ≡ out_of_memory))
     × Delivers a status out_old out_new err_old err_new out_faults_old out_faults_new err_faults_old err_faults_new
 
+-- the reply to `bgp` was delivered, or that memory ran out
+abbrev pub GivesBgp : Option Contents → (absence fault : Type 0) → (refused config router recording : List ℕ) → (status : ℕ) → (out_old out_new err_old err_new : Option (List ℕ)) → (out_faults_old out_faults_new err_faults_old err_faults_new : ℕ) → Type 0
+GivesBgp contents absence fault refused config router recording status out_old out_new err_old err_new out_faults_old out_faults_new err_faults_old err_faults_new =
+    (a : Answer) × (RepliesBgp contents absence fault refused config router recording a ⊎ (a ≡ out_of_memory))
+    × Delivers a status out_old out_new err_old err_new out_faults_old out_faults_new err_faults_old err_faults_new
+
 -- files of these names were loaded in order, and the answer delivered
 abbrev pub Checks : Option Contents → (absence fault : Type 0) → (refused : List ℕ) → (names : List (List ℕ)) → (status : ℕ) → (out_old out_new err_old err_new : Option (List ℕ)) → (out_faults_old out_faults_new err_faults_old err_faults_new : ℕ) → Type 0
 Checks contents absence fault refused names status out_old out_new err_old err_new out_faults_old out_faults_new err_faults_old err_faults_new =
@@ -185,6 +231,8 @@ ReadsRecording (Some (GaugeServe config events listen)) = ⊥
 ReadsRecording (Some (Bench hosts)) = ⊥
 ReadsRecording (Some (Trace config recording dp port frame)) = Unit {0}
 ReadsRecording (Some (Walk config recording dp port frame)) = Unit {0}
+ReadsRecording (Some (Bgp config router recording)) = Unit {0}
+ReadsRecording (Some (BgpServe config router events listen)) = ⊥
 
 -- ---- statuses
 
@@ -197,9 +245,14 @@ IsRunStatus works w (Some bytes) n =
     × (length story < 2 ^ 64 - 1) × (n ≡ number_of_status (status_after (replayed.Read refused))))
     ⊎ ((story : List Happening) × IsStorySoFar bytes story (closings_of works 0 w story) × (length story ≡ 2 ^ 64 - 1) × (n ≡ 7))
 
--- that of `serve` and `gauge-serve`: it goes by the hub and by how many turns there may be
+-- that of `serve`, `gauge-serve` and `bgp-serve`: it goes by the hub and by how many turns there may be
 abbrev pub IsServeStatus : ℕ → Type 0
 IsServeStatus n = (n ≡ 0) ⊎ ((n ≡ 6) ⊎ (n ≡ 7))
+
+-- 2 where there is no peer to speak with, or else one that goes by the peer
+abbrev pub IsPeerStatus : (IsRun : LoadedPeer → ℕ → Type 0) → FoundPeer → ℕ → Type 0
+IsPeerStatus IsRun (Err lacks) n = n ≡ 2
+IsPeerStatus IsRun (Ok peer) n = IsRun peer n
 
 -- that of the refusal, or else one that goes by the configuration
 abbrev pub IsLoadedStatus : {A : Type 0} → (config : List ℕ) → Result A LoadRefused → (IsRun : A → ℕ → Type 0) → ℕ → Type 0
@@ -218,6 +271,9 @@ IsStatusOf (Some (GaugeServe config events listen)) held n = IsLoadedStatus conf
 IsStatusOf (Some (Bench hosts)) held n = n ≡ 0
 IsStatusOf (Some (Trace config recording dp port frame)) held n = IsLoadedStatus config (loaded held config) (IsFollowStatus hows.Trace (traced_by config recording dp port frame) held) n
 IsStatusOf (Some (Walk config recording dp port frame)) held n = IsLoadedStatus config (loaded held config) (IsFollowStatus hows.Walk (traced_by config recording dp port frame) held) n
+IsStatusOf (Some (Bgp config router recording)) held n =
+    IsLoadedStatus config (loaded_peer held config router) (IsPeerStatus (λ peer. IsRunStatus speaks (speaking_with peer) (held recording))) n
+IsStatusOf (Some (BgpServe config router events listen)) held n = IsLoadedStatus config (loaded_peer held config router) (IsPeerStatus (λ peer. IsServeStatus)) n
 
 -- a status is that of the answer; or a write failed, memory ran out, or a read failed
 abbrev pub StatusFor : (status : ℕ) → (IsAnswered : ℕ → Type 0) → (fault : Type 0) → Type 0
@@ -265,6 +321,14 @@ pub record IsWatched (config recording : List ℕ) (refused : Option RecordRefus
   pub conf : GaugeConf
   pub accepted : gauge_of held config ≡ Ok conf
   pub run : IsRun monitor (begun conf) (λ story. joined (gauge_lines (begun conf) story)) recording refused held out_old out_new err_old err_new
+
+-- The configuration is accepted and the router has a peer, and its speaker was run so over the recording, with its records as what is
+-- printed; and each text that it gives is accepted.
+pub record IsSpoken (config router recording : List ℕ) (refused : Option RecordRefused) (held : Held) (out_old out_new err_old err_new : Option (List ℕ)) : Type 0 where
+  pub peer : LoadedPeer
+  pub accepted : loaded_peer held config router ≡ Ok (Ok peer)
+  pub run : IsRun speaks (speaking_with peer) (λ story. out_of speaks outlets.Nowhere (speaking_with peer) story) recording refused held out_old out_new err_old err_new
+  pub texts : AllByRecursion IsAccepted (texts_of (speaking_with peer) run.story)
 
 -- The line of what is measured of the story in which so many hosts come was written; and all is right of each front of that story, which
 -- happens to the controller of a configuration of its own.

@@ -5,4 +5,5 @@ pub mod Given
 pub mod Serving
 pub mod Status
 pub mod Watching
+pub mod Speaking
 pub mod Follow

@@ -9,7 +9,7 @@ use Rattle.conf_gather.specs.declared.refused.LoadRefused.{LoadRefused}
 use Rattle.conf_gather.specs.Gathered.{Held}
 use Rattle.conf_load.specs.Loaded.{loaded}
 use Rattle.command_line.specs.declared.meaning.Job.{Job}
-use Rattle.command_line.specs.declared.meaning.Job.TheVariants.{Bench, Check, Gauge, GaugeServe, Plan, Replay, Serve, Trace, Walk}
+use Rattle.command_line.specs.declared.meaning.Job.TheVariants.{Bench, Check, Gauge, GaugeServe, Plan, Replay, Serve, Trace, Walk, Bgp, BgpServe}
 use Rattle.command_line.specs.declared.values.Listen.{Listen}
 use Rattle.pkt_view.specs.Frame.{has_type}
 use Rattle.watch_hub.specs.Look.{text_of}
@@ -29,9 +29,11 @@ use Rattle.faucet_top.specs.Status.{number_of_status}
 abbrev pub LooksOnce : Option Job → Type 0
 LooksOnce job = (config : List ℕ) (events reload_ms : ℕ) (listen : Listen) → job ≡ Some (Serve config events reload_ms listen) → ⊥
 
--- a job that needs no hub, so neither `serve` nor `gauge-serve`
+-- a job that needs no hub, so neither `serve` nor `gauge-serve` nor `bgp-serve`
 abbrev pub IsLocal : Option Job → Type 0
-IsLocal job = LooksOnce job × ((config : List ℕ) (events : ℕ) (listen : Listen) → job ≡ Some (GaugeServe config events listen) → ⊥)
+IsLocal job =
+    LooksOnce job × ((config : List ℕ) (events : ℕ) (listen : Listen) → job ≡ Some (GaugeServe config events listen) → ⊥)
+    × ((config router : List ℕ) (events : ℕ) (listen : Listen) → job ≡ Some (BgpServe config router events listen) → ⊥)
 
 -- the frame that the job is about, if it is about one, has its EtherType
 abbrev pub HasFrame : Option Job → Type 0
@@ -45,6 +47,8 @@ HasFrame (Some (GaugeServe config events listen)) = Unit {0}
 HasFrame (Some (Bench hosts)) = Unit {0}
 HasFrame (Some (Trace config recording dp port frame)) = IsTrue (has_type frame)
 HasFrame (Some (Walk config recording dp port frame)) = IsTrue (has_type frame)
+HasFrame (Some (Bgp config router recording)) = Unit {0}
+HasFrame (Some (BgpServe config router events listen)) = Unit {0}
 
 -- ---- the reply
 

@@ -3,7 +3,7 @@ ghost use Rattle.std.specs.Fmt.{decimal};
 ghost use Rattle.fg_outside.specs.Wrote.{line_of};
 ghost use Rattle.conf_gather.specs.declared.refused.LoadRefused.TheVariants.{Yaml, Conf};
 ghost use Rattle.hub_drive.specs.declared.replay.Replayed.TheVariants.{Read};
-ghost use Rattle.faucet_top.specs.Answer.{bench_line, last_line, refusal, usage, out_of_memory, line, missing_answer, plan_answer, served_line, shown_answer};
+ghost use Rattle.faucet_top.specs.Answer.{bench_line, lacks_answer, last_line, refusal, usage, out_of_memory, line, missing_answer, plan_answer, served_line, shown_answer};
 ghost use Rattle.faucet_top.specs.Follow.{followed_answer};
 ghost use Rattle.faucet_top.specs.Given.{Delivers};
 ghost use Rattle.faucet_top.specs.Status.{number_of_status};
@@ -11,6 +11,7 @@ ghost use Rattle.faucet_top.specs.Ends.{Ends, refused_status, status_after, stat
 
 use crate::asked::Asked;
 use bench_story::Measured;
+use bgp_load::PeerLacks;
 use conf_causes::limit_name;
 use conf_gather::LoadRefused;
 use conf_shape::{ConfCause, ConfFault};
@@ -23,7 +24,7 @@ use trace_story::{Followed, Missing, Shown};
 use yaml_subset::YamlFault;
 
 const USAGE: &str =
-    "usage: faucet check, plan, replay, serve, gauge, gauge-serve, bench, trace or walk";
+    "usage: faucet check, plan, replay, serve, gauge, gauge-serve, bench, trace, walk, bgp or bgp-serve";
 
 /// The exit statuses of the program.
 #[derive(Clone, Copy, Debug, PartialEq, Eq)]
@@ -177,6 +178,24 @@ pub fn deliver_refusal<E: Sink>(err: &mut E, config: &str, why: &LoadRefused) ->
             deliver_at(err, config, file.as_str(), "IncludeDepth", "")
         }
         LoadRefused::Memory => deliver_out_of_memory(err),
+    }
+}
+
+/// Says why there is no peer to speak with.
+pub fn deliver_lacks<E: Sink>(err: &mut E, config: &str, router: &str, lacks: PeerLacks) -> Status
+    ensures ends { Ends Status.Refused (lacks_answer config.now router.now lacks).err (E.wrote err.old) (E.wrote err.new) (E.faults err.old) (E.faults err.new) result }
+    ensures faults { E.faults err.old ≤ E.faults err.new }
+{
+    match lacks {
+        PeerLacks::Router => {
+            let pieces = [config, ": routers.", router, ": Unresolved"];
+            end_with_line(err, &pieces, Status::Refused)
+        }
+        PeerLacks::Peer => {
+            let pieces = [config, ": routers.", router, ".bgp: Missing"];
+            end_with_line(err, &pieces, Status::Refused)
+        }
+        PeerLacks::Room => end_with_line(err, &[config, ": TooMany Text"], Status::Refused),
     }
 }
 

@@ -3,6 +3,7 @@
 
 mod asked;
 mod bench;
+mod bgp;
 mod check;
 mod deliver;
 mod follow;

@@ -4,7 +4,7 @@ ghost use Rattle.fg_outside.specs.Contents.{Contents};
 ghost use Rattle.fg_outside.specs.Wrote.{appended, AppendsFront};
 ghost use Rattle.conf_types.specs.Configuration.{Configuration};
 ghost use Rattle.conf_load.specs.Loaded.{loaded};
-ghost use Rattle.command_line.specs.declared.meaning.Job.TheVariants.{Bench, Check, Gauge, GaugeServe, Plan, Replay, Serve};
+ghost use Rattle.command_line.specs.declared.meaning.Job.TheVariants.{Bench, Bgp, BgpServe, Check, Gauge, GaugeServe, Plan, Replay, Serve};
 ghost use Rattle.trace_story.specs.declared.showing.How.{How};
 ghost use Rattle.trace_story.specs.declared.showing.Shown.TheVariants as shown;
 ghost use Rattle.command_line.specs.declared.values.Listen.{Listen};
@@ -12,18 +12,22 @@ ghost use Rattle.command_line.specs.Meaning.{meaning};
 ghost use Rattle.faucet_top.specs.Answer.{out_of_memory};
 ghost use Rattle.gauge_conf.specs.declared.gauge.GaugeConf.{GaugeConf};
 ghost use Rattle.gauge_load.specs.Loaded.{gauge_of};
+ghost use Rattle.bgp_load.specs.declared.found.LoadedPeer.{LoadedPeer};
+ghost use Rattle.bgp_load.specs.Peers.{loaded_peer};
 ghost use Rattle.faucet_top.specs.Any.{GivesAny};
 ghost use Rattle.faucet_top.specs.Follow.{IsCutShort, IsFollowed, Traced, job_for};
-ghost use Rattle.faucet_top.specs.Given.{AreAccepted, Gives, IsMeasured, IsOpened, IsReplayed, IsStatus, IsStatusOf, IsWatched, NamesUnread, ReadsRecording, StatusFor};
+ghost use Rattle.faucet_top.specs.Given.{AreAccepted, Gives, IsMeasured, IsOpened, IsReplayed, IsSpoken, IsStatus, IsStatusOf, IsWatched, NamesUnread, ReadsRecording, StatusFor};
 ghost use Rattle.recording.specs.declared.refused.RecordRefused.{RecordRefused};
 ghost use Rattle.hub_drive.specs.declared.drive.Drove.{Drove};
 ghost use Rattle.faucet_top.specs.Ends.{status_served};
 ghost use Rattle.faucet_top.specs.Serving.{HasFrame, IsItsEnd, IsLocal, IsServed, LooksOnce};
+ghost use Rattle.faucet_top.specs.Speaking.{IsHubSpoken};
 ghost use Rattle.faucet_top.specs.Watching.{IsHubWatched};
 ghost use Rattle.faucet_top.specs.Status.{number_of_status};
 
 use crate::asked::Asked;
 use crate::bench::measure_story;
+use crate::bgp::{speak_on_hub, speak_on_recording};
 use crate::check::check_files;
 use crate::deliver::{Status, deliver_out_of_memory, deliver_plan, deliver_refusal, deliver_usage};
 use crate::follow::follow_frame;
@@ -33,6 +37,7 @@ use crate::replay::run_recording;
 use crate::serve::{Pace, serve_switches};
 use crate::units::Units;
 use bench_story::laws::the_configuration_is_valid;
+use bgp_speaker::laws::a_text_is_new;
 use command_line::laws::words_ask_for_what_is_written;
 use command_line::{Job, read_words};
 use conf_load::laws::a_loaded_configuration_is_valid;
@@ -134,8 +139,17 @@ fn do_job<F: Files, O: Sink, E: Sink>(
             };
             follow_frame(alloc, &asked, files, out, err)
         }
+        Job::Bgp {
+            config,
+            router,
+            recording,
+        } => {
+            let (config, router) = (config.as_str(), router.as_str());
+            speak_on_recording(alloc, config, router, recording, files, out, err)
+        }
         Job::Serve { .. } => unreachable!(),
         Job::GaugeServe { .. } => unreachable!(),
+        Job::BgpServe { .. } => unreachable!(),
     }
 }
 
@@ -180,6 +194,10 @@ pub fn local<F: Files, O: Sink, E: Sink>(
         → result.0 ≡ 0 → IsWatched config recording None (held 0) (O.wrote out.old) (O.wrote out.new) (E.wrote err.old) (E.wrote err.new) }
     ensures watched_to { (config recording : List ℕ) (held : Contents) → job.now ≡ Gauge config recording → F.contents files ≡ Some held
         → result.0 ≡ 5 → (refused : RecordRefused) × IsWatched config recording (Some refused) (held 0) (O.wrote out.old) (O.wrote out.new) (E.wrote err.old) (E.wrote err.new) }
+    ensures spoken { (config router recording : List ℕ) (held : Contents) → job.now ≡ Bgp config router recording → F.contents files ≡ Some held
+        → result.0 ≡ 0 → IsSpoken config router recording None (held 0) (O.wrote out.old) (O.wrote out.new) (E.wrote err.old) (E.wrote err.new) }
+    ensures spoken_to { (config router recording : List ℕ) (held : Contents) → job.now ≡ Bgp config router recording → F.contents files ≡ Some held
+        → result.0 ≡ 5 → (refused : RecordRefused) × IsSpoken config router recording (Some refused) (held 0) (O.wrote out.old) (O.wrote out.new) (E.wrote err.old) (E.wrote err.new) }
     ensures measured { (hosts : ℕ) → job.now ≡ Bench hosts → result.0 ≡ 0 → IsMeasured hosts (O.wrote out.old) (O.wrote out.new) }
     ensures followed { (how : How) (traced : Traced) (held : Contents) → job.now ≡ job_for how traced → F.contents files ≡ Some held
         → result.0 ≡ 0 → (lines : List ℕ) × IsFollowed how traced (held 0) (shown.Lines lines) (O.wrote out.old) (O.wrote out.new) (E.wrote err.old) (E.wrote err.new) }
@@ -199,6 +217,7 @@ pub fn local<F: Files, O: Sink, E: Sink>(
     an_opening_batch_opens_the_datapath();
     whatever_happens_is_right();
     what_is_printed_are_the_lines();
+    a_text_is_new();
     the_configuration_is_valid();
     let (status, files) = do_job(alloc, job, files, out, err);
     (status.number(), files)
@@ -249,6 +268,18 @@ fn do_any<F: Files, H: Hub, O: Sink, E: Sink>(
             let (mut files, mut hub) = (files, hub);
             let config = config.as_str();
             let status = watch_switches(alloc, config, *events, &mut files, &mut hub, out, err);
+            (status.number(), files, hub)
+        }
+        Job::BgpServe {
+            config,
+            router,
+            events,
+            ..
+        } => {
+            let (mut files, mut hub) = (files, hub);
+            let (config, router) = (config.as_str(), router.as_str());
+            let (held, on) = (&mut files, &mut hub);
+            let status = speak_on_hub(alloc, config, router, *events, held, on, out, err);
             (status.number(), files, hub)
         }
         _ => {
@@ -307,12 +338,17 @@ fn answer_words<F: Files, H: Hub, O: Sink, E: Sink>(
 /// and commands that they led to, and the sum of all bytes that were said. `trace CONFIG RECORDING DP PORT FRAME` runs
 /// the controller of CONFIG on what the recording tells, drops what it says, and writes on `out` what the datapath DP then
 /// sends of a frame that comes in by PORT; `walk` with the same words where that arrives, over the links of the stack.
-/// Any other words have no meaning. A refusal is one line on `err`. Statuses: 0 done, so of `serve` and `gauge-serve` where the hub said so; 1 the words have no
-/// meaning; 2 a configuration was read and is refused, or DP isn't one of its datapaths, or PORT none of DP's
-/// interfaces; 3 a file isn't there, or a read
-/// failed, of these two before the hub was asked; 4 a write failed; 5 a record of the recording is refused; 6 the hub
-/// failed; 7 N turns were taken, for `replay`, `gauge`, `trace` and `walk` 2^64 - 1; 8 out of memory; 9 a
-/// datapath doesn't run, or a barrier is outstanding for it: DP, or for `walk` one that links join to it.
+/// `bgp CONFIG ROUTER RECORDING` runs the speaker for the BGP peer of the router ROUTER of CONFIG on what the recording
+/// tells, and writes on `out` a record for each message that it says, each NOTIFICATION that ends a connection, and each
+/// text of the configuration with the peer's routes; `bgp-serve CONFIG ROUTER --events N --listen A:P` runs it on the
+/// hub, for at most N happenings.
+/// Any other words have no meaning. A refusal is one line on `err`. Statuses: 0 done, so of `serve`, `gauge-serve` and
+/// `bgp-serve` where the hub said so; 1 the words have no meaning; 2 a configuration was read and is refused, or DP
+/// isn't one of its datapaths, or PORT none of DP's interfaces, or ROUTER has no peer, or the document is too long for
+/// its routes; 3 a file isn't there, or a read failed, of these three before the hub was asked; 4 a write failed; 5 a
+/// record of the recording is refused; 6 the hub failed; 7 N turns were taken, for `replay`, `gauge`, `trace`, `walk`
+/// and `bgp` 2^64 - 1; 8 out of memory; 9 a datapath doesn't run, or a barrier is outstanding for it: DP, or for
+/// `walk` one that links join to it.
 pub fn faucet<F: Files, H: Hub, O: Sink, E: Sink>(
     alloc: Global,
     words: &Names,
@@ -323,15 +359,15 @@ pub fn faucet<F: Files, H: Hub, O: Sink, E: Sink>(
 ) -> (u8, F, H)
     // One reply was given: the answer to the words, for what the files gave, of which it says where they tell it,
     // where a read failed, and where memory ran out. A failed write leaves a front of it, and nothing else is written.
-    // Of `serve` and `gauge-serve` it says what happened at the hub and what that was told, of `serve` also which texts the looks at
-    // the file had.
+    // Of `serve`, `gauge-serve` and `bgp-serve` it says what happened at the hub and what that was told, of `serve` also which texts
+    // the looks at the file had.
     ensures gives { GivesAny H.may F.contents F.faults (Rose (F.absences files) (F.absences result.1)) (Rose (F.faults files) (F.faults result.1)) (F.refused result.1) (meaning words.now)
         hub result.2 files result.1 result.0 (O.wrote out.old) (O.wrote out.new) (E.wrote err.old) (E.wrote err.new)
         (O.faults out.old) (O.faults out.new) (E.faults err.old) (E.faults err.new) }
 
     // Where the files are told, the status is that of the answer, so 2 where a configuration was read and refused,
     // or hasn't the datapath, 5 where a record is refused, 7 only where 2^64 - 1 turns were taken; but for a failed
-    // write, want of memory and a failed read. That of `serve` and `gauge-serve` is then 0, 6 or 7.
+    // write, want of memory and a failed read. Where the hub is asked it is then 0, 6 or 7.
     ensures told { (held : Contents) → F.contents files ≡ Some held
         → StatusFor result.0 (IsStatusOf (meaning words.now) (held 0)) (Rose (F.faults files) (F.faults result.1)) }
 
@@ -408,6 +444,26 @@ pub fn faucet<F: Files, H: Hub, O: Sink, E: Sink>(
         → (Rose (O.faults out.old) (O.faults out.new) → ⊥) → (Rose (E.faults err.old) (E.faults err.new) → ⊥)
         → (result.0 ≡ 0) ⊎ ((result.0 ≡ 7) ⊎ (result.0 ≡ 8)) }
 
+    // `bgp`: at status 0 the recording was taken in whole, and what stands on `out` and `err` is exactly what the speaker for the
+    // router's peer gives of its story, with each text of the configuration with the peer's routes, which is accepted. At status 5
+    // the same of the records before the refused one.
+    ensures spoken { (config router recording : List ℕ) (held : Contents) → meaning words.now ≡ Some (Bgp config router recording) → F.contents files ≡ Some held
+        → result.0 ≡ 0 → IsSpoken config router recording None (held 0) (O.wrote out.old) (O.wrote out.new) (E.wrote err.old) (E.wrote err.new) }
+    ensures spoken_to { (config router recording : List ℕ) (held : Contents) → meaning words.now ≡ Some (Bgp config router recording) → F.contents files ≡ Some held
+        → result.0 ≡ 5 → (refused : RecordRefused) × IsSpoken config router recording (Some refused) (held 0) (O.wrote out.old) (O.wrote out.new) (E.wrote err.old) (E.wrote err.new) }
+
+    // `bgp-serve`: where the hub said that it is done (0), where it failed (6) and where N turns were taken, each of which gave a
+    // happening (7), the hub was told what the speaker says and closes of these, and what stands on `out` and `err` is exactly what
+    // it gives of them, of which each text is accepted.
+    ensures hub_spoken { (config router : List ℕ) (events : ℕ) (listen : Listen) (held : Contents) (end : Drove) → meaning words.now ≡ Some (BgpServe config router events listen)
+        → F.contents files ≡ Some held → IsItsEnd end → result.0 ≡ number_of_status (status_served end)
+        → IsHubSpoken H.may config router (held 0) events end hub result.2 (O.wrote out.old) (O.wrote out.new) (E.wrote err.old) (E.wrote err.new) }
+    ensures bgp_completes { (config router : List ℕ) (events : ℕ) (listen : Listen) (held : Contents) (peer : LoadedPeer) → meaning words.now ≡ Some (BgpServe config router events listen)
+        → F.contents files ≡ Some held → loaded_peer (held 0) config router ≡ Ok (Ok peer)
+        → (Rose (F.faults files) (F.faults result.1) → ⊥) → (Rose (H.faults hub) (H.faults result.2) → ⊥)
+        → (Rose (O.faults out.old) (O.faults out.new) → ⊥) → (Rose (E.faults err.old) (E.faults err.new) → ⊥)
+        → (result.0 ≡ 0) ⊎ ((result.0 ≡ 7) ⊎ (result.0 ≡ 8)) }
+
     // `bench`: at status 0 what stands on `out` is the line of what is measured of its story, and all that is right, of each front of
     // that story.
     ensures measured { (hosts : ℕ) → meaning words.now ≡ Some (Bench hosts) → result.0 ≡ 0 → IsMeasured hosts (O.wrote out.old) (O.wrote out.new) }
@@ -423,8 +479,8 @@ pub fn faucet<F: Files, H: Hub, O: Sink, E: Sink>(
     ensures cut_short { (how : How) (traced : Traced) (held : Contents) → meaning words.now ≡ Some (job_for how traced) → F.contents files ≡ Some held
         → result.0 ≡ 5 → (refused : RecordRefused) × IsCutShort traced refused (held 0) (O.wrote out.old) (O.wrote out.new) (E.wrote err.old) (E.wrote err.new) }
 
-    // Files and hub are handed back; but for `serve`, the files hold what they held, and but for `serve` and `gauge-serve`, nothing
-    // was said to the hub.
+    // Files and hub are handed back; but for `serve`, the files hold what they held, and but for `serve`, `gauge-serve` and
+    // `bgp-serve`, nothing was said to the hub.
     ensures contents { LooksOnce (meaning words.now) → F.contents result.1 ≡ F.contents files }
     ensures faults { F.faults files ≤ F.faults result.1 }
     ensures absences { F.absences files ≤ F.absences result.1 }
@@ -437,6 +493,7 @@ pub fn faucet<F: Files, H: Hub, O: Sink, E: Sink>(
     an_opening_batch_opens_the_datapath();
     whatever_happens_is_right();
     what_is_printed_are_the_lines();
+    a_text_is_new();
     the_configuration_is_valid();
     answer_words(alloc, words, files, hub, out, err)
 }

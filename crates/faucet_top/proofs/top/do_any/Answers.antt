@@ -53,6 +53,7 @@ local-status-requires g c = record {
   local = (
     λ config events reload_ms listen is. c.in_default.not-Serve config events reload_ms listen (some_is is),
     λ config events listen is. c.in_default.not-GaugeServe config events listen (some_is is),
+    λ config router events listen is. c.in_default.not-BgpServe config router events listen (some_is is),
   );
   frame = c.requires.frame;
 }
@@ -62,6 +63,7 @@ returns-in_default-clause-gives g c =
     local_any g.H.Hub.may g.F.Files.contents g.F.Files.faults _ _ _ (Some c.args.job.now) c.args.hub c.args.hub c.args.files _ _ _ _ _ _ _ _ _ _ (Some c.args.job.now) (
       λ config events reload_ms listen is. c.in_default.not-Serve config events reload_ms listen (some_is is),
       λ config events listen is. c.in_default.not-GaugeServe config events listen (some_is is),
+      λ config router events listen is. c.in_default.not-BgpServe config router events listen (some_is is),
     ) c.local-status.ensures.gives
 
 pub returns-in-Serve-clause-named : goal.returns-in-Serve-clause-named
@@ -69,3 +71,25 @@ returns-in-Serve-clause-named g c = λ reads. absurd (rw c.in-Serve.is at reads)
 
 pub returns-in-GaugeServe-clause-named : goal.returns-in-GaugeServe-clause-named
 returns-in-GaugeServe-clause-named g c = λ reads. absurd (rw c.in-GaugeServe.is at reads)
+
+pub returns-in-BgpServe-clause-named : goal.returns-in-BgpServe-clause-named
+returns-in-BgpServe-clause-named g c = λ reads. absurd (rw c.in-BgpServe.is at reads)
+
+pub returns-in-BgpServe-clause-gives : goal.returns-in-BgpServe-clause-gives
+returns-in-BgpServe-clause-gives g c =
+    rw (c.in-BgpServe.is, c.number-in-BgpServe.ensures) (rw (c.as_str-in-BgpServe.ensures, c.as_str-in-BgpServe-2.ensures) at c.speak_on_hub-status.ensures.replies)
+
+pub returns-in-BgpServe-clause-hub : goal.returns-in-BgpServe-clause-hub
+returns-in-BgpServe-clause-hub g c = λ local.
+    absurd (local.2 _ _ _ _ (ap (λ (j : Job). Some j) c.in-BgpServe.is))
+
+pub returns-in-BgpServe-clause-no_read_fault : goal.returns-in-BgpServe-clause-no_read_fault
+returns-in-BgpServe-clause-no_read_fault g c = λ local unread written below.
+    c.speak_on_hub-status.ensures.no_read_fault (λ is. unread (c.number-in-BgpServe.ensures ∙ ap number_of_status is)) (λ is. written (c.number-in-BgpServe.ensures ∙ ap number_of_status is))
+
+pub returns-in-BgpServe-clause-hub_fault : goal.returns-in-BgpServe-clause-hub_fault
+returns-in-BgpServe-clause-hub_fault g c = λ six. c.speak_on_hub-status.ensures.hub_fault (hub_fault_by_number _ (sym c.number-in-BgpServe.ensures ∙ six))
+
+pub returns-in-BgpServe-clause-no_hub_fault : goal.returns-in-BgpServe-clause-no_hub_fault
+returns-in-BgpServe-clause-no_hub_fault g c = λ six four.
+    c.speak_on_hub-status.ensures.no_hub_fault (λ is. six (c.number-in-BgpServe.ensures ∙ ap number_of_status is)) (λ is. four (c.number-in-BgpServe.ensures ∙ ap number_of_status is))

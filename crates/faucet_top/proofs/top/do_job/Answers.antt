@@ -131,3 +131,9 @@ returns-in-Trace-clause-gives g c = rw c.in-Trace.is c.follow_frame.ensures.give
 
 pub returns-in-Walk-clause-gives : goal.returns-in-Walk-clause-gives
 returns-in-Walk-clause-gives g c = rw c.in-Walk.is c.follow_frame-in-Walk.ensures.gives
+
+pub unreachable-requires-in-BgpServe : goal.unreachable-requires-in-BgpServe
+unreachable-requires-in-BgpServe g c = c.requires.local.2 c.in-BgpServe.config c.in-BgpServe.router c.in-BgpServe.events c.in-BgpServe.listen (ap (λ (j : Job). Some j) c.in-BgpServe.is)
+
+pub returns-in-Bgp-clause-gives : goal.returns-in-Bgp-clause-gives
+returns-in-Bgp-clause-gives g c = rw c.in-Bgp.is c.speak_on_recording.ensures.gives

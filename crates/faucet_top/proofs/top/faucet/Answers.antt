@@ -68,3 +68,17 @@ returns-clause-not_ready g c = by.frame_waits g.H.Hub.may g.F.Files.contents g.F
 
 pub returns-clause-cut_short : goal.returns-clause-cut_short
 returns-clause-cut_short g c = by.frame_cut g.H.Hub.may g.F.Files.contents g.F.Files.faults _ _ _ (meaning c.args.words.now) c.args.hub _ c.args.files _ _ _ _ _ _ _ _ _ _ c.answer_words.ensures.gives c.a_loaded_configuration_is_valid.ensures c.whatever_happens_is_right.ensures
+
+pub returns-clause-spoken : goal.returns-clause-spoken
+returns-clause-spoken g c = by.spoken g.H.Hub.may g.F.Files.contents g.F.Files.faults _ _ _ (meaning c.args.words.now) c.args.hub _ c.args.files _ _ _ _ _ _ _ _ _ _ c.answer_words.ensures.gives c.a_text_is_new.ensures.accepted
+
+pub returns-clause-spoken_to : goal.returns-clause-spoken_to
+returns-clause-spoken_to g c = by.spoken_to g.H.Hub.may g.F.Files.contents g.F.Files.faults _ _ _ (meaning c.args.words.now) c.args.hub _ c.args.files _ _ _ _ _ _ _ _ _ _ c.answer_words.ensures.gives c.a_text_is_new.ensures.accepted
+
+pub returns-clause-hub_spoken : goal.returns-clause-hub_spoken
+returns-clause-hub_spoken g c = by.hub_spoken g.H.Hub.may g.F.Files.contents g.F.Files.faults _ _ _ (meaning c.args.words.now) c.args.hub _ c.args.files _ _ _ _ _ _ _ _ _ _ c.answer_words.ensures.gives c.a_text_is_new.ensures.accepted
+
+pub returns-clause-bgp_completes : goal.returns-clause-bgp_completes
+returns-clause-bgp_completes g c = λ config router events listen held peer is told_so accepted no_read no_hub no_out no_err.
+    by.bgp_completes g.H.Hub.may g.F.Files.contents g.F.Files.faults _ _ _ (meaning c.args.words.now) c.args.hub _ c.args.files _ _ _ _ _ _ _ _ _ _ c.answer_words.ensures.gives
+    (λ six. no_hub (c.answer_words.ensures.hub_fault six)) no_read no_out no_err config router events listen held peer is told_so accepted

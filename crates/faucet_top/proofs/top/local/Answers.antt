@@ -63,3 +63,9 @@ returns-clause-not_ready g c = λ how traced held is told. by.frame_waits (Some 
 
 pub returns-clause-cut_short : goal.returns-clause-cut_short
 returns-clause-cut_short g c = λ how traced held is told. by.frame_cut (Some c.args.job.now) _ _ _ _ c.number.result _ _ _ _ _ _ _ _ (rw (← c.number.ensures) at c.do_job-status.ensures.gives) c.a_loaded_configuration_is_valid.ensures c.whatever_happens_is_right.ensures how traced held (ap (λ (j : Job). Some j) is) told
+
+pub returns-clause-spoken : goal.returns-clause-spoken
+returns-clause-spoken g c = λ config router recording held is. by.spoken (Some c.args.job.now) _ _ _ _ c.number.result _ _ _ _ _ _ _ _ (rw (← c.number.ensures) at c.do_job-status.ensures.gives) c.a_text_is_new.ensures.accepted config router recording held (ap (λ (j : Job). Some j) is)
+
+pub returns-clause-spoken_to : goal.returns-clause-spoken_to
+returns-clause-spoken_to g c = λ config router recording held is. by.spoken_to (Some c.args.job.now) _ _ _ _ c.number.result _ _ _ _ _ _ _ _ (rw (← c.number.ensures) at c.do_job-status.ensures.gives) c.a_text_is_new.ensures.accepted config router recording held (ap (λ (j : Job). Some j) is)
