@@ -1,7 +1,7 @@
 -- Where connections are listened for.
 use Rattle.std.specs.Prelude.{Option, Some, None}
 use Rattle.command_line.specs.declared.meaning.Job.{Job}
-use Rattle.command_line.specs.declared.meaning.Job.TheVariants.{Bench, Check, Gauge, GaugeServe, Plan, Replay, Serve, Trace, Walk}
+use Rattle.command_line.specs.declared.meaning.Job.TheVariants.{Bench, Check, Gauge, GaugeServe, Plan, Replay, Serve, Trace, Walk, Bgp, BgpServe}
 use Rattle.command_line.specs.declared.values.Listen.{Listen}
 
 -- where a job asks for it, if it does
@@ -16,3 +16,5 @@ listen_in (Some (GaugeServe config events listen)) = Some listen
 listen_in (Some (Bench hosts)) = None
 listen_in (Some (Trace config recording dp port frame)) = None
 listen_in (Some (Walk config recording dp port frame)) = None
+listen_in (Some (Bgp config router recording)) = None
+listen_in (Some (BgpServe config router events listen)) = Some listen

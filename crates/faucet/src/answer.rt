@@ -21,7 +21,11 @@ pub fn listen_of(alloc: Global, words: &Names) -> Result<Option<Listen>, NoMemor
     ensures { IfOk result (λ listen. listen ≡ listen_in (meaning words.now)) }
 {
     match read_words(alloc, words)? {
-        Some(Job::Serve { listen, .. } | Job::GaugeServe { listen, .. }) => Ok(Some(listen)),
+        Some(
+            Job::Serve { listen, .. }
+            | Job::GaugeServe { listen, .. }
+            | Job::BgpServe { listen, .. },
+        ) => Ok(Some(listen)),
         _ => Ok(None),
     }
 }
