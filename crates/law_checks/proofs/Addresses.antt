@@ -1,21 +1,32 @@
 -- Texts that spell addresses and networks, with no fault.
-use Rattle.std.proofs.Common.{◌≡◌, ℕ, ◌+◌, ◌-◌, ◌*◌, ◌%◌, ◌^◌, ◌<◌, ◌≤◌, ◌&&◌, ◌||◌, not, Bool, true, false, List, [], ◌∷◌, length, Option, Some, None, refl, sym, ap₂, ◌∙◌, subst, arith, leb-true, eqb-true}
+use Rattle.std.proofs.Common.{◌≡◌, ℕ, ◌+◌, ◌-◌, ◌*◌, ◌%◌, ◌^◌, ◌<◌, ◌≤◌, ◌&&◌, ◌||◌, not, Bool, true, false, List, [], ◌∷◌, length, Option, Some, None, refl, sym, ap, ap₂, ◌∙◌, subst, arith, leb-true, eqb-true}
 use Rattle.std.specs.Prelude.{nat_le, ◌==◌, IsTrue, if◌then◌else◌, bit_and, min, unwrap_or}
 use Rattle.std.specs.Char.{digit_value, is_ascii_hexdigit}
 use Rattle.std.specs.List.{AllByRecursion, list_any}
-use Rattle.std.proofs.Math.Nat.{min-eq_left}
+use Rattle.std.specs.Option.{option_map}
+use Rattle.std.proofs.Math.Nat.{min-eq_left, min-le_right}
 use Rattle.std.proofs.lemmas.Bool.{and_parts, or_parts, eqb-false}
 use Rattle.std.proofs.lemmas.Bool.Decides.{nat_tests}
 use Rattle.std.proofs.lemmas.Nat.{and_block}
-use Rattle.net_base.specs.Address.{IsSixBytes, IsPair, SpellsBehind, SpellsMac, mac_value}
+use Rattle.std.proofs.lemmas.Option.{same_Some}
+use Rattle.net_base.specs.Address.{IsSixBytes, IsPair, SpellsBehind, SpellsMac, mac_value, net4_text}
+use Rattle.net_base.specs.Address6.{SpellsNet6}
 use Rattle.net_base.specs.AddressReading.{spelled_mac, ip4_of, net4_of}
+use Rattle.net_base.specs.Address6Reading.{ip6_of, net6_of}
 use Rattle.net_base.proofs.Addresses.{mac_ok, ip4_ok, net4_ok}
+use Rattle.net_base.proofs.Groups.{ip6_ok, net6_ok}
+use Rattle.conf_types.specs.declared.address.Ip.{Ip}
+use Rattle.conf_types.specs.declared.address.Net.{Net}
+use Rattle.conf_types.specs.Families as families
+use Rattle.conf_types.specs.Families.{family_of, ip_value, width_of, address_of, len_of, host_bits}
 use Rattle.conf_types.specs.Networks.{HasNoHostBits}
 use Rattle.conf_types.specs.Valid.{IsStation, IsVip}
 use Rattle.conf_shape.specs.declared.refused.ConfCause.{ConfCause}
-use Rattle.conf_shape.specs.declared.refused.ConfCause.TheVariants.{LeftOut, OutOfRange, BadText}
-use Rattle.conf_shape.specs.Addresses.{is_group, is_zero, station_fault, station_cause, is_masked, other_cause, has_colon, unless_colon, has_no_host_bits, vip_fault, network_fault, vip_cause, destination_cause}
-use Rattle.conf_shape.specs.Values.{mac_or_zero, mac_of, ip_of, net_with, net_or_zero, net_of}
+use Rattle.conf_shape.specs.declared.refused.ConfCause.TheVariants.{OutOfRange, BadText}
+use Rattle.conf_shape.specs.Addresses.{is_group, is_zero, station_fault, station_cause, is_masked, has_colon, width_written, ip4_with, ip6_with, net4_with, net6_with, ip_in, net_in, other_cause, leaves_room, has_no_host_bits, vip_fault, network_fault, vip_cause, destination_cause, identifier_fault, identifier_cause}
+use Rattle.conf_shape.specs.Values.{mac_or_zero, mac_of, ip_or_zero, ip_of, net_or_zero, net_of, identifier_of}
+use Rattle.law_checks.specs.Values.{SpellsIp, SpellsNet}
+use Rattle.law_checks.proofs.Texts6.{ip6_below}
 
 -- ---- Ethernet addresses
 
@@ -107,46 +118,101 @@ masked_value value mask v m =
     (λ a b c d e f bytes. by_six (λ mask. is_masked (a ∷ b ∷ c ∷ d ∷ e ∷ f ∷ []) mask ≡ true → bit_and (mac_value (record { 0 = a ∷ b ∷ c ∷ d ∷ e ∷ f ∷ [] })) (mac_value (record { 0 = mask })) ≡ mac_value (record { 0 = a ∷ b ∷ c ∷ d ∷ e ∷ f ∷ [] }))
     (λ p q r s t u masks. six_masked a b c d e f p q r s t u bytes masks) mask m) value v
 
+-- ---- IP addresses
+
+-- what is read of a text, in the family of so many bits
+pub record IsReadIp (width : ℕ) (text : List ℕ) (ip : Ip) : Type 0 where
+  pub spelled : SpellsIp text ip
+  pub fits : families.IsAddress ip
+  pub family : width_of ip ≡ (if width == 128 then 128 else 32)
+
+abbrev Reads : List ℕ → Bool → Ip → Type 0
+Reads text six ip = SpellsIp text ip × families.IsAddress ip × (width_of ip ≡ (if six then 128 else 32))
+
+pub ip_ok : (width : ℕ) (text : List ℕ) (ip : Ip) → ip_in width text ≡ Some ip → IsReadIp width text ip
+ip_ok width text ip e = let r = by (width == 128) e in record { spelled = r.0; fits = r.1; family = r.2 }
+  where
+    six : (read : Option ℕ) → ip6_of text ≡ read → option_map ip6_with read ≡ Some ip → Reads text true ip
+    six None r e = absurd cc
+    six (Some n) r e = let s = ip6_ok text n r in subst (Reads text true) (same_Some (ip6_with n) ip e) (s, ip6_below text n s, refl)
+
+    four : (read : Option ℕ) → ip4_of text ≡ read → option_map ip4_with read ≡ Some ip → Reads text false ip
+    four None r e = absurd cc
+    four (Some n) r e = let s = ip4_ok text n r in subst (Reads text false) (same_Some (ip4_with n) ip e) ((s.0, s.1), s.1, refl)
+
+    by : (is : Bool) → (if is then option_map ip6_with (ip6_of text) else option_map ip4_with (ip4_of text)) ≡ Some ip → Reads text is ip
+    by true e = six (ip6_of text) refl e
+    by false e = four (ip4_of text) refl e
+
 -- ---- networks
 
-pub no_colon : (text : List ℕ) (fault : Option ConfCause) → unless_colon text fault ≡ None → fault ≡ None
-no_colon text fault e = by (has_colon text) e
+pub record IsReadNet (width : ℕ) (text : List ℕ) (net : Net) : Type 0 where
+  pub spelled : SpellsNet text net
+  pub fits : families.IsAddress (address_of net)
+  pub short : len_of net ≤ width_of (address_of net)
+  pub family : width_of (address_of net) ≡ (if width == 128 then 128 else 32)
+
+abbrev ReadsNet : List ℕ → Bool → Net → Type 0
+ReadsNet text six net = SpellsNet text net × families.IsAddress (address_of net) × (len_of net ≤ width_of (address_of net)) × (width_of (address_of net) ≡ (if six then 128 else 32))
+
+pub net_ok : (width : ℕ) (text : List ℕ) (net : Net) → net_in width text ≡ Some net → IsReadNet width text net
+net_ok width text net e = let r = by (width == 128) e in record { spelled = r.0; fits = r.1; short = r.2; family = r.3 }
   where
-    by : (has : Bool) → (if has then Some LeftOut else fault) ≡ None → fault ≡ None
-    by true e = absurd cc
-    by false e = e
+    six : (read : Option (ℕ × ℕ)) → net6_of text ≡ read → option_map net6_with read ≡ Some net → ReadsNet text true net
+    six None r e = absurd cc
+    six (Some n) r e =
+        let s = net6_ok text n r in
+        let same : min n.1 128 ≡ n.1 = min-eq_left s.most in
+        subst (ReadsNet text true) (same_Some (net6_with n) net e) (subst (SpellsNet6 text n.0) (sym same) s, ip6_below s.address n.0 s.spelled, min-le_right n.1 128, refl)
+
+    four : (read : Option (ℕ × ℕ)) → net4_of text ≡ read → option_map net4_with read ≡ Some net → ReadsNet text false net
+    four None r e = absurd cc
+    four (Some n) r e =
+        let s = net4_ok text n r in
+        let same : min n.1 32 ≡ n.1 = min-eq_left s.2 in
+        subst (ReadsNet text false) (same_Some (net4_with n) net e) ((s.0 ∙ ap (net4_text n.0) (sym same), s.1), s.1, min-le_right n.1 32, refl)
+
+    by : (is : Bool) → (if is then option_map net6_with (net6_of text) else option_map net4_with (net4_of text)) ≡ Some net → ReadsNet text is net
+    by true e = six (net6_of text) refl e
+    by false e = four (net4_of text) refl e
+
+-- the family that a text is read as
+pub written_family : (text : List ℕ) → (if width_written text == 128 then 128 else 32) ≡ width_written text
+written_family text = by (has_colon text)
+  where
+    by : (has : Bool) → (if (if has then 128 else 32) == 128 then 128 else 32) ≡ (if has then 128 else 32)
+    by true = refl
+    by false = refl
 
 pub vip_right : (text : List ℕ) → vip_cause text ≡ None → IsVip (net_of text)
-vip_right text e = by (net4_of text) refl (no_colon text (vip_fault (other_cause text) (net4_of text)) e)
+vip_right text e = by (net_in (width_written text) text) refl e
   where
-    by : (read : Option (ℕ × ℕ)) → net4_of text ≡ read → vip_fault (other_cause text) read ≡ None → IsVip (net_or_zero read)
+    by : (read : Option Net) → net_in (width_written text) text ≡ read → vip_fault (other_cause (width_written text) text) read ≡ None → IsVip (net_or_zero read)
     by None r e = absurd cc
-    by (Some net) r e = tested (nat_le 1 net.1 && nat_le net.1 31) refl e
+    by (Some net) r e = tested (leaves_room net) refl e
       where
-        tested : (is : Bool) → (nat_le 1 net.1 && nat_le net.1 31) ≡ is → (if is then None else Some OutOfRange) ≡ None → IsVip (net_with net.0 net.1)
+        tested : (is : Bool) → leaves_room net ≡ is → (if is then None else Some OutOfRange) ≡ None → IsVip net
         tested false is e = absurd cc
         tested true is e =
-            let ok = net4_ok text net r in
-            let both = and_parts (nat_le 1 net.1) (nat_le net.1 31) is in
-            let least = leb-true 1 net.1 both.0 in
-            let most = leb-true net.1 31 both.1 in
-            let same : min net.1 32 ≡ net.1 = min-eq_left ok.2 in
-            record { address = ok.1; least = omega (arith, same, least); most = omega (arith, same, most) }
+            let ok = net_ok (width_written text) text net r in
+            let most = (family_of (address_of net)).most_vip_len in
+            let both = and_parts (nat_le 1 (len_of net)) (nat_le (len_of net) most) is in
+            record { address = ok.fits; least = leb-true 1 (len_of net) both.0; most = leb-true (len_of net) most both.1 }
 
 -- the destination of a route; a text that isn't there, as no text at all, stands for zeros
 pub record IsDestination (text : List ℕ) : Type 0 where
-  pub address : (net_of text).ip.0 < 2 ^ 32
-  pub length : (net_of text).len ≤ 32
+  pub address : families.IsAddress (address_of (net_of text))
+  pub length : len_of (net_of text) ≤ width_of (address_of (net_of text))
   pub network : HasNoHostBits (net_of text)
 
-net_zero : (text : List ℕ) → net4_of text ≡ None → IsDestination text
+net_zero : (text : List ℕ) → net_in (width_written text) text ≡ None → IsDestination text
 net_zero text e = record {
-  address = subst (λ read. (net_or_zero read).ip.0 < 2 ^ 32) (sym e) (omega arith);
-  length = (net_of text).short;
+  address = subst (λ read. families.IsAddress (address_of (net_or_zero read))) (sym e) (omega arith);
+  length = subst (λ read. len_of (net_or_zero read) ≤ width_of (address_of (net_or_zero read))) (sym e) (omega arith);
   network = subst (λ read. HasNoHostBits (net_or_zero read)) (sym e) refl;
 }
 
-no_net : net4_of [] ≡ None
+no_net : net_in (width_written []) [] ≡ None
 unfolding net4_of
 no_net = refl
 
@@ -154,27 +220,45 @@ pub no_network : IsDestination []
 no_network = net_zero [] no_net
 
 pub network_right : (text : List ℕ) → destination_cause text ≡ None → IsDestination text
-network_right text e = by (net4_of text) refl (no_colon text (network_fault (other_cause text) (net4_of text)) e)
+network_right text e = by (net_in (width_written text) text) refl e
   where
-    by : (read : Option (ℕ × ℕ)) → net4_of text ≡ read → network_fault (other_cause text) read ≡ None → IsDestination text
+    by : (read : Option Net) → net_in (width_written text) text ≡ read → network_fault (other_cause (width_written text) text) read ≡ None → IsDestination text
     by None r e = absurd cc
     by (Some net) r e = tested (has_no_host_bits net) refl e
       where
         tested : (is : Bool) → has_no_host_bits net ≡ is → (if is then None else Some BadText) ≡ None → IsDestination text
         tested false is e = absurd cc
         tested true is e =
-            let ok = net4_ok text net r in
-            let same : min net.1 32 ≡ net.1 = min-eq_left ok.2 in
-            let zeros : net.0 % 2 ^ (32 - net.1) ≡ 0 = eqb-true (net.0 % 2 ^ (32 - net.1)) 0 is in
+            let ok = net_ok (width_written text) text net r in
             record {
-              address = subst (λ read. (net_or_zero read).ip.0 < 2 ^ 32) (sym r) ok.1;
-              length = (net_of text).short;
-              network = subst (λ read. HasNoHostBits (net_or_zero read)) (sym r) (subst (λ len. net.0 % 2 ^ (32 - len) ≡ 0) (sym same) zeros);
+              address = subst (λ read. families.IsAddress (address_of (net_or_zero read))) (sym r) ok.fits;
+              length = subst (λ read. len_of (net_or_zero read) ≤ width_of (address_of (net_or_zero read))) (sym r) ok.short;
+              network = subst (λ read. HasNoHostBits (net_or_zero read)) (sym r) (eqb-true (ip_value (address_of net) % 2 ^ host_bits net) 0 is);
             }
 
-pub gateway_below : (text : List ℕ) → (ip_of text).0 < 2 ^ 32
-gateway_below text = by (ip4_of text) refl
+pub gateway_below : (text : List ℕ) → families.IsAddress (ip_of text)
+gateway_below text = by (ip_in (width_written text) text) refl
+  where
+    by : (read : Option Ip) → ip_in (width_written text) text ≡ read → families.IsAddress (ip_or_zero read)
+    by None r = omega arith
+    by (Some ip) r = (ip_ok (width_written text) text ip r).fits
+
+-- ---- what speakers of BGP are called
+
+pub identifier_below : (text : List ℕ) → (identifier_of text).0 < 2 ^ 32
+identifier_below text = by (ip4_of text) refl
   where
     by : (read : Option ℕ) → ip4_of text ≡ read → unwrap_or read 0 < 2 ^ 32
     by None r = omega arith
     by (Some ip) r = (ip4_ok text ip r).1
+
+pub identifier_right : (text : List ℕ) → identifier_cause text ≡ None → 1 ≤ (identifier_of text).0
+identifier_right text e = by (ip4_of text) e
+  where
+    by : (read : Option ℕ) → identifier_fault read ≡ None → 1 ≤ unwrap_or read 0
+    by None e = absurd cc
+    by (Some ip) e = tested (ip == 0) refl e
+      where
+        tested : (is : Bool) → (ip == 0) ≡ is → (if is then Some OutOfRange else None) ≡ None → 1 ≤ ip
+        tested true is e = absurd cc
+        tested false is e = let other : ip ≡ 0 → ⊥ = eqb-false ip 0 is in omega arith

@@ -3,9 +3,12 @@ use Rattle.std.proofs.Common.{◌≡◌, ℕ, zero, pos, ◌≤◌, Bool, true, 
 use Rattle.std.specs.Prelude.{IsSomeAnd, MatchOption}
 use Rattle.std.specs.Coded.{le_prop}
 use Rattle.net_base.specs.declared.address.Ip4.{Ip4}
+use Rattle.net_base.specs.declared.address6.Ip6.{Ip6}
 use Rattle.net_base.specs.declared.net4.Net4.{Net4}
-use Rattle.net_base.specs.Address.{SpellsMac, ip4_text, net4_text}
+use Rattle.net_base.specs.declared.net6.Net6.{Net6}
+use Rattle.net_base.specs.Address.{SpellsMac, ip4_text}
 use Rattle.net_base.proofs.Addresses.{same_mac, same_ip4, same_net4}
+use Rattle.net_base.proofs.Groups.{same_ip6, same_net6}
 use Rattle.yaml_tree.specs.declared.tree.Key.{Key}
 use Rattle.yaml_tree.specs.declared.tree.Key.TheVariants as key
 use Rattle.yaml_tree.specs.declared.tree.Pair.{Pair}
@@ -14,10 +17,16 @@ use Rattle.yaml_tree.specs.declared.tree.Tree.TheOpen.{Tree-F}
 use Rattle.yaml_tree.specs.declared.tree.Tree.TheOpen as tree
 use Rattle.conf_types.specs.declared.acl.PortRef.{PortRef}
 use Rattle.conf_types.specs.declared.acl.PortRef.TheVariants as port_ref
+use Rattle.conf_types.specs.declared.address.Ip.{Ip}
+use Rattle.conf_types.specs.declared.address.Ip.TheVariants as ip
+use Rattle.conf_types.specs.declared.address.Net.{Net}
+use Rattle.conf_types.specs.declared.address.Net.TheVariants as net
+use Rattle.conf_types.specs.Families.{width_of, address_of}
+use Rattle.conf_shape.specs.Addresses.{width_written}
 use Rattle.conf_shape.specs.declared.raw.OneOrList.TheVariants as several
 use Rattle.conf_shape.specs.declared.raw.VlanRef.{VlanRef}
 use Rattle.conf_shape.specs.declared.raw.VlanRef.TheVariants as vlan_ref
-use Rattle.law_checks.specs.Values.{IsFlag, IsNumber, IsText, IsPermission, IsLabelOf, IsVlanOf, IsPortOf, IsMac, IsAddress, IsNetwork, Each, IsList, IsOneOrList, HasEntries, IsMap, AreMaps, IsNumbered}
+use Rattle.law_checks.specs.Values.{IsFlag, IsNumber, IsText, IsPermission, IsLabelOf, IsVlanOf, IsPortOf, IsMac, SpellsIp, SpellsNet, IsIdentifier, IsAddress, IsNetwork, Each, IsList, IsOneOrList, HasEntries, IsMap, AreMaps, IsNumbered}
 
 -- what is said of one thing is said of no two
 abbrev pub IsOne : {X A : Type 0} → (X → A → Type 0) → Type 0
@@ -95,17 +104,43 @@ mac_one t a b h k =
     let bytes = same_mac h.0 a.0 b.0 h.2 (subst (λ text. SpellsMac text b.0) (sym same) k.2) in
     λ i. record { 0 = bytes i }
 
-pub address_one : IsOne IsAddress
-address_one t a b h k = let e = same_ip4 a.0 b.0 h.1 k.1 (text_one t (ip4_text a.0) (ip4_text b.0) h.0 k.0) in λ i. record { 0 = e i }
+pub identifier_one : IsOne IsIdentifier
+identifier_one t a b h k = let e = same_ip4 a.0 b.0 h.1 k.1 (text_one t (ip4_text a.0) (ip4_text b.0) h.0 k.0) in λ i. record { 0 = e i }
 
-net_same : (ip : Ip4) (m n : ℕ) (p : m ≤ 32) (q : n ≤ 32) → m ≡ n → ◌≡◌ {A = Net4} (record { ip = ip; len = m; short = p }) (record { ip = ip; len = n; short = q })
-net_same ip m n p q e = subst (λ n. (q : n ≤ 32) → ◌≡◌ {A = Net4} (record { ip = ip; len = m; short = p }) (record { ip = ip; len = n; short = q })) e (λ q. λ i. record { ip = ip; len = m; short = le_prop p q i }) q
+-- a text spells one address, and one network, of a family
+pub ip_one : (text : List ℕ) (a b : Ip) → width_of a ≡ width_of b → SpellsIp text a → SpellsIp text b → a ≡ b
+ip_one text (ip.V4 a) (ip.V4 b) w h k = let made : ℕ → Ip = λ n. ip.V4 (record { 0 = n }) in ap made (same_ip4 a.0 b.0 h.1 k.1 (sym h.0 ∙ k.0))
+ip_one text (ip.V4 a) (ip.V6 b) w h k = absurd (omega (arith, w))
+ip_one text (ip.V6 a) (ip.V4 b) w h k = absurd (omega (arith, w))
+ip_one text (ip.V6 a) (ip.V6 b) w h k = let made : ℕ → Ip = λ n. ip.V6 (record { 0 = n }) in ap made (same_ip6 text a.0 b.0 h k)
+
+net4_same : (ip : Ip4) (m n : ℕ) (p : m ≤ 32) (q : n ≤ 32) → m ≡ n → ◌≡◌ {A = Net4} (record { ip = ip; len = m; short = p }) (record { ip = ip; len = n; short = q })
+net4_same ip m n p q e = subst (λ n. (q : n ≤ 32) → ◌≡◌ {A = Net4} (record { ip = ip; len = m; short = p }) (record { ip = ip; len = n; short = q })) e (λ q. λ i. record { ip = ip; len = m; short = le_prop p q i }) q
+
+net6_same : (ip : Ip6) (m n : ℕ) (p : m ≤ 128) (q : n ≤ 128) → m ≡ n → ◌≡◌ {A = Net6} (record { ip = ip; len = m; short = p }) (record { ip = ip; len = n; short = q })
+net6_same ip m n p q e = subst (λ n. (q : n ≤ 128) → ◌≡◌ {A = Net6} (record { ip = ip; len = m; short = p }) (record { ip = ip; len = n; short = q })) e (λ q. λ i. record { ip = ip; len = m; short = le_prop p q i }) q
+
+pub net_one : (text : List ℕ) (a b : Net) → width_of (address_of a) ≡ width_of (address_of b) → SpellsNet text a → SpellsNet text b → a ≡ b
+net_one text (net.V4 a) (net.V4 b) w h k =
+    let e = same_net4 a.ip.0 a.len b.ip.0 b.len h.1 a.short k.1 b.short (sym h.0 ∙ k.0) in
+    let ip : a.ip ≡ b.ip = λ i. record { 0 = e.0 i } in
+    ap net.V4 (ap (λ ip. record { ip = ip; len = a.len; short = a.short }) ip ∙ net4_same b.ip a.len b.len a.short b.short e.1)
+net_one text (net.V4 a) (net.V6 b) w h k = absurd (omega (arith, w))
+net_one text (net.V6 a) (net.V4 b) w h k = absurd (omega (arith, w))
+net_one text (net.V6 a) (net.V6 b) w h k =
+    let e = same_net6 text a.ip.0 a.len b.ip.0 b.len h k in
+    let ip : a.ip ≡ b.ip = λ i. record { 0 = e.0 i } in
+    ap net.V6 (ap (λ ip. record { ip = ip; len = a.len; short = a.short }) ip ∙ net6_same b.ip a.len b.len a.short b.short e.1)
+
+pub address_one : IsOne IsAddress
+address_one t a b h k =
+    let same = text_one t h.text k.text h.is k.is in
+    ip_one h.text a b (h.family ∙ ap width_written same ∙ sym k.family) h.spelled (subst (λ text. SpellsIp text b) (sym same) k.spelled)
 
 pub network_one : IsOne IsNetwork
 network_one t a b h k =
-    let e = same_net4 a.ip.0 a.len b.ip.0 b.len h.1 a.short k.1 b.short (text_one t (net4_text a.ip.0 a.len) (net4_text b.ip.0 b.len) h.0 k.0) in
-    let ip : a.ip ≡ b.ip = λ i. record { 0 = e.0 i } in
-    ap (λ ip. record { ip = ip; len = a.len; short = a.short }) ip ∙ net_same b.ip a.len b.len a.short b.short e.1
+    let same = text_one t h.text k.text h.is k.is in
+    net_one h.text a b (h.family ∙ ap width_written same ∙ sym k.family) h.spelled (subst (λ text. SpellsNet text b) (sym same) k.spelled)
 
 -- ---- lists and maps
 

@@ -1,24 +1,30 @@
 -- Of a rule, no two lists of fields say what its match keys ask for.
 use Rattle.std.proofs.Common.{◌≡◌, ℕ, ◌+◌, ◌*◌, ◌/◌, ◌%◌, ◌^◌, Bool, true, false, List, [], ◌∷◌, ◌++◌, length, length-append, Option, Some, None, refl, sym, ap, ap₂, ◌∙◌, inl, inr, ◌⊎◌, subst, arith, ne_eqb}
 use Rattle.std.specs.Prelude.{◌==◌, nat_lt, MatchOption, if◌then◌else◌}
-use Rattle.std.specs.List.{list_any}
 use Rattle.std.proofs.lemmas.Bool.{or_from, or_right, true≢false}
 use Rattle.std.proofs.lemmas.List.Folds.{list_any-append}
 use Rattle.net_base.specs.declared.field.Field.{Field}
 use Rattle.net_base.specs.declared.field.FieldId.{FieldId}
 use Rattle.net_base.specs.Address.{decimal, ip4_text, net4_text, SpellsBehind, SpellsMac, mac_value}
-use Rattle.net_base.specs.Field.{exact, prefix}
-use Rattle.net_base.proofs.Addresses.{same_mac, same_ip4, same_net4}
+use Rattle.net_base.specs.Field.{exact, prefix_in}
+use Rattle.net_base.proofs.Addresses.{same_mac}
 use Rattle.yaml_tree.specs.declared.tree.Pair.{Pair}
 use Rattle.yaml_tree.specs.declared.tree.Tree.{Tree}
+use Rattle.conf_types.specs.declared.address.Ip.{Ip}
+use Rattle.conf_types.specs.declared.address.Ip.TheVariants as ip
+use Rattle.conf_types.specs.declared.address.Net.{Net}
+use Rattle.conf_types.specs.declared.address.Net.TheVariants as net
+use Rattle.conf_types.specs.Families.{ip_value, address_of, len_of}
 use Rattle.conf_shape.specs.declared.kinds.Scalar.{Scalar}
-use Rattle.conf_shape.specs.declared.kinds.Scalar.TheVariants.{MaskedMac, Prefix}
+use Rattle.conf_shape.specs.declared.kinds.Scalar.TheVariants.{MaskedMac, Prefix, Address}
 use Rattle.conf_shape.specs.declared.raw.RawField.{RawField}
 use Rattle.conf_shape.specs.Sections.{key_text}
 use Rattle.conf_shape.specs.Scalars.{asked_scalar}
 use Rattle.conf_shape.specs.Values.{tag_bit, spelled_at, raw_field_or, ahead}
+use Rattle.law_checks.specs.Values.{SpellsIp, SpellsNet}
 use Rattle.law_checks.specs.Fields.{AsksNumber, AsksMac, AsksMaskedMac, AsksAddress, AsksPrefix, AsksBy, Asks, FieldSays, FieldsSay, other_spellings}
-use Rattle.law_checks.proofs.Alone.{IsOne, number_one, text_one}
+use Rattle.law_checks.proofs.Alone.{IsOne, number_one, text_one, ip_one, net_one}
+use Rattle.law_checks.proofs.Texts6.{has_slash, ip6_no_slash, net6_slash}
 
 -- ---- Ethernet addresses
 
@@ -68,11 +74,7 @@ mac_field_one id t a b (inl h) (inr k) = absurd (not_both id t a b h k)
 mac_field_one id t a b (inr h) (inl k) = absurd (not_both id t b a k h)
 mac_field_one id t a b (inr h) (inr k) = masked_one id t a b h k
 
--- ---- IPv4
-
--- the text has a slash
-abbrev has_slash : List ℕ → Bool
-has_slash text = list_any (λ c. c == 47) text
+-- ---- IP
 
 digit_no_slash : (d : ℕ) → (48 + d == 47) ≡ false
 digit_no_slash d = ne_eqb (48 + d) 47 (λ e. omega (arith, e))
@@ -98,23 +100,35 @@ address_no_slash ip =
 network_slash : (ip len : ℕ) → has_slash (net4_text ip len) ≡ true
 network_slash ip len = list_any-append (λ c. c == 47) (ip4_text ip) (47 ∷ decimal len) ∙ or_right (has_slash (ip4_text ip)) true refl
 
-module _ (id : FieldId) (t : Tree) (a b : Option Field) where
-  not_both_ips : AsksAddress id t a → AsksPrefix id t b → ⊥
-  not_both_ips h k = let same = text_one t (ip4_text h.ip) (net4_text k.ip k.len) h.is k.is in true≢false (sym (network_slash k.ip k.len) ∙ ap has_slash (sym same) ∙ address_no_slash h.ip)
+ip_no_slash : (text : List ℕ) (ip : Ip) → SpellsIp text ip → has_slash text ≡ false
+ip_no_slash text (ip.V4 a) s = ap has_slash s.0 ∙ address_no_slash a.0
+ip_no_slash text (ip.V6 a) s = ip6_no_slash text a.0 s
 
-  addresses_one : AsksAddress id t a → AsksAddress id t b → a ≡ b
-  addresses_one h k = let ip = same_ip4 h.ip k.ip h.below k.below (text_one t (ip4_text h.ip) (ip4_text k.ip) h.is k.is) in h.field ∙ ap (λ ip. Some (exact id ip)) ip ∙ sym k.field
+net_slash : (text : List ℕ) (net : Net) → SpellsNet text net → has_slash text ≡ true
+net_slash text (net.V4 n) s = ap has_slash s.0 ∙ network_slash n.ip.0 n.len
+net_slash text (net.V6 n) s = net6_slash text n.ip.0 n.len s
 
-  prefixes_one : AsksPrefix id t a → AsksPrefix id t b → a ≡ b
+module _ (width : ℕ) (id : FieldId) (t : Tree) (a b : Option Field) where
+  not_both_ips : AsksAddress width id t a → AsksPrefix width id t b → ⊥
+  not_both_ips h k = let same = text_one t h.text k.text h.is k.is in true≢false (sym (net_slash k.text k.net k.spelled) ∙ ap has_slash (sym same) ∙ ip_no_slash h.text h.ip h.spelled)
+
+  addresses_one : AsksAddress width id t a → AsksAddress width id t b → a ≡ b
+  addresses_one h k =
+      let same = text_one t h.text k.text h.is k.is in
+      let ip = ip_one h.text h.ip k.ip (h.family ∙ sym k.family) h.spelled (subst (λ text. SpellsIp text k.ip) (sym same) k.spelled) in
+      h.field ∙ ap (λ (ip : Ip). Some (exact id (ip_value ip))) ip ∙ sym k.field
+
+  prefixes_one : AsksPrefix width id t a → AsksPrefix width id t b → a ≡ b
   prefixes_one h k =
-      let same = same_net4 h.ip h.len k.ip k.len h.below h.short k.below k.short (text_one t (net4_text h.ip h.len) (net4_text k.ip k.len) h.is k.is) in
-      h.field ∙ ap₂ (λ (ip len : ℕ). if len == 0 then None else Some (prefix id ip len)) same.0 same.1 ∙ sym k.field
+      let same = text_one t h.text k.text h.is k.is in
+      let net = net_one h.text h.net k.net (h.family ∙ sym k.family) h.spelled (subst (λ text. SpellsNet text k.net) (sym same) k.spelled) in
+      h.field ∙ ap (λ (net : Net). if len_of net == 0 then None else Some (prefix_in width id (ip_value (address_of net)) (len_of net))) net ∙ sym k.field
 
-ip_field_one : (id : FieldId) (t : Tree) (a b : Option Field) → AsksAddress id t a ⊎ AsksPrefix id t a → AsksAddress id t b ⊎ AsksPrefix id t b → a ≡ b
-ip_field_one id t a b (inl h) (inl k) = addresses_one id t a b h k
-ip_field_one id t a b (inl h) (inr k) = absurd (not_both_ips id t a b h k)
-ip_field_one id t a b (inr h) (inl k) = absurd (not_both_ips id t b a k h)
-ip_field_one id t a b (inr h) (inr k) = prefixes_one id t a b h k
+ip_field_one : (width : ℕ) (id : FieldId) (t : Tree) (a b : Option Field) → AsksAddress width id t a ⊎ AsksPrefix width id t a → AsksAddress width id t b ⊎ AsksPrefix width id t b → a ≡ b
+ip_field_one width id t a b (inl h) (inl k) = addresses_one width id t a b h k
+ip_field_one width id t a b (inl h) (inr k) = absurd (not_both_ips width id t a b h k)
+ip_field_one width id t a b (inr h) (inl k) = absurd (not_both_ips width id t b a k h)
+ip_field_one width id t a b (inr h) (inr k) = prefixes_one width id t a b h k
 
 number_field_one : (id : FieldId) (t : Tree) (a b : Option Field) → AsksNumber id t a → AsksNumber id t b → a ≡ b
 number_field_one id t a b h k = h.2 ∙ ap (λ n. Some (exact id (tag_bit id + n))) (number_one t h.0 k.0 h.1 k.1) ∙ sym k.2
@@ -123,7 +137,8 @@ number_field_one id t a b h k = h.2 ∙ ap (λ n. Some (exact id (tag_bit id + n
 
 asked_by_one : (s : Scalar) (id : FieldId) → IsOne (AsksBy s id)
 asked_by_one MaskedMac id t a b h k = mac_field_one id t a b h k
-asked_by_one Prefix id t a b h k = ip_field_one id t a b h k
+asked_by_one (Prefix width) id t a b h k = ip_field_one width id t a b h k
+asked_by_one (Address width) id t a b h k = addresses_one width id t a b h k
 asked_by_one s id t a b h k = number_field_one id t a b h k
 
 asked_one : (id : FieldId) → IsOne (Asks id)

@@ -9,10 +9,10 @@ use Rattle.conf_shape.specs.declared.raw.OneOrList.TheVariants as several
 use Rattle.conf_shape.specs.declared.raw.RawConf.{RawConf}
 use Rattle.conf_shape.specs.declared.raw.RawRule.{RawRule}
 use Rattle.conf_shape.specs.Reads.{value_at}
-use Rattle.law_checks.specs.Values.{IsNumber, IsText, IsPermission, IsLabelOf, IsVlanOf, IsPortOf, IsMac, IsAddress, IsNetwork, Each, IsList, IsOneOrList, IsMap, AreMaps, Given, Needed}
+use Rattle.law_checks.specs.Values.{IsNumber, IsText, IsPermission, IsLabelOf, IsVlanOf, IsPortOf, IsMac, IsIdentifier, IsAddress, IsNetwork, Each, IsList, IsOneOrList, IsMap, AreMaps, Given, Needed}
 use Rattle.law_checks.specs.Fields.{asked_fields}
-use Rattle.law_checks.specs.Says.{NumberSays, NamesSay, AclNamesSay, PortFlagsSay, StackEndSays, PortSays, DropFlagsSay, PrioritySays, DpSays, RouteSays, RouteItemSays, VlanSays, OutputSays, ActionsSay, RuleSays, RuleItemSays, AclSays, RouterSays, TopSays, Says}
-use Rattle.law_checks.proofs.Alone.{IsOne, number_one, text_one, permission_one, label_one, vlan_one, port_one, mac_one, address_one, network_one, each_one, list_one, several_one, entries_one, map_one, maps_one, port_no_list, map_no_list, given_one, needed_one, some_one, numbered_one}
+use Rattle.law_checks.specs.Says.{NumberSays, NamesSay, AclNamesSay, PortFlagsSay, StackEndSays, PortSays, DropFlagsSay, PrioritySays, LldpSays, DpSays, RouteSays, RouteItemSays, VlanSays, OutputSays, ActionsSay, RuleSays, RuleItemSays, AclSays, BgpSays, RouterSays, TopSays, Says}
+use Rattle.law_checks.proofs.Alone.{IsOne, number_one, text_one, permission_one, label_one, vlan_one, port_one, mac_one, identifier_one, address_one, network_one, each_one, list_one, several_one, entries_one, map_one, maps_one, port_no_list, map_no_list, given_one, needed_one, some_one, numbered_one}
 use Rattle.law_checks.proofs.AloneFields.{fields_one}
 use Rattle.law_checks.proofs.Flags.{flag_alone}
 
@@ -85,6 +85,9 @@ drops_one pairs a b h k =
 priority_one : IsOne PrioritySays
 priority_one pairs a b h k = same pairs (codes "priority") (λ t priority. IsSomeAnd priority (IsNumber t)) (some_one IsNumber number_one) None a b h k
 
+lldp_one : IsOne LldpSays
+lldp_one pairs a b h k = same_number pairs (codes "send_interval") 5 a b h k
+
 dp_says_one : (key : Key) → IsOne (DpSays key)
 dp_says_one key pairs a b h k =
     let names = names_one key pairs a.names b.names h.names k.names in
@@ -93,9 +96,10 @@ dp_says_one key pairs a b h k =
     let timeout = same_number pairs (codes "timeout") 300 a.timeout b.timeout h.timeout k.timeout in
     let arp = same_number pairs (codes "arp_neighbor_timeout") 30 a.arp_timeout b.arp_timeout h.arp_timeout k.arp_timeout in
     let priority = same pairs (codes "stack") (IsMap PrioritySays) (map_one PrioritySays priority_one) None a.stack_priority b.stack_priority h.stack_priority k.stack_priority in
+    let lldp = same pairs (codes "lldp_beacon") (λ t lldp. IsSomeAnd lldp (IsMap LldpSays t)) (some_one (IsMap LldpSays) (map_one LldpSays lldp_one)) None a.lldp b.lldp h.lldp k.lldp in
     let drops = drops_one pairs a.drops b.drops h.drops k.drops in
     let ports = same_needed pairs (codes "interfaces") (IsMap (AreMaps PortSays)) (map_one (AreMaps PortSays) (maps_one PortSays port_says_one)) a.ports b.ports h.ports k.ports in
-    λ i. record { names = names i; id = record { 0 = id i }; hardware = hardware i; timeout = timeout i; arp_timeout = arp i; stack_priority = priority i; drops = drops i; ports = ports i }
+    λ i. record { names = names i; id = record { 0 = id i }; hardware = hardware i; timeout = timeout i; arp_timeout = arp i; stack_priority = priority i; lldp = lldp i; drops = drops i; ports = ports i }
 
 -- ---- VLANs
 
@@ -160,11 +164,20 @@ acl_says_one p a b h k =
     let rules = list_one (IsMap RuleItemSays) (map_one RuleItemSays rule_item_one) p.value a.rules b.rules h.rules k.rules in
     λ i. record { name = name i; rules = rules i }
 
+bgp_says_one : IsOne BgpSays
+bgp_says_one pairs a b h k =
+    let ours = same_needed pairs (codes "as") IsNumber number_one a.our_as b.our_as h.our_as k.our_as in
+    let theirs = same_needed pairs (codes "neighbor_as") IsNumber number_one a.neighbor_as b.neighbor_as h.neighbor_as k.neighbor_as in
+    let id = same_needed pairs (codes "routerid") IsIdentifier identifier_one a.routerid b.routerid h.routerid k.routerid in
+    let vlan = same_needed pairs (codes "vlan") (λ t. IsVlanOf (out-Tree t)) vlan_one a.vlan b.vlan h.vlan k.vlan in
+    λ i. record { our_as = ours i; neighbor_as = theirs i; routerid = id i; vlan = vlan i }
+
 router_says_one : (key : Key) → IsOne (RouterSays key)
 router_says_one key pairs a b h k =
     let name : a.name ≡ b.name = h.name ∙ sym k.name in
-    let vlans = same_needed pairs (codes "vlans") (IsList (λ item. IsVlanOf (out-Tree item))) (list_one (λ item. IsVlanOf (out-Tree item)) vlan_one) a.vlans b.vlans h.vlans k.vlans in
-    λ i. record { name = name i; vlans = vlans i }
+    let vlans = same pairs (codes "vlans") (IsList (λ item. IsVlanOf (out-Tree item))) (list_one (λ item. IsVlanOf (out-Tree item)) vlan_one) [] a.vlans b.vlans h.vlans k.vlans in
+    let bgp = same pairs (codes "bgp") (λ t bgp. IsSomeAnd bgp (IsMap BgpSays t)) (some_one (IsMap BgpSays) (map_one BgpSays bgp_says_one)) None a.bgp b.bgp h.bgp k.bgp in
+    λ i. record { name = name i; vlans = vlans i; bgp = bgp i }
 
 -- ---- the whole
 

@@ -4,17 +4,20 @@ use Rattle.std.specs.Prelude.{IfSome, MatchOption, ◌==◌, if◌then◌else◌
 use Rattle.std.specs.List.{AllByRecursion}
 use Rattle.std.specs.Option.{option_map}
 use Rattle.net_base.specs.declared.field.FieldId.{FieldId}
-use Rattle.net_base.specs.Field.{exact}
-use Rattle.net_base.specs.AddressReading.{◌>>=◌, spelled_mac, ip4_of, net4_of, cut_at}
-use Rattle.net_base.proofs.Addresses.{mac_ok, ip4_ok, net4_ok}
+use Rattle.net_base.specs.Field.{exact, prefix_in}
+use Rattle.net_base.specs.AddressReading.{◌>>=◌, spelled_mac, cut_at}
+use Rattle.net_base.proofs.Addresses.{mac_ok}
 use Rattle.yaml_tree.specs.declared.tree.Pair.{Pair}
 use Rattle.yaml_tree.specs.declared.tree.Tree.{Tree}
 use Rattle.yaml_tree.specs.declared.tree.Tree.TheOpen as tree
+use Rattle.conf_types.specs.declared.address.Ip.{Ip}
+use Rattle.conf_types.specs.declared.address.Net.{Net}
+use Rattle.conf_types.specs.Families.{ip_value, width_of, address_of, len_of}
 use Rattle.conf_shape.specs.declared.kinds.Kind.TheVariants.{One}
-use Rattle.conf_shape.specs.declared.kinds.Scalar.TheVariants.{Number, MaskedMac, Prefix}
+use Rattle.conf_shape.specs.declared.kinds.Scalar.TheVariants.{Number, MaskedMac, Prefix, Address}
 use Rattle.conf_shape.specs.declared.kinds.MapKind.TheVariants as maps
 use Rattle.conf_shape.specs.declared.raw.RawField.{RawField}
-use Rattle.conf_shape.specs.Addresses.{mac_fault, masked_fault, masked_parts, other_cause, network_fault, address_or}
+use Rattle.conf_shape.specs.Addresses.{mac_fault, masked_fault, masked_parts, ip_in, net_in, other_cause, network_fault, address_or}
 use Rattle.conf_shape.specs.Keys.{keys_of, match_keys}
 use Rattle.conf_shape.specs.Faults.{faults_of}
 use Rattle.conf_shape.specs.Scalars.{within, asked_scalar}
@@ -23,7 +26,8 @@ use Rattle.conf_shape.specs.Written.{IsRight}
 use Rattle.law_checks.specs.Values.{IsText}
 use Rattle.law_checks.specs.Fields.{AsksNumber, AsksMac, AsksMaskedMac, AsksAddress, AsksPrefix, AsksBy, Asks, FieldSays, FieldsSay}
 use Rattle.law_checks.proofs.Values.{within_again, number_right, text_right}
-use Rattle.law_checks.proofs.AskedForms.{scalar_right, HasForm, IsKey, every_key}
+use Rattle.law_checks.proofs.AskedForms.{scalar_right, IsWidth, HasForm, IsKey, every_key}
+use Rattle.law_checks.proofs.Addresses.{ip_ok, net_ok}
 use Rattle.law_checks.proofs.Fields.{spelled_right}
 
 -- ---- values
@@ -62,15 +66,32 @@ module _ (id : FieldId) where
       by text is None e f = inl (alone text is (spelled_mac text) refl f)
       by text is (Some parts) e f = inr (two parts.0 parts.1 (is ∙ ap tree.Text (cut_there 47 text parts e)) (spelled_mac parts.0) (spelled_mac parts.1) refl refl f)
 
-  ip_asks : ((text : List ℕ) → text_field id text ≡ ip_field id (ip4_of text) (net4_of text)) → (t : Tree) → faults_of t (One Prefix) ≡ [] → AsksAddress id t (field_of id t) ⊎ AsksPrefix id t (field_of id t)
-  ip_asks by_ip t h =
-      let r = text_right Prefix (record { no_flag = refl; no_number = λ n. refl }) t h in
-      subst (λ asked. AsksAddress id t asked ⊎ AsksPrefix id t asked) (sym (ap (field_in id) r.1 ∙ by_ip r.0)) (by r.0 r.1 (ip4_of r.0) (net4_of r.0) refl refl r.2)
-    where
-      by : (text : List ℕ) → IsText t text → (ip : Option ℕ) (net : Option (ℕ × ℕ)) → ip4_of text ≡ ip → net4_of text ≡ net → address_or (network_fault (other_cause text) net) ip ≡ None → AsksAddress id t (ip_field id ip net) ⊎ AsksPrefix id t (ip_field id ip net)
-      by text is (Some ip) net i n f = let ok = ip4_ok text ip i in inl (record { ip = ip; below = ok.1; is = is ∙ ap tree.Text ok.0; field = refl })
-      by text is None (Some net) i n f = let ok = net4_ok text net n in inr (record { ip = net.0; len = net.1; below = ok.1; short = ok.2; is = is ∙ ap tree.Text ok.0; field = refl })
-      by text is None None i n f = absurd cc
+  module _ (width : ℕ) (known : IsWidth width) where
+    address_there : (t : Tree) (text : List ℕ) (ip : Ip) → IsText t text → ip_in width text ≡ Some ip → AsksAddress width id t (Some (exact id (ip_value ip)))
+    address_there t text ip is i = let ok = ip_ok width text ip i in record { text = text; ip = ip; is = is; family = ok.family ∙ known; spelled = ok.spelled; field = refl }
+
+    ip_asks : ((text : List ℕ) → text_field id text ≡ ip_field id (ip_in width text) (net_in width text)) → (t : Tree) → faults_of t (One (Prefix width)) ≡ [] → AsksAddress width id t (field_of id t) ⊎ AsksPrefix width id t (field_of id t)
+    ip_asks by_ip t h =
+        let r = text_right (Prefix width) (record { no_flag = refl; no_number = λ n. refl }) t h in
+        subst (λ asked. AsksAddress width id t asked ⊎ AsksPrefix width id t asked) (sym (ap (field_in id) r.1 ∙ by_ip r.0)) (by r.0 r.1 (ip_in width r.0) (net_in width r.0) refl refl r.2)
+      where
+        by : (text : List ℕ) → IsText t text → (ip : Option Ip) (net : Option Net) → ip_in width text ≡ ip → net_in width text ≡ net → address_or (network_fault (other_cause width text) net) ip ≡ None
+            → AsksAddress width id t (ip_field id ip net) ⊎ AsksPrefix width id t (ip_field id ip net)
+        by text is (Some ip) net i n f = inl (address_there t text ip is i)
+        by text is None (Some net) i n f =
+            let ok = net_ok width text net n in
+            let family : width_of (address_of net) ≡ width = ok.family ∙ known in
+            inr (record { text = text; net = net; is = is; family = family; spelled = ok.spelled; field = ap (λ (w : ℕ). if len_of net == 0 then None else Some (prefix_in w id (ip_value (address_of net)) (len_of net))) family })
+        by text is None None i n f = absurd cc
+
+    address_asks : ((text : List ℕ) → text_field id text ≡ ip_field id (ip_in width text) (net_in width text)) → (t : Tree) → faults_of t (One (Address width)) ≡ [] → AsksAddress width id t (field_of id t)
+    address_asks by_ip t h =
+        let r = text_right (Address width) (record { no_flag = refl; no_number = λ n. refl }) t h in
+        subst (AsksAddress width id t) (sym (ap (field_in id) r.1 ∙ by_ip r.0)) (by r.0 r.1 (ip_in width r.0) refl r.2)
+      where
+        by : (text : List ℕ) → IsText t text → (ip : Option Ip) → ip_in width text ≡ ip → address_or (Some BadText) ip ≡ None → AsksAddress width id t (ip_field id ip (net_in width text))
+        by text is (Some ip) i f = address_there t text ip is i
+        by text is None i f = absurd cc
 
 -- ---- keys
 
@@ -93,8 +114,10 @@ value_asks : (id : FieldId) → HasForm id → (t : Tree) → faults_of t (One (
 value_asks id (inl mac) t h =
     subst (λ s. AsksBy s id t (field_of id t)) (sym mac.scalar) (mac_asks id mac.reads t (subst (λ s. faults_of t (One s) ≡ []) mac.scalar h))
 value_asks id (inr (inl ip)) t h =
-    subst (λ s. AsksBy s id t (field_of id t)) (sym ip.scalar) (ip_asks id ip.reads t (subst (λ s. faults_of t (One s) ≡ []) ip.scalar h))
-value_asks id (inr (inr number)) t h =
+    subst (λ s. AsksBy s id t (field_of id t)) (sym ip.scalar) (ip_asks id ip.width ip.known ip.reads t (subst (λ s. faults_of t (One s) ≡ []) ip.scalar h))
+value_asks id (inr (inr (inl ip))) t h =
+    subst (λ s. AsksBy s id t (field_of id t)) (sym ip.scalar) (address_asks id ip.width ip.known ip.reads t (subst (λ s. faults_of t (One s) ≡ []) ip.scalar h))
+value_asks id (inr (inr (inr number))) t h =
     subst (λ s. AsksBy s id t (field_of id t)) (sym number.scalar) (number_asks id number.low number.high number.small t (subst (λ s. faults_of t (One s) ≡ []) number.scalar h))
 
 module _ (pairs : List Pair) (right : IsRight maps.Rule pairs) where

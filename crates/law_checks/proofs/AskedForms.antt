@@ -1,5 +1,5 @@
--- How a match key's value asks for its field: by an Ethernet address, by one of IPv4, or by a number.
-use Rattle.std.proofs.Common.{◌≡◌, ℕ, ◌-◌, ◌*◌, ◌^◌, ◌≤◌, ◌==◌, ◌&&◌, ◌||◌, not, Bool, true, false, List, [], ◌∷◌, Option, Some, None, refl, sym, ap, ◌∙◌, inl, inr, ◌⊎◌, subst, arith, eqb-true}
+-- How a match key's value asks for its field: by an Ethernet address, by one of IP, or by a number.
+use Rattle.std.proofs.Common.{◌≡◌, ℕ, ◌-◌, ◌*◌, ◌^◌, ◌<◌, ◌≤◌, ◌==◌, ◌&&◌, ◌||◌, not, Bool, true, false, List, [], ◌∷◌, Option, Some, None, refl, sym, ap, ◌∙◌, inl, inr, ◌⊎◌, subst, arith, eqb-true}
 use Rattle.std.specs.Prelude.{nat_le, if◌then◌else◌}
 use Rattle.std.specs.List.{AllByRecursion, list_all}
 use Rattle.std.proofs.Math.Nat.{pow-le-pow_right}
@@ -7,7 +7,7 @@ use Rattle.std.proofs.lemmas.Bool.{and_parts, or_cases, not-true, leb-true, lt-l
 use Rattle.net_base.specs.declared.field.Field.{Field}
 use Rattle.net_base.specs.declared.field.FieldId.{FieldId}
 use Rattle.net_base.specs.declared.field.FieldId.TheVariants.{InPort, VlanVid}
-use Rattle.net_base.specs.AddressReading.{ip4_of, net4_of}
+use Rattle.net_base.specs.Field.{exact}
 use Rattle.net_base.specs.FieldId.{number_of, bits_of, byte_len_of, may_be_masked, all_ones}
 use Rattle.net_base.proofs.Rows.{same_field}
 use Rattle.yaml_tree.specs.declared.tree.Pair.{Pair}
@@ -15,12 +15,13 @@ use Rattle.yaml_tree.specs.declared.tree.Tree.{Tree, roll-Tree, out-Tree, roll-o
 use Rattle.yaml_tree.specs.declared.tree.Tree.TheOpen.{Tree-F}
 use Rattle.yaml_tree.specs.declared.tree.Tree.TheOpen as tree
 use Rattle.yaml_tree.specs.declared.tree.Tree.TheFolds.{fold-roll-Tree}
-use Rattle.conf_types.specs.RuleFields.{IsMasked, IsPrefix, MayAskBits, MayAsk}
+use Rattle.conf_types.specs.RuleFields.{IsMasked, IsPrefix, IsAddress, MayAskBits, MayAsk}
 use Rattle.conf_shape.specs.declared.kinds.TheConstants.{MOST_VID}
 use Rattle.conf_shape.specs.declared.kinds.Kind.{Kind}
 use Rattle.conf_shape.specs.declared.kinds.Kind.TheVariants.{One, Asked}
-use Rattle.conf_shape.specs.declared.kinds.Scalar.TheVariants.{Number, MaskedMac, Prefix}
+use Rattle.conf_shape.specs.declared.kinds.Scalar.TheVariants.{Number, MaskedMac, Prefix, Address}
 use Rattle.conf_shape.specs.declared.kinds.MapKind.TheVariants as maps
+use Rattle.conf_shape.specs.Addresses.{ip_in, net_in}
 use Rattle.conf_shape.specs.Keys.{KeyRow, keys_of, match_keys}
 use Rattle.conf_shape.specs.Sections.{row_at}
 use Rattle.conf_shape.specs.Faults.{Faults, Entry, tree_step, pair_step, faults_of}
@@ -44,11 +45,26 @@ pub record IsMacField (id : FieldId) : Type 0 where
   pub reads : (text : List ℕ) → text_field id text ≡ mac_field id text
   pub may : (field : Field) → IsMasked 48 field → MayAsk id field
 
+-- the width is that of a family
+abbrev pub IsWidth : ℕ → Type 0
+IsWidth width = (if width == 128 then 128 else 32) ≡ width
+
 pub record IsIpField (id : FieldId) : Type 0 where
-  pub scalar : asked_scalar id ≡ Prefix
-  pub whole : all_ones id ≡ 2 ^ 32 - 1
-  pub reads : (text : List ℕ) → text_field id text ≡ ip_field id (ip4_of text) (net4_of text)
-  pub may : (field : Field) → IsPrefix 32 field → MayAsk id field
+  pub width : ℕ
+  pub known : IsWidth width
+  pub some : 0 < width
+  pub scalar : asked_scalar id ≡ Prefix width
+  pub whole : all_ones id ≡ 2 ^ width - 1
+  pub reads : (text : List ℕ) → text_field id text ≡ ip_field id (ip_in width text) (net_in width text)
+  pub may : (field : Field) → IsPrefix width field → MayAsk id field
+
+-- of which no bits may be left out
+pub record IsAddressField (id : FieldId) : Type 0 where
+  pub width : ℕ
+  pub known : IsWidth width
+  pub scalar : asked_scalar id ≡ Address width
+  pub reads : (text : List ℕ) → text_field id text ≡ ip_field id (ip_in width text) (net_in width text)
+  pub may : (n : ℕ) → n < 2 ^ width → MayAsk id (exact id n)
 
 pub record IsNumberField (id : FieldId) : Type 0 where
   pub low : ℕ
@@ -58,19 +74,25 @@ pub record IsNumberField (id : FieldId) : Type 0 where
   pub may : (n : ℕ) → low ≤ n → n ≤ high → MayAsk id (number_field id n)
 
 abbrev pub HasForm : FieldId → Type 0
-HasForm id = IsMacField id ⊎ (IsIpField id ⊎ IsNumberField id)
+HasForm id = IsMacField id ⊎ (IsIpField id ⊎ (IsAddressField id ⊎ IsNumberField id))
 
 abbrev is_mac : FieldId → Bool
 is_mac id = may_be_masked id && (bits_of id == 48 && byte_len_of id == 6)
 
+abbrev has_size : FieldId → ℕ → ℕ → Bool
+has_size id bits bytes = bits_of id == bits && byte_len_of id == bytes
+
 abbrev is_ip : FieldId → Bool
-is_ip id = may_be_masked id && (bits_of id == 32 && byte_len_of id == 4)
+is_ip id = may_be_masked id && (has_size id 32 4 || has_size id 128 16)
+
+abbrev is_address : FieldId → Bool
+is_address id = not (may_be_masked id) && has_size id 128 16
 
 abbrev is_number : FieldId → Bool
 is_number id = not (may_be_masked id) && nat_le (bits_of id) 16
 
 abbrev is_askable : FieldId → Bool
-is_askable id = not (number_of id == 0) && ((number_of id == 6) || (is_mac id || (is_ip id || is_number id)))
+is_askable id = not (number_of id == 0) && ((number_of id == 6) || (is_mac id || (is_ip id || (is_address id || is_number id))))
 
 by_row : (id : FieldId) → (number_of id == 0) ≡ false → (number_of id == 6) ≡ false → (asked_scalar id ≡ bits_scalar (bits_of id) (may_be_masked id)) × (tag_bit id ≡ 0) × ((field : Field) → MayAskBits (bits_of id) (may_be_masked id) field → MayAsk id field)
 by_row InPort port tag = absurd cc
@@ -91,22 +113,47 @@ module _ (id : FieldId) (port : (number_of id == 0) ≡ false) (tag : (number_of
       record {
         scalar = row.0 ∙ (λ i. bits_scalar (bits i) (masked.0 i));
         whole = ap (λ n. 2 ^ (8 * n) - 1) bytes;
-        reads = λ text. ap (λ n. if n == 48 then mac_field id text else ip_field id (ip4_of text) (net4_of text)) bits;
+        reads = λ text. ap (λ n. if n == 48 then mac_field id text else ip_field id (ip_in n text) (net_in n text)) bits;
         may = λ field h. row.2 field (subst (λ may. MayAskBits (bits_of id) may field) (sym masked.0) (subst (λ n. MayAskBits n true field) (sym bits) h));
+      }
+
+  sized_form : (width bytes : ℕ) → IsWidth width → 0 < width → (width == 48) ≡ false → 8 * bytes ≡ width → may_be_masked id ≡ true → has_size id width bytes ≡ true → IsIpField id
+  sized_form width bytes known some other eight masked is =
+      let row = by_row id port tag in
+      let sizes = and_parts (bits_of id == width) (byte_len_of id == bytes) is in
+      let bits = eqb-true (bits_of id) width sizes.0 in
+      let len = eqb-true (byte_len_of id) bytes sizes.1 in
+      record {
+        width = width;
+        known = known;
+        some = some;
+        scalar = row.0 ∙ (λ i. bits_scalar (bits i) (masked i)) ∙ ap (λ b. if b then MaskedMac else Prefix width) other;
+        whole = ap (λ n. 2 ^ (8 * n) - 1) len ∙ ap (λ n. 2 ^ n - 1) eight;
+        reads = λ text. ap (λ n. if n == 48 then mac_field id text else ip_field id (ip_in n text) (net_in n text)) bits
+            ∙ ap (λ b. if b then mac_field id text else ip_field id (ip_in width text) (net_in width text)) other;
+        may = λ field h. row.2 field (subst (λ may. MayAskBits (bits_of id) may field) (sym masked) (subst (λ n. MayAskBits n true field) (sym bits) (subst (λ b. IsAddress b width field) (sym other) h)));
       }
 
   ip_form : is_ip id ≡ true → IsIpField id
   ip_form is =
+      let parts = and_parts (may_be_masked id) (has_size id 32 4 || has_size id 128 16) is in
+      elim (or_cases (has_size id 32 4) (has_size id 128 16) parts.1) [
+        | inl four ↦ sized_form 32 4 refl (omega arith) refl refl parts.0 four
+        | inr six ↦ sized_form 128 16 refl (omega arith) refl refl parts.0 six
+      ]
+
+  address_form : is_address id ≡ true → IsAddressField id
+  address_form is =
       let row = by_row id port tag in
-      let masked = and_parts (may_be_masked id) (bits_of id == 32 && byte_len_of id == 4) is in
-      let sizes = and_parts (bits_of id == 32) (byte_len_of id == 4) masked.1 in
-      let bits = eqb-true (bits_of id) 32 sizes.0 in
-      let bytes = eqb-true (byte_len_of id) 4 sizes.1 in
+      let parts = and_parts (not (may_be_masked id)) (has_size id 128 16) is in
+      let unmasked : may_be_masked id ≡ false = not-true (may_be_masked id) parts.0 in
+      let bits = eqb-true (bits_of id) 128 (and_parts (bits_of id == 128) (byte_len_of id == 16) parts.1).0 in
       record {
-        scalar = row.0 ∙ (λ i. bits_scalar (bits i) (masked.0 i));
-        whole = ap (λ n. 2 ^ (8 * n) - 1) bytes;
-        reads = λ text. ap (λ n. if n == 48 then mac_field id text else ip_field id (ip4_of text) (net4_of text)) bits;
-        may = λ field h. row.2 field (subst (λ may. MayAskBits (bits_of id) may field) (sym masked.0) (subst (λ n. MayAskBits n true field) (sym bits) h));
+        width = 128;
+        known = refl;
+        scalar = row.0 ∙ (λ i. bits_scalar (bits i) (unmasked i));
+        reads = λ text. ap (λ n. if n == 48 then mac_field id text else ip_field id (ip_in n text) (net_in n text)) bits;
+        may = λ n below. row.2 (exact id n) (subst (λ may. MayAskBits (bits_of id) may (exact id n)) (sym unmasked) (subst (λ m. MayAskBits m false (exact id n)) (sym bits) (record { from = omega arith; to = omega (arith, below); whole = refl })));
       }
 
   number_form : is_number id ≡ true → IsNumberField id
@@ -118,7 +165,7 @@ module _ (id : FieldId) (port : (number_of id == 0) ≡ false) (tag : (number_of
       record {
         low = 0;
         high = 2 ^ bits_of id - 1;
-        scalar = row.0 ∙ ap (bits_scalar (bits_of id)) unmasked ∙ ap (λ b. if b then Number 0 (2 ^ bits_of id - 1) else Prefix) (lt-ltb (bits_of id) 64 (omega (arith, leb-true (bits_of id) 16 parts.1)));
+        scalar = row.0 ∙ ap (bits_scalar (bits_of id)) unmasked ∙ ap (λ b. if b then Number 0 (2 ^ bits_of id - 1) else Address (bits_of id)) (lt-ltb (bits_of id) 64 (omega (arith, leb-true (bits_of id) 16 parts.1)));
         small = omega (arith, few);
         may = λ n least most. row.2 (number_field id n) (subst (λ may. MayAskBits (bits_of id) may (number_field id n)) (sym unmasked)
             (let bit = row.1 in record { from = omega arith; to = omega (arith, most, bit); whole = refl }));
@@ -126,19 +173,23 @@ module _ (id : FieldId) (port : (number_of id == 0) ≡ false) (tag : (number_of
 
 has_form : (id : FieldId) → is_askable id ≡ true → HasForm id
 has_form id is =
-    let parts = and_parts (not (number_of id == 0)) ((number_of id == 6) || (is_mac id || (is_ip id || is_number id))) is in
+    let parts = and_parts (not (number_of id == 0)) ((number_of id == 6) || (is_mac id || (is_ip id || (is_address id || is_number id)))) is in
     by (not-true (number_of id == 0) parts.0) (number_of id == 6) refl parts.1
   where
-    among : (number_of id == 0) ≡ false → (number_of id == 6) ≡ false → (is_mac id ≡ true) ⊎ ((is_ip id || is_number id) ≡ true) → HasForm id
+    unmasked : (number_of id == 0) ≡ false → (number_of id == 6) ≡ false → (is_address id ≡ true) ⊎ (is_number id ≡ true) → HasForm id
+    unmasked port tag (inl address) = inr (inr (inl (address_form id port tag address)))
+    unmasked port tag (inr number) = inr (inr (inr (number_form id port tag number)))
+
+    among : (number_of id == 0) ≡ false → (number_of id == 6) ≡ false → (is_mac id ≡ true) ⊎ ((is_ip id || (is_address id || is_number id)) ≡ true) → HasForm id
     among port tag (inl mac) = inl (mac_form id port tag mac)
-    among port tag (inr more) = elim (or_cases (is_ip id) (is_number id) more) [
+    among port tag (inr more) = elim (or_cases (is_ip id) (is_address id || is_number id) more) [
       | inl ip ↦ inr (inl (ip_form id port tag ip))
-      | inr number ↦ inr (inr (number_form id port tag number))
+      | inr rest ↦ unmasked port tag (or_cases (is_address id) (is_number id) rest)
     ]
 
-    by : (number_of id == 0) ≡ false → (b : Bool) → (number_of id == 6) ≡ b → (b || (is_mac id || (is_ip id || is_number id))) ≡ true → HasForm id
-    by port true tag able = subst HasForm (sym (same_field id VlanVid (eqb-true (number_of id) 6 tag))) (inr (inr vlan_form))
-    by port false tag able = among port tag (or_cases (is_mac id) (is_ip id || is_number id) able)
+    by : (number_of id == 0) ≡ false → (b : Bool) → (number_of id == 6) ≡ b → (b || (is_mac id || (is_ip id || (is_address id || is_number id)))) ≡ true → HasForm id
+    by port true tag able = subst HasForm (sym (same_field id VlanVid (eqb-true (number_of id) 6 tag))) (inr (inr (inr vlan_form)))
+    by port false tag able = among port tag (or_cases (is_mac id) (is_ip id || (is_address id || is_number id)) able)
 
 -- ---- the match keys
 

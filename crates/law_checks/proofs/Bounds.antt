@@ -75,6 +75,12 @@ module _ (m : MapKind) (name : List ℕ) where
 pub dp_id_range : HasRange 64 maps.Datapath (codes "dp_id")
 dp_id_range = has_range maps.Datapath (codes "dp_id") 64 refl
 
+pub our_as_range : HasRange 16 maps.Bgp (codes "as")
+our_as_range = has_range maps.Bgp (codes "as") 16 refl
+
+pub neighbor_as_range : HasRange 16 maps.Bgp (codes "neighbor_as")
+neighbor_as_range = has_range maps.Bgp (codes "neighbor_as") 16 refl
+
 pub priority_range : HasRange 32 maps.DatapathStack (codes "priority")
 priority_range = has_range maps.DatapathStack (codes "priority") 32 refl
 
@@ -93,3 +99,7 @@ port_hosts_default = has_default (maps.Interface None) (codes "max_hosts") refl 
 pub vlan_hosts_default : HasDefault (maps.Vlan None) (codes "max_hosts")
 unfolding default_of
 vlan_hosts_default = has_default (maps.Vlan None) (codes "max_hosts") refl refl
+
+pub send_interval_default : HasDefault maps.LldpBeacon (codes "send_interval")
+unfolding default_of
+send_interval_default = has_default maps.LldpBeacon (codes "send_interval") refl refl

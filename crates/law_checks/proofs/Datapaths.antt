@@ -170,6 +170,7 @@ module _ (raw : RawConf) (range : IsInRange raw) where
       timeout = r.timeout;
       arp_timeout = r.arp_timeout;
       stack_priority = r.stack_priority;
+      lldp = r.lldp;
       ports = all_mapped (IsPort conf) (port_of (ordered raw) d) d.ports (all_by _ d.ports (λ p cp. port_valid d cd p cp));
       in_order = before_mapped (λ (p q : Port). p.no < q.no) (port_of (ordered raw) d) d.ports (ports_rise d cd);
       port_names = port_names_differ (ordered raw) d (none_at repeated_ports_of (dps_in_order raw) whole.ports_differ d cd);

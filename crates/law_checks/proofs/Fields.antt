@@ -10,33 +10,35 @@ use Rattle.std.proofs.lemmas.Nat.{and_mask}
 use Rattle.net_base.specs.declared.field.Field.{Field}
 use Rattle.net_base.specs.declared.field.FieldId.{FieldId}
 use Rattle.net_base.specs.Address.{mac_value}
-use Rattle.net_base.specs.AddressReading.{spelled_mac, ip4_of, net4_of, cut_at}
-use Rattle.net_base.specs.Field.{exact, prefix}
+use Rattle.net_base.specs.AddressReading.{spelled_mac, cut_at}
+use Rattle.net_base.specs.Field.{exact, prefix_in}
 use Rattle.net_base.specs.FieldId as ids
-use Rattle.net_base.proofs.Addresses.{ip4_ok, net4_ok}
 use Rattle.net_base.proofs.Macs.{mac_below}
 use Rattle.yaml_tree.specs.declared.tree.Tree.{Tree}
 use Rattle.yaml_tree.specs.declared.tree.Key.{Key}
 use Rattle.yaml_tree.specs.declared.tree.Key.TheVariants as key
 use Rattle.yaml_tree.specs.declared.tree.Pair.{Pair}
+use Rattle.conf_types.specs.declared.address.Ip.{Ip}
+use Rattle.conf_types.specs.declared.address.Net.{Net}
+use Rattle.conf_types.specs.Families.{ip_value, width_of, address_of, len_of, host_bits}
 use Rattle.conf_types.specs.Lists.{EachBefore, is_among}
 use Rattle.conf_types.specs.RuleFields.{IsMasked, IsPrefix, MayAsk}
 use Rattle.conf_shape.specs.declared.refused.ConfCause.TheVariants.{LeftOut, Duplicate, BadText}
 use Rattle.conf_shape.specs.declared.kinds.Kind.TheVariants.{One}
-use Rattle.conf_shape.specs.declared.kinds.Scalar.TheVariants.{Number, MaskedMac, Prefix}
+use Rattle.conf_shape.specs.declared.kinds.Scalar.TheVariants.{Number, MaskedMac, Prefix, Address}
 use Rattle.conf_shape.specs.declared.kinds.MapKind.TheVariants as maps
 use Rattle.conf_shape.specs.declared.raw.RawField.{RawField}
-use Rattle.conf_shape.specs.Addresses.{is_masked, mac_fault, masked_fault, masked_parts, other_cause, has_no_host_bits, network_fault, address_or, prefix_cause}
+use Rattle.conf_shape.specs.Addresses.{is_masked, mac_fault, masked_fault, masked_parts, ip_in, net_in, other_cause, has_no_host_bits, network_fault, address_or, prefix_cause, address_cause}
 use Rattle.conf_shape.specs.Keys.{KeyRow, Keys, keys_of, match_keys}
 use Rattle.conf_shape.specs.Sections.{key_text, canonical, row_at, spells, row_kind, text_kind, under_key}
 use Rattle.conf_shape.specs.Faults.{faults_of, entry_of, map_faults}
 use Rattle.conf_shape.specs.Scalars.{within, asked_scalar}
-use Rattle.conf_shape.specs.Values.{number_field, mac_number, masked, mac_parts, mac_field, ip_field, text_field, field_in, field_of, spelled_at, raw_field_or, raw_field, ahead, fields_by}
+use Rattle.conf_shape.specs.Values.{number_field, mac_number, masked, mac_parts, mac_field, prefix_of, ip_field, text_field, field_in, field_of, spelled_at, raw_field_or, raw_field, ahead, fields_by}
 use Rattle.conf_shape.specs.Written.{IsRight}
-use Rattle.law_checks.proofs.AskedForms.{scalar_right, HasForm, IsKey, every_key}
+use Rattle.law_checks.proofs.AskedForms.{scalar_right, IsWidth, HasForm, IsKey, every_key}
 use Rattle.law_checks.proofs.Right.{HasKind, entry_right}
 use Rattle.law_checks.proofs.Values.{within_again, number_right, text_right}
-use Rattle.law_checks.proofs.Addresses.{spelled_six, masked_value}
+use Rattle.law_checks.proofs.Addresses.{spelled_six, masked_value, ip_ok, net_ok}
 
 -- ---- what a field asks
 
@@ -94,35 +96,60 @@ module _ (id : FieldId) (whole : ids.all_ones id ≡ 2 ^ 48 - 1) (may : (field :
       let here : IfSome (mac_field id r.0) (IsAsked id) = mac_parts_asked r.0 (cut_at 47 r.0) r.2 in
       subst (λ x. IfSome (field_in id x) (IsAsked id)) (sym r.1) (subst (λ o. IfSome o (IsAsked id)) (sym (by_mac r.0)) here)
 
--- ---- IPv4
+-- ---- IP
 
-module _ (id : FieldId) (whole : ids.all_ones id ≡ 2 ^ 32 - 1) (may : (field : Field) → IsPrefix 32 field → MayAsk id field) where
-  ip_asked : (ip : ℕ) → ip < 2 ^ 32 → IsAsked id (exact id ip)
-  ip_asked ip below = record { is = refl; may = may (exact id ip) (record { host_bits = 0; long = omega arith; mask = whole; most = below; zeros = omega arith }) }
+module _ (id : FieldId) (width : ℕ) (known : IsWidth width) where
+  module _ (some : 0 < width) (whole : ids.all_ones id ≡ 2 ^ width - 1) (may : (field : Field) → IsPrefix width field → MayAsk id field) where
+    ip_asked : (n : ℕ) → n < 2 ^ width → IsAsked id (exact id n)
+    ip_asked n below = record { is = refl; may = may (exact id n) (record { host_bits = 0; long = some; mask = whole; most = below; zeros = omega arith }) }
 
-  net_asked : (ip len : ℕ) → ip < 2 ^ 32 → len ≤ 32 → ip % 2 ^ (32 - len) ≡ 0 → (len ≡ 0 → ⊥) → IsAsked id (prefix id ip len)
-  net_asked ip len below short zeros some =
-      let parts = div-add-mod' ip (2 ^ (32 - len)) in
-      let same : ip / 2 ^ (32 - len) * 2 ^ (32 - len) ≡ ip = omega (arith, parts, zeros) in
-      record { is = refl; may = may (prefix id ip len) (record { host_bits = 32 - len; long = omega (arith, some); mask = refl; most = omega (arith, same, below); zeros = ap (λ n. n % 2 ^ (32 - len)) same ∙ zeros }) }
+    net_asked : (n len : ℕ) → n < 2 ^ width → len ≤ width → n % 2 ^ (width - len) ≡ 0 → (len ≡ 0 → ⊥) → IsAsked id (prefix_in width id n len)
+    net_asked n len below short zeros there =
+        let parts = div-add-mod' n (2 ^ (width - len)) in
+        let same : n / 2 ^ (width - len) * 2 ^ (width - len) ≡ n = omega (arith, parts, zeros) in
+        record { is = refl; may = may (prefix_in width id n len) (record { host_bits = width - len; long = omega (arith, there, some, short); mask = refl; most = subst (λ (m : ℕ). m < 2 ^ width) (sym same) below; zeros = ap (λ n. n % 2 ^ (width - len)) same ∙ zeros }) }
 
-  prefix_asked : (text : List ℕ) → prefix_cause text ≡ None → IfSome (ip_field id (ip4_of text) (net4_of text)) (IsAsked id)
-  prefix_asked text h = by (ip4_of text) (net4_of text) refl refl h
-    where
-      by_net : (net : ℕ × ℕ) → net4_of text ≡ Some net → (bits : Bool) → has_no_host_bits net ≡ bits → (if bits then None else Some BadText) ≡ None → (all : Bool) → (net.1 == 0) ≡ all → IfSome (if all then None else Some (prefix id net.0 net.1)) (IsAsked id)
-      by_net net r bits b h true a = tt
-      by_net net r false b h false a = absurd cc
-      by_net net r true b h false a = let ok = net4_ok text net r in net_asked net.0 net.1 ok.1 ok.2 (eqb-true (net.0 % 2 ^ (32 - net.1)) 0 b) (eqb-false net.1 0 a)
+    prefix_asked : (text : List ℕ) → prefix_cause width text ≡ None → IfSome (ip_field id (ip_in width text) (net_in width text)) (IsAsked id)
+    prefix_asked text h = by (ip_in width text) (net_in width text) refl refl h
+      where
+        by_net : (net : Net) → net_in width text ≡ Some net → (bits : Bool) → has_no_host_bits net ≡ bits → (if bits then None else Some BadText) ≡ None → (all : Bool) → (len_of net == 0) ≡ all → IfSome (if all then None else Some (prefix_of id net)) (IsAsked id)
+        by_net net r bits b h true a = tt
+        by_net net r false b h false a = absurd cc
+        by_net net r true b h false a =
+            let ok = net_ok width text net r in
+            let n = ip_value (address_of net) in
+            let len = len_of net in
+            let family : width_of (address_of net) ≡ width = ok.family ∙ known in
+            let zeros : n % 2 ^ (width - len) ≡ 0 = subst (λ (w : ℕ). n % 2 ^ (w - len) ≡ 0) family (eqb-true (n % 2 ^ host_bits net) 0 b) in
+            let asked : IsAsked id (prefix_in width id n len) = net_asked n len (subst (λ (w : ℕ). n < 2 ^ w) family ok.fits) (subst (λ (w : ℕ). len ≤ w) family ok.short) zeros (eqb-false len 0 a) in
+            subst (λ (w : ℕ). IsAsked id (prefix_in w id n len)) (sym family) asked
 
-      by : (ip : Option ℕ) (net : Option (ℕ × ℕ)) → ip4_of text ≡ ip → net4_of text ≡ net → address_or (network_fault (other_cause text) net) ip ≡ None → IfSome (ip_field id ip net) (IsAsked id)
-      by (Some ip) net i n h = ip_asked ip (ip4_ok text ip i).1
-      by None None i n h = absurd cc
-      by None (Some net) i n h = by_net net n (has_no_host_bits net) refl h (net.1 == 0) refl
+        by : (ip : Option Ip) (net : Option Net) → ip_in width text ≡ ip → net_in width text ≡ net → address_or (network_fault (other_cause width text) net) ip ≡ None → IfSome (ip_field id ip net) (IsAsked id)
+        by (Some ip) net i n h = let ok = ip_ok width text ip i in let family : width_of ip ≡ width = ok.family ∙ known in ip_asked (ip_value ip) (subst (λ (w : ℕ). ip_value ip < 2 ^ w) family ok.fits)
+        by None None i n h = absurd cc
+        by None (Some net) i n h = by_net net n (has_no_host_bits net) refl h (len_of net == 0) refl
 
-  prefixes_asked : ((text : List ℕ) → text_field id text ≡ ip_field id (ip4_of text) (net4_of text)) → (t : Tree) → faults_of t (One Prefix) ≡ [] → IfSome (field_of id t) (IsAsked id)
-  prefixes_asked by_ip t h =
-      let r = text_right Prefix (record { no_flag = refl; no_number = λ n. refl }) t h in
-      subst (λ x. IfSome (field_in id x) (IsAsked id)) (sym r.1) (subst (λ o. IfSome o (IsAsked id)) (sym (by_ip r.0)) (prefix_asked r.0 r.2))
+    prefixes_asked : ((text : List ℕ) → text_field id text ≡ ip_field id (ip_in width text) (net_in width text)) → (t : Tree) → faults_of t (One (Prefix width)) ≡ [] → IfSome (field_of id t) (IsAsked id)
+    prefixes_asked by_ip t h =
+        let r = text_right (Prefix width) (record { no_flag = refl; no_number = λ n. refl }) t h in
+        subst (λ x. IfSome (field_in id x) (IsAsked id)) (sym r.1) (subst (λ o. IfSome o (IsAsked id)) (sym (by_ip r.0)) (prefix_asked r.0 r.2))
+
+  -- an address alone
+  module _ (may : (n : ℕ) → n < 2 ^ width → MayAsk id (exact id n)) where
+    address_asked : (text : List ℕ) → address_cause width text ≡ None → IfSome (ip_field id (ip_in width text) (net_in width text)) (IsAsked id)
+    address_asked text h = by (ip_in width text) refl h
+      where
+        by : (ip : Option Ip) → ip_in width text ≡ ip → address_or (Some BadText) ip ≡ None → IfSome (ip_field id ip (net_in width text)) (IsAsked id)
+        by (Some ip) i h =
+            let ok = ip_ok width text ip i in
+            let family : width_of ip ≡ width = ok.family ∙ known in
+            record { is = refl; may = may (ip_value ip) (subst (λ (w : ℕ). ip_value ip < 2 ^ w) family ok.fits) }
+        by None i h = absurd cc
+
+    addresses_asked : ((text : List ℕ) → text_field id text ≡ ip_field id (ip_in width text) (net_in width text)) → (t : Tree) → faults_of t (One (Address width)) ≡ [] → IfSome (field_of id t) (IsAsked id)
+    addresses_asked by_ip t h =
+        let r = text_right (Address width) (record { no_flag = refl; no_number = λ n. refl }) t h in
+        subst (λ x. IfSome (field_in id x) (IsAsked id)) (sym r.1) (subst (λ o. IfSome o (IsAsked id)) (sym (by_ip r.0)) (address_asked r.0 r.2))
 
 -- ---- the entry of a field, in any of its spellings
 
@@ -205,8 +232,9 @@ module _ (pairs : List Pair) where
 -- by the form of the field
 value_asked : (id : FieldId) → HasForm id → (t : Tree) → faults_of t (One (asked_scalar id)) ≡ [] → IfSome (field_of id t) (IsAsked id)
 value_asked id (inl mac) t h = macs_asked id mac.whole mac.may mac.reads t (subst (λ s. faults_of t (One s) ≡ []) mac.scalar h)
-value_asked id (inr (inl ip)) t h = prefixes_asked id ip.whole ip.may ip.reads t (subst (λ s. faults_of t (One s) ≡ []) ip.scalar h)
-value_asked id (inr (inr number)) t h =
+value_asked id (inr (inl ip)) t h = prefixes_asked id ip.width ip.known ip.some ip.whole ip.may ip.reads t (subst (λ s. faults_of t (One s) ≡ []) ip.scalar h)
+value_asked id (inr (inr (inl ip))) t h = addresses_asked id ip.width ip.known ip.may ip.reads t (subst (λ s. faults_of t (One s) ≡ []) ip.scalar h)
+value_asked id (inr (inr (inr number))) t h =
     number_asked id number.low number.high number.small (λ k least most. record { is = refl; may = number.may k least most }) t (subst (λ s. faults_of t (One s) ≡ []) number.scalar h)
 
 module _ (pairs : List Pair) (right : IsRight maps.Rule pairs) where

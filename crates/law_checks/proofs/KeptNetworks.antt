@@ -3,16 +3,18 @@ use Rattle.std.specs.Prelude.{◌≡◌, ℕ, ◌<◌, ◌==◌, ◌&&◌, Bool,
 use Rattle.std.specs.List.{AllByRecursion, flat_map, filter_map, list_any, zip, find}
 use Rattle.std.specs.Option.{option_map_or}
 use Rattle.std.proofs.Common.{◌⊎◌, inl, inr, refl, sym, ap, ◌∙◌, subst, true≢false, arith, eqb-true, eq-eqb}
-use Rattle.std.proofs.lemmas.Bool.{and_parts, or_from, or_cases, leb-true, false_from_ne_true}
-use Rattle.net_base.specs.declared.net4.Net4.{Net4}
+use Rattle.std.proofs.lemmas.Bool.{and_parts, and_from, or_from, or_cases, leb-true, false_from_ne_true}
+use Rattle.conf_types.specs.declared.address.Net.{Net}
 use Rattle.conf_types.specs.declared.vlan.Route.{Route}
 use Rattle.conf_types.specs.declared.vlan.Router.{Router}
 use Rattle.conf_types.specs.declared.vlan.Vlan.{Vlan}
 use Rattle.conf_types.specs.Configuration.{Configuration, vlan_with}
 use Rattle.conf_types.specs.Lists.{EachBefore, is_among}
-use Rattle.conf_types.specs.Networks.{AreApart, AreSame, LiesIn, is_held, prefix_bits, is_neighbour_address}
+use Rattle.conf_types.specs.Families.{is_same_family, is_same_ip, address_of, len_of}
+use Rattle.conf_types.specs.Networks.{AreApart, AreApartOrLocal, AreSame, LiesIn, is_held, is_link_local, is_neighbour_address}
 use Rattle.conf_types.specs.Routing.{router_with, routing_set, vips_in}
 use Rattle.conf_types.specs.Valid.{IsValid, RoutesAreValid}
+use Rattle.conf_types.proofs.Families.{same_ip, held, holds_own}
 use Rattle.conf_shape.specs.declared.raw.RawRouter.{RawRouter}
 use Rattle.conf_shape.specs.declared.refused.ConfCause.{ConfCause}
 use Rattle.conf_shape.specs.declared.refused.ConfCause.TheVariants.{Duplicate, Conflict}
@@ -22,32 +24,44 @@ use Rattle.conf_resolve.specs.InOrder.{router_site}
 use Rattle.conf_resolve.specs.Resolved.{router_of, vlan_of, resolved, to_list, vid_of}
 use Rattle.conf_rules.specs.Names.{routed_at}
 use Rattle.conf_rules.specs.Places.{fault_if, under, each_at, vlans_of, with_earlier, is_repeat}
-use Rattle.conf_rules.specs.Routing.{are_routed, overlap, overlapping_vips, is_in_router, routed_twice, shared_of_router, shared_vlans, lies_in, route_site, leads_inside, wrong_route, wrong_routes_of, wrong_routes, is_same_route, repeated_routes}
+use Rattle.conf_rules.specs.Routing.{are_routed, overlap, clash, overlapping_vips, is_in_router, routed_twice, shared_of_router, shared_vlans, lies_in, route_site, leads_inside, is_gateway, wrong_route, wrong_routes_of, wrong_routes, is_same_route, repeated_routes}
 use Rattle.law_checks.proofs.Empty.{values_at}
 use Rattle.law_checks.proofs.Kept.{both_empty, all_empty, no_fault, no_lack, is_value, of_zipped, none_any, repeat_free, of_earlier, empty_behind, before_unmapped}
 use Rattle.law_checks.proofs.Members.{IsIn, of_all, in_mapped, in_kept, among, is_one_of, some_of, finds, found, before_by, EachTo, flat_within, flat_across, two_of}
+use Rattle.law_checks.proofs.Networks.{apart_back}
 use Rattle.law_checks.proofs.Once.{into_once}
 use Rattle.law_checks.proofs.Routers.{is_alike, alike_of}
 
 -- ---- networks
 
 -- networks without an address together don't overlap
-pub no_overlap : (a b : Net4) → AreApart a b → overlap a b ≡ false
-no_overlap a b r = false_from_ne_true (overlap a b) (λ is. by (nat_le a.len b.len) is)
+pub no_overlap : (a b : Net) → AreApart a b → overlap a b ≡ false
+no_overlap a b r = false_from_ne_true (overlap a b) (λ is. by (nat_le (len_of a) (len_of b)) is)
   where
-    by : (t : Bool) → (if t then is_held a b.ip.0 else is_held b a.ip.0) ≡ true → ⊥
-    by true is = r b.ip.0 (eqb-true (prefix_bits a b.ip.0) (prefix_bits a a.ip.0) is) refl
-    by false is = r a.ip.0 refl (eqb-true (prefix_bits b a.ip.0) (prefix_bits b b.ip.0) is)
+    by : (t : Bool) → (if t then is_held a (address_of b) else is_held b (address_of a)) ≡ true → ⊥
+    by true is = r (address_of b) (held a (address_of b) is) (holds_own b)
+    by false is = r (address_of a) (holds_own a) (held b (address_of a) is)
 
-pub not_inside : (a b : Net4) → (LiesIn a b → ⊥) → lies_in a b ≡ false
+pub no_clash : (a b : Net) → AreApartOrLocal a b → clash a b ≡ false
+no_clash a b r = by (is_link_local a && is_link_local b) refl
+  where
+    by : (local : Bool) → (is_link_local a && is_link_local b) ≡ local → (overlap a b && not local) ≡ false
+    by true is = neither (overlap a b)
+      where
+        neither : (over : Bool) → (over && false) ≡ false
+        neither true = refl
+        neither false = refl
+    by false is = ap (λ over. over && true) (no_overlap a b (r is))
+
+pub not_inside : (a b : Net) → (LiesIn a b → ⊥) → lies_in a b ≡ false
 not_inside a b r = false_from_ne_true (lies_in a b) (λ is.
-    let parts = and_parts (nat_le b.len a.len) (is_held b a.ip.0) is in
-    r (record { longer = leb-true b.len a.len parts.0; inside = eqb-true (prefix_bits b a.ip.0) (prefix_bits b b.ip.0) parts.1 }))
+    let parts = and_parts (nat_le (len_of b) (len_of a)) (is_held b (address_of a)) is in
+    r (record { longer = leb-true (len_of b) (len_of a) parts.0; inside = held b (address_of a) parts.1 }))
 
-other_route : (r s : Route) → (AreSame r.dst s.dst → ⊥) → is_same_route r s ≡ false
+pub other_route : (r s : Route) → (AreSame r.dst s.dst → ⊥) → is_same_route r s ≡ false
 other_route r s other = false_from_ne_true (is_same_route r s) (λ is.
-    let parts = and_parts (r.dst.ip.0 == s.dst.ip.0) (r.dst.len == s.dst.len) is in
-    other (record { ip = eqb-true r.dst.ip.0 s.dst.ip.0 parts.0; len = eqb-true r.dst.len s.dst.len parts.1 }))
+    let parts = and_parts (is_same_ip (address_of r.dst) (address_of s.dst)) (len_of r.dst == len_of s.dst) is in
+    other (record { ip = same_ip (address_of r.dst) (address_of s.dst) parts.0; len = eqb-true (len_of r.dst) (len_of s.dst) parts.1 }))
 
 pub number_of : (o : Option ℕ) (n : ℕ) → IsIn (to_list o) n → o ≡ Some n
 number_of None n i = absurd i
@@ -150,13 +164,13 @@ module _ (o : OrderedConf) where
 
   -- ---- routes
 
-  networks : Vlan → List Net4
+  networks : Vlan → List Net
   networks v = vips_in conf (routing_set conf v.vid)
 
-  right_route : (v : Vlan) (site : List (List ℕ)) (r : Route) → (leads_inside conf v.vid r.dst ≡ false) × (is_neighbour_address v.vips r.gw.0 ≡ true) → wrong_route conf v (site, r) ≡ []
+  right_route : (v : Vlan) (site : List (List ℕ)) (r : Route) → (leads_inside conf v.vid r.dst ≡ false) × (is_gateway v r ≡ true) → wrong_route conf v (site, r) ≡ []
   right_route v site r is =
-      both_empty (fault_if (leads_inside conf v.vid r.dst) (Conflict 14) (route_site site (codes "ip_dst"))) (fault_if (not (is_neighbour_address v.vips r.gw.0)) (Conflict 14) (route_site site (codes "ip_gw")))
-      (no_fault (leads_inside conf v.vid r.dst) (Conflict 14) (route_site site (codes "ip_dst")) is.0) (no_lack (is_neighbour_address v.vips r.gw.0) (Conflict 14) (route_site site (codes "ip_gw")) is.1)
+      both_empty (fault_if (leads_inside conf v.vid r.dst) (Conflict 14) (route_site site (codes "ip_dst"))) (fault_if (not (is_gateway v r)) (Conflict 14) (route_site site (codes "ip_gw")))
+      (no_fault (leads_inside conf v.vid r.dst) (Conflict 14) (route_site site (codes "ip_dst")) is.0) (no_lack (is_gateway v r) (Conflict 14) (route_site site (codes "ip_gw")) is.1)
 
   none_of : (v : PlacedVlan) → RoutesAreValid conf (vlan_of v.vlan) → wrong_routes_of conf (v, vlan_of v.vlan) ≡ []
   unfolding networks
@@ -167,7 +181,9 @@ module _ (o : OrderedConf) where
       let r = is_value (each_at site w.routes) w.routes (values_at site w.routes) item i in
       right_route w item.0 item.1 (
         none_any (lies_in item.1.dst) (networks w) (λ vip j. not_inside item.1.dst vip (of_all (λ vip. LiesIn item.1.dst vip → ⊥) (networks w) (of_all (λ r. AllByRecursion (λ vip. LiesIn r.dst vip → ⊥) (networks w)) w.routes is.outside item.1 r) vip j)),
-        of_all (λ r. IsTrue (is_neighbour_address w.vips r.gw.0)) w.routes is.reached item.1 r,
+        and_from (is_neighbour_address w.vips item.1.gw) (is_same_family item.1.gw (address_of item.1.dst))
+            (of_all (λ r. IsTrue (is_neighbour_address w.vips r.gw)) w.routes is.reached item.1 r)
+            (of_all (λ r. IsTrue (is_same_family r.gw (address_of r.dst))) w.routes is.one_family item.1 r),
       ))
 
   pub leads_kept : AllByRecursion (RoutesAreValid conf) conf.vlans → wrong_routes o conf ≡ []
@@ -181,31 +197,37 @@ module _ (o : OrderedConf) where
     is_vlan : (v : PlacedVlan) → IsIn o.vlans v → IsIn conf.vlans (vlan v)
     is_vlan v cv = in_mapped (λ (v : PlacedVlan). vlan_of v.vlan) o.vlans v cv
 
-    -- no value is found alike where all of each routing set stand apart
-    none_alike : {X : Type 0} (f : Vlan → List X) (alike : X → X → Bool) (cause : ConfCause) (key : List ℕ) (place : List (List ℕ) → List (List ℕ)) (R : X → X → Type 0)
-        → ((a b : X) → R a b → alike a b ≡ false) → ((a b : X) → R a b → R b a) → AllByRecursion (λ v. EachBefore R (flat_map (λ vid. option_map_or f (vlan_with conf.vlans vid) []) (routing_set conf v.vid))) conf.vlans
-        → flat_map (alike_of conf f alike cause key place) (zip o.vlans (with_earlier [] conf.vlans)) ≡ []
-    none_alike {X = X} f alike cause key place R told back sets =
-        empty_behind (λ (v : PlacedVlan). vlan_of v.vlan) (λ (u : Vlan) (v : PlacedVlan). are_routed conf u.vid (vlan v).vid ≡ true → EachTo (λ a b. alike a b ≡ false) (f u) (f (vlan v))) (alike_of conf f alike cause key place) [] o.vlans
-        (λ v cv e behind. all_empty (λ (item : List (List ℕ) × (List X × X)). fault_if (is_alike conf f alike cause key place (e, vlan v) item.1) cause (place item.0)) (each_at (under v.site key) (with_earlier [] (f (vlan v)))) (λ item i.
+    -- no value is found alike where those of each VLAN stand apart, and those of each routing set
+    none_alike : {X : Type 0} (f : Vlan → List X) (across within : X → X → Bool) (cause : ConfCause) (key : List ℕ) (place : List (List ℕ) → List (List ℕ)) (R : X → X → Type 0)
+        → ((a b : X) → R a b → across a b ≡ false) → ((a b : X) → R a b → R b a) → AllByRecursion (λ v. EachBefore R (flat_map (λ vid. option_map_or f (vlan_with conf.vlans vid) []) (routing_set conf v.vid))) conf.vlans
+        → ((v : Vlan) → IsIn conf.vlans v → EachBefore (λ a b. within a b ≡ false) (f v))
+        → flat_map (alike_of conf f across within cause key place) (zip o.vlans (with_earlier [] conf.vlans)) ≡ []
+    none_alike {X = X} f across within cause key place R told back sets own =
+        empty_behind (λ (v : PlacedVlan). vlan_of v.vlan) (λ (u : Vlan) (v : PlacedVlan). are_routed conf u.vid (vlan v).vid ≡ true → EachTo (λ a b. across a b ≡ false) (f u) (f (vlan v))) (alike_of conf f across within cause key place) [] o.vlans
+        (λ v cv e behind. all_empty (λ (item : List (List ℕ) × (List X × X)). fault_if (is_alike conf f across within cause key place (e, vlan v) item.1) cause (place item.0)) (each_at (under v.site key) (with_earlier [] (f (vlan v)))) (λ item i.
         let at = is_value (each_at (under v.site key) (with_earlier [] (f (vlan v)))) (with_earlier [] (f (vlan v))) (values_at (under v.site key) (with_earlier [] (f (vlan v)))) item i in
-        no_fault (is_alike conf f alike cause key place (e, vlan v) item.1) cause (place item.0)
-        (or_from (list_any (λ w. are_routed conf w.vid (vlan v).vid && list_any (λ other. alike other item.1.1) (f w)) e) (is_repeat alike item.1)
-        (none_any (λ w. are_routed conf w.vid (vlan v).vid && list_any (λ other. alike other item.1.1) (f w)) e (λ u cu. apart_from u (vlan v) item.1.1 (of_earlier [] (f (vlan v)) item.1 at) (are_routed conf u.vid (vlan v).vid) refl (behind u cu)))
-        (repeat_free alike (f (vlan v)) (before_by R (λ a b. alike a b ≡ false) (f (vlan v)) (within_vlan conf valid f R back sets (vlan v) (is_vlan v cv)) (λ a b ia ib r. told a b r)) item.1 at))))
+        no_fault (is_alike conf f across within cause key place (e, vlan v) item.1) cause (place item.0)
+        (or_from (list_any (λ w. are_routed conf w.vid (vlan v).vid && list_any (λ other. across other item.1.1) (f w)) e) (is_repeat within item.1)
+        (none_any (λ w. are_routed conf w.vid (vlan v).vid && list_any (λ other. across other item.1.1) (f w)) e (λ u cu. apart_from u (vlan v) item.1.1 (of_earlier [] (f (vlan v)) item.1 at) (are_routed conf u.vid (vlan v).vid) refl (behind u cu)))
+        (repeat_free within (f (vlan v)) (own (vlan v) (is_vlan v cv)) item.1 at))))
         (record {
-          among = before_by (λ (v w : PlacedVlan). (vlan v).vid < (vlan w).vid) (λ v w. are_routed conf (vlan v).vid (vlan w).vid ≡ true → EachTo (λ a b. alike a b ≡ false) (f (vlan v)) (f (vlan w))) o.vlans
+          among = before_by (λ (v w : PlacedVlan). (vlan v).vid < (vlan w).vid) (λ v w. are_routed conf (vlan v).vid (vlan w).vid ≡ true → EachTo (λ a b. across a b ≡ false) (f (vlan v)) (f (vlan w))) o.vlans
               (before_unmapped (λ (v w : Vlan). v.vid < w.vid) (λ (v : PlacedVlan). vlan_of v.vlan) o.vlans valid.vlans.in_order)
               (λ v w cv cw lt routed a b ia ib. told a b (across_vlans conf valid f R back sets (vlan v) (vlan w) (is_vlan v cv) (is_vlan w cw) (λ same. absurd (omega arith)) routed a b ia ib));
           across = λ b y i j. absurd i;
         })
       where
-        apart_from : (u w : Vlan) (x : X) → IsIn (f w) x → (t : Bool) → are_routed conf u.vid w.vid ≡ t → (are_routed conf u.vid w.vid ≡ true → EachTo (λ a b. alike a b ≡ false) (f u) (f w)) → (t && list_any (λ other. alike other x) (f u)) ≡ false
+        apart_from : (u w : Vlan) (x : X) → IsIn (f w) x → (t : Bool) → are_routed conf u.vid w.vid ≡ t → (are_routed conf u.vid w.vid ≡ true → EachTo (λ a b. across a b ≡ false) (f u) (f w)) → (t && list_any (λ other. across other x) (f u)) ≡ false
         apart_from u w x i false is each = refl
-        apart_from u w x i true is each = none_any (λ other. alike other x) (f u) (λ other j. each is other x j i)
+        apart_from u w x i true is each = none_any (λ other. across other x) (f u) (λ other j. each is other x j i)
 
     pub vips_kept : overlapping_vips o conf ≡ []
-    vips_kept = none_alike (λ v. v.vips) overlap (Conflict 12) (codes "faucet_vips") (λ site. site) AreApart no_overlap (λ a b r ip in_b in_a. r ip in_a in_b) valid.routing.vips
+    vips_kept = none_alike (λ v. v.vips) clash overlap (Conflict 12) (codes "faucet_vips") (λ site. site) AreApartOrLocal no_clash apart_back valid.routing.vips
+        (λ v cv. before_by AreApart (λ a b. overlap a b ≡ false) v.vips (of_all (λ (v : Vlan). EachBefore AreApart v.vips) conf.vlans valid.routing.own_vips v cv) (λ a b ia ib r. no_overlap a b r))
 
     pub routes_kept : repeated_routes o conf ≡ []
-    routes_kept = none_alike (λ v. v.routes) is_same_route Duplicate (codes "routes") (λ site. route_site site (codes "ip_dst")) (λ r s. AreSame r.dst s.dst → ⊥) other_route (λ r s other same. other (record { ip = sym same.ip; len = sym same.len })) valid.routing.routes
+    routes_kept =
+        let differ : Route → Route → Type 0 = λ r s. AreSame r.dst s.dst → ⊥ in
+        let back : (r s : Route) → differ r s → differ s r = λ r s other same. other (record { ip = sym same.ip; len = sym same.len }) in
+        none_alike (λ v. v.routes) is_same_route is_same_route Duplicate (codes "routes") (λ site. route_site site (codes "ip_dst")) differ other_route back valid.routing.routes
+        (λ v cv. before_by differ (λ r s. is_same_route r s ≡ false) v.routes (within_vlan conf valid (λ v. v.routes) differ back valid.routing.routes v cv) (λ r s ir is r_differ. other_route r s r_differ))

@@ -1,6 +1,6 @@
 -- The parts of a raw configuration are in range, the least first.
 use Rattle.std.proofs.Common.{◌≡◌, ℕ, ◌-◌, ◌^◌, ◌<◌, ◌≤◌, Bool, true, false, List, [], ◌∷◌, ◌++◌, Option, Some, None, Ok, Err, refl, sym, ap, ◌∙◌, subst, arith}
-use Rattle.std.specs.Prelude.{map, codes, IfSome, unwrap_or, option_and_then, if◌then◌else◌}
+use Rattle.std.specs.Prelude.{map, codes, IfSome, is_some, unwrap_or, option_and_then, if◌then◌else◌}
 use Rattle.std.specs.List.{AllByRecursion, list_any}
 use Rattle.std.specs.Option.{option_map, option_map_or}
 use Rattle.std.proofs.lemmas.Bool.{or_left, or_right, true≢false}
@@ -15,30 +15,33 @@ use Rattle.yaml_tree.specs.declared.tree.Key.{Key}
 use Rattle.yaml_tree.specs.declared.tree.Key.TheVariants as key
 use Rattle.yaml_tree.specs.declared.tree.Pair.{Pair}
 use Rattle.conf_types.specs.Lists.{EachBefore, IsLabel}
-use Rattle.conf_types.specs.Valid.{IsTimeout, IsStation, IsVip, IsRoute, NamesPort}
+use Rattle.conf_types.specs.Valid.{IsTimeout, IsInterval, IsStation, IsVip, IsRoute, NamesPort, IsAs}
 use Rattle.conf_shape.specs.declared.refused.ConfCause.TheVariants.{OutOfRange, Duplicate}
+use Rattle.conf_shape.specs.declared.kinds.Need.TheVariants.{Always}
 use Rattle.conf_shape.specs.declared.raw.OneOrList.TheVariants as one_or_list
+use Rattle.conf_shape.specs.declared.raw.VlanRef.TheVariants as vlan_refs
 use Rattle.conf_shape.specs.declared.kinds.Kind.{Kind}
 use Rattle.conf_shape.specs.declared.kinds.Kind.TheVariants.{One, Several, Map, Maps}
-use Rattle.conf_shape.specs.declared.kinds.Scalar.TheVariants.{Name, StationMac, Vip, Destination}
+use Rattle.conf_shape.specs.declared.kinds.Scalar.TheVariants.{Number, Name, StationMac, Vip, Destination, Identifier}
 use Rattle.conf_shape.specs.declared.kinds.TheConstants.{MOST_VID, MOST_PORT_NO}
 use Rattle.conf_shape.specs.declared.kinds.MapKind.{MapKind}
 use Rattle.conf_shape.specs.declared.kinds.MapKind.TheVariants as maps
 use Rattle.conf_shape.specs.Addresses.{station_cause}
 use Rattle.conf_shape.specs.Faults.{faults_of, entry_of, map_faults, first_fault}
-use Rattle.conf_shape.specs.Keys.{OwnKey, OwnName}
-use Rattle.conf_shape.specs.Raw.{names_by, port_of_entry, datapath_of_entry, vip_of, route_of, mac_at, vlan_of_entry, output_of, rule_with, rule_of, acl_of_entry, router_of_entry, raw_of}
-use Rattle.conf_shape.specs.Reads.{value_at, number_of, words_of, text_of, items_of, entries_of, entries_at, words_at, text_in, text_at, default_of, default_number, default_text, number_under, port_or, port_of, vlan_or, vlan_of, label_of, own_number, number_at, one_or_list_in, one_or_list_of}
-use Rattle.conf_shape.specs.Sections.{key_text, has_text, named_once, named_kind, under_key}
-use Rattle.conf_shape.specs.Values.{ip_of, net_of}
+use Rattle.conf_shape.specs.Keys.{Nothing, OwnKey, OwnName, row, keys_of}
+use Rattle.conf_shape.specs.Raw.{names_by, port_of_entry, lldp_interval, lldp, datapath_of_entry, vip_of, route_of, mac_at, vlan_of_entry, output_of, rule_with, rule_of, acl_of_entry, bgp_with, bgp_of, router_with, router_of_entry, raw_of}
+use Rattle.conf_shape.specs.Reads.{value_at, number_of, words_of, text_of, items_of, entries_of, entries_at, words_at, text_in, number_in, text_at, default_of, default_number, default_text, number_under, port_or, port_of, vlan_or, vlan_of, label_of, own_number, number_at, one_or_list_in, one_or_list_of}
+use Rattle.conf_shape.specs.Sections.{key_text, row_at, has_text, named_once, named_kind, under_key}
+use Rattle.conf_shape.specs.Values.{ip_of, net_of, identifier_of}
 use Rattle.conf_shape.specs.Written.{IsRight, Takes}
-use Rattle.conf_resolve.specs.InRange.{NamesVlan, AreNames, PortIsInRange, DpIsInRange, VlanIsInRange, OutputIsInRange, RuleIsInRange, IsInRange}
+use Rattle.conf_resolve.specs.InRange.{NamesVlan, AreNames, PortIsInRange, DpIsInRange, VlanIsInRange, OutputIsInRange, RuleIsInRange, BgpIsInRange, RouterIsInRange, IsInRange}
 use Rattle.conf_resolve.specs.Resolved.{items_of as outputs_of}
 use Rattle.law_checks.proofs.Right.{document_right, map_right, entry_right, each_right, value_right, takes_by, below_right, items_right, all_through, all_read, listed_right}
-use Rattle.law_checks.proofs.Bounds.{least_of, most_of, ranged, HasDefault, timeout_default, arp_timeout_default, port_hosts_default, vlan_hosts_default}
-use Rattle.law_checks.proofs.Values.{number_or, own_range, number_bounds, within_bounds, text_right, text_or, name_or, named_right, numbered_right}
-use Rattle.law_checks.proofs.Addresses.{IsDestination, station_right, vip_right, network_right, no_network, gateway_below}
+use Rattle.law_checks.proofs.Bounds.{least_of, most_of, ranged, HasDefault, timeout_default, arp_timeout_default, port_hosts_default, vlan_hosts_default, send_interval_default}
+use Rattle.law_checks.proofs.Values.{number_or, own_range, number_bounds, within_bounds, within_again, number_right, text_right, text_or, name_or, named_right, numbered_right}
+use Rattle.law_checks.proofs.Addresses.{IsDestination, station_right, vip_right, network_right, no_network, gateway_below, identifier_below, identifier_right}
 use Rattle.law_checks.proofs.Fields.{fields_may, fields_apart}
+use Rattle.law_checks.proofs.Stands.{needed_there}
 
 -- ---- names and numbers
 
@@ -149,6 +152,16 @@ dp_arp_timeout pairs right =
     let r = number_in_range maps.Datapath (codes "arp_neighbor_timeout") pairs arp_timeout_default (value_right maps.Datapath (codes "arp_neighbor_timeout") (One (ranged maps.Datapath (codes "arp_neighbor_timeout"))) refl pairs right) in
     record { least = r.0; most = r.1 }
 
+dp_lldp : (pairs : List Pair) → IsRight maps.Datapath pairs → IfSome (lldp pairs) IsInterval
+dp_lldp pairs right = by (value_at (codes "lldp_beacon") pairs) (value_right maps.Datapath (codes "lldp_beacon") (Map maps.LldpBeacon) refl pairs right)
+  where
+    by : (o : Option Tree) → IfSome o (λ t. faults_of t (Map maps.LldpBeacon) ≡ []) → IfSome (option_map lldp_interval o) IsInterval
+    by None h = tt
+    by (Some t) h =
+        let inner = map_right maps.LldpBeacon t h in
+        let r = number_in_range maps.LldpBeacon (codes "send_interval") (entries_of t) send_interval_default (value_right maps.LldpBeacon (codes "send_interval") (One (ranged maps.LldpBeacon (codes "send_interval"))) refl (entries_of t) inner) in
+        record { least = r.0; most = r.1 }
+
 dp_right : (p : Pair) → IsLabel (key_text p.key) → IsRight maps.Datapath (entries_of p.value) → DpIsInRange (datapath_of_entry p)
 dp_right p label right =
     let pairs : List Pair = entries_of p.value in
@@ -157,6 +170,7 @@ dp_right p label right =
       names = dp_names (key_text p.key) pairs label right;
       timeout = dp_timeout pairs right;
       arp_timeout = dp_arp_timeout pairs right;
+      lldp = dp_lldp pairs right;
       stack_priority = number_small 32 (value_at (codes "priority") (entries_at (codes "stack") pairs));
       ports = below_right maps.Interfaces (λ pairs. AllByRecursion PortIsInRange (map port_of_entry pairs)) ports_right tt (value_at (codes "interfaces") pairs) (value_right maps.Datapath (codes "interfaces") (Map maps.Interfaces) refl pairs right);
     }
@@ -292,6 +306,61 @@ acls_right pairs right =
     all_through (λ p. AllByRecursion RuleIsInRange (map rule_of (items_of p.value))) (λ a. AllByRecursion RuleIsInRange a.rules) acl_of_entry (λ p h. h) pairs
     (each_right maps.Acls (λ p. AllByRecursion RuleIsInRange (map rule_of (items_of p.value))) (λ earlier p h. acl_right p h.0 (once_right maps.Acls earlier p.key h.0 h.1).1 h.2) [] pairs right)
 
+-- a number that has to be there, in the range of its key
+number_there : (low high other : ℕ) → high ≤ 2 ^ 16 - 1 → (o : Option Tree) → is_some o ≡ true → IfSome o (λ t. faults_of t (One (Number low high)) ≡ [])
+    → (low ≤ unwrap_or (option_and_then (number_of 0 (2 ^ 16 - 1)) o) other) × (unwrap_or (option_and_then (number_of 0 (2 ^ 16 - 1)) o) other ≤ high)
+number_there low high other small None there h = absurd cc
+number_there low high other small (Some t) there h =
+    let r = number_right low high t h in
+    let fits : r.0 ≤ 2 ^ 16 - 1 = omega (arith, r.3, small) in
+    let read : number_of 0 (2 ^ 16 - 1) t ≡ Some r.0 = ap (number_in 0 (2 ^ 16 - 1)) r.1 ∙ within_again 0 (2 ^ 16 - 1) r.0 (omega arith) fits in
+    subst (λ x. (low ≤ unwrap_or x other) × (unwrap_or x other ≤ high)) (sym read) (r.2, r.3)
+
+as_right : (name : List ℕ) → row_at name (keys_of maps.Bgp).rows ≡ Some (row name (One (Number 1 65535)) Always Nothing) → Takes maps.Bgp name (One (Number 1 65535))
+    → (pairs : List Pair) → IsRight maps.Bgp pairs → IsAs (unwrap_or (number_under 16 name pairs) 0)
+as_right name at takes pairs right =
+    let r = number_there 1 65535 0 (omega arith) (value_at name pairs) (needed_there maps.Bgp (row name (One (Number 1 65535)) Always Nothing) at (λ keys. refl) pairs right) (value_right maps.Bgp name (One (Number 1 65535)) takes pairs right) in
+    record { least = r.0; most = r.1 }
+
+identified : (pairs : List Pair) → IsRight maps.Bgp pairs → 1 ≤ (identifier_of (words_at (codes "routerid") pairs)).0
+identified pairs right =
+    by (value_at (codes "routerid") pairs) (needed_there maps.Bgp (row (codes "routerid") (One Identifier) Always Nothing) refl (λ keys. refl) pairs right) (value_right maps.Bgp (codes "routerid") (One Identifier) refl pairs right)
+  where
+    by : (o : Option Tree) → is_some o ≡ true → IfSome o (λ t. faults_of t (One Identifier) ≡ []) → 1 ≤ (identifier_of (option_map_or words_of o [])).0
+    by None there h = absurd cc
+    by (Some t) there h = let r = text_right Identifier (record { no_flag = refl; no_number = λ n. refl }) t h in subst (λ x. 1 ≤ (identifier_of (unwrap_or (text_in x) [])).0) (sym r.1) (identifier_right r.0 r.2)
+
+names_or_nothing : (o : Option Tree) → NamesVlan (unwrap_or (option_map vlan_of o) (vlan_refs.Name []))
+names_or_nothing None = tt
+names_or_nothing (Some t) = names_vlan t
+
+bgp_right : (pairs : List Pair) → IsRight maps.Bgp pairs → BgpIsInRange (bgp_with pairs)
+bgp_right pairs right = record {
+  ours = as_right (codes "as") refl refl pairs right;
+  theirs = as_right (codes "neighbor_as") refl refl pairs right;
+  identified = identified pairs right;
+  address = identifier_below (words_at (codes "routerid") pairs);
+  vlan = names_or_nothing (value_at (codes "vlan") pairs);
+}
+
+peer_right : (o : Option Tree) → IfSome o (λ t. faults_of t (Map maps.Bgp) ≡ []) → IfSome (option_map bgp_of o) BgpIsInRange
+peer_right None h = tt
+peer_right (Some t) h = bgp_right (entries_of t) (map_right maps.Bgp t h)
+
+router_right : (key : Key) (pairs : List Pair) → IsRight maps.Router pairs → RouterIsInRange (router_with key pairs)
+router_right key pairs right = record {
+  vlans = all_read NamesVlan vlan_of names_vlan (option_map_or items_of (value_at (codes "vlans") pairs) []);
+  bgp = peer_right (value_at (codes "bgp") pairs) (value_right maps.Router (codes "bgp") (Map maps.Bgp) refl pairs right);
+}
+
+router_named : (p : Pair) (kind : Kind) → named_kind (key_text p.key) maps.Routers ≡ Ok kind → faults_of p.value kind ≡ [] → RouterIsInRange (router_of_entry p)
+router_named p kind e h = let is : kind ≡ Map maps.Router = cc in router_right p.key (entries_of p.value) (map_right maps.Router p.value (subst (λ kind. faults_of p.value kind ≡ []) is h))
+
+routers_right : (pairs : List Pair) → IsRight maps.Routers pairs → AllByRecursion RouterIsInRange (map router_of_entry pairs)
+routers_right pairs right =
+    all_through (λ p. RouterIsInRange (router_of_entry p)) RouterIsInRange router_of_entry (λ p h. h) pairs
+    (each_right maps.Routers (λ p. RouterIsInRange (router_of_entry p)) (λ earlier p h. router_named p h.0 (once_right maps.Routers earlier p.key h.0 h.1).1 h.2) [] pairs right)
+
 -- ---- names that are keys of one map
 
 module _ (m : MapKind) (once : (earlier : List Key) (k : Key) → under_key m earlier k ≡ named_once m earlier k) where
@@ -328,7 +397,7 @@ raw_in_range t right =
       acls = below_right maps.Acls (λ pairs. AllByRecursion (λ a. AllByRecursion RuleIsInRange a.rules) (map acl_of_entry pairs)) acls_right tt (value_at (codes "acls") pairs) acls;
       acl_names = below_right maps.Acls (λ pairs. EachBefore (λ a b. a.name ≡ b.name → ⊥) (map acl_of_entry pairs))
           (λ pairs right. each_through (λ p q. key_text p.key ≡ key_text q.key → ⊥) (λ a b. a.name ≡ b.name → ⊥) acl_of_entry (λ p q h. h) pairs (distinct maps.Acls (λ earlier k. refl) [] pairs right)) tt (value_at (codes "acls") pairs) acls;
-      routers = all_read (λ r. AllByRecursion NamesVlan r.vlans) router_of_entry (λ p. all_read NamesVlan vlan_of names_vlan (option_map_or items_of (value_at (codes "vlans") (entries_of p.value)) [])) (entries_at (codes "routers") pairs);
+      routers = below_right maps.Routers (λ pairs. AllByRecursion RouterIsInRange (map router_of_entry pairs)) routers_right tt (value_at (codes "routers") pairs) routers;
       router_names = below_right maps.Routers (λ pairs. EachBefore (λ r s. r.name ≡ s.name → ⊥) (map router_of_entry pairs))
           (λ pairs right. each_through (λ p q. key_text p.key ≡ key_text q.key → ⊥) (λ r s. r.name ≡ s.name → ⊥) router_of_entry (λ p q h. h) pairs (distinct maps.Routers (λ earlier k. refl) [] pairs right)) tt (value_at (codes "routers") pairs) routers;
     }

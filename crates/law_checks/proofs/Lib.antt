@@ -1,5 +1,6 @@
 pub mod Right
 pub mod Values
+pub mod Texts6
 pub mod Addresses
 pub mod AskedForms
 pub mod Fields

@@ -16,37 +16,37 @@ use Rattle.conf_shape.specs.declared.kinds.MapKind.{MapKind}
 use Rattle.conf_shape.specs.declared.kinds.MapKind.TheVariants as maps
 use Rattle.conf_shape.specs.declared.kinds.Need.TheVariants.{Always, UnlessNumbered}
 use Rattle.conf_shape.specs.declared.kinds.Scalar.{Scalar}
-use Rattle.conf_shape.specs.declared.kinds.Scalar.TheVariants.{Flag, Number, Name, Words, Label, Permission, StationMac, Vip, Destination, Gateway}
+use Rattle.conf_shape.specs.declared.kinds.Scalar.TheVariants.{Flag, Number, Name, Words, Label, Permission, StationMac, Vip, Destination, Gateway, Identifier}
 use Rattle.conf_shape.specs.declared.raw.OneOrList.TheVariants as several
 use Rattle.conf_shape.specs.declared.raw.RawConf.{RawConf}
 use Rattle.conf_shape.specs.declared.raw.RawOutput.{RawOutput}
-use Rattle.conf_shape.specs.declared.raw.RawRouter.{RawRouter}
 use Rattle.conf_shape.specs.declared.raw.RawRule.{RawRule}
 use Rattle.conf_shape.specs.declared.raw.RawStackEnd.{RawStackEnd}
+use Rattle.conf_shape.specs.declared.raw.VlanRef.TheVariants as vlan_refs
 use Rattle.conf_shape.specs.Faults.{faults_of, first_fault}
 use Rattle.conf_shape.specs.Keys.{Nothing, OwnKey, row, keys_of}
-use Rattle.conf_shape.specs.Raw.{acls_at, names_by, port_flags, port_with, port_of_entry, drop_flags, datapath_with, datapath_of_entry, vip_of, route_of, mac_at, vlan_with, vlan_of_entry, output_of, rule_with, rule_of, acl_of_entry, router_of_entry, raw_of}
+use Rattle.conf_shape.specs.Raw.{acls_at, names_by, port_flags, port_with, port_of_entry, drop_flags, lldp_interval, datapath_with, datapath_of_entry, vip_of, route_of, mac_at, vlan_with, vlan_of_entry, output_of, rule_with, rule_of, acl_of_entry, bgp_with, bgp_of, router_with, router_of_entry, raw_of}
 use Rattle.conf_shape.specs.Reads.{value_at, permission_of, number_of, text_of, words_of, items_of, entries_of, words_at, entries_at, option_at, list_at, one_or_list_of, number_under, default_of, default_flag, default_number, default_text, flag_at, number_at, text_at, label_of, port_of, vlan_of}
 use Rattle.conf_shape.specs.Sections.{key_text, row_at, named_kind, number_or_name}
-use Rattle.conf_shape.specs.Values.{mac_of, net_of, ip_of}
+use Rattle.conf_shape.specs.Values.{mac_of, net_of, ip_of, identifier_of}
 use Rattle.conf_shape.specs.Written.{IsRight, Takes, IsTextAlone}
 use Rattle.law_checks.specs.Values as says
-use Rattle.law_checks.specs.Values.{IsNumber, IsText, IsPermission, IsLabelOf, IsVlanOf, IsPortOf, IsMac, IsAddress, IsNetwork, Each, IsList, IsOneOrList, IsMap, AreMaps, Needed, IsNumbered}
-use Rattle.law_checks.specs.Says.{FlagSays, NumberSays, NamesSay, AclNamesSay, PortFlagsSay, StackEndSays, PortSays, DropFlagsSay, PrioritySays, DpSays, RouteSays, RouteItemSays, VlanSays, OutputSays, ActionsSay, RuleSays, RuleItemSays, AclSays, RouterSays, TopSays, Says}
+use Rattle.law_checks.specs.Values.{IsNumber, IsText, IsPermission, IsLabelOf, IsVlanOf, IsPortOf, IsMac, IsIdentifier, IsAddress, IsNetwork, Each, IsList, IsOneOrList, IsMap, AreMaps, Needed, IsNumbered}
+use Rattle.law_checks.specs.Says.{FlagSays, NumberSays, NamesSay, AclNamesSay, PortFlagsSay, StackEndSays, PortSays, DropFlagsSay, PrioritySays, LldpSays, DpSays, RouteSays, RouteItemSays, VlanSays, OutputSays, ActionsSay, RuleSays, RuleItemSays, AclSays, BgpSays, RouterSays, TopSays, Says}
 use Rattle.law_checks.proofs.Right.{document_fine, each_right, value_right}
 use Rattle.law_checks.proofs.Values.{named_right}
 use Rattle.law_checks.proofs.KeyRanges.{port_takes, vlan_takes, once_right}
 use Rattle.law_checks.proofs.Asked.{fields_say}
-use Rattle.law_checks.proofs.Bounds.{least_of, most_of, ranged, HasRange, HasDefault, dp_id_range, priority_range, timeout_default, arp_timeout_default, port_hosts_default, vlan_hosts_default}
+use Rattle.law_checks.proofs.Bounds.{least_of, most_of, ranged, HasRange, HasDefault, dp_id_range, priority_range, our_as_range, neighbor_as_range, timeout_default, arp_timeout_default, port_hosts_default, vlan_hosts_default, send_interval_default}
 use Rattle.law_checks.proofs.Flags.{flag_says}
-use Rattle.law_checks.proofs.Stands.{stands, is_there, needed_there, number_stands, option_number_stands, text_stands, permission_stands, label_stands, vlan_stands, port_stands, mac_stands, vip_stands, destination_stands, gateway_stands, each_map, list_stands, map_stands, ports_stand, maps_stand, IsRightBy, numbered_stands, numbered_found}
+use Rattle.law_checks.proofs.Stands.{stands, is_there, needed_there, number_stands, option_number_stands, text_stands, permission_stands, label_stands, vlan_stands, port_stands, mac_stands, vip_stands, destination_stands, gateway_stands, identifier_stands, each_map, list_stands, map_stands, ports_stand, maps_stand, IsRightBy, numbered_stands, numbered_found}
 
 -- ---- keys
 
 -- what stands under a key that always stands
 needed : {A : Type 0} (m : MapKind) (name : List ℕ) (kind : Kind) → row_at name (keys_of m).rows ≡ Some (row name kind Always Nothing) → Takes m name kind
     → (P : Tree → A → Type 0) (read : Option Tree → A) → ((t : Tree) → faults_of t kind ≡ [] → P t (read (Some t))) → (pairs : List Pair) → IsRight m pairs → Needed name pairs (λ t. P t (read (value_at name pairs)))
-needed m name kind at takes P read some pairs right = is_there P kind read some (value_at name pairs) (needed_there m (row name kind Always Nothing) at refl pairs right) (value_right m name kind takes pairs right)
+needed m name kind at takes P read some pairs right = is_there P kind read some (value_at name pairs) (needed_there m (row name kind Always Nothing) at (λ keys. refl) pairs right) (value_right m name kind takes pairs right)
 
 module _ (m : MapKind) (name : List ℕ) (pairs : List Pair) where
   number_says : HasDefault m name → IfSome (value_at name pairs) (λ t. faults_of t (One (ranged m name)) ≡ []) → NumberSays name (default_number (default_of m name)) pairs (number_at m name pairs)
@@ -130,7 +130,7 @@ module _ (number : Option ℕ) (pairs : List Pair) (right : IsRight (maps.Interf
   port_hosts_say = number_says (maps.Interface None) (codes "max_hosts") pairs port_hosts_default (port_takes_one (codes "max_hosts") (ranged (maps.Interface None) (codes "max_hosts")) refl (λ n. refl))
 
 port_number_right : (number : Option ℕ) (pairs : List Pair) → IsRight (maps.Interface number) pairs → IsRightBy 1 MOST_PORT_NO number (value_at (codes "number") pairs)
-port_number_right None pairs right = (needed_there (maps.Interface None) (row (codes "number") (Given 1 MOST_PORT_NO) UnlessNumbered OwnKey) refl refl pairs right, value_right (maps.Interface None) (codes "number") (Given 1 MOST_PORT_NO) refl pairs right)
+port_number_right None pairs right = (needed_there (maps.Interface None) (row (codes "number") (Given 1 MOST_PORT_NO) UnlessNumbered OwnKey) refl (λ keys. refl) pairs right, value_right (maps.Interface None) (codes "number") (Given 1 MOST_PORT_NO) refl pairs right)
 port_number_right (Some n) pairs right = value_right (maps.Interface (Some n)) (codes "number") (One (Number n n)) refl pairs right
 
 port_says : (key : Key) (number : Option ℕ) → number_or_name 1 MOST_PORT_NO key ≡ Ok number → (pairs : List Pair) → IsRight (maps.Interface number) pairs → PortSays key pairs (port_with key pairs)
@@ -160,6 +160,11 @@ ports_say pairs right =
 
 priority_says : (pairs : List Pair) → IsRight maps.DatapathStack pairs → PrioritySays pairs (number_under 32 (codes "priority") pairs)
 priority_says pairs right = number_given maps.DatapathStack (codes "priority") pairs 32 priority_range right
+
+lldp_says : (pairs : List Pair) → IsRight maps.LldpBeacon pairs → LldpSays pairs (number_at maps.LldpBeacon (codes "send_interval") pairs)
+unfolding default_of
+lldp_says pairs right =
+    number_says maps.LldpBeacon (codes "send_interval") pairs send_interval_default (value_right maps.LldpBeacon (codes "send_interval") (One (ranged maps.LldpBeacon (codes "send_interval"))) refl pairs right)
 
 module _ (pairs : List Pair) (right : IsRight maps.Datapath pairs) where
   dp_takes : (name : List ℕ) (s : Scalar) → Takes maps.Datapath name (One s) → IfSome (value_at name pairs) (λ t. faults_of t (One s) ≡ [])
@@ -196,6 +201,8 @@ dp_says key pairs right = record {
   hardware = dp_hardware pairs right;
   timeout = dp_number_says pairs right (codes "timeout") timeout_default;
   arp_timeout = dp_number_says pairs right (codes "arp_neighbor_timeout") arp_timeout_default;
+  lldp = stands (λ t lldp. IsSomeAnd lldp (IsMap LldpSays t)) (Map maps.LldpBeacon) (option_map lldp_interval) None refl
+      (map_stands LldpSays maps.LldpBeacon (number_at maps.LldpBeacon (codes "send_interval")) lldp_says) (value_at (codes "lldp_beacon") pairs) (value_right maps.Datapath (codes "lldp_beacon") (Map maps.LldpBeacon) refl pairs right);
   stack_priority = stands (IsMap PrioritySays) (Map maps.DatapathStack) (λ o. number_under 32 (codes "priority") (option_map_or entries_of o [])) None refl
       (map_stands PrioritySays maps.DatapathStack (number_under 32 (codes "priority")) priority_says) (value_at (codes "stack") pairs) (value_right maps.Datapath (codes "stack") (Map maps.DatapathStack) refl pairs right);
   drops = drops_say pairs right;
@@ -254,7 +261,7 @@ module _ (number : Option ℕ) (pairs : List Pair) (right : IsRight (maps.Vlan n
       mac_given (default_text [] (default_of (maps.Vlan None) (codes "faucet_mac"))) own_bytes (value_at (codes "faucet_mac") pairs) (vlan_takes_one (codes "faucet_mac") StationMac refl (λ n. refl))
 
 vlan_number_right : (number : Option ℕ) (pairs : List Pair) → IsRight (maps.Vlan number) pairs → IsRightBy 1 MOST_VID number (value_at (codes "vid") pairs)
-vlan_number_right None pairs right = (needed_there (maps.Vlan None) (row (codes "vid") (Given 1 MOST_VID) UnlessNumbered OwnKey) refl refl pairs right, value_right (maps.Vlan None) (codes "vid") (Given 1 MOST_VID) refl pairs right)
+vlan_number_right None pairs right = (needed_there (maps.Vlan None) (row (codes "vid") (Given 1 MOST_VID) UnlessNumbered OwnKey) refl (λ keys. refl) pairs right, value_right (maps.Vlan None) (codes "vid") (Given 1 MOST_VID) refl pairs right)
 vlan_number_right (Some n) pairs right = value_right (maps.Vlan (Some n)) (codes "vid") (One (Number n n)) refl pairs right
 
 vlan_says : (key : Key) (number : Option ℕ) → number_or_name 1 MOST_VID key ≡ Ok number → (pairs : List Pair) → IsRight (maps.Vlan number) pairs → VlanSays key pairs (vlan_with key pairs)
@@ -332,13 +339,20 @@ acl_says p kind e h =
 acls_each : (pairs : List Pair) → IsRight maps.Acls pairs → Each AclSays pairs (map acl_of_entry pairs)
 acls_each pairs right = each_map AclSays acl_of_entry pairs (each_right maps.Acls (λ p. AclSays p (acl_of_entry p)) (λ earlier p h. acl_says p h.0 (once_right maps.Acls earlier p.key h.0 h.1).1 h.2) [] pairs right)
 
-abbrev router_with : Key → List Pair → RawRouter
-router_with key pairs = record { name = key_text key; vlans = list_at vlan_of (codes "vlans") pairs }
+bgp_says : (pairs : List Pair) → IsRight maps.Bgp pairs → BgpSays pairs (bgp_with pairs)
+bgp_says pairs right = record {
+  our_as = number_needed maps.Bgp (codes "as") pairs 16 our_as_range refl right;
+  neighbor_as = number_needed maps.Bgp (codes "neighbor_as") pairs 16 neighbor_as_range refl right;
+  routerid = needed maps.Bgp (codes "routerid") (One Identifier) refl refl IsIdentifier (λ o. identifier_of (option_map_or words_of o [])) identifier_stands pairs right;
+  vlan = needed maps.Bgp (codes "vlan") (One VLAN_NAMED) refl refl (λ t. IsVlanOf (out-Tree t)) (λ o. unwrap_or (option_map vlan_of o) (vlan_refs.Name [])) vlan_stands pairs right;
+}
 
 router_says : (key : Key) (pairs : List Pair) → IsRight maps.Router pairs → RouterSays key pairs (router_with key pairs)
 router_says key pairs right = record {
   name = refl;
-  vlans = needed maps.Router (codes "vlans") (Several VLAN_NAMED) refl refl (IsList (λ item. IsVlanOf (out-Tree item))) (λ o. map vlan_of (option_map_or items_of o [])) vlans_stand pairs right;
+  vlans = stands (IsList (λ item. IsVlanOf (out-Tree item))) (Several VLAN_NAMED) (λ o. map vlan_of (option_map_or items_of o [])) [] refl vlans_stand
+      (value_at (codes "vlans") pairs) (value_right maps.Router (codes "vlans") (Several VLAN_NAMED) refl pairs right);
+  bgp = stands (λ t bgp. IsSomeAnd bgp (IsMap BgpSays t)) (Map maps.Bgp) (option_map bgp_of) None refl (map_stands BgpSays maps.Bgp bgp_with bgp_says) (value_at (codes "bgp") pairs) (value_right maps.Router (codes "bgp") (Map maps.Bgp) refl pairs right);
 }
 
 router_entry : (p : Pair) (kind : Kind) → named_kind (key_text p.key) maps.Routers ≡ Ok kind → faults_of p.value kind ≡ [] → IsMap (RouterSays p.key) p.value (router_of_entry p)

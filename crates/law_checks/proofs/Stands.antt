@@ -5,18 +5,18 @@ use Rattle.std.specs.Fmt.{signed_decimal}
 use Rattle.std.specs.List.{AllByRecursion, list_any}
 use Rattle.std.specs.Option.{option_map}
 use Rattle.std.specs.Str.{bytes_eq}
-use Rattle.std.proofs.Math.Nat.{min-eq_left}
 use Rattle.std.proofs.lemmas.Bool.{and_right, lt-leb}
-use Rattle.net_base.specs.declared.net4.Net4.{Net4}
-use Rattle.net_base.specs.Address.{SpellsMac, ip4_text, net4_text}
-use Rattle.net_base.specs.AddressReading.{spelled_mac, ip4_of, net4_of}
-use Rattle.net_base.proofs.Addresses.{mac_ok, ip4_ok, net4_ok}
+use Rattle.net_base.specs.Address.{SpellsMac, ip4_text}
+use Rattle.net_base.specs.AddressReading.{spelled_mac, ip4_of}
+use Rattle.net_base.proofs.Addresses.{mac_ok, ip4_ok}
 use Rattle.yaml_tree.specs.declared.tree.Key.{Key}
 use Rattle.yaml_tree.specs.declared.tree.Key.TheVariants as key
 use Rattle.yaml_tree.specs.declared.tree.Pair.{Pair}
 use Rattle.yaml_tree.specs.declared.tree.Tree.{Tree, out-Tree}
 use Rattle.yaml_tree.specs.declared.tree.Tree.TheOpen.{Tree-F}
 use Rattle.yaml_tree.specs.declared.tree.Tree.TheOpen as tree
+use Rattle.conf_types.specs.declared.address.Ip.{Ip}
+use Rattle.conf_types.specs.declared.address.Net.{Net}
 use Rattle.conf_shape.specs.declared.refused.ConfCause.{ConfCause}
 use Rattle.conf_shape.specs.declared.refused.ConfCause.TheVariants.{WrongType, BadText, OutOfRange}
 use Rattle.conf_shape.specs.declared.kinds.Kind.{Kind}
@@ -25,19 +25,19 @@ use Rattle.conf_shape.specs.declared.kinds.Scalar.{Scalar}
 use Rattle.conf_shape.specs.declared.kinds.Scalar.TheVariants as scalars
 use Rattle.conf_shape.specs.declared.kinds.TheConstants.{MOST_VID, MOST_PORT_NO, VLAN_NAMED, PORT_NAMED}
 use Rattle.conf_shape.specs.declared.kinds.MapKind.{MapKind}
-use Rattle.conf_shape.specs.Addresses.{station_fault, other_cause, vip_fault, network_fault, address_or}
+use Rattle.conf_shape.specs.Addresses.{station_fault, width_written, ip_in, net_in, other_cause, vip_fault, network_fault, address_or, gateway_cause, identifier_fault}
 use Rattle.conf_shape.specs.Faults.{null_faults, in_map, here, missing, missing_row, missing_in, map_faults, may_be_null, faults_of, entry_of}
 use Rattle.conf_shape.specs.Keys.{KeyRow, keys_of}
 use Rattle.conf_shape.specs.Reads.{value_at, flag_in, permission_in, number_in, text_in, label_in, items_in, entries_in, flag_of, permission_of, number_of, text_of, words_of, items_of, entries_of, label_of, one_or_list_in, one_or_list_of, port_or, port_of, vlan_or, vlan_of, own_number}
 use Rattle.conf_shape.specs.Scalars.{within, if_within, is_name, as_scalar, flag_fault, number_fault, text_fault, scalar_kind, item_kind, map_kind}
 use Rattle.conf_shape.specs.Sections as sections
 use Rattle.conf_shape.specs.Sections.{is_key, row_at, lacks, is_needed, map_keys, if_number, number_or_name, as_map, numbered}
-use Rattle.conf_shape.specs.Values.{ip_of, net_or_zero, net_of, mac_or_zero, mac_of}
+use Rattle.conf_shape.specs.Values.{ip_or_zero, ip_of, net_or_zero, net_of, identifier_of, mac_or_zero, mac_of}
 use Rattle.conf_shape.specs.Written.{IsRight, IsTextAlone}
-use Rattle.law_checks.specs.Values.{IsFlag, IsNumber, IsText, IsPermission, IsLabelOf, IsVlanOf, IsPortOf, IsMac, IsAddress, IsNetwork, Each, IsList, IsOneOrList, HasEntries, IsMap, IsNumbered}
+use Rattle.law_checks.specs.Values.{IsFlag, IsNumber, IsText, IsPermission, IsLabelOf, IsVlanOf, IsPortOf, IsMac, IsIdentifier, IsAddress, IsNetwork, Each, IsList, IsOneOrList, HasEntries, IsMap, IsNumbered}
 use Rattle.law_checks.proofs.Right.{IsFine, fine, entry_right, map_right, items_right}
 use Rattle.law_checks.proofs.Values.{within_again, within_is, number_right, text_right}
-use Rattle.law_checks.proofs.Addresses.{no_colon}
+use Rattle.law_checks.proofs.Addresses.{IsReadIp, ip_ok, IsReadNet, net_ok, written_family}
 
 -- ---- what may be written
 
@@ -74,10 +74,10 @@ value_there name (p ∷ ps) h = by (is_key name p.key) h (value_there name ps)
     by true h later = refl
     by false h later = later h
 
-pub needed_there : (m : MapKind) (r : KeyRow) → row_at r.key (keys_of m).rows ≡ Some r → is_needed (sections.number_of m) r.need ≡ true → (pairs : List Pair) → IsRight m pairs → is_some (value_at r.key pairs) ≡ true
+pub needed_there : (m : MapKind) (r : KeyRow) → row_at r.key (keys_of m).rows ≡ Some r → ((keys : List Key) → is_needed (sections.number_of m) keys r.need ≡ true) → (pairs : List Pair) → IsRight m pairs → is_some (value_at r.key pairs) ≡ true
 needed_there m r at need pairs right =
     let none = none_lacks (sections.number_of m) (map_keys pairs) r.key r (keys_of m).rows (no_missing m [] pairs right) at in
-    value_there r.key pairs (by (is_needed (sections.number_of m) r.need) (list_any (is_key r.key) (map_keys pairs)) need none)
+    value_there r.key pairs (by (is_needed (sections.number_of m) (map_keys pairs) r.need) (list_any (is_key r.key) (map_keys pairs)) (need (map_keys pairs)) none)
   where
     by : (need there : Bool) → need ≡ true → (need && not there) ≡ false → there ≡ true
     by true true n l = refl
@@ -190,37 +190,47 @@ mac_stands other t h =
     by text None e f = absurd cc
     by text (Some mac) e f = mac_ok text mac e
 
-abbrev Spells : List ℕ → Net4 → Type 0
-Spells text net = (text ≡ net4_text net.ip.0 net.len) × (net.ip.0 < 2 ^ 32)
-
--- a text that spells a network is that of the network that is read
-net_spelled : (text : List ℕ) (fault : Option (ℕ × ℕ) → Option ConfCause) → (fault None ≡ None → ⊥) → fault (net4_of text) ≡ None → Spells text (net_of text)
-net_spelled text fault none e = by (net4_of text) refl e
+-- a text with no fault spells what is read of it
+net_read : (text : List ℕ) (fault : Option Net → Option ConfCause) → (fault None ≡ None → ⊥) → fault (net_in (width_written text) text) ≡ None → IsReadNet (width_written text) text (net_of text)
+net_read text fault none e = by (net_in (width_written text) text) refl e
   where
-    by : (read : Option (ℕ × ℕ)) → net4_of text ≡ read → fault read ≡ None → Spells text (net_or_zero read)
+    by : (read : Option Net) → net_in (width_written text) text ≡ read → fault read ≡ None → IsReadNet (width_written text) text (net_or_zero read)
     by None r e = absurd (none e)
-    by (Some net) r e = let ok = net4_ok text net r in (ok.0 ∙ ap (net4_text net.0) (sym (min-eq_left ok.2)), ok.1)
+    by (Some net) r e = net_ok (width_written text) text net r
 
-network_is : (t : Tree) (text : List ℕ) → out-Tree t ≡ tree.Text text → Spells text (net_of text) → IsNetwork t (net_of (words_of t))
-network_is t text r e = subst (λ x. let net = net_of (unwrap_or (text_in x) []) in (x ≡ tree.Text (net4_text net.ip.0 net.len)) × (net.ip.0 < 2 ^ 32)) (sym r) (ap tree.Text e.0, e.1)
+network_is : (t : Tree) (text : List ℕ) → out-Tree t ≡ tree.Text text → IsReadNet (width_written text) text (net_of text) → IsNetwork t (net_of (words_of t))
+network_is t text r ok = subst (λ x. IsNetwork t (net_of (unwrap_or (text_in x) []))) (sym r) (record { text = text; is = r; family = ok.family ∙ written_family text; spelled = ok.spelled })
 
 pub vip_stands : (t : Tree) → faults_of t (kind_of.One scalars.Vip) ≡ [] → IsNetwork t (net_of (words_of t))
 vip_stands t h =
     let r = text_right scalars.Vip (record { no_flag = refl; no_number = λ n. refl }) t h in
-    network_is t r.0 r.1 (net_spelled r.0 (vip_fault (other_cause r.0)) (λ e. cc) (no_colon r.0 (vip_fault (other_cause r.0) (net4_of r.0)) r.2))
+    network_is t r.0 r.1 (net_read r.0 (vip_fault (other_cause (width_written r.0) r.0)) (λ e. cc) r.2)
 
 pub destination_stands : (t : Tree) → faults_of t (kind_of.One scalars.Destination) ≡ [] → IsNetwork t (net_of (words_of t))
 destination_stands t h =
     let r = text_right scalars.Destination (record { no_flag = refl; no_number = λ n. refl }) t h in
-    network_is t r.0 r.1 (net_spelled r.0 (network_fault (other_cause r.0)) (λ e. cc) (no_colon r.0 (network_fault (other_cause r.0) (net4_of r.0)) r.2))
+    network_is t r.0 r.1 (net_read r.0 (network_fault (other_cause (width_written r.0) r.0)) (λ e. cc) r.2)
+
+ip_read : (text : List ℕ) → gateway_cause text ≡ None → IsReadIp (width_written text) text (ip_of text)
+ip_read text e = by (ip_in (width_written text) text) refl e
+  where
+    by : (read : Option Ip) → ip_in (width_written text) text ≡ read → address_or (Some BadText) read ≡ None → IsReadIp (width_written text) text (ip_or_zero read)
+    by None r e = absurd cc
+    by (Some ip) r e = ip_ok (width_written text) text ip r
 
 pub gateway_stands : (t : Tree) → faults_of t (kind_of.One scalars.Gateway) ≡ [] → IsAddress t (ip_of (words_of t))
 gateway_stands t h =
     let r = text_right scalars.Gateway (record { no_flag = refl; no_number = λ n. refl }) t h in
-    let ok = by r.0 (ip4_of r.0) refl (no_colon r.0 (address_or (Some BadText) (ip4_of r.0)) r.2) in
-    subst (λ x. let ip = ip_of (unwrap_or (text_in x) []) in (x ≡ tree.Text (ip4_text ip.0)) × (ip.0 < 2 ^ 32)) (sym r.1) (ap tree.Text ok.0, ok.1)
+    let ok = ip_read r.0 r.2 in
+    subst (λ x. IsAddress t (ip_of (unwrap_or (text_in x) []))) (sym r.1) (record { text = r.0; is = r.1; family = ok.family ∙ written_family r.0; spelled = ok.spelled })
+
+pub identifier_stands : (t : Tree) → faults_of t (kind_of.One scalars.Identifier) ≡ [] → IsIdentifier t (identifier_of (words_of t))
+identifier_stands t h =
+    let r = text_right scalars.Identifier (record { no_flag = refl; no_number = λ n. refl }) t h in
+    let ok = by r.0 (ip4_of r.0) refl r.2 in
+    subst (λ x. let ip = identifier_of (unwrap_or (text_in x) []) in (x ≡ tree.Text (ip4_text ip.0)) × (ip.0 < 2 ^ 32)) (sym r.1) (ap tree.Text ok.0, ok.1)
   where
-    by : (text : List ℕ) (read : Option ℕ) → ip4_of text ≡ read → address_or (Some BadText) read ≡ None → (text ≡ ip4_text (unwrap_or read 0)) × (unwrap_or read 0 < 2 ^ 32)
+    by : (text : List ℕ) (read : Option ℕ) → ip4_of text ≡ read → identifier_fault read ≡ None → (text ≡ ip4_text (unwrap_or read 0)) × (unwrap_or read 0 < 2 ^ 32)
     by text None r e = absurd cc
     by text (Some ip) r e = ip4_ok text ip r
 

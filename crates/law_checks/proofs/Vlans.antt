@@ -13,11 +13,12 @@ use Rattle.conf_shape.specs.declared.raw.VlanRef.TheVariants.{Vid, Name}
 use Rattle.conf_shape.specs.declared.raw.RawPort.{RawPort}
 use Rattle.conf_shape.specs.declared.raw.RawDp.{RawDp}
 use Rattle.conf_shape.specs.declared.raw.RawVlan.{RawVlan}
+use Rattle.conf_shape.specs.declared.raw.RawBgp.{RawBgp}
 use Rattle.conf_shape.specs.declared.raw.RawRouter.{RawRouter}
 use Rattle.conf_shape.specs.declared.raw.RawConf.{RawConf}
 use Rattle.conf_resolve.specs.declared.ordered.PlacedVlan.{PlacedVlan}
-use Rattle.conf_resolve.specs.InOrder.{ports_in_order, dps_in_order, routers_in_order, port_site, router_site, made_vlan, by_number, by_numbers, of_port, named, further, written, vlans_in_order, ordered}
-use Rattle.conf_resolve.specs.InRange.{IsInRange, NamesVlan, VlanIsInRange, DpIsInRange, PortIsInRange}
+use Rattle.conf_resolve.specs.InOrder.{ports_in_order, dps_in_order, routers_in_order, port_site, router_site, bgp_site, made_vlan, by_number, by_numbers, of_port, of_router, named, further, written, vlans_in_order, ordered}
+use Rattle.conf_resolve.specs.InRange.{IsInRange, NamesVlan, VlanIsInRange, DpIsInRange, PortIsInRange, BgpIsInRange, RouterIsInRange}
 use Rattle.conf_resolve.specs.Resolved.{vlan_of, resolved, to_list}
 use Rattle.law_checks.proofs.Apart.{vids_differ, vlan_names_differ}
 use Rattle.law_checks.proofs.Kept.{before_unmapped}
@@ -59,6 +60,17 @@ of_port_made d p v range i = by (of_joined (option_map_or (by_number (port_site 
     by (inl j) = native_made (port_site d p ++ codes "native_vlan" ∷ []) p.native v range.native j
     by (inr j) = by_numbers_made (port_site d p ++ codes "tagged_vlans" ∷ []) 0 p.tagged v range.tagged j
 
+peer_made : (site : List (List ℕ)) (bgp : Option RawBgp) (v : PlacedVlan) → IfSome bgp BgpIsInRange → IsIn (option_map_or (λ bgp. by_number site bgp.vlan) bgp []) v → IsMade v
+peer_made site None v is i = absurd i
+peer_made site (Some bgp) v is i = by_number_made site bgp.vlan v is.vlan i
+
+of_router_made : (r : RawRouter) (v : PlacedVlan) → RouterIsInRange r → IsIn (of_router r) v → IsMade v
+of_router_made r v range i = by (of_joined (by_numbers (router_site r ++ codes "vlans" ∷ []) r.vlans) _ v i)
+  where
+    by : IsIn (by_numbers (router_site r ++ codes "vlans" ∷ []) r.vlans) v ⊎ IsIn (option_map_or (λ bgp. by_number (bgp_site r) bgp.vlan) r.bgp []) v → IsMade v
+    by (inl j) = by_numbers_made (router_site r ++ codes "vlans" ∷ []) 0 r.vlans v range.vlans j
+    by (inr j) = peer_made (bgp_site r) r.bgp v range.bgp j
+
 -- one of those that are further is one of all
 pub of_further : (vids : List ℕ) (vs : List PlacedVlan) (w : PlacedVlan) → IsIn (further vids vs) w → IsIn vs w
 of_further vids [] w i = i
@@ -97,26 +109,30 @@ module _ (raw : RawConf) (range : IsInRange raw) where
     timeout = r.timeout;
     arp_timeout = r.arp_timeout;
     stack_priority = r.stack_priority;
+    lldp = r.lldp;
     ports = all_ordered PortIsInRange _ d.ports r.ports;
   })))
 
   pub dp_in_range : (d : RawDp) → IsIn (dps_in_order raw) d → DpIsInRange d
   dp_in_range d i = of_all DpIsInRange (dps_in_order raw) dps_in_range d i
 
-  pub routers_in_range : AllByRecursion (λ r. AllByRecursion NamesVlan r.vlans) (routers_in_order raw)
-  routers_in_range = all_ordered (λ (r : RawRouter). AllByRecursion NamesVlan r.vlans) _ raw.routers range.routers
+  routers_in_range : AllByRecursion RouterIsInRange (routers_in_order raw)
+  routers_in_range = all_ordered RouterIsInRange _ raw.routers range.routers
+
+  pub router_in_range : (r : RawRouter) → IsIn (routers_in_order raw) r → RouterIsInRange r
+  router_in_range r i = of_all RouterIsInRange (routers_in_order raw) routers_in_range r i
 
   named_made : (v : PlacedVlan) → IsIn (named (dps_in_order raw) (routers_in_order raw)) v → IsMade v
   named_made v i = by (of_joined (flat_map (λ d. flat_map (of_port d) d.ports) (dps_in_order raw)) _ v i)
     where
-      by : IsIn (flat_map (λ d. flat_map (of_port d) d.ports) (dps_in_order raw)) v ⊎ IsIn (flat_map (λ r. by_numbers (router_site r ++ codes "vlans" ∷ []) r.vlans) (routers_in_order raw)) v → IsMade v
+      by : IsIn (flat_map (λ d. flat_map (of_port d) d.ports) (dps_in_order raw)) v ⊎ IsIn (flat_map of_router (routers_in_order raw)) v → IsMade v
       by (inl j) =
           let m = of_flat (λ (d : RawDp). flat_map (of_port d) d.ports) (dps_in_order raw) v j in
           let n = of_flat (of_port m.0) m.0.ports v m.2 in
           of_port_made m.0 n.0 v (of_all PortIsInRange m.0.ports (dp_in_range m.0 m.1).ports n.0 n.1) n.2
       by (inr j) =
-          let m = of_flat (λ (r : RawRouter). by_numbers (router_site r ++ codes "vlans" ∷ []) r.vlans) (routers_in_order raw) v j in
-          by_numbers_made (router_site m.0 ++ codes "vlans" ∷ []) 0 m.0.vlans v (of_all (λ (r : RawRouter). AllByRecursion NamesVlan r.vlans) (routers_in_order raw) routers_in_range m.0 m.1) m.2
+          let m = of_flat of_router (routers_in_order raw) v j in
+          of_router_made m.0 v (router_in_range m.0 m.1) m.2
 
   abbrev new_vlans : List PlacedVlan
   new_vlans = further (map (λ v. v.vid) raw.vlans) (named (dps_in_order raw) (routers_in_order raw))
@@ -178,18 +194,29 @@ module _ (raw : RawConf) (range : IsInRange raw) where
   pub number_of_port : (d : RawDp) → IsIn (dps_in_order raw) d → (p : RawPort) → IsIn d.ports p → (vid : ℕ) → IsVid vid → IsIn (to_list p.native ++ p.tagged) (Vid vid) → HasVlan vid
   number_of_port d cd p cp vid is i =
       let m = port_names d p vid i in
-      let here = in_front (flat_map (λ d. flat_map (of_port d) d.ports) (dps_in_order raw)) (flat_map (λ r. by_numbers (router_site r ++ codes "vlans" ∷ []) r.vlans) (routers_in_order raw)) m.0
+      let here = in_front (flat_map (λ d. flat_map (of_port d) d.ports) (dps_in_order raw)) (flat_map of_router (routers_in_order raw)) m.0
       (in_flat (λ (d : RawDp). flat_map (of_port d) d.ports) (dps_in_order raw) d m.0 cd (in_flat (of_port d) d.ports p m.0 cp m.1)) in
+      let w = has_number m.0 here in
+      (w.0, w.1, w.2 ∙ ap (λ (v : RawVlan). v.vid) m.2 ∙ made_number vid is)
+
+  -- of a number that a router names
+  named_by : (r : RawRouter) → IsIn (routers_in_order raw) r → (vid : ℕ) → IsVid vid → (v : PlacedVlan) × IsIn (of_router r) v × (v.vlan ≡ made_vlan vid) → HasVlan vid
+  named_by r cr vid is m =
+      let here = behind (flat_map (λ d. flat_map (of_port d) d.ports) (dps_in_order raw)) (flat_map of_router (routers_in_order raw)) m.0 (in_flat of_router (routers_in_order raw) r m.0 cr m.1) in
       let w = has_number m.0 here in
       (w.0, w.1, w.2 ∙ ap (λ (v : RawVlan). v.vid) m.2 ∙ made_number vid is)
 
   pub number_of_router : (r : RawRouter) → IsIn (routers_in_order raw) r → (vid : ℕ) → IsVid vid → IsIn r.vlans (Vid vid) → HasVlan vid
   number_of_router r cr vid is i =
       let m = numbers_named (router_site r ++ codes "vlans" ∷ []) 0 r.vlans vid i in
-      let here = behind (flat_map (λ d. flat_map (of_port d) d.ports) (dps_in_order raw)) (flat_map (λ r. by_numbers (router_site r ++ codes "vlans" ∷ []) r.vlans) (routers_in_order raw)) m.0
-      (in_flat (λ (r : RawRouter). by_numbers (router_site r ++ codes "vlans" ∷ []) r.vlans) (routers_in_order raw) r m.0 cr m.1) in
-      let w = has_number m.0 here in
-      (w.0, w.1, w.2 ∙ ap (λ (v : RawVlan). v.vid) m.2 ∙ made_number vid is)
+      named_by r cr vid is (m.0, in_front (by_numbers (router_site r ++ codes "vlans" ∷ []) r.vlans) _ m.0 m.1, m.2)
+
+  pub number_of_peer : (r : RawRouter) → IsIn (routers_in_order raw) r → (bgp : RawBgp) → r.bgp ≡ Some bgp → (vid : ℕ) → IsVid vid → bgp.vlan ≡ Vid vid → HasVlan vid
+  number_of_peer r cr bgp has vid is names =
+      let v : PlacedVlan = record { site = bgp_site r; vlan = made_vlan vid } in
+      let here : IsIn (by_number (bgp_site r) bgp.vlan) v = subst (λ (m : VlanRef). IsIn (by_number (bgp_site r) m) v) (sym names) (inl refl) in
+      let at : IsIn (option_map_or (λ bgp. by_number (bgp_site r) bgp.vlan) r.bgp []) v = subst (λ (o : Option RawBgp). IsIn (option_map_or (λ bgp. by_number (bgp_site r) bgp.vlan) o []) v) (sym has) here in
+      named_by r cr vid is (v, behind (by_numbers (router_site r ++ codes "vlans" ∷ []) r.vlans) _ v at, refl)
 
   -- ---- they are valid
 

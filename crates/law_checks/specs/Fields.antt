@@ -2,18 +2,21 @@
 use Rattle.std.specs.Prelude.{◌≡◌, ℕ, ◌+◌, ◌^◌, ◌<◌, ◌≤◌, ◌==◌, ◌⊎◌, if◌then◌else◌, List, [], ◌∷◌, ◌++◌, codes, Option, Some, None, MatchOption}
 use Rattle.net_base.specs.declared.field.Field.{Field}
 use Rattle.net_base.specs.declared.field.FieldId.{FieldId}
-use Rattle.net_base.specs.declared.field.FieldId.TheVariants.{EthDst, EthSrc, EthType, VlanVid, VlanPcp, IpProto, Ipv4Src, Ipv4Dst, TcpSrc, TcpDst, UdpSrc, UdpDst, Icmpv4Type, Icmpv4Code, ArpOp, ArpSpa, ArpTpa}
-use Rattle.net_base.specs.Address.{SpellsMac, mac_value, ip4_text, net4_text}
-use Rattle.net_base.specs.Field.{exact, prefix}
+use Rattle.net_base.specs.declared.field.FieldId.TheVariants.{EthDst, EthSrc, EthType, VlanVid, VlanPcp, IpProto, Ipv4Src, Ipv4Dst, TcpSrc, TcpDst, UdpSrc, UdpDst, Icmpv4Type, Icmpv4Code, ArpOp, ArpSpa, ArpTpa, Ipv6Src, Ipv6Dst, Icmpv6Type, Icmpv6Code, Ipv6NdTarget}
+use Rattle.net_base.specs.Address.{SpellsMac, mac_value}
+use Rattle.net_base.specs.Field.{exact, prefix_in}
+use Rattle.conf_types.specs.declared.address.Ip.{Ip}
+use Rattle.conf_types.specs.declared.address.Net.{Net}
+use Rattle.conf_types.specs.Families.{ip_value, width_of, address_of, len_of}
 use Rattle.yaml_tree.specs.declared.tree.Pair.{Pair}
 use Rattle.yaml_tree.specs.declared.tree.Tree.{Tree}
 use Rattle.conf_shape.specs.declared.kinds.Scalar.{Scalar}
-use Rattle.conf_shape.specs.declared.kinds.Scalar.TheVariants.{MaskedMac, Prefix}
+use Rattle.conf_shape.specs.declared.kinds.Scalar.TheVariants.{MaskedMac, Prefix, Address}
 use Rattle.conf_shape.specs.declared.raw.RawField.{RawField}
 use Rattle.conf_shape.specs.Sections.{key_text}
 use Rattle.conf_shape.specs.Scalars.{asked_scalar}
 use Rattle.conf_shape.specs.Values.{tag_bit, spelled_at, raw_field_or, ahead}
-use Rattle.law_checks.specs.Values.{IsNumber, IsText}
+use Rattle.law_checks.specs.Values.{IsNumber, IsText, SpellsIp, SpellsNet}
 
 -- ---- the field that a value asks for
 
@@ -39,25 +42,29 @@ pub record AsksMaskedMac (id : FieldId) (t : Tree) (asked : Option Field) : Type
   pub mask_spelled : SpellsMac behind mask
   pub field : asked ≡ (if mac_value (record { 0 = mask }) == 0 then None else Some (record { id = id; value = mac_value (record { 0 = value }); mask = mac_value (record { 0 = mask }) }))
 
-pub record AsksAddress (id : FieldId) (t : Tree) (asked : Option Field) : Type 0 where
-  pub ip : ℕ
-  pub below : ip < 2 ^ 32
-  pub is : IsText t (ip4_text ip)
-  pub field : asked ≡ Some (exact id ip)
+-- an address of so many bits
+pub record AsksAddress (width : ℕ) (id : FieldId) (t : Tree) (asked : Option Field) : Type 0 where
+  pub text : List ℕ
+  pub ip : Ip
+  pub is : IsText t text
+  pub family : width_of ip ≡ width
+  pub spelled : SpellsIp text ip
+  pub field : asked ≡ Some (exact id (ip_value ip))
 
--- a length of zero leaves the field out
-pub record AsksPrefix (id : FieldId) (t : Tree) (asked : Option Field) : Type 0 where
-  pub ip : ℕ
-  pub len : ℕ
-  pub below : ip < 2 ^ 32
-  pub short : len ≤ 32
-  pub is : IsText t (net4_text ip len)
-  pub field : asked ≡ (if len == 0 then None else Some (prefix id ip len))
+-- a network of such addresses; a length of zero leaves the field out
+pub record AsksPrefix (width : ℕ) (id : FieldId) (t : Tree) (asked : Option Field) : Type 0 where
+  pub text : List ℕ
+  pub net : Net
+  pub is : IsText t text
+  pub family : width_of (address_of net) ≡ width
+  pub spelled : SpellsNet text net
+  pub field : asked ≡ (if len_of net == 0 then None else Some (prefix_in width id (ip_value (address_of net)) (len_of net)))
 
 -- by what the value has to be
 abbrev pub AsksBy : Scalar → FieldId → Tree → Option Field → Type 0
 AsksBy MaskedMac id t asked = AsksMac id t asked ⊎ AsksMaskedMac id t asked
-AsksBy Prefix id t asked = AsksAddress id t asked ⊎ AsksPrefix id t asked
+AsksBy (Prefix width) id t asked = AsksAddress width id t asked ⊎ AsksPrefix width id t asked
+AsksBy (Address width) id t asked = AsksAddress width id t asked
 AsksBy scalar id t asked = AsksNumber id t asked
 
 abbrev pub Asks : FieldId → Tree → Option Field → Type 0
@@ -85,6 +92,11 @@ asked_fields =
     (codes "arp_op", ArpOp) ∷
     (codes "arp_spa", ArpSpa) ∷
     (codes "arp_tpa", ArpTpa) ∷
+    (codes "ipv6_src", Ipv6Src) ∷
+    (codes "ipv6_dst", Ipv6Dst) ∷
+    (codes "icmpv6_type", Icmpv6Type) ∷
+    (codes "icmpv6_code", Icmpv6Code) ∷
+    (codes "ipv6_nd_target", Ipv6NdTarget) ∷
     []
 
 -- what eight of them may be spelled as too

@@ -10,6 +10,7 @@ use Rattle.conf_shape.specs.declared.raw.OneOrList.TheVariants as several
 use Rattle.conf_shape.specs.declared.raw.PortFlags.{PortFlags}
 use Rattle.conf_shape.specs.declared.raw.RawAcl.{RawAcl}
 use Rattle.conf_shape.specs.declared.raw.RawAclNames.{RawAclNames}
+use Rattle.conf_shape.specs.declared.raw.RawBgp.{RawBgp}
 use Rattle.conf_shape.specs.declared.raw.RawConf.{RawConf}
 use Rattle.conf_shape.specs.declared.raw.RawDp.{RawDp}
 use Rattle.conf_shape.specs.declared.raw.RawNames.{RawNames}
@@ -22,7 +23,7 @@ use Rattle.conf_shape.specs.declared.raw.RawVlan.{RawVlan}
 use Rattle.conf_shape.specs.Reads.{value_at}
 use Rattle.conf_shape.specs.Sections.{key_text}
 use Rattle.law_checks.specs.Fields.{asked_fields, FieldsSay}
-use Rattle.law_checks.specs.Values.{IsFlag, IsNumber, IsText, IsPermission, IsLabelOf, IsVlanOf, IsPortOf, IsMac, IsAddress, IsNetwork, Each, IsList, IsOneOrList, IsMap, AreMaps, Given, Needed, IsNumbered}
+use Rattle.law_checks.specs.Values.{IsFlag, IsNumber, IsText, IsPermission, IsLabelOf, IsVlanOf, IsPortOf, IsMac, IsIdentifier, IsAddress, IsNetwork, Each, IsList, IsOneOrList, IsMap, AreMaps, Given, Needed, IsNumbered}
 
 pub record NamesSay (key : Key) (pairs : List Pair) (names : RawNames) : Type 0 where
   pub key_is : names.key ≡ key_text key
@@ -78,12 +79,17 @@ pub record DropFlagsSay (pairs : List Pair) (drops : DropFlags) : Type 0 where
 abbrev pub PrioritySays : List Pair → Option ℕ → Type 0
 PrioritySays pairs priority = Given (codes "priority") pairs (priority ≡ None) (λ t. IsSomeAnd priority (IsNumber t))
 
+-- how often links are probed, where `lldp_beacon` of a datapath is given
+abbrev pub LldpSays : List Pair → ℕ → Type 0
+LldpSays pairs seconds = NumberSays (codes "send_interval") 5 pairs seconds
+
 pub record DpSays (key : Key) (pairs : List Pair) (dp : RawDp) : Type 0 where
   pub names : NamesSay key pairs dp.names
   pub id : Needed (codes "dp_id") pairs (λ t. IsNumber t dp.id.0)
   pub hardware : Given (codes "hardware") pairs (dp.hardware ≡ codes "Open vSwitch") (λ t. IsText t dp.hardware)
   pub timeout : NumberSays (codes "timeout") 300 pairs dp.timeout
   pub arp_timeout : NumberSays (codes "arp_neighbor_timeout") 30 pairs dp.arp_timeout
+  pub lldp : Given (codes "lldp_beacon") pairs (dp.lldp ≡ None) (λ t. IsSomeAnd dp.lldp (IsMap LldpSays t))
   pub stack_priority : Given (codes "stack") pairs (dp.stack_priority ≡ None) (λ t. IsMap PrioritySays t dp.stack_priority)
   pub drops : DropFlagsSay pairs dp.drops
   pub ports : Needed (codes "interfaces") pairs (λ t. IsMap (AreMaps PortSays) t dp.ports)
@@ -133,9 +139,16 @@ pub record AclSays (p : Pair) (acl : RawAcl) : Type 0 where
   pub name : acl.name ≡ key_text p.key
   pub rules : IsList (IsMap RuleItemSays) p.value acl.rules
 
+pub record BgpSays (pairs : List Pair) (bgp : RawBgp) : Type 0 where
+  pub our_as : Needed (codes "as") pairs (λ t. IsNumber t bgp.our_as)
+  pub neighbor_as : Needed (codes "neighbor_as") pairs (λ t. IsNumber t bgp.neighbor_as)
+  pub routerid : Needed (codes "routerid") pairs (λ t. IsIdentifier t bgp.routerid)
+  pub vlan : Needed (codes "vlan") pairs (λ t. IsVlanOf (out-Tree t) bgp.vlan)
+
 pub record RouterSays (key : Key) (pairs : List Pair) (router : RawRouter) : Type 0 where
   pub name : router.name ≡ key_text key
-  pub vlans : Needed (codes "vlans") pairs (λ t. IsList (λ item. IsVlanOf (out-Tree item)) t router.vlans)
+  pub vlans : Given (codes "vlans") pairs (router.vlans ≡ []) (λ t. IsList (λ item. IsVlanOf (out-Tree item)) t router.vlans)
+  pub bgp : Given (codes "bgp") pairs (router.bgp ≡ None) (λ t. IsSomeAnd router.bgp (IsMap BgpSays t))
 
 -- ---- the whole
 

@@ -3,20 +3,26 @@ use Rattle.std.specs.Prelude.{◌≡◌, ℕ, ◌^◌, ◌<◌, pos, Bool, if◌
 use Rattle.std.specs.Fmt.{signed_decimal}
 use Rattle.net_base.specs.declared.address.Ip4.{Ip4}
 use Rattle.net_base.specs.declared.address.Mac.{Mac}
-use Rattle.net_base.specs.declared.net4.Net4.{Net4}
 use Rattle.net_base.specs.Address.{SpellsMac, ip4_text, net4_text}
+use Rattle.net_base.specs.Address6.{SpellsIp6, SpellsNet6}
 use Rattle.yaml_tree.specs.declared.tree.Key.{Key}
 use Rattle.yaml_tree.specs.declared.tree.Key.TheVariants as key
 use Rattle.yaml_tree.specs.declared.tree.Pair.{Pair}
 use Rattle.yaml_tree.specs.declared.tree.Tree.{Tree, out-Tree}
 use Rattle.yaml_tree.specs.declared.tree.Tree.TheOpen.{Tree-F}
 use Rattle.yaml_tree.specs.declared.tree.Tree.TheOpen as tree
+use Rattle.conf_types.specs.declared.address.Ip.{Ip}
+use Rattle.conf_types.specs.declared.address.Ip.TheVariants as ip
+use Rattle.conf_types.specs.declared.address.Net.{Net}
+use Rattle.conf_types.specs.declared.address.Net.TheVariants as net
 use Rattle.conf_types.specs.declared.acl.PortRef.{PortRef}
 use Rattle.conf_types.specs.declared.acl.PortRef.TheVariants as port_ref
+use Rattle.conf_types.specs.Families.{width_of, address_of}
 use Rattle.conf_shape.specs.declared.raw.OneOrList.{OneOrList}
 use Rattle.conf_shape.specs.declared.raw.OneOrList.TheVariants as several
 use Rattle.conf_shape.specs.declared.raw.VlanRef.{VlanRef}
 use Rattle.conf_shape.specs.declared.raw.VlanRef.TheVariants as vlan_ref
+use Rattle.conf_shape.specs.Addresses.{width_written}
 use Rattle.conf_shape.specs.Reads.{value_at}
 
 -- ---- a value alone
@@ -57,11 +63,31 @@ IsPortOf _ _ = ⊥
 abbrev pub IsMac : Tree → Mac → Type 0
 IsMac t mac = (text : List ℕ) × IsText t text × SpellsMac text mac.0
 
-abbrev pub IsAddress : Tree → Ip4 → Type 0
-IsAddress t ip = IsText t (ip4_text ip.0) × (ip.0 < 2 ^ 32)
+-- an IPv4 address, by which a speaker of BGP is called
+abbrev pub IsIdentifier : Tree → Ip4 → Type 0
+IsIdentifier t ip = IsText t (ip4_text ip.0) × (ip.0 < 2 ^ 32)
 
-abbrev pub IsNetwork : Tree → Net4 → Type 0
-IsNetwork t net = IsText t (net4_text net.ip.0 net.len) × (net.ip.0 < 2 ^ 32)
+-- the text spells the address, or the network, in its family
+abbrev pub SpellsIp : List ℕ → Ip → Type 0
+SpellsIp text (ip.V4 a) = (text ≡ ip4_text a.0) × (a.0 < 2 ^ 32)
+SpellsIp text (ip.V6 a) = SpellsIp6 text a.0
+
+abbrev pub SpellsNet : List ℕ → Net → Type 0
+SpellsNet text (net.V4 n) = (text ≡ net4_text n.ip.0 n.len) × (n.ip.0 < 2 ^ 32)
+SpellsNet text (net.V6 n) = SpellsNet6 text n.ip.0 n.len
+
+-- a text with a colon is read as IPv6, and any other as IPv4
+pub record IsAddress (t : Tree) (ip : Ip) : Type 0 where
+  pub text : List ℕ
+  pub is : IsText t text
+  pub family : width_of ip ≡ width_written text
+  pub spelled : SpellsIp text ip
+
+pub record IsNetwork (t : Tree) (net : Net) : Type 0 where
+  pub text : List ℕ
+  pub is : IsText t text
+  pub family : width_of (address_of net) ≡ width_written text
+  pub spelled : SpellsNet text net
 
 -- ---- lists and maps
 
