@@ -4,13 +4,14 @@ use Rattle.std.specs.List.{AllByRecursion, flat_map}
 use Rattle.std.proofs.Common.{refl, sym, true≢false}
 use Rattle.conf_shape.specs.declared.raw.RawDp.{RawDp}
 use Rattle.conf_shape.specs.declared.raw.RawPort.{RawPort}
+use Rattle.conf_shape.specs.declared.raw.RawBgp.{RawBgp}
 use Rattle.conf_shape.specs.declared.raw.RawRouter.{RawRouter}
 use Rattle.conf_shape.specs.declared.raw.VlanRef.{VlanRef}
 use Rattle.conf_shape.specs.declared.refused.ConfCause.TheVariants.{Unresolved}
 use Rattle.conf_resolve.specs.declared.ordered.OrderedConf.{OrderedConf}
-use Rattle.conf_resolve.specs.InOrder.{port_site, router_site}
+use Rattle.conf_resolve.specs.InOrder.{port_site, router_site, bgp_site}
 use Rattle.conf_resolve.specs.Resolved.{vid_of, to_list}
-use Rattle.conf_rules.specs.Names.{unknown_vlan, native_at, tagged_at, unknown_of_port, unknown_of_dp, unknown_of_router, unknown_vlans}
+use Rattle.conf_rules.specs.Names.{unknown_vlan, native_at, tagged_at, routed_at, peer_at, unknown_of_port, unknown_of_dp, unknown_of_router, unknown_vlans}
 use Rattle.conf_rules.specs.Places.{under, each_at}
 use Rattle.law_checks.proofs.Empty.{none_left, none_right, none_at, none_of_values, values_at, passes}
 use Rattle.law_checks.proofs.Kept.{both_empty, all_empty, no_fault, is_value}
@@ -50,6 +51,14 @@ module _ (o : OrderedConf) where
   native_known site None is = refl
   native_known site (Some name) is = both_empty (unknown_vlan o (site, name)) [] (no_fault (is_none (vid_of o.vlans name)) Unresolved site (known name is)) refl
 
+  peer_stands : (site : List (List ℕ)) (bgp : Option RawBgp) → flat_map (unknown_vlan o) (map (λ (bgp : RawBgp). (site, bgp.vlan)) (to_list bgp)) ≡ [] → IfSome bgp (λ bgp. StandsForVlan o bgp.vlan)
+  peer_stands site None none = tt
+  peer_stands site (Some bgp) none = stands bgp.vlan (passes (is_none (vid_of o.vlans bgp.vlan)) Unresolved site (none_left (unknown_vlan o (site, bgp.vlan)) [] none))
+
+  peer_known : (site : List (List ℕ)) (bgp : Option RawBgp) → IfSome bgp (λ bgp. StandsForVlan o bgp.vlan) → flat_map (unknown_vlan o) (map (λ (bgp : RawBgp). (site, bgp.vlan)) (to_list bgp)) ≡ []
+  peer_known site None is = refl
+  peer_known site (Some bgp) is = both_empty (unknown_vlan o (site, bgp.vlan)) [] (no_fault (is_none (vid_of o.vlans bgp.vlan)) Unresolved site (known bgp.vlan is)) refl
+
   module _ (none : unknown_vlans o ≡ []) where
     of_port : (d : RawDp) → IsIn o.dps d → (p : RawPort) → IsIn d.ports p → unknown_of_port o d p ≡ []
     of_port d i p j = none_at (unknown_of_port o d) d.ports (none_at (unknown_of_dp o) o.dps (none_left (flat_map (unknown_of_dp o) o.dps) (flat_map (unknown_of_router o) o.routers) none) d i) p j
@@ -63,7 +72,10 @@ module _ (o : OrderedConf) where
           native_stands (under (port_site d p) (codes "native_vlan")) p.native (none_left (flat_map (unknown_vlan o) (native_at d p)) (flat_map (unknown_vlan o) (tagged_at d p)) (of_port d i p j))));
       tagged = all_by (λ (d : RawDp). AllByRecursion (λ p. AllByRecursion (StandsForVlan o) p.tagged) d.ports) o.dps (λ d i. all_by (λ (p : RawPort). AllByRecursion (StandsForVlan o) p.tagged) d.ports (λ p j.
           all_stand (under (port_site d p) (codes "tagged_vlans")) p.tagged (none_right (flat_map (unknown_vlan o) (native_at d p)) (flat_map (unknown_vlan o) (tagged_at d p)) (of_port d i p j))));
-      routed = all_by (λ (r : RawRouter). AllByRecursion (StandsForVlan o) r.vlans) o.routers (λ r i. all_stand (under (router_site r) (codes "vlans")) r.vlans (of_router r i));
+      routed = all_by (λ (r : RawRouter). AllByRecursion (StandsForVlan o) r.vlans) o.routers (λ r i.
+          all_stand (under (router_site r) (codes "vlans")) r.vlans (none_left (flat_map (unknown_vlan o) (routed_at r)) (flat_map (unknown_vlan o) (peer_at r)) (of_router r i)));
+      of_peers = all_by (λ (r : RawRouter). IfSome r.bgp (λ bgp. StandsForVlan o bgp.vlan)) o.routers (λ r i.
+          peer_stands (bgp_site r) r.bgp (none_right (flat_map (unknown_vlan o) (routed_at r)) (flat_map (unknown_vlan o) (peer_at r)) (of_router r i)));
     }
 
   pub none_lacks : VlansExist o → unknown_vlans o ≡ []
@@ -72,4 +84,6 @@ module _ (o : OrderedConf) where
       (all_empty (unknown_of_dp o) o.dps (λ d i. all_empty (unknown_of_port o d) d.ports (λ p j. both_empty (flat_map (unknown_vlan o) (native_at d p)) (flat_map (unknown_vlan o) (tagged_at d p))
       (native_known (under (port_site d p) (codes "native_vlan")) p.native (of_all (λ (p : RawPort). IfSome p.native (StandsForVlan o)) d.ports (of_all (λ (d : RawDp). AllByRecursion (λ p. IfSome p.native (StandsForVlan o)) d.ports) o.dps is.native d i) p j))
       (none_unknown (under (port_site d p) (codes "tagged_vlans")) p.tagged (of_all (λ (p : RawPort). AllByRecursion (StandsForVlan o) p.tagged) d.ports (of_all (λ (d : RawDp). AllByRecursion (λ p. AllByRecursion (StandsForVlan o) p.tagged) d.ports) o.dps is.tagged d i) p j)))))
-      (all_empty (unknown_of_router o) o.routers (λ r i. none_unknown (under (router_site r) (codes "vlans")) r.vlans (of_all (λ (r : RawRouter). AllByRecursion (StandsForVlan o) r.vlans) o.routers is.routed r i)))
+      (all_empty (unknown_of_router o) o.routers (λ r i. both_empty (flat_map (unknown_vlan o) (routed_at r)) (flat_map (unknown_vlan o) (peer_at r))
+      (none_unknown (under (router_site r) (codes "vlans")) r.vlans (of_all (λ (r : RawRouter). AllByRecursion (StandsForVlan o) r.vlans) o.routers is.routed r i))
+      (peer_known (bgp_site r) r.bgp (of_all (λ (r : RawRouter). IfSome r.bgp (λ bgp. StandsForVlan o bgp.vlan)) o.routers is.of_peers r i))))

@@ -1,23 +1,29 @@
 -- The limits on routes and gateways, and on what packets of VLANs are routed by.
-use Rattle.std.specs.Prelude.{◌≡◌, ◌⊎◌, ℕ, zero, suc, ◌+◌, ◌*◌, ◌<◌, ◌==◌, Bool, true, false, List, [], ◌∷◌, length, map, Option, Some, None, Contains, sum_by, if◌then◌else◌}
+use Rattle.std.specs.Prelude.{◌≡◌, ◌⊎◌, ℕ, zero, suc, ◌+◌, ◌*◌, ◌<◌, ◌==◌, Bool, true, false, List, [], ◌∷◌, length, map, filter, Option, Some, None, Contains, sum_by, if◌then◌else◌}
 use Rattle.std.specs.Option.{option_map_or}
 use Rattle.std.proofs.Common.{refl, sym, ap, ◌∙◌, subst, arith, inl, inr, true≢false, eqb-true, eq-eqb}
 use Rattle.std.proofs.lemmas.Option.{same_Some, none-some}
 use Rattle.std.proofs.lemmas.List.Concat.{length-flat_map}
 use Rattle.std.proofs.lemmas.List.Sums.{sum_by-cons}
 use Rattle.net_base.specs.declared.numbers.DpId.{DpId}
+use Rattle.conf_types.specs.declared.address.Ip.{Ip}
+use Rattle.conf_types.specs.declared.address.Ip.TheVariants as ip
 use Rattle.conf_types.specs.declared.datapath.Dp.{Dp}
+use Rattle.conf_types.specs.declared.family.Family.{Family}
 use Rattle.conf_types.specs.declared.vlan.Route.{Route}
 use Rattle.conf_types.specs.declared.vlan.Vlan.{Vlan}
 use Rattle.conf_types.specs.Configuration.{Configuration, vlan_with}
+use Rattle.conf_types.specs.Families.{ipv4, ipv6, family_of, ip_value, width_of, values_in, different_ips}
 use Rattle.conf_types.specs.Groups.{IsDp, Walk, IsJoined, IsGroup, group_of}
 use Rattle.conf_types.specs.Lists.{EachBefore, AreDistinct, is_among, different}
 use Rattle.conf_types.specs.Routing.{routing_set, vips_of, vips_in, routes_of, routes_in}
 use Rattle.conf_types.specs.Valid.{route_items, group_count}
+use Rattle.conf_types.proofs.Families.{one_family, one_ip}
 use Rattle.conf_types.proofs.Reached.{same_id, group_is}
+use Rattle.law_checks.proofs.KeptLimits.{into_filtered}
 use Rattle.law_checks.proofs.KeptLinks.{nil_length}
 use Rattle.law_checks.proofs.Links.{empty}
-use Rattle.law_checks.proofs.Members.{IsIn, all_by, in_mapped, of_mapped, among, is_one_of, before_by}
+use Rattle.law_checks.proofs.Members.{IsIn, all_by, in_mapped, of_mapped, of_filtered, among, is_one_of, before_by}
 use Rattle.law_checks.proofs.Sets.{set_of}
 use Rattle.law_rules.specs.Counted.{IsNumberOf}
 use Rattle.law_rules.specs.Limits.{AreTold, IsRoute, IsGateway, Item, VipAt, RouteAt, IsItemOf, IsRouteItem}
@@ -39,6 +45,51 @@ number_different (n ∷ ns) = by (is_among ns n) refl (number_different ns)
     by false is more =
         number_of_both (λ x. n ≡ x) (IsIn ns) 1 (different ns) (λ x e i. true≢false (sym (among ns n (subst (IsIn ns) (sym e) i)) ∙ is))
         (by_list (λ x. n ≡ x) (n ∷ []) (tt, tt) (λ x i. elim i [ inl e ↦ e | inr none ↦ absurd none ]) (λ x e. inl e)) more
+
+-- ---- different addresses
+
+-- the addresses of a family among others, where each number makes one of it
+of_family : (f : Family) (make : ℕ → Ip) → ((n : ℕ) → (family_of (make n) ≡ f) × (ip_value (make n) ≡ n)) → (ips : List Ip) → IsNumberOf (λ a. IsIn ips a × (width_of a ≡ f.width)) (different (values_in f ips))
+of_family f make made ips =
+    same_number (λ a. (n : ℕ) × IsIn (values_in f ips) n × (make n ≡ a)) (λ a. IsIn ips a × (width_of a ≡ f.width)) (different (values_in f ips)) there back
+    (number_mapped make (IsIn (values_in f ips)) (different (values_in f ips)) (λ m n e. sym (made m).1 ∙ ap ip_value e ∙ (made n).1) (number_different (values_in f ips)))
+  where
+    its : Ip → Bool
+    its a = width_of a == f.width
+
+    width_made : (n : ℕ) → width_of (make n) ≡ f.width
+    width_made n = ap (λ (g : Family). g.width) (made n).0
+
+    there : (a : Ip) → (n : ℕ) × IsIn (values_in f ips) n × (make n ≡ a) → IsIn ips a × (width_of a ≡ f.width)
+    there a p =
+        let m = of_mapped ip_value (filter its ips) p.0 p.1 in
+        let k = of_filtered its ips m.0 m.1 in
+        let width = eqb-true (width_of m.0) f.width k.1 in
+        let same : m.0 ≡ a = one_ip m.0 (make p.0) (one_family m.0 (make p.0) (width ∙ sym (width_made p.0))) (m.2 ∙ sym (made p.0).1) ∙ p.2 in
+        (subst (IsIn ips) same k.0, ap width_of (sym same) ∙ width)
+
+    back : (a : Ip) → IsIn ips a × (width_of a ≡ f.width) → (n : ℕ) × IsIn (values_in f ips) n × (make n ≡ a)
+    back a p = (
+      ip_value a,
+      in_mapped ip_value (filter its ips) a (into_filtered its ips a p.0 (eq-eqb (width_of a) f.width p.1)),
+      one_ip (make (ip_value a)) a (one_family (make (ip_value a)) a (width_made (ip_value a) ∙ sym p.1)) (made (ip_value a)).1,
+    )
+
+number_different_ips : (ips : List Ip) → IsNumberOf (IsIn ips) (different_ips ips)
+number_different_ips ips =
+    same_number (λ a. Four a ⊎ Six a) (IsIn ips) (different_ips ips) (λ a p. elim p [ inl four ↦ four.0 | inr six ↦ six.0 ]) back
+    (number_of_both Four Six (different (values_in ipv4 ips)) (different (values_in ipv6 ips)) (λ a four six. absurd (omega (arith, four.1, six.1)))
+    (of_family ipv4 (λ n. ip.V4 (record { 0 = n })) (λ n. (refl, refl)) ips) (of_family ipv6 (λ n. ip.V6 (record { 0 = n })) (λ n. (refl, refl)) ips))
+  where
+    Four : Ip → Type 0
+    Four a = IsIn ips a × (width_of a ≡ ipv4.width)
+
+    Six : Ip → Type 0
+    Six a = IsIn ips a × (width_of a ≡ ipv6.width)
+
+    back : (a : Ip) → IsIn ips a → Four a ⊎ Six a
+    back (ip.V4 a) i = inl (i, refl)
+    back (ip.V6 a) i = inr (i, refl)
 
 -- ---- groups
 
@@ -91,23 +142,23 @@ module _ (conf : Configuration) (told : AreTold conf) where
 
   -- ---- gateways
 
-  gateways_of : Vlan → List ℕ
-  gateways_of v = map (λ r. r.gw.0) v.routes
+  gateways_of : Vlan → List Ip
+  gateways_of v = map (λ r. r.gw) v.routes
 
-  HasGateway : ℕ × ℕ → Type 0
-  HasGateway pair = (v : Vlan) × Contains conf.vlans v × (v.vid ≡ pair.0) × ((r : Route) × Contains v.routes r × (r.gw.0 ≡ pair.1))
+  HasGateway : ℕ × Ip → Type 0
+  HasGateway pair = (v : Vlan) × Contains conf.vlans v × (v.vid ≡ pair.0) × ((r : Route) × Contains v.routes r × (r.gw ≡ pair.1))
 
-  gateway_pairs : IsNumberOf HasGateway (sum_by (λ v. different (map (λ r. r.gw.0) v.routes)) conf.vlans)
+  gateway_pairs : IsNumberOf HasGateway (sum_by (λ v. different_ips (map (λ r. r.gw) v.routes)) conf.vlans)
   unfolding gateways_of HasGateway
   gateway_pairs =
-      same_number _ HasGateway (sum_by (λ v. different (map (λ r. r.gw.0) v.routes)) conf.vlans)
-      (λ q p. let m = of_mapped (λ (r : Route). r.gw.0) p.0.routes q.1 p.3 in (p.0, contains conf.vlans p.0 p.1, p.2, (m.0, contains p.0.routes m.0 m.1, m.2)))
-      (λ q p. (p.0, is_in conf.vlans p.0 p.1, p.2, subst (IsIn (gateways_of p.0)) p.3.2 (in_mapped (λ (r : Route). r.gw.0) p.0.routes p.3.0 (is_in p.0.routes p.3.0 p.3.1))))
-      (number_of_pairs (λ (v : Vlan). v.vid) (λ v. different (gateways_of v)) (λ v ip. IsIn (gateways_of v) ip) conf.vlans told.vlans (all_by (λ v. IsNumberOf (IsIn (gateways_of v)) (different (gateways_of v))) conf.vlans (λ v i. number_different (gateways_of v))))
+      same_number _ HasGateway (sum_by (λ v. different_ips (map (λ r. r.gw) v.routes)) conf.vlans)
+      (λ q p. let m = of_mapped (λ (r : Route). r.gw) p.0.routes q.1 p.3 in (p.0, contains conf.vlans p.0 p.1, p.2, (m.0, contains p.0.routes m.0 m.1, m.2)))
+      (λ q p. (p.0, is_in conf.vlans p.0 p.1, p.2, subst (IsIn (gateways_of p.0)) p.3.2 (in_mapped (λ (r : Route). r.gw) p.0.routes p.3.0 (is_in p.0.routes p.3.0 p.3.1))))
+      (number_of_pairs (λ (v : Vlan). v.vid) (λ v. different_ips (gateways_of v)) (λ v a. IsIn (gateways_of v) a) conf.vlans told.vlans (all_by (λ v. IsNumberOf (IsIn (gateways_of v)) (different_ips (gateways_of v))) conf.vlans (λ v i. number_different_ips (gateways_of v))))
 
-  pub gateway_triples : IsNumberOf (IsGateway conf) (group_count conf * sum_by (λ v. different (map (λ r. r.gw.0) v.routes)) conf.vlans)
+  pub gateway_triples : IsNumberOf (IsGateway conf) (group_count conf * sum_by (λ v. different_ips (map (λ r. r.gw) v.routes)) conf.vlans)
   unfolding InGroup HasGateway
-  gateway_triples = number_of_products (InGroup conf) HasGateway (group_count conf) (sum_by (λ v. different (map (λ r. r.gw.0) v.routes)) conf.vlans) (group_numbers conf told.dps) gateway_pairs
+  gateway_triples = number_of_products (InGroup conf) HasGateway (group_count conf) (sum_by (λ v. different_ips (map (λ r. r.gw) v.routes)) conf.vlans) (group_numbers conf told.dps) gateway_pairs
 
   -- ---- what packets are routed by
 

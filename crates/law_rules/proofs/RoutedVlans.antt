@@ -3,14 +3,14 @@ use Rattle.std.specs.Prelude.{◌≡◌, ℕ, ◌==◌, ◌&&◌, Bool, true, fa
 use Rattle.std.specs.List.{AllByRecursion, flat_map, filter_map, list_any, zip, find}
 use Rattle.std.specs.Option.{option_map_or}
 use Rattle.std.proofs.Common.{◌⊎◌, inl, inr, refl, sym, ap, ◌∙◌, subst, true≢false, eqb-true, eq-eqb}
-use Rattle.std.proofs.lemmas.Bool.{and_parts, and_from, or_from, or_cases, or_right, false_from_ne_true}
-use Rattle.net_base.specs.declared.net4.Net4.{Net4}
+use Rattle.std.proofs.lemmas.Bool.{and_parts, and_from, or_from, or_cases, or_right}
+use Rattle.conf_types.specs.declared.address.Net.{Net}
 use Rattle.conf_types.specs.declared.vlan.Route.{Route}
 use Rattle.conf_types.specs.declared.vlan.Router.{Router}
 use Rattle.conf_types.specs.declared.vlan.Vlan.{Vlan}
 use Rattle.conf_types.specs.Configuration.{Configuration, vlan_with}
 use Rattle.conf_types.specs.Lists.{EachBefore, AreDistinct, is_among}
-use Rattle.conf_types.specs.Networks.{AreApart}
+use Rattle.conf_types.specs.Networks.{AreApart, AreApartOrLocal}
 use Rattle.conf_types.specs.Routing.{routing_set, vips_in, routes_in}
 use Rattle.conf_shape.specs.declared.refused.ConfCause.{ConfCause}
 use Rattle.conf_shape.specs.declared.refused.ConfCause.TheVariants.{Duplicate, Conflict}
@@ -18,20 +18,20 @@ use Rattle.conf_resolve.specs.declared.ordered.OrderedConf.{OrderedConf}
 use Rattle.conf_resolve.specs.declared.ordered.PlacedVlan.{PlacedVlan}
 use Rattle.conf_resolve.specs.Resolved.{router_of, vlan_of, resolved, vid_of}
 use Rattle.conf_rules.specs.Places.{fault_if, under, each_at, with_earlier, is_repeat}
-use Rattle.conf_rules.specs.Routing.{are_routed, overlap, overlapping_vips, route_site, is_same_route, repeated_routes}
+use Rattle.conf_rules.specs.Routing.{are_routed, overlap, clash, overlapping_vips, route_site, is_same_route, repeated_routes}
 use Rattle.law_checks.proofs.Empty.{values_at, each_behind, none_behind}
 use Rattle.law_checks.proofs.Kept.{all_empty, no_fault, is_value, none_any, repeat_free, of_earlier, empty_behind, before_unmapped}
-use Rattle.law_checks.proofs.KeptNetworks.{no_overlap, in_its_set}
+use Rattle.law_checks.proofs.KeptNetworks.{no_overlap, no_clash, other_route, in_its_set}
 use Rattle.law_checks.proofs.Members.{IsIn, of_all, all_by, all_mapped, in_mapped, among, is_one_of, any_by, some_of, finds, found, before_by, before_mapped, EachTo, flat_within, flat_across, two_of}
-use Rattle.law_checks.proofs.Networks.{apart}
+use Rattle.law_checks.proofs.Networks.{apart, apart_or_local, apart_back, routes_other}
 use Rattle.law_checks.proofs.Once.{once_distinct}
 use Rattle.law_checks.proofs.Routers.{is_alike, alike_of, within_one, behind_one}
 use Rattle.law_checks.proofs.Sets.{IsSet, set_of, of_set}
-use Rattle.law_rules.specs.Rules.{ShareNone, LeadApart, VipsAreApart, RoutesDiffer}
+use Rattle.law_rules.specs.Rules.{ShareNone, LeadApart, VipsAreApart, SetsAreApart, RoutesDiffer}
 
--- what VLANs have stands so to each other: of each VLAN alone, and of each two between which packets are routed
-record StandSo {X : Type 0} (conf : Configuration) (f : Vlan → List X) (R : X → X → Type 0) : Type 0 where
-  pub within : AllByRecursion (λ v. EachBefore R (f v)) conf.vlans
+-- what VLANs have stands so to each other: by W in each VLAN alone, and by R in each two between which packets are routed
+record StandSo {X : Type 0} (conf : Configuration) (f : Vlan → List X) (W R : X → X → Type 0) : Type 0 where
+  pub within : AllByRecursion (λ v. EachBefore W (f v)) conf.vlans
   pub across : EachBefore (λ v w. are_routed conf v.vid w.vid ≡ true → EachTo R (f v) (f w)) conf.vlans
 
 -- what the VLANs of these numbers have
@@ -40,7 +40,7 @@ of_all_vlans conf f vids = flat_map (λ vid. option_map_or f (vlan_with conf.vla
 
 -- ---- of routers and of routing sets
 
-module _ {X : Type 0} (conf : Configuration) (f : Vlan → List X) (R : X → X → Type 0) (back : (a b : X) → R a b → R b a) where
+module _ {X : Type 0} (conf : Configuration) (f : Vlan → List X) (W R : X → X → Type 0) (weaker : (a b : X) → W a b → R a b) (back : (a b : X) → R a b → R b a) where
   abbrev of : ℕ → List X
   of vid = option_map_or f (vlan_with conf.vlans vid) []
 
@@ -51,14 +51,17 @@ module _ {X : Type 0} (conf : Configuration) (f : Vlan → List X) (R : X → X 
         (any_by (λ (r : Router). is_among r.vlans m && is_among r.vlans n) conf.routers r here (and_from (is_among r.vlans m) (is_among r.vlans n) (among r.vlans m i) (among r.vlans n j)));
   }
 
-  module _ (once : AllByRecursion (λ r. AreDistinct r.vlans) conf.routers) (s : StandSo conf f R) where
+  module _ (once : AllByRecursion (λ r. AreDistinct r.vlans) conf.routers) (s : StandSo conf f W R) where
+    alone_so : AllByRecursion (λ v. EachBefore R (f v)) conf.vlans
+    alone_so = all_by (λ (v : Vlan). EachBefore R (f v)) conf.vlans (λ v cv. before_by W R (f v) (of_all (λ (v : Vlan). EachBefore W (f v)) conf.vlans s.within v cv) (λ a b ia ib r. weaker a b r))
+
     routers_so : AllByRecursion (λ r. EachBefore R (of_all_vlans conf f r.vlans)) conf.routers
     routers_so = all_by (λ (r : Router). EachBefore R (of_all_vlans conf f r.vlans)) conf.routers (λ r i.
-        of_set conf f R back s.within s.across r.vlans (router_set r i (of_all (λ (r : Router). AreDistinct r.vlans) conf.routers once r i)))
+        of_set conf f R back alone_so s.across r.vlans (router_set r i (of_all (λ (r : Router). AreDistinct r.vlans) conf.routers once r i)))
 
     sets_so : AllByRecursion (λ v. EachBefore R (of_all_vlans conf f (routing_set conf v.vid))) conf.vlans
     sets_so = all_by (λ (v : Vlan). EachBefore R (of_all_vlans conf f (routing_set conf v.vid))) conf.vlans (λ v i.
-        of_set conf f R back s.within s.across (routing_set conf v.vid) (set_of conf once v.vid))
+        of_set conf f R back alone_so s.across (routing_set conf v.vid) (set_of conf once v.vid))
 
   module _ (numbers : EachBefore (λ v w. v.vid ≡ w.vid → ⊥) conf.vlans) where
     one_vlan : (v w : Vlan) → IsIn conf.vlans v → IsIn conf.vlans w → v.vid ≡ w.vid → v ≡ w
@@ -104,7 +107,7 @@ module _ {X : Type 0} (conf : Configuration) (f : Vlan → List X) (R : X → X 
         by_router : (v w : Vlan) → IsIn conf.vlans v → IsIn conf.vlans w → (v.vid ≡ w.vid → ⊥) → are_routed conf v.vid w.vid ≡ true → EachTo R (f v) (f w)
         by_router v w cv cw other routed = in_router v w cv cw other (or_cases (v.vid == w.vid) (list_any (λ (r : Router). is_among r.vlans v.vid && is_among r.vlans w.vid) conf.routers) routed)
 
-    so_of_routers : AllByRecursion (λ v. EachBefore R (f v)) conf.vlans → AllByRecursion (λ r. EachBefore R (of_all_vlans conf f r.vlans)) conf.routers → StandSo conf f R
+    so_of_routers : AllByRecursion (λ v. EachBefore W (f v)) conf.vlans → AllByRecursion (λ r. EachBefore R (of_all_vlans conf f r.vlans)) conf.routers → StandSo conf f W R
     so_of_routers alone together = record {
       within = alone;
       across = of_routed (λ r i v cv iv. of_all (λ (r : Router). EachBefore R (of_all_vlans conf f r.vlans)) conf.routers together r i);
@@ -128,10 +131,15 @@ module _ {X : Type 0} (conf : Configuration) (f : Vlan → List X) (R : X → X 
           by (inr (inl all)) = absurd (true≢false (sym h.1 ∙ of_all (λ vid. is_among g.0.vlans vid ≡ false) r.vlans all vid i))
           by (inr (inr all)) = absurd (true≢false (sym (among r.vlans vid i) ∙ of_all (λ vid. is_among r.vlans vid ≡ false) g.0.vlans all vid (is_one_of g.0.vlans vid h.1)))
 
-      so_of_sets : AllByRecursion (λ v. EachBefore R (of_all_vlans conf f (routing_set conf v.vid))) conf.vlans → StandSo conf f R
-      so_of_sets sets = record {
-        within = all_by (λ (v : Vlan). EachBefore R (f v)) conf.vlans (λ v cv.
-            subst (EachBefore R) (of_its v cv) (of_all (λ vid. EachBefore R (of vid)) (routing_set conf v.vid) (flat_within R of (routing_set conf v.vid) (its_set v cv)) v.vid (in_its_set conf v.vid)));
+      -- what routing sets say of each VLAN alone
+      alone_of_sets : AllByRecursion (λ v. EachBefore R (of_all_vlans conf f (routing_set conf v.vid))) conf.vlans → AllByRecursion (λ v. EachBefore R (f v)) conf.vlans
+      alone_of_sets sets = all_by (λ (v : Vlan). EachBefore R (f v)) conf.vlans (λ v cv.
+          subst (EachBefore R) (of_its v cv) (of_all (λ vid. EachBefore R (of vid)) (routing_set conf v.vid)
+          (flat_within R of (routing_set conf v.vid) (of_all (λ (v : Vlan). EachBefore R (of_all_vlans conf f (routing_set conf v.vid))) conf.vlans sets v cv)) v.vid (in_its_set conf v.vid)))
+
+      so_of_sets : AllByRecursion (λ v. EachBefore W (f v)) conf.vlans → AllByRecursion (λ v. EachBefore R (of_all_vlans conf f (routing_set conf v.vid))) conf.vlans → StandSo conf f W R
+      so_of_sets alone sets = record {
+        within = alone;
         across = of_routed (λ r cr v cv iv. subst (λ (vids : List ℕ). EachBefore R (of_all_vlans conf f vids)) (its_router r cr v.vid iv) (its_set v cv));
       }
         where
@@ -150,94 +158,89 @@ module _ (o : OrderedConf) where
   once : AllByRecursion (λ r. AreDistinct r.vlans) conf.routers
   once = all_mapped (λ (r : Router). AreDistinct r.vlans) (router_of o) o.routers (all_by _ o.routers (λ r cr. once_distinct (filter_map (vid_of o.vlans) r.vlans)))
 
-  module _ {X : Type 0} (f : Vlan → List X) (alike : X → X → Bool) (cause : ConfCause) (key : List ℕ) (place : List (List ℕ) → List (List ℕ)) (R : X → X → Type 0) where
+  module _ {X : Type 0} (f : Vlan → List X) (across within : X → X → Bool) (cause : ConfCause) (key : List ℕ) (place : List (List ℕ) → List (List ℕ)) (W R : X → X → Type 0) where
     -- none is found alike where all stand so
-    none_alike : ((a b : X) → R a b → alike a b ≡ false) → StandSo conf f R → flat_map (alike_of conf f alike cause key place) (zip o.vlans (with_earlier [] conf.vlans)) ≡ []
-    none_alike told so =
-        empty_behind vlan (λ (u : Vlan) (v : PlacedVlan). are_routed conf u.vid (vlan v).vid ≡ true → EachTo (λ a b. alike a b ≡ false) (f u) (f (vlan v))) (alike_of conf f alike cause key place) [] o.vlans
-        (λ v cv e behind. all_empty (λ (item : List (List ℕ) × (List X × X)). fault_if (is_alike conf f alike cause key place (e, vlan v) item.1) cause (place item.0)) (each_at (under v.site key) (with_earlier [] (f (vlan v)))) (λ item i.
+    none_alike : ((a b : X) → R a b → across a b ≡ false) → ((a b : X) → W a b → within a b ≡ false) → StandSo conf f W R → flat_map (alike_of conf f across within cause key place) (zip o.vlans (with_earlier [] conf.vlans)) ≡ []
+    none_alike told own so =
+        empty_behind vlan (λ (u : Vlan) (v : PlacedVlan). are_routed conf u.vid (vlan v).vid ≡ true → EachTo (λ a b. across a b ≡ false) (f u) (f (vlan v))) (alike_of conf f across within cause key place) [] o.vlans
+        (λ v cv e behind. all_empty (λ (item : List (List ℕ) × (List X × X)). fault_if (is_alike conf f across within cause key place (e, vlan v) item.1) cause (place item.0)) (each_at (under v.site key) (with_earlier [] (f (vlan v)))) (λ item i.
         let at = is_value (each_at (under v.site key) (with_earlier [] (f (vlan v)))) (with_earlier [] (f (vlan v))) (values_at (under v.site key) (with_earlier [] (f (vlan v)))) item i in
-        no_fault (is_alike conf f alike cause key place (e, vlan v) item.1) cause (place item.0)
-        (or_from (list_any (λ w. are_routed conf w.vid (vlan v).vid && list_any (λ other. alike other item.1.1) (f w)) e) (is_repeat alike item.1)
-        (none_any (λ w. are_routed conf w.vid (vlan v).vid && list_any (λ other. alike other item.1.1) (f w)) e (λ u cu. not_from u (vlan v) item.1.1 (of_earlier [] (f (vlan v)) item.1 at) (are_routed conf u.vid (vlan v).vid) refl (behind u cu)))
-        (repeat_free alike (f (vlan v)) (before_by R (λ a b. alike a b ≡ false) (f (vlan v)) (of_all (λ (v : Vlan). EachBefore R (f v)) conf.vlans so.within (vlan v) (in_mapped vlan o.vlans v cv)) (λ a b ia ib r. told a b r)) item.1 at))))
+        no_fault (is_alike conf f across within cause key place (e, vlan v) item.1) cause (place item.0)
+        (or_from (list_any (λ w. are_routed conf w.vid (vlan v).vid && list_any (λ other. across other item.1.1) (f w)) e) (is_repeat within item.1)
+        (none_any (λ w. are_routed conf w.vid (vlan v).vid && list_any (λ other. across other item.1.1) (f w)) e (λ u cu. not_from u (vlan v) item.1.1 (of_earlier [] (f (vlan v)) item.1 at) (are_routed conf u.vid (vlan v).vid) refl (behind u cu)))
+        (repeat_free within (f (vlan v)) (before_by W (λ a b. within a b ≡ false) (f (vlan v)) (of_all (λ (v : Vlan). EachBefore W (f v)) conf.vlans so.within (vlan v) (in_mapped vlan o.vlans v cv)) (λ a b ia ib r. own a b r)) item.1 at))))
         (record {
           among = before_by (λ (v w : PlacedVlan). are_routed conf (vlan v).vid (vlan w).vid ≡ true → EachTo R (f (vlan v)) (f (vlan w)))
-              (λ v w. are_routed conf (vlan v).vid (vlan w).vid ≡ true → EachTo (λ a b. alike a b ≡ false) (f (vlan v)) (f (vlan w))) o.vlans
+              (λ v w. are_routed conf (vlan v).vid (vlan w).vid ≡ true → EachTo (λ a b. across a b ≡ false) (f (vlan v)) (f (vlan w))) o.vlans
               (before_unmapped (λ (v w : Vlan). are_routed conf v.vid w.vid ≡ true → EachTo R (f v) (f w)) vlan o.vlans so.across)
               (λ v w cv cw each routed a b ia ib. told a b (each routed a b ia ib));
           across = λ b y i j. absurd i;
         })
       where
-        not_from : (u w : Vlan) (x : X) → IsIn (f w) x → (t : Bool) → are_routed conf u.vid w.vid ≡ t → (are_routed conf u.vid w.vid ≡ true → EachTo (λ a b. alike a b ≡ false) (f u) (f w)) → (t && list_any (λ other. alike other x) (f u)) ≡ false
+        not_from : (u w : Vlan) (x : X) → IsIn (f w) x → (t : Bool) → are_routed conf u.vid w.vid ≡ t → (are_routed conf u.vid w.vid ≡ true → EachTo (λ a b. across a b ≡ false) (f u) (f w)) → (t && list_any (λ other. across other x) (f u)) ≡ false
         not_from u w x i false is each = refl
-        not_from u w x i true is each = none_any (λ other. alike other x) (f u) (λ other j. each is other x j i)
+        not_from u w x i true is each = none_any (λ other. across other x) (f u) (λ other j. each is other x j i)
 
     -- and where none is found alike, all do
-    stand_so : ((a b : X) → alike a b ≡ false → R a b) → flat_map (alike_of conf f alike cause key place) (zip o.vlans (with_earlier [] conf.vlans)) ≡ [] → StandSo conf f R
-    stand_so told none = record {
-      within = all_mapped (λ (v : Vlan). EachBefore R (f v)) vlan o.vlans (all_by _ o.vlans (λ v i.
-          let m = of_all (λ (v : PlacedVlan). (e : List Vlan) × (alike_of conf f alike cause key place (v, (e, vlan v)) ≡ [])) o.vlans (none_behind vlan (alike_of conf f alike cause key place) [] o.vlans none) v i in
-          before_by (λ a b. alike a b ≡ false) R (f (vlan v)) (within_one conf f alike cause key place v m.0 (vlan v) m.1) (λ a b ia ib not. told a b not)));
+    stand_so : ((a b : X) → across a b ≡ false → R a b) → ((a b : X) → within a b ≡ false → W a b) → flat_map (alike_of conf f across within cause key place) (zip o.vlans (with_earlier [] conf.vlans)) ≡ [] → StandSo conf f W R
+    stand_so told own none = record {
+      within = all_mapped (λ (v : Vlan). EachBefore W (f v)) vlan o.vlans (all_by _ o.vlans (λ v i.
+          let m = of_all (λ (v : PlacedVlan). (e : List Vlan) × (alike_of conf f across within cause key place (v, (e, vlan v)) ≡ [])) o.vlans (none_behind vlan (alike_of conf f across within cause key place) [] o.vlans none) v i in
+          before_by (λ a b. within a b ≡ false) W (f (vlan v)) (within_one conf f across within cause key place v m.0 (vlan v) m.1) (λ a b ia ib not. own a b not)));
       across = before_mapped (λ (v w : Vlan). are_routed conf v.vid w.vid ≡ true → EachTo R (f v) (f w)) vlan o.vlans
-          (each_behind vlan (λ (u : Vlan) (v : PlacedVlan). are_routed conf u.vid (vlan v).vid ≡ true → EachTo R (f u) (f (vlan v))) (alike_of conf f alike cause key place) [] o.vlans
-          (λ v e here u cu routed a b ia ib. told a b (behind_one conf f alike cause key place v e (vlan v) here u cu routed a b ia ib)) none).among;
+          (each_behind vlan (λ (u : Vlan) (v : PlacedVlan). are_routed conf u.vid (vlan v).vid ≡ true → EachTo R (f u) (f (vlan v))) (alike_of conf f across within cause key place) [] o.vlans
+          (λ v e here u cu routed a b ia ib. told a b (behind_one conf f across within cause key place v e (vlan v) here u cu routed a b ia ib)) none).among;
     }
 
   -- ---- rule 12
 
-  swapped : (a b : Net4) → AreApart a b → AreApart b a
-  swapped a b r ip in_b in_a = r ip in_a in_b
+  vips_so : overlapping_vips o conf ≡ [] → StandSo conf (λ v. v.vips) AreApart AreApartOrLocal
+  vips_so none = stand_so (λ v. v.vips) clash overlap (Conflict 12) (codes "faucet_vips") (λ site. site) AreApart AreApartOrLocal apart_or_local apart none
 
-  vips_so : overlapping_vips o conf ≡ [] → StandSo conf (λ v. v.vips) AreApart
-  vips_so none = stand_so (λ v. v.vips) overlap (Conflict 12) (codes "faucet_vips") (λ site. site) AreApart apart none
+  so_vips : StandSo conf (λ v. v.vips) AreApart AreApartOrLocal → overlapping_vips o conf ≡ []
+  so_vips so = none_alike (λ v. v.vips) clash overlap (Conflict 12) (codes "faucet_vips") (λ site. site) AreApart AreApartOrLocal no_clash no_overlap so
 
-  so_vips : StandSo conf (λ v. v.vips) AreApart → overlapping_vips o conf ≡ []
-  so_vips so = none_alike (λ v. v.vips) overlap (Conflict 12) (codes "faucet_vips") (λ site. site) AreApart no_overlap so
+  either_way : (a b : Net) → AreApart a b → AreApartOrLocal a b
+  either_way a b r local = r
 
   pub vips_of_routers : overlapping_vips o conf ≡ [] → VipsAreApart conf
-  vips_of_routers none = record { alone = (vips_so none).within; together = routers_so conf (λ v. v.vips) AreApart swapped once (vips_so none) }
+  vips_of_routers none = record { alone = (vips_so none).within; together = routers_so conf (λ v. v.vips) AreApart AreApartOrLocal either_way apart_back once (vips_so none) }
 
-  pub vips_of_sets : overlapping_vips o conf ≡ [] → AllByRecursion (λ v. EachBefore AreApart (vips_in conf (routing_set conf v.vid))) conf.vlans
-  vips_of_sets none = sets_so conf (λ v. v.vips) AreApart swapped once (vips_so none)
+  pub vips_of_sets : overlapping_vips o conf ≡ [] → SetsAreApart conf
+  vips_of_sets none = record { alone = (vips_so none).within; together = sets_so conf (λ v. v.vips) AreApart AreApartOrLocal either_way apart_back once (vips_so none) }
 
   -- ---- rule 15
 
   turned : (r s : Route) → LeadApart r s → LeadApart s r
   turned r s other same = other (record { ip = sym same.ip; len = sym same.len })
 
-  other_route : (r s : Route) → LeadApart r s → is_same_route r s ≡ false
-  other_route r s other = false_from_ne_true (is_same_route r s) (λ is.
-      let parts = and_parts (r.dst.ip.0 == s.dst.ip.0) (r.dst.len == s.dst.len) is in
-      other (record { ip = eqb-true r.dst.ip.0 s.dst.ip.0 parts.0; len = eqb-true r.dst.len s.dst.len parts.1 }))
+  itself : (r s : Route) → LeadApart r s → LeadApart r s
+  itself r s other = other
 
-  leads_apart : (r s : Route) → is_same_route r s ≡ false → LeadApart r s
-  leads_apart r s not same = true≢false (sym (and_from (r.dst.ip.0 == s.dst.ip.0) (r.dst.len == s.dst.len) (eq-eqb r.dst.ip.0 s.dst.ip.0 same.ip) (eq-eqb r.dst.len s.dst.len same.len)) ∙ not)
+  routes_so : repeated_routes o conf ≡ [] → StandSo conf (λ v. v.routes) LeadApart LeadApart
+  routes_so none = stand_so (λ v. v.routes) is_same_route is_same_route Duplicate (codes "routes") (λ site. route_site site (codes "ip_dst")) LeadApart LeadApart routes_other routes_other none
 
-  routes_so : repeated_routes o conf ≡ [] → StandSo conf (λ v. v.routes) LeadApart
-  routes_so none = stand_so (λ v. v.routes) is_same_route Duplicate (codes "routes") (λ site. route_site site (codes "ip_dst")) LeadApart leads_apart none
-
-  so_routes : StandSo conf (λ v. v.routes) LeadApart → repeated_routes o conf ≡ []
-  so_routes so = none_alike (λ v. v.routes) is_same_route Duplicate (codes "routes") (λ site. route_site site (codes "ip_dst")) LeadApart other_route so
+  so_routes : StandSo conf (λ v. v.routes) LeadApart LeadApart → repeated_routes o conf ≡ []
+  so_routes so = none_alike (λ v. v.routes) is_same_route is_same_route Duplicate (codes "routes") (λ site. route_site site (codes "ip_dst")) LeadApart LeadApart other_route other_route so
 
   pub routes_of_routers : repeated_routes o conf ≡ [] → RoutesDiffer conf
-  routes_of_routers none = record { alone = (routes_so none).within; together = routers_so conf (λ v. v.routes) LeadApart turned once (routes_so none) }
+  routes_of_routers none = record { alone = (routes_so none).within; together = routers_so conf (λ v. v.routes) LeadApart LeadApart itself turned once (routes_so none) }
 
   pub routes_of_sets : repeated_routes o conf ≡ [] → AllByRecursion (λ v. EachBefore LeadApart (routes_in conf (routing_set conf v.vid))) conf.vlans
-  routes_of_sets none = sets_so conf (λ v. v.routes) LeadApart turned once (routes_so none)
+  routes_of_sets none = sets_so conf (λ v. v.routes) LeadApart LeadApart itself turned once (routes_so none)
 
   -- ---- and back, where VLANs have different numbers
 
   module _ (numbers : EachBefore (λ v w. v.vid ≡ w.vid → ⊥) conf.vlans) where
     pub routers_vips : VipsAreApart conf → overlapping_vips o conf ≡ []
-    routers_vips are = so_vips (so_of_routers conf (λ v. v.vips) AreApart swapped numbers are.alone are.together)
+    routers_vips are = so_vips (so_of_routers conf (λ v. v.vips) AreApart AreApartOrLocal either_way apart_back numbers are.alone are.together)
 
     pub routers_routes : RoutesDiffer conf → repeated_routes o conf ≡ []
-    routers_routes are = so_routes (so_of_routers conf (λ v. v.routes) LeadApart turned numbers are.alone are.together)
+    routers_routes are = so_routes (so_of_routers conf (λ v. v.routes) LeadApart LeadApart itself turned numbers are.alone are.together)
 
     module _ (shared : EachBefore ShareNone conf.routers) where
-      pub sets_vips : AllByRecursion (λ v. EachBefore AreApart (vips_in conf (routing_set conf v.vid))) conf.vlans → overlapping_vips o conf ≡ []
-      sets_vips sets = so_vips (so_of_sets conf (λ v. v.vips) AreApart swapped numbers shared sets)
+      pub sets_vips : SetsAreApart conf → overlapping_vips o conf ≡ []
+      sets_vips are = so_vips (so_of_sets conf (λ v. v.vips) AreApart AreApartOrLocal either_way apart_back numbers shared are.alone are.together)
 
       pub sets_routes : AllByRecursion (λ v. EachBefore LeadApart (routes_in conf (routing_set conf v.vid))) conf.vlans → repeated_routes o conf ≡ []
-      sets_routes sets = so_routes (so_of_sets conf (λ v. v.routes) LeadApart turned numbers shared sets)
+      sets_routes sets = so_routes (so_of_sets conf (λ v. v.routes) LeadApart LeadApart itself turned numbers shared (alone_of_sets conf (λ v. v.routes) LeadApart LeadApart itself turned numbers shared sets) sets)

@@ -2,6 +2,7 @@
 use Rattle.std.specs.Prelude.{◌≡◌, ◌⊎◌, ℕ, ◌<◌, ◌≤◌, true, List, [], length, Some, Contains, slice_get}
 use Rattle.std.specs.List.{AllByRecursion}
 use Rattle.net_base.specs.declared.numbers.DpId.{DpId}
+use Rattle.conf_types.specs.declared.address.Ip.{Ip}
 use Rattle.conf_types.specs.declared.acl.PortRef.{PortRef}
 use Rattle.conf_types.specs.declared.acl.Rule.{Rule}
 use Rattle.conf_types.specs.declared.datapath.Dp.{Dp}
@@ -81,10 +82,10 @@ abbrev pub IsRoute : Configuration → ℕ × ℕ → Type 0
 IsRoute conf pair = (v : Vlan) × Contains conf.vlans v × (v.vid ≡ pair.0) × (pair.1 < length v.routes)
 
 -- a group of datapaths, a VLAN, and the address of a gateway of it
-abbrev pub IsGateway : Configuration → DpId × (ℕ × ℕ) → Type 0
+abbrev pub IsGateway : Configuration → DpId × (ℕ × Ip) → Type 0
 IsGateway conf triple =
     ((d : Dp) × Contains conf.dps d × IsGroup conf d.id triple.0)
-    × ((v : Vlan) × Contains conf.vlans v × (v.vid ≡ triple.1.0) × ((r : Route) × Contains v.routes r × (r.gw.0 ≡ triple.1.1)))
+    × ((v : Vlan) × Contains conf.vlans v × (v.vid ≡ triple.1.0) × ((r : Route) × Contains v.routes r × (r.gw ≡ triple.1.1)))
 
 -- a VIP or a route of a VLAN, by its place
 pub data Item : Type 0 where

@@ -10,8 +10,8 @@ use Rattle.conf_types.specs.Attached.{rules_of}
 use Rattle.conf_types.specs.Configuration.{Configuration}
 use Rattle.conf_types.specs.Lists.{EachBefore, is_among}
 use Rattle.conf_types.specs.Membership.{has_edge_member}
-use Rattle.conf_types.specs.Networks.{AreApart, AreSame}
-use Rattle.conf_types.specs.Routing.{vips_in, routes_in}
+use Rattle.conf_types.specs.Networks.{AreApart, AreApartOrLocal, AreSame}
+use Rattle.conf_types.specs.Routing.{routing_set, vips_in, routes_in}
 use Rattle.conf_types.specs.Valid.{AclsExist, NamePortsOf}
 use Rattle.conf_shape.specs.declared.raw.VlanRef.{VlanRef}
 use Rattle.conf_resolve.specs.declared.ordered.OrderedConf.{OrderedConf}
@@ -40,6 +40,7 @@ pub record VlansExist (o : OrderedConf) : Type 0 where
   pub native : AllByRecursion (λ d. AllByRecursion (λ p. IfSome p.native (StandsForVlan o)) d.ports) o.dps
   pub tagged : AllByRecursion (λ d. AllByRecursion (λ p. AllByRecursion (StandsForVlan o) p.tagged) d.ports) o.dps
   pub routed : AllByRecursion (λ r. AllByRecursion (StandsForVlan o) r.vlans) o.routers
+  pub of_peers : AllByRecursion (λ r. IfSome r.bgp (λ bgp. StandsForVlan o bgp.vlan)) o.routers
 
 -- rule 6
 pub record NamedAclsExist (conf : Configuration) : Type 0 where
@@ -63,10 +64,16 @@ MirroredAreNamed o = AllByRecursion (λ d. AllByRecursion (λ p. AllByRecursion 
 abbrev pub FarEndsAreNamed : OrderedConf → Type 0
 FarEndsAreNamed o = AllByRecursion (λ d. AllByRecursion (λ p. IfSome p.stack (λ end. IsTrue (is_some (far_end o.dps end)))) d.ports) o.dps
 
--- rule 12: the networks of the VIPs of a VLAN, and of the VLANs of a router, don't overlap
+-- rule 12: the networks of the VIPs of a VLAN don't overlap, nor do those of the VLANs of a router, but for
+-- link-local ones of different VLANs
 pub record VipsAreApart (conf : Configuration) : Type 0 where
   pub alone : AllByRecursion (λ v. EachBefore AreApart v.vips) conf.vlans
-  pub together : AllByRecursion (λ r. EachBefore AreApart (vips_in conf r.vlans)) conf.routers
+  pub together : AllByRecursion (λ r. EachBefore AreApartOrLocal (vips_in conf r.vlans)) conf.routers
+
+-- of the VLANs between which packets are routed
+pub record SetsAreApart (conf : Configuration) : Type 0 where
+  pub alone : AllByRecursion (λ v. EachBefore AreApart v.vips) conf.vlans
+  pub together : AllByRecursion (λ v. EachBefore AreApartOrLocal (vips_in conf (routing_set conf v.vid))) conf.vlans
 
 -- rule 13, of two routers
 abbrev pub ShareNone : Router → Router → Type 0

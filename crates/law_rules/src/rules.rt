@@ -3,7 +3,6 @@
 ghost use Rattle.std.specs.Prelude.{◌≡◌, ◌↔◌, []};
 ghost use Rattle.std.specs.List.{AllByRecursion};
 ghost use Rattle.conf_types.specs.Lists.{EachBefore, AreDistinct, IsTextBefore};
-ghost use Rattle.conf_types.specs.Networks.{AreApart};
 ghost use Rattle.conf_types.specs.Routing.{routing_set, vips_in, routes_in};
 ghost use Rattle.conf_types.specs.Valid.{vlans_named, MirrorsAreValid, StacksAreValid, RoutesAreValid, IsWithinLimits};
 ghost use Rattle.conf_resolve.specs.declared.ordered.OrderedConf.{OrderedConf};
@@ -13,7 +12,7 @@ ghost use Rattle.conf_rules.specs.Names.{repeated_vlans, repeated_dps, repeated_
 ghost use Rattle.conf_rules.specs.Ports.{wrong_acl_ports, lacking_rules, wrong_mirrors, wrong_stacks};
 ghost use Rattle.conf_rules.specs.Routing.{overlapping_vips, shared_vlans, wrong_routes, repeated_routes};
 ghost use Rattle.law_rules.specs.Limits.{AreTold};
-ghost use Rattle.law_rules.specs.Rules.{VlansDiffer, DatapathsDiffer, InterfacesDiffer, VlansExist, NamedAclsExist, AttachedPortsExist, HasWhatItAsks, MirroredAreNamed, FarEndsAreNamed, VipsAreApart, ShareNone, LeadApart, RoutesDiffer};
+ghost use Rattle.law_rules.specs.Rules.{VlansDiffer, DatapathsDiffer, InterfacesDiffer, VlansExist, NamedAclsExist, AttachedPortsExist, HasWhatItAsks, MirroredAreNamed, FarEndsAreNamed, VipsAreApart, SetsAreApart, ShareNone, LeadApart, RoutesDiffer};
 
 /// Rules 1 to 3 are broken nowhere exactly where VLANs, datapaths and the interfaces of each datapath
 /// have different numbers and different names.
@@ -73,16 +72,15 @@ pub fn rule_11_is_on_stack_links()
 {}
 
 /// Rule 12 is broken nowhere exactly where the networks of the VIPs of each VLAN, and of the VLANs of each
-/// router, don't overlap, where VLANs have different numbers (rule 1); and where no VLAN is in two routers
-/// (rule 13), exactly where those of each routing set don't. That it is broken nowhere says the latter in any
-/// case.
+/// router, don't overlap, but for link-local ones of different VLANs, where VLANs have different numbers (rule
+/// 1); and where no VLAN is in two routers (rule 13), exactly where those of each routing set don't. That it is
+/// broken nowhere says the latter in any case.
 pub fn rule_12_is_on_vips()
     ensures routers { (o : OrderedConf) → EachBefore (λ v w. v.vid ≡ w.vid → ⊥) (resolved o).vlans
         → overlapping_vips o (resolved o) ≡ [] ↔ VipsAreApart (resolved o) }
     ensures sets { (o : OrderedConf) → EachBefore (λ v w. v.vid ≡ w.vid → ⊥) (resolved o).vlans → EachBefore ShareNone (resolved o).routers
-        → overlapping_vips o (resolved o) ≡ [] ↔ AllByRecursion (λ v. EachBefore AreApart (vips_in (resolved o) (routing_set (resolved o) v.vid))) (resolved o).vlans }
-    ensures always { (o : OrderedConf) → overlapping_vips o (resolved o) ≡ []
-        → AllByRecursion (λ v. EachBefore AreApart (vips_in (resolved o) (routing_set (resolved o) v.vid))) (resolved o).vlans }
+        → overlapping_vips o (resolved o) ≡ [] ↔ SetsAreApart (resolved o) }
+    ensures always { (o : OrderedConf) → overlapping_vips o (resolved o) ≡ [] → SetsAreApart (resolved o) }
 {}
 
 /// Rule 13 is broken nowhere exactly where no VLAN is in two routers.
