@@ -4,7 +4,6 @@ use Rattle.std.specs.Fmt.{decimal}
 use Rattle.std.specs.Option.{option_map}
 use Rattle.std.proofs.Common.{inl, inr, refl, sym, ap, ◌∙◌, subst, arith}
 use Rattle.std.proofs.lemmas.Option.{same_Some, none-some}
-use Rattle.net_base.specs.Address.{ip4_text}
 use Rattle.yaml_tree.specs.declared.tree.Key.{Key}
 use Rattle.yaml_tree.specs.declared.tree.Pair.{Pair}
 use Rattle.yaml_tree.specs.declared.tree.Tree.{Tree, out-Tree}
@@ -16,7 +15,7 @@ use Rattle.conf_shape.specs.declared.kinds.Kind.TheVariants as kind_of
 use Rattle.conf_shape.specs.declared.kinds.MapKind.{MapKind}
 use Rattle.conf_shape.specs.declared.kinds.MapKind.TheVariants as maps
 use Rattle.conf_shape.specs.declared.kinds.Scalar.{Scalar}
-use Rattle.conf_shape.specs.declared.kinds.Scalar.TheVariants.{Flag, Number, Name, Words, Label, Reference, Permission, NoEffect, StationMac, MaskedMac, Vip, Destination, Gateway, Prefix}
+use Rattle.conf_shape.specs.declared.kinds.Scalar.TheVariants.{Flag, Number, Name, Words, Label, Reference, Permission, NoEffect, StationMac, MaskedMac, Vip, Destination, Gateway, Prefix, Address, Identifier, Passive}
 use Rattle.conf_shape.specs.declared.refused.ConfCause.{ConfCause}
 use Rattle.conf_shape.specs.declared.refused.ConfCause.TheVariants.{LeftOut, WrongType, OutOfRange, BadText, Duplicate}
 use Rattle.conf_shape.specs.declared.refused.ConfFault.{ConfFault}
@@ -24,16 +23,15 @@ use Rattle.conf_shape.specs.Faults.{Entry, here, item_faults, list_faults, value
 use Rattle.conf_shape.specs.Scalars.{as_scalar, flag_fault, number_fault, text_fault, scalar_kind, item_kind, map_kind}
 use Rattle.conf_shape.specs.Sections.{key_text, under_key}
 use Rattle.conf_shape.proofs.FaultLaws.{entry_pair, first_none, first_some}
-use Rattle.law_keys.specs.Causes.{HasForm, HasFormOf, AreDigits, HasLengthOutside, IsOutside, HasColon, HasToSpell, IsWrong, another_form, outside, ipv6, no_spelling, HasNames, unlisted, IsLeftOut, IsNew, IsWrongKey, unknown, not_supported, twice, out_of_range, IsFirstLacking, FirstFault, at_value, in_items, in_entries, in_nothing, ItemFault, this_item, later_item, EntryFault, this_key, this_value, later_entry, missing, IsFaultOf}
+use Rattle.law_keys.specs.Causes.{HasForm, HasFormOf, IsOutside, IsUnsupported, HasToSpell, IsWrong, another_form, outside, unsupported, no_spelling, HasNames, unlisted, IsLeftOut, IsNew, IsWrongKey, unknown, not_supported, twice, out_of_range, IsFirstLacking, FirstFault, at_value, in_items, in_entries, in_nothing, ItemFault, this_item, later_item, EntryFault, this_key, this_value, later_entry, missing, IsFaultOf}
 use Rattle.law_keys.specs.Grammar.{IsOneOf, IsFlag, IsNumber, IsText, FitsScalar, scalar_of, item_of, map_of, own_number, Under, AreSame}
 use Rattle.law_keys.specs.Tables.{Line, lines}
-use Rattle.law_keys.proofs.Fine.{number_form, text_form, texts_apart, scalar_form, no_three, no_cause, key_fine, taken_under, none_lacks, fine}
-use Rattle.law_keys.proofs.Lists.{of_all, of_joined}
+use Rattle.law_keys.proofs.Fine.{number_form, text_form, scalar_form, no_three, no_cause, key_fine, taken_under, none_lacks, fine}
+use Rattle.law_keys.proofs.Lists.{of_all}
 use Rattle.law_keys.proofs.MapKeys.{plain, KeyTold, key_told, same_takes, same_or_left_out, names_or_left_out}
 use Rattle.law_keys.proofs.Missing.{MissingTold, missing_told}
-use Rattle.law_keys.proofs.Networks.{text_told, digits_colon}
+use Rattle.law_keys.proofs.Networks.{text_told}
 use Rattle.law_keys.proofs.Scalars.{Holds, Told, flag_told, number_told}
-use Rattle.law_keys.proofs.Texts.{no_colon_address}
 use Rattle.law_keys.proofs.Told.{layer_faults, faults_are, scalar_plain, item_plain, map_plain, nothing_is, nothing_tests}
 use Rattle.law_keys.proofs.Trees.{tree_of}
 
@@ -53,13 +51,14 @@ outside_form MaskedMac x o = absurd o
 outside_form Vip x o = text_form _ x o
 outside_form Destination x o = text_form _ x o
 outside_form Gateway x o = absurd o
-outside_form Prefix x o = text_form _ x o
+outside_form (Prefix width) x o = text_form _ x o
+outside_form (Address width) x o = absurd o
+outside_form Identifier x o = text_form _ x o
+outside_form Passive x o = absurd o
 
-colon_form : (s : Scalar) (x : Tree-F Tree Pair) → HasColon s x → HasForm s x
-colon_form Vip x h = text_form _ x h
-colon_form Destination x h = text_form _ x h
-colon_form Gateway x h = text_form _ x h
-colon_form s x h = absurd h
+unsupported_form : (s : Scalar) (x : Tree-F Tree Pair) → IsUnsupported s x → HasForm s x
+unsupported_form Passive x h = text_form _ x h
+unsupported_form s x h = absurd h
 
 spell_form : (s : Scalar) (x : Tree-F Tree Pair) → HasToSpell s x → HasForm s x
 spell_form StationMac x h = h
@@ -67,41 +66,28 @@ spell_form MaskedMac x h = h
 spell_form Vip x h = h
 spell_form Destination x h = h
 spell_form Gateway x h = h
-spell_form Prefix x h = h
+spell_form (Prefix width) x h = h
+spell_form (Address width) x h = h
+spell_form Identifier x h = h
 spell_form s x h = absurd h
 
-zero_colon : IsOneOf {A = ℕ} (48 ∷ []) 58 → ⊥
-zero_colon (inl e) = absurd (omega (arith, e))
-zero_colon (inr i) = i
-
-no_colon_length : (low high : ℕ) (text : List ℕ) → HasLengthOutside low high text → IsOneOf text 58 → ⊥
-no_colon_length low high text o i = by (of_joined (ip4_text o.ip) (47 ∷ o.digits) 58 (subst (λ t. IsOneOf t 58) o.is i)) o.number
-  where
-    by : IsOneOf (ip4_text o.ip) 58 ⊎ IsOneOf (47 ∷ o.digits) 58 → AreDigits o.digits ⊎ (o.digits ≡ 48 ∷ []) → ⊥
-    by (inl j) n = no_colon_address o.ip o.below j
-    by (inr (inl e)) n = absurd (omega (arith, e))
-    by (inr (inr j)) (inl a) = digits_colon o.digits a j
-    by (inr (inr j)) (inr z) = zero_colon (subst (λ (d : List ℕ). IsOneOf d 58) z j)
-
-outside_or_colon : (s : Scalar) (x : Tree-F Tree Pair) → IsOutside s x → HasColon s x → ⊥
-outside_or_colon Vip x o h = texts_apart _ _ (no_colon_length 1 31) x o h
-outside_or_colon Destination x o h = texts_apart _ _ (no_colon_length 0 32) x o h
-outside_or_colon Gateway x o h = o
-outside_or_colon s x o h = absurd h
+outside_or_unsupported : (s : Scalar) (x : Tree-F Tree Pair) → IsOutside s x → IsUnsupported s x → ⊥
+outside_or_unsupported Passive x o h = o
+outside_or_unsupported s x o h = absurd h
 
 one_cause : (s : Scalar) (x : Tree-F Tree Pair) (a b : ConfCause) → Holds s x a → Holds s x b → a ≡ b
 one_cause s x WrongType WrongType h g = refl
 one_cause s x WrongType OutOfRange h g = absurd (h (outside_form s x g))
-one_cause s x WrongType LeftOut h g = absurd (h (colon_form s x g))
+one_cause s x WrongType LeftOut h g = absurd (h (unsupported_form s x g))
 one_cause s x WrongType BadText h g = absurd (h (spell_form s x g.0))
 one_cause s x WrongType _ h g = absurd g
 one_cause s x OutOfRange WrongType h g = absurd (g (outside_form s x h))
 one_cause s x OutOfRange OutOfRange h g = refl
-one_cause s x OutOfRange LeftOut h g = absurd (outside_or_colon s x h g)
+one_cause s x OutOfRange LeftOut h g = absurd (outside_or_unsupported s x h g)
 one_cause s x OutOfRange BadText h g = absurd (g.2 h)
 one_cause s x OutOfRange _ h g = absurd g
-one_cause s x LeftOut WrongType h g = absurd (g (colon_form s x h))
-one_cause s x LeftOut OutOfRange h g = absurd (outside_or_colon s x g h)
+one_cause s x LeftOut WrongType h g = absurd (g (unsupported_form s x h))
+one_cause s x LeftOut OutOfRange h g = absurd (outside_or_unsupported s x g h)
 one_cause s x LeftOut LeftOut h g = refl
 one_cause s x LeftOut BadText h g = absurd (g.3 h)
 one_cause s x LeftOut _ h g = absurd g
@@ -128,7 +114,7 @@ WrongCase kind x cause = ((HasFormOf kind x → ⊥) × (cause ≡ WrongType)) �
 wrong_case : (kind : Kind) (x : Tree-F Tree Pair) (cause : ConfCause) → IsWrong kind x cause → WrongCase kind x cause
 wrong_case _ _ _ (another_form kind x none) = inl (none, refl)
 wrong_case _ _ _ (outside kind s x e o) = inr (s, e, outside_form s x o, o)
-wrong_case _ _ _ (ipv6 kind s x e h) = inr (s, e, colon_form s x h, h)
+wrong_case _ _ _ (unsupported kind s x e h) = inr (s, e, unsupported_form s x h, h)
 wrong_case _ _ _ (no_spelling kind s x e h f o c) = inr (s, e, spell_form s x h, (h, f, o, c))
 
 -- of a flag, a number or a text

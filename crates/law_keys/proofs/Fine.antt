@@ -1,17 +1,20 @@
 -- A tree that is right by its keys has no fault.
-use Rattle.std.specs.Prelude.{◌≡◌, ◌⊎◌, ℕ, ◌+◌, ℤ, Bool, List, [], ◌∷◌, ◌++◌, map, Option, Some, None, Result, Ok, Err, if◌then◌else◌}
+use Rattle.std.specs.Prelude.{◌≡◌, ◌⊎◌, ℕ, ◌+◌, ◌≤◌, ℤ, Bool, List, [], ◌∷◌, ◌++◌, map, Option, Some, None, Result, Ok, Err, if◌then◌else◌}
 use Rattle.std.specs.Fmt.{decimal}
 use Rattle.std.specs.List.{AllByRecursion}
 use Rattle.std.specs.Option.{option_map}
 use Rattle.std.proofs.Common.{inl, inr, refl, sym, ap, ap₂, ◌∙◌, subst, arith, append_assoc, append-nil}
 use Rattle.std.proofs.lemmas.Option.{same_Some, none-some}
-use Rattle.net_base.proofs.Addresses.{same_mac}
+use Rattle.net_base.specs.Address as address
+use Rattle.net_base.proofs.Addresses.{same_mac, same_ip4}
 use Rattle.yaml_tree.specs.declared.tree.Key.{Key}
 use Rattle.yaml_tree.specs.declared.tree.Key.TheVariants as key
 use Rattle.yaml_tree.specs.declared.tree.Pair.{Pair}
 use Rattle.yaml_tree.specs.declared.tree.Tree.{Tree, out-Tree}
 use Rattle.yaml_tree.specs.declared.tree.Tree.TheOpen.{Tree-F}
 use Rattle.yaml_tree.specs.declared.tree.Tree.TheOpen as tree
+use Rattle.conf_types.specs.declared.address.Ip.{Ip}
+use Rattle.conf_types.specs.Families.{width_of, address_of, len_of}
 use Rattle.conf_types.specs.Lists.{EachBefore}
 use Rattle.conf_shape.specs.declared.faults.Found.{Found}
 use Rattle.conf_shape.specs.declared.kinds.Kind.{Kind}
@@ -19,22 +22,23 @@ use Rattle.conf_shape.specs.declared.kinds.Kind.TheVariants as kind_of
 use Rattle.conf_shape.specs.declared.kinds.MapKind.{MapKind}
 use Rattle.conf_shape.specs.declared.kinds.MapKind.TheVariants as maps
 use Rattle.conf_shape.specs.declared.kinds.Scalar.{Scalar}
-use Rattle.conf_shape.specs.declared.kinds.Scalar.TheVariants.{Flag, Number, Name, Words, Label, Reference, Permission, NoEffect, StationMac, MaskedMac, Vip, Destination, Gateway, Prefix}
+use Rattle.conf_shape.specs.declared.kinds.Scalar.TheVariants.{Flag, Number, Name, Words, Label, Reference, Permission, NoEffect, StationMac, MaskedMac, Vip, Destination, Gateway, Prefix, Address, Identifier, Passive}
 use Rattle.conf_shape.specs.declared.refused.ConfCause.{ConfCause}
 use Rattle.conf_shape.specs.declared.refused.ConfCause.TheVariants.{LeftOut, WrongType, OutOfRange, BadText}
 use Rattle.conf_shape.specs.Faults.{Entry, here, under, item_faults, list_faults, value_faults, missing_in, map_faults, in_map, null_faults, faults_of, entry_of, fault_of, first, first_fault}
 use Rattle.conf_shape.specs.Scalars.{as_scalar, flag_fault, number_fault, text_fault, scalar_kind, item_kind}
 use Rattle.conf_shape.specs.Sections.{key_text, under_key}
 use Rattle.conf_shape.proofs.FaultLaws.{entry_pair}
-use Rattle.law_keys.specs.Causes.{HasForm, HasLengthOutside, IsOutside, HasColon, IsNew, IsWrongKey, unknown, not_supported, twice, out_of_range, IsFirstLacking}
-use Rattle.law_keys.specs.Grammar.{IsOneOf, IsFlag, IsNumberAnd, IsTextAnd, IsNumber, IsText, IsStation, SpellsVip, SpellsNetwork, FitsScalar, scalar_of, item_of, map_of, own_number, Under, AreSame, IsNeeded, IsWhole, Fits, alone, items, entries, nothing, AllFit, no_items, item, EntriesFit, no_entries, entry, IsDocument}
+use Rattle.law_checks.specs.Values.{SpellsIp}
+use Rattle.law_keys.specs.Causes.{HasForm, HasLengthOutside, most_vip_len, IsOutside, IsUnsupported, IsNew, IsWrongKey, unknown, not_supported, twice, out_of_range, IsFirstLacking}
+use Rattle.law_keys.specs.Grammar.{IsOneOf, IsFlag, IsNumberAnd, IsTextAnd, IsNumber, IsText, IsStation, SpellsIdentifier, SpellsVip, SpellsNetwork, FitsScalar, scalar_of, item_of, map_of, own_number, Under, AreSame, IsNeeded, IsWhole, Fits, alone, items, entries, nothing, AllFit, no_items, item, EntriesFit, no_entries, entry, IsDocument}
 use Rattle.law_keys.specs.Tables.{Line, lines}
 use Rattle.law_keys.proofs.Lists.{of_all, all_by, of_joined}
 use Rattle.law_keys.proofs.MapKeys.{plain, KeyTold, key_told, takes_one, taken_or_left_out}
 use Rattle.law_keys.proofs.Missing.{MissingTold, missing_told}
-use Rattle.law_keys.proofs.Networks.{text_told, length_is}
+use Rattle.law_keys.proofs.Networks.{text_told, long_family}
 use Rattle.law_keys.proofs.Scalars.{Told, flag_told, number_told, mark_there}
-use Rattle.law_keys.proofs.Texts.{no_slash_address, no_colon_address, no_colon_network}
+use Rattle.law_keys.proofs.Spelled.{no_slash_ip, digits_are_one, parts_of, net_family, same_room}
 use Rattle.law_keys.proofs.Told.{layer_faults, faults_are, scalar_plain, item_plain, map_plain, nothing_tests}
 use Rattle.law_keys.proofs.Trees.{tree_of}
 
@@ -66,7 +70,10 @@ has_form MaskedMac x f = text_form _ x f
 has_form Vip x f = text_form _ x f
 has_form Destination x f = text_form _ x f
 has_form Gateway x f = text_form _ x f
-has_form Prefix x f = text_form _ x f
+has_form (Prefix width) x f = text_form _ x f
+has_form (Address width) x f = text_form _ x f
+has_form Identifier x f = text_form _ x f
+has_form Passive x f = text_form _ x f
 
 numbers_apart : (P Q : ℤ → Type 0) → ((n : ℤ) → P n → Q n → ⊥) → (x : Tree-F Tree Pair) → IsNumberAnd P x → IsNumberAnd Q x → ⊥
 numbers_apart P Q apart (tree.Int n) p q = apart n p q
@@ -84,8 +91,22 @@ flag_or_number : (Q : ℤ → Type 0) (x : Tree-F Tree Pair) → IsFlag x → Is
 flag_or_number Q (tree.Bool flag) t q = q
 flag_or_number Q x t q = absurd t
 
-network_apart : (text : List ℕ) → SpellsNetwork text → HasLengthOutside 0 32 text → ⊥
-network_apart text n o = o.outside n.len (omega arith) n.most (length_is 0 32 n.ip n.len text n.below n.is o)
+vip_apart : (text : List ℕ) → SpellsVip text → HasLengthOutside 1 most_vip_len text → ⊥
+vip_apart text v o =
+    let p = parts_of text v.net v.is in
+    let family = net_family text v.net v.is ∙ sym (long_family 1 most_vip_len text o) in
+    o.outside (len_of v.net) v.least (subst (λ (most : ℕ). len_of v.net ≤ most) (same_room (address_of v.net) o.ip family) v.most)
+    (digits_are_one text o.before o.digits p.before (address.decimal (len_of v.net)) o.ip (address_of v.net) o.spelled o.is p.spelled p.is)
+
+network_apart : (text : List ℕ) → SpellsNetwork text → HasLengthOutside 0 width_of text → ⊥
+network_apart text n o =
+    let p = parts_of text n.net n.is in
+    let family = net_family text n.net n.is ∙ sym (long_family 0 width_of text o) in
+    o.outside (len_of n.net) (omega arith) (subst (λ (most : ℕ). len_of n.net ≤ most) family p.short)
+    (digits_are_one text o.before o.digits p.before (address.decimal (len_of n.net)) o.ip (address_of n.net) o.spelled o.is p.spelled p.is)
+
+address_apart : (text : List ℕ) (a : Ip) → SpellsIp text a → HasLengthOutside 0 width_of text → ⊥
+address_apart text a s o = no_slash_ip text a s (subst (λ (t : List ℕ). IsOneOf t 47) (sym o.is) (mark_there 47 o.before o.digits))
 
 in_range : (s : Scalar) (x : Tree-F Tree Pair) → FitsScalar s x → IsOutside s x → ⊥
 in_range Flag x f o = o
@@ -100,22 +121,23 @@ in_range Permission x (inr f) o = numbers_apart _ _ (λ n p q. q p) x f o
 in_range NoEffect x f o = o
 in_range StationMac x f o = texts_apart _ _ (λ text p q. q.2 (subst IsStation (same_mac text p.0 q.0 p.1 q.1) p.2)) x f o
 in_range MaskedMac x f o = o
-in_range Vip x f o = texts_apart _ _ (λ text (v : SpellsVip text) (o : HasLengthOutside 1 31 text). o.outside v.len v.least v.most (length_is 1 31 v.ip v.len text v.below v.is o)) x f o
+in_range Vip x f o = texts_apart _ _ vip_apart x f o
 in_range Destination x f o = texts_apart _ _ network_apart x f o
 in_range Gateway x f o = o
-in_range Prefix x f o = texts_apart _ _ (λ text p (q : HasLengthOutside 0 32 text). elim p as (λ _. ⊥) [ inl a ↦ no_slash_address a.0 a.1 (subst (λ t. IsOneOf t 47) (sym q.is ∙ a.2) (mark_there 47 _ q.digits)) | inr n ↦ network_apart text n q ]) x f o
+in_range Identifier x f o = texts_apart _ _ (λ text (p : SpellsIdentifier text) q. let zero : p.0 ≡ 0 = same_ip4 p.0 0 p.2 (omega arith) (sym p.3 ∙ q) in omega (arith, p.1, zero)) x f o
+in_range Passive x f o = o
+in_range (Prefix width) x f o = texts_apart _ _ (λ text p q. elim p as (λ _. ⊥) [ inl a ↦ address_apart text a.0 a.1 q.0 | inr n ↦ network_apart text n.0 q.0 ]) x f o
+in_range (Address width) x f o = o
 
-without_colon : (s : Scalar) (x : Tree-F Tree Pair) → FitsScalar s x → HasColon s x → ⊥
-without_colon Vip x f h = texts_apart _ _ (λ text (v : SpellsVip text) i. no_colon_network v.ip v.len v.below (omega (arith, v.most)) (subst (λ t. IsOneOf t 58) v.is i)) x f h
-without_colon Destination x f h = texts_apart _ _ (λ text (n : SpellsNetwork text) i. no_colon_network n.ip n.len n.below n.most (subst (λ t. IsOneOf t 58) n.is i)) x f h
-without_colon Gateway x f h = texts_apart _ _ (λ text a i. no_colon_address a.0 a.1 (subst (λ t. IsOneOf t 58) a.2 i)) x f h
-without_colon s x f h = absurd h
+supported : (s : Scalar) (x : Tree-F Tree Pair) → FitsScalar s x → IsUnsupported s x → ⊥
+supported Passive x f h = texts_apart _ _ (λ text p q. q p) x f h
+supported s x f h = absurd h
 
 pub no_cause : (s : Scalar) (x : Tree-F Tree Pair) (o : Option ConfCause) → FitsScalar s x → Told s x o → o ≡ None
 no_cause s x None f t = refl
 no_cause s x (Some WrongType) f t = absurd (t (has_form s x f))
 no_cause s x (Some OutOfRange) f t = absurd (in_range s x f t)
-no_cause s x (Some LeftOut) f t = absurd (without_colon s x f t)
+no_cause s x (Some LeftOut) f t = absurd (supported s x f t)
 no_cause s x (Some BadText) f t = absurd (t.1 f)
 no_cause s x (Some _) f t = absurd t
 
@@ -162,7 +184,7 @@ taken_under m earlier k kind u new = by (under_key m earlier k) refl (key_told m
     by (Ok found) e t = (found, e, takes_one m k (plain found) kind t.0 u)
     by (Err cause) e t = absurd (key_fine m earlier k kind cause u new t)
 
-pub none_lacks : (number : Option ℕ) (keys : List Key) (ls : List Line) (name : List ℕ) → AllByRecursion (λ l. IsNeeded number l.need → IsOneOf keys (key.Text l.key)) ls → IsFirstLacking number keys ls name → ⊥
+pub none_lacks : (number : Option ℕ) (keys : List Key) (ls : List Line) (name : List ℕ) → AllByRecursion (λ l. IsNeeded number keys l.need → IsOneOf keys (key.Text l.key)) ls → IsFirstLacking number keys ls name → ⊥
 none_lacks number keys [] name all l = l
 none_lacks number keys (x ∷ ls) name all (inl l) = (l.0).1 (all.0 (l.0).0)
 none_lacks number keys (x ∷ ls) name all (inr l) = none_lacks number keys ls name all.1 l.1

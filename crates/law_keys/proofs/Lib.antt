@@ -2,6 +2,7 @@ pub mod Lists
 pub mod Texts
 pub mod Trees
 pub mod Scalars
+pub mod Spelled
 pub mod Networks
 pub mod MapKeys
 pub mod Missing

@@ -12,12 +12,12 @@ use Rattle.yaml_tree.specs.declared.tree.Tree.{Tree}
 use Rattle.yaml_tree.specs.declared.tree.Tree.TheOpen.{Tree-F}
 use Rattle.yaml_tree.specs.declared.tree.Tree.TheOpen as tree
 use Rattle.conf_shape.specs.declared.kinds.Scalar.{Scalar}
-use Rattle.conf_shape.specs.declared.kinds.Scalar.TheVariants.{Flag, Number, Name, Words, Label, Reference, Permission, NoEffect, StationMac, MaskedMac, Vip, Destination, Gateway, Prefix}
+use Rattle.conf_shape.specs.declared.kinds.Scalar.TheVariants.{Flag, Number, Name, Words, Label, Reference, Permission, NoEffect, StationMac, MaskedMac, Vip, Destination, Gateway, Prefix, Address, Identifier, Passive}
 use Rattle.conf_shape.specs.declared.refused.ConfCause.{ConfCause}
 use Rattle.conf_shape.specs.declared.refused.ConfCause.TheVariants.{LeftOut, WrongType, OutOfRange, BadText}
 use Rattle.conf_shape.specs.Addresses.{is_group, is_zero, station_fault, is_masked, masked_fault, mac_fault, masked_parts}
 use Rattle.conf_shape.specs.Scalars.{unless, within, if_within, is_name, flag_fault, number_fault}
-use Rattle.law_keys.specs.Causes.{HasForm, IsOutside, HasColon, HasToSpell}
+use Rattle.law_keys.specs.Causes.{HasForm, IsOutside, IsUnsupported, HasToSpell}
 use Rattle.law_keys.specs.Grammar.{IsOneOf, IsFromTo, IsName, IsInside, SpellsMasked, FitsScalar}
 use Rattle.law_keys.proofs.Texts.{cut_there, no_cut, same_cut, no_slash_mac}
 
@@ -25,8 +25,8 @@ use Rattle.law_keys.proofs.Texts.{cut_there, no_cut, same_cut, no_slash_mac}
 abbrev pub Holds : Scalar → Tree-F Tree Pair → ConfCause → Type 0
 Holds s x WrongType = HasForm s x → ⊥
 Holds s x OutOfRange = IsOutside s x
-Holds s x LeftOut = HasColon s x
-Holds s x BadText = HasToSpell s x × (FitsScalar s x → ⊥) × (IsOutside s x → ⊥) × (HasColon s x → ⊥)
+Holds s x LeftOut = IsUnsupported s x
+Holds s x BadText = HasToSpell s x × (FitsScalar s x → ⊥) × (IsOutside s x → ⊥) × (IsUnsupported s x → ⊥)
 Holds s x _ = ⊥
 
 -- there is none where the value is right, and else it holds
@@ -82,7 +82,10 @@ flag_told MaskedMac flag = λ f. f
 flag_told Vip flag = λ f. f
 flag_told Destination flag = λ f. f
 flag_told Gateway flag = λ f. f
-flag_told Prefix flag = λ f. f
+flag_told (Prefix width) flag = λ f. f
+flag_told (Address width) flag = λ f. f
+flag_told Identifier flag = λ f. f
+flag_told Passive flag = λ f. f
 
 pub number_told : (s : Scalar) (z : ℤ) → Told s (tree.Int z) (number_fault s z)
 number_told (Number low high) z = number_as (Number low high) low high z (λ f. f) (λ f. f)
@@ -98,7 +101,10 @@ number_told MaskedMac z = λ f. f
 number_told Vip z = λ f. f
 number_told Destination z = λ f. f
 number_told Gateway z = λ f. f
-number_told Prefix z = λ f. f
+number_told (Prefix width) z = λ f. f
+number_told (Address width) z = λ f. f
+number_told Identifier z = λ f. f
+number_told Passive z = λ f. f
 
 -- ---- names
 

@@ -4,7 +4,7 @@ use Rattle.std.specs.Char.{is_ascii_hexdigit}
 use Rattle.std.proofs.Common.{inl, inr, refl, sym, ap, ◌∙◌, subst, arith, ltb-true}
 use Rattle.std.proofs.lemmas.Bool.Decides.{nat_tests}
 use Rattle.std.proofs.lemmas.Option.{same_Some, none-some}
-use Rattle.net_base.specs.Address.{SpellsBehind, SpellsMac, decimal, ip4_text, net4_text}
+use Rattle.net_base.specs.Address.{SpellsBehind, SpellsMac, decimal, ip4_text}
 use Rattle.net_base.specs.AddressReading.{◌>>=◌, cut_at}
 use Rattle.net_base.proofs.Cut.{cut_at_mark, cut_past, equal_at}
 use Rattle.law_keys.specs.Grammar.{IsOneOf}
@@ -72,7 +72,7 @@ no_digit : (d c : ℕ) → 48 ≤ d → d < 58 → IsNoDigit c → d ≡ c → �
 no_digit d c low high (inl e) is = absurd (omega (arith, e, is))
 no_digit d c low high (inr e) is = absurd (omega (arith, e, is))
 
-digits_alone : (n c : ℕ) → n < 1000 → IsNoDigit c → IsOneOf (decimal n) c → ⊥
+pub digits_alone : (n c : ℕ) → n < 1000 → IsNoDigit c → IsOneOf (decimal n) c → ⊥
 digits_alone n c small mark i = by (nat_lt n 10) refl (nat_lt n 100) refl i
   where
     by : (a : Bool) → nat_lt n 10 ≡ a → (b : Bool) → nat_lt n 100 ≡ b
@@ -113,11 +113,3 @@ no_slash_address ip below i = address_alone ip 47 below (inl refl) i
 
 pub no_colon_address : (ip : ℕ) → ip < 2 ^ 32 → IsOneOf (ip4_text ip) 58 → ⊥
 no_colon_address ip below i = address_alone ip 58 below (inr refl) i
-
-pub no_colon_network : (ip len : ℕ) → ip < 2 ^ 32 → len ≤ 32 → IsOneOf (net4_text ip len) 58 → ⊥
-no_colon_network ip len below short i = by (of_joined (ip4_text ip) (47 ∷ decimal len) 58 i)
-  where
-    by : IsOneOf (ip4_text ip) 58 ⊎ IsOneOf (47 ∷ decimal len) 58 → ⊥
-    by (inl j) = no_colon_address ip below j
-    by (inr (inl e)) = absurd (omega (arith, e))
-    by (inr (inr j)) = digits_alone len 58 (omega (arith, short)) (inr refl) j

@@ -1,10 +1,10 @@
 -- The first fault of a document that is not right by its keys.
-use Rattle.std.specs.Prelude.{◌≡◌, ℕ, ◌+◌, ◌<◌, ◌≤◌, ◌⊎◌, List, [], ◌∷◌, ◌++◌, Option, Some}
+use Rattle.std.specs.Prelude.{◌≡◌, ℕ, ◌+◌, ◌≤◌, ◌⊎◌, List, [], ◌∷◌, ◌++◌, codes, Option, Some}
 use Rattle.std.specs.Char.{is_ascii_digit}
 use Rattle.std.specs.Fmt.{decimal}
 use Rattle.std.specs.Int.{is_in_range}
 use Rattle.std.specs.List.{AllByRecursion}
-use Rattle.std.specs.Prelude.{◌^◌, IsTrue}
+use Rattle.std.specs.Prelude.{IsTrue}
 use Rattle.net_base.specs.Address.{SpellsMac, ip4_text}
 use Rattle.net_base.specs.Address as address
 use Rattle.yaml_tree.specs.declared.tree.Key.{Key}
@@ -14,19 +14,22 @@ use Rattle.yaml_tree.specs.declared.tree.Tree.{Tree, out-Tree}
 use Rattle.yaml_tree.specs.declared.tree.Tree.TheOpen.{Tree-F}
 use Rattle.yaml_tree.specs.declared.tree.Tree.TheOpen as tree
 use Rattle.yaml_tree.specs.declared.tree.Tree.TheVariants as trees
+use Rattle.conf_types.specs.declared.address.Ip.{Ip}
+use Rattle.conf_types.specs.Families.{family_of, width_of}
 use Rattle.conf_shape.specs.declared.kinds.Kind.{Kind}
 use Rattle.conf_shape.specs.declared.kinds.Kind.TheVariants.{Map}
 use Rattle.conf_shape.specs.declared.kinds.MapKind.{MapKind}
-use Rattle.conf_shape.specs.declared.kinds.MapKind.TheVariants.{Top, Datapaths, DatapathStack, Interfaces, Vlans}
+use Rattle.conf_shape.specs.declared.kinds.MapKind.TheVariants.{Top, Datapaths, DatapathStack, LldpBeacon, Interfaces, Vlans}
 use Rattle.conf_shape.specs.declared.kinds.Scalar.{Scalar}
-use Rattle.conf_shape.specs.declared.kinds.Scalar.TheVariants.{Flag, Number, Name, Label, Reference, Permission, NoEffect, StationMac, MaskedMac, Vip, Destination, Gateway, Prefix}
+use Rattle.conf_shape.specs.declared.kinds.Scalar.TheVariants.{Flag, Number, Name, Label, Reference, Permission, NoEffect, StationMac, MaskedMac, Vip, Destination, Gateway, Prefix, Address, Identifier, Passive}
 use Rattle.conf_shape.specs.declared.refused.ConfCause.{ConfCause}
 use Rattle.conf_shape.specs.declared.refused.ConfCause.TheVariants.{UnknownKey, LeftOut, Missing, WrongType, OutOfRange, BadText, Duplicate}
 use Rattle.conf_shape.specs.declared.refused.ConfFault.{ConfFault}
 use Rattle.conf_shape.specs.Faults.{path_of}
 use Rattle.conf_shape.specs.Sections.{key_text}
+use Rattle.law_checks.specs.Values.{SpellsIp}
 use Rattle.law_keys.specs.Tables.{Line, lines, left_out}
-use Rattle.law_keys.specs.Grammar.{IsOneOf, IsFlag, IsNumberAnd, IsTextAnd, IsNumber, IsText, IsFromTo, IsName, IsStation, FitsScalar, scalar_of, item_of, map_of, MayBeNothing, own_number, Under, AreSame, IsNeeded, Fits}
+use Rattle.law_keys.specs.Grammar.{family_bits, IsOneOf, IsFlag, IsNumberAnd, IsTextAnd, IsNumber, IsText, IsFromTo, IsName, IsStation, FitsScalar, scalar_of, item_of, map_of, MayBeNothing, own_number, Under, AreSame, IsNeeded, Fits}
 
 -- ---- values
 
@@ -52,14 +55,23 @@ abbrev pub AreDigits : List ℕ → Type 0
 AreDigits [] = ⊥
 AreDigits (d ∷ ds) = IsTrue (is_in_range 49 57 d) × AllByRecursion (λ d. IsTrue (is_ascii_digit d)) ds
 
--- an address, a slash and the digits of a number that no length from low to high has
-pub record HasLengthOutside (low high : ℕ) (text : List ℕ) : Type 0 where
-  pub ip : ℕ
+-- an address, a slash and the digits of a number that no length from the least to the most of its family has
+pub record HasLengthOutside (least : ℕ) (most : Ip → ℕ) (text : List ℕ) : Type 0 where
+  pub ip : Ip
+  pub before : List ℕ
   pub digits : List ℕ
-  pub below : ip < 2 ^ 32
-  pub is : text ≡ ip4_text ip ++ 47 ∷ digits
+  pub spelled : SpellsIp before ip
+  pub is : text ≡ before ++ 47 ∷ digits
   pub number : AreDigits digits ⊎ (digits ≡ 48 ∷ [])
-  pub outside : (len : ℕ) → low ≤ len → len ≤ high → digits ≡ address.decimal len → ⊥
+  pub outside : (len : ℕ) → least ≤ len → len ≤ most ip → digits ≡ address.decimal len → ⊥
+
+-- the greatest length of a VIP
+abbrev pub most_vip_len : Ip → ℕ
+most_vip_len ip = (family_of ip).most_vip_len
+
+-- of the family that a field is of
+abbrev pub HasLengthOutsideOf : ℕ → List ℕ → Type 0
+HasLengthOutsideOf width text = (o : HasLengthOutside 0 width_of text) × (width_of o.ip ≡ family_bits width)
 
 -- the value has the form, and is outside the range
 abbrev pub IsOutside : Scalar → Tree-F Tree Pair → Type 0
@@ -68,17 +80,16 @@ IsOutside (Reference low high) x = IsNumberAnd (λ n. IsFromTo low high n → �
 IsOutside Permission x = IsNumberAnd (λ n. IsFromTo 0 1 n → ⊥) x
 IsOutside Name x = IsTextAnd (λ text. IsName text → ⊥) x
 IsOutside StationMac x = IsTextAnd (λ text. (mac : List ℕ) × SpellsMac text mac × (IsStation mac → ⊥)) x
-IsOutside Vip x = IsTextAnd (HasLengthOutside 1 31) x
-IsOutside Destination x = IsTextAnd (HasLengthOutside 0 32) x
-IsOutside Prefix x = IsTextAnd (HasLengthOutside 0 32) x
+IsOutside Vip x = IsTextAnd (HasLengthOutside 1 most_vip_len) x
+IsOutside Destination x = IsTextAnd (HasLengthOutside 0 width_of) x
+IsOutside (Prefix width) x = IsTextAnd (HasLengthOutsideOf width) x
+IsOutside Identifier x = IsTextAnd (λ text. text ≡ ip4_text 0) x
 IsOutside _ x = ⊥
 
--- a text with a colon, as an IPv6 address has, where an IPv4 address or a network stands in a VLAN
-abbrev pub HasColon : Scalar → Tree-F Tree Pair → Type 0
-HasColon Vip x = IsTextAnd (λ text. IsOneOf text 58) x
-HasColon Destination x = IsTextAnd (λ text. IsOneOf text 58) x
-HasColon Gateway x = IsTextAnd (λ text. IsOneOf text 58) x
-HasColon _ x = ⊥
+-- a text that stands for what isn't supported: another word than `passive`
+abbrev pub IsUnsupported : Scalar → Tree-F Tree Pair → Type 0
+IsUnsupported Passive x = IsTextAnd (λ text. text ≡ codes "passive" → ⊥) x
+IsUnsupported _ x = ⊥
 
 -- a text that has to spell something
 abbrev pub HasToSpell : Scalar → Tree-F Tree Pair → Type 0
@@ -87,16 +98,18 @@ HasToSpell MaskedMac x = IsText x
 HasToSpell Vip x = IsText x
 HasToSpell Destination x = IsText x
 HasToSpell Gateway x = IsText x
-HasToSpell Prefix x = IsText x
+HasToSpell (Prefix width) x = IsText x
+HasToSpell (Address width) x = IsText x
+HasToSpell Identifier x = IsText x
 HasToSpell _ x = ⊥
 
 -- what is wrong with a value itself
 pub data IsWrong : Kind → Tree-F Tree Pair → ConfCause → Type 0 where
   another_form : (kind : Kind) (x : Tree-F Tree Pair) → (HasFormOf kind x → ⊥) → IsWrong kind x WrongType
   outside : (kind : Kind) (s : Scalar) (x : Tree-F Tree Pair) → scalar_of kind ≡ Some s → IsOutside s x → IsWrong kind x OutOfRange
-  ipv6 : (kind : Kind) (s : Scalar) (x : Tree-F Tree Pair) → scalar_of kind ≡ Some s → HasColon s x → IsWrong kind x LeftOut
+  unsupported : (kind : Kind) (s : Scalar) (x : Tree-F Tree Pair) → scalar_of kind ≡ Some s → IsUnsupported s x → IsWrong kind x LeftOut
   no_spelling : (kind : Kind) (s : Scalar) (x : Tree-F Tree Pair) → scalar_of kind ≡ Some s → HasToSpell s x
-      → (FitsScalar s x → ⊥) → (IsOutside s x → ⊥) → (HasColon s x → ⊥) → IsWrong kind x BadText
+      → (FitsScalar s x → ⊥) → (IsOutside s x → ⊥) → (IsUnsupported s x → ⊥) → IsWrong kind x BadText
 
 -- ---- keys
 
@@ -110,6 +123,7 @@ HasNames _ = ⊥
 -- what a key of a map gives that isn't known
 abbrev pub unlisted : MapKind → ConfCause
 unlisted DatapathStack = LeftOut
+unlisted LldpBeacon = LeftOut
 unlisted m = UnknownKey
 
 abbrev pub IsLeftOut : MapKind → Key → Type 0
@@ -129,7 +143,7 @@ pub data IsWrongKey : MapKind → List Key → Key → ConfCause → Type 0 wher
 
 -- the key has to be there and isn't
 abbrev pub Lacks : Option ℕ → List Key → Line → Type 0
-Lacks number keys l = IsNeeded number l.need × (IsOneOf keys (key.Text l.key) → ⊥)
+Lacks number keys l = IsNeeded number keys l.need × (IsOneOf keys (key.Text l.key) → ⊥)
 
 -- the first one of the lines
 abbrev pub IsFirstLacking : Option ℕ → List Key → List Line → List ℕ → Type 0

@@ -1,7 +1,7 @@
 -- Documents that are right by their keys.
-use Rattle.std.specs.Prelude.{◌≡◌, ℕ, ◌-◌, ◌^◌, ◌%◌, ◌<◌, ◌≤◌, ◌⊎◌, ℤ, pos, List, [], ◌∷◌, ◌++◌, length, map, slice_index, bit_and, Option, Some, None}
+use Rattle.std.specs.Prelude.{◌≡◌, ◌==◌, ℕ, ◌^◌, ◌%◌, ◌<◌, ◌≤◌, ◌⊎◌, ℤ, pos, if◌then◌else◌, List, [], ◌∷◌, ◌++◌, length, map, codes, slice_index, bit_and, Option, Some, None}
 use Rattle.std.specs.List.{AllByRecursion}
-use Rattle.net_base.specs.Address.{SpellsMac, ip4_text, net4_text}
+use Rattle.net_base.specs.Address.{SpellsMac, ip4_text}
 use Rattle.yaml_tree.specs.declared.tree.Key.{Key}
 use Rattle.yaml_tree.specs.declared.tree.Key.TheVariants as key
 use Rattle.yaml_tree.specs.declared.tree.Pair.{Pair}
@@ -9,16 +9,21 @@ use Rattle.yaml_tree.specs.declared.tree.Tree.{Tree, out-Tree}
 use Rattle.yaml_tree.specs.declared.tree.Tree.TheOpen.{Tree-F}
 use Rattle.yaml_tree.specs.declared.tree.Tree.TheOpen as tree
 use Rattle.yaml_tree.specs.declared.tree.Tree.TheVariants as trees
+use Rattle.conf_types.specs.declared.address.Ip.{Ip}
+use Rattle.conf_types.specs.declared.address.Net.{Net}
+use Rattle.conf_types.specs.Families.{ipv4, ipv6, family_of, width_of, address_of, len_of}
 use Rattle.conf_types.specs.Lists.{EachBefore}
+use Rattle.conf_types.specs.Networks.{HasNoHostBits}
 use Rattle.conf_shape.specs.declared.kinds.Kind.{Kind}
 use Rattle.conf_shape.specs.declared.kinds.Kind.TheVariants.{One, Several, OneOrSeveral, Given, Map, Maps, MapOrMaps}
 use Rattle.conf_shape.specs.declared.kinds.MapKind.{MapKind}
 use Rattle.conf_shape.specs.declared.kinds.MapKind.TheVariants.{Top, Datapaths, Datapath, Interfaces, Interface, Vlans, Vlan, Acls, RuleItem, Routers, Router}
 use Rattle.conf_shape.specs.declared.kinds.Need.{Need}
-use Rattle.conf_shape.specs.declared.kinds.Need.TheVariants.{Always, UnlessNumbered}
+use Rattle.conf_shape.specs.declared.kinds.Need.TheVariants.{Always, UnlessNumbered, UnlessBgp}
 use Rattle.conf_shape.specs.declared.kinds.Scalar.{Scalar}
-use Rattle.conf_shape.specs.declared.kinds.Scalar.TheVariants.{Flag, Number, Name, Words, Label, Reference, Permission, NoEffect, StationMac, MaskedMac, Vip, Destination, Gateway, Prefix}
+use Rattle.conf_shape.specs.declared.kinds.Scalar.TheVariants.{Flag, Number, Name, Words, Label, Reference, Permission, NoEffect, StationMac, MaskedMac, Vip, Destination, Gateway, Prefix, Address, Identifier, Passive}
 use Rattle.conf_shape.specs.Sections.{key_text}
+use Rattle.law_checks.specs.Values.{SpellsIp, SpellsNet}
 use Rattle.law_keys.specs.Tables.{Line, lines, spellings}
 
 -- it is one of the list
@@ -82,26 +87,36 @@ pub record SpellsMasked (text : List ℕ) : Type 0 where
 abbrev pub SpellsMacOrMasked : List ℕ → Type 0
 SpellsMacOrMasked text = ((mac : List ℕ) × SpellsMac text mac) ⊎ SpellsMasked text
 
+-- an address of IPv4 or of IPv6
 abbrev pub SpellsAddress : List ℕ → Type 0
-SpellsAddress text = (ip : ℕ) × (ip < 2 ^ 32) × (text ≡ ip4_text ip)
+SpellsAddress text = (ip : Ip) × SpellsIp text ip
 
--- an address with the length of its network
+-- an address of IPv4 that isn't zero
+abbrev pub SpellsIdentifier : List ℕ → Type 0
+SpellsIdentifier text = (ip : ℕ) × (1 ≤ ip) × (ip < 2 ^ 32) × (text ≡ ip4_text ip)
+
+-- an address with the length of its network, which leaves room for neighbours
 pub record SpellsVip (text : List ℕ) : Type 0 where
-  pub ip : ℕ
-  pub len : ℕ
-  pub below : ip < 2 ^ 32
-  pub least : 1 ≤ len
-  pub most : len ≤ 31
-  pub is : text ≡ net4_text ip len
+  pub net : Net
+  pub is : SpellsNet text net
+  pub least : 1 ≤ len_of net
+  pub most : len_of net ≤ (family_of (address_of net)).most_vip_len
 
 -- a network, with no bit behind its length
 pub record SpellsNetwork (text : List ℕ) : Type 0 where
-  pub ip : ℕ
-  pub len : ℕ
-  pub below : ip < 2 ^ 32
-  pub most : len ≤ 32
-  pub whole : ip % 2 ^ (32 - len) ≡ 0
-  pub is : text ≡ net4_text ip len
+  pub net : Net
+  pub is : SpellsNet text net
+  pub whole : HasNoHostBits net
+
+-- in a match, the field says of which family an address is: of 128 bits it is one of IPv6
+abbrev pub family_bits : ℕ → ℕ
+family_bits width = if width == ipv6.width then ipv6.width else ipv4.width
+
+abbrev pub SpellsAddressOf : ℕ → List ℕ → Type 0
+SpellsAddressOf width text = (ip : Ip) × SpellsIp text ip × (width_of ip ≡ family_bits width)
+
+abbrev pub SpellsNetworkOf : ℕ → List ℕ → Type 0
+SpellsNetworkOf width text = (n : SpellsNetwork text) × (width_of (address_of n.net) ≡ family_bits width)
 
 -- ---- what a value has to be that is no list and no map
 
@@ -119,7 +134,10 @@ FitsScalar MaskedMac x = IsTextAnd SpellsMacOrMasked x
 FitsScalar Vip x = IsTextAnd SpellsVip x
 FitsScalar Destination x = IsTextAnd SpellsNetwork x
 FitsScalar Gateway x = IsTextAnd SpellsAddress x
-FitsScalar Prefix x = IsTextAnd (λ text. SpellsAddress text ⊎ SpellsNetwork text) x
+FitsScalar (Prefix width) x = IsTextAnd (λ text. SpellsAddressOf width text ⊎ SpellsNetworkOf width text) x
+FitsScalar (Address width) x = IsTextAnd (SpellsAddressOf width) x
+FitsScalar Identifier x = IsTextAnd SpellsIdentifier x
+FitsScalar Passive x = IsTextAnd (λ text. text ≡ codes "passive") x
 
 -- ---- what may stand as one value, as an item of a list, as a map
 
@@ -200,15 +218,16 @@ AreSame Interfaces j k = ⊥
 AreSame Vlans j k = ⊥
 AreSame m j k = (l : Line) × IsOneOf (lines m) l × IsKeyOf m l j × IsKeyOf m l k
 
--- a key has to be there always, or where the map's own key gives no number
-abbrev pub IsNeeded : Option ℕ → Need → Type 0
-IsNeeded number Always = Unit {0}
-IsNeeded None UnlessNumbered = Unit {0}
-IsNeeded number _ = ⊥
+-- a key has to be there always, where the map's own key gives no number, or where `bgp` isn't among the keys
+abbrev pub IsNeeded : Option ℕ → List Key → Need → Type 0
+IsNeeded number keys Always = Unit {0}
+IsNeeded None keys UnlessNumbered = Unit {0}
+IsNeeded number keys UnlessBgp = IsOneOf keys (key.Text (codes "bgp")) → ⊥
+IsNeeded number keys _ = ⊥
 
 -- each key that has to be there is
 abbrev pub IsWhole : MapKind → List Key → Type 0
-IsWhole m keys = AllByRecursion (λ l. IsNeeded (own_number m) l.need → IsOneOf keys (key.Text l.key)) (lines m)
+IsWhole m keys = AllByRecursion (λ l. IsNeeded (own_number m) keys l.need → IsOneOf keys (key.Text l.key)) (lines m)
 
 -- ---- the grammar
 

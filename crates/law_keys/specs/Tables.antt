@@ -4,10 +4,10 @@ use Rattle.std.specs.Prelude.{ℕ, List, [], ◌∷◌, codes}
 use Rattle.conf_shape.specs.declared.kinds.Kind.{Kind}
 use Rattle.conf_shape.specs.declared.kinds.Kind.TheVariants.{One, Several, OneOrSeveral, Given, Map, Maps, MapOrMaps}
 use Rattle.conf_shape.specs.declared.kinds.MapKind.{MapKind}
-use Rattle.conf_shape.specs.declared.kinds.MapKind.TheVariants.{Top, Datapaths, Datapath, DatapathStack, Interfaces, Interface, PortStack, Vlans, Vlan, RouteItem, Route, Acls, RuleItem, Rule, Actions, Output, Routers, Router}
+use Rattle.conf_shape.specs.declared.kinds.MapKind.TheVariants.{Top, Datapaths, Datapath, DatapathStack, LldpBeacon, Interfaces, Interface, PortStack, Vlans, Vlan, RouteItem, Route, Acls, RuleItem, Rule, Actions, Output, Routers, Router, Bgp}
 use Rattle.conf_shape.specs.declared.kinds.Need.{Need}
-use Rattle.conf_shape.specs.declared.kinds.Need.TheVariants.{Always, UnlessNumbered, Never}
-use Rattle.conf_shape.specs.declared.kinds.Scalar.TheVariants.{Flag, Number, Name, Words, Label, Reference, Permission, NoEffect, StationMac, MaskedMac, Vip, Destination, Gateway, Prefix}
+use Rattle.conf_shape.specs.declared.kinds.Need.TheVariants.{Always, UnlessNumbered, UnlessBgp, Never}
+use Rattle.conf_shape.specs.declared.kinds.Scalar.TheVariants.{Flag, Number, Name, Words, Label, Reference, Permission, NoEffect, StationMac, MaskedMac, Vip, Destination, Gateway, Prefix, Address, Identifier, Passive}
 use Rattle.conf_shape.specs.Keys.{KeyDefault, Nothing, On, Off, Count, Spelled, OwnKey, OwnName}
 use Rattle.law_checks.specs.Fields.{other_spellings}
 
@@ -57,6 +57,7 @@ datapath_lines =
     with_default (codes "drop_broadcast_source_address") (One Flag) On ∷
     with_default (codes "drop_bpdu") (One Flag) On ∷
     with_default (codes "drop_lldp") (One Flag) On ∷
+    free (codes "lldp_beacon") (Map LldpBeacon) ∷
     free (codes "learn_ban_timeout") (One NoEffect) ∷
     free (codes "learn_jitter") (One NoEffect) ∷
     free (codes "ignore_learn_ins") (One NoEffect) ∷
@@ -73,6 +74,12 @@ datapath_lines =
 
 abbrev pub datapath_stack_lines : List Line
 datapath_stack_lines = free (codes "priority") (One (Number 0 4294967295)) ∷ []
+
+abbrev pub lldp_beacon_lines : List Line
+lldp_beacon_lines =
+    with_default (codes "send_interval") (One (Number 1 300)) (Count 5) ∷
+    free (codes "max_per_interval") (One (Number 1 1024)) ∷
+    []
 
 abbrev pub interface_lines : List Line
 interface_lines =
@@ -140,8 +147,8 @@ rule_lines =
     free (codes "vlan_vid") (One (Number 1 4094)) ∷
     free (codes "vlan_pcp") (One (Number 0 7)) ∷
     free (codes "ip_proto") (One (Number 0 255)) ∷
-    free (codes "ipv4_src") (One Prefix) ∷
-    free (codes "ipv4_dst") (One Prefix) ∷
+    free (codes "ipv4_src") (One (Prefix 32)) ∷
+    free (codes "ipv4_dst") (One (Prefix 32)) ∷
     free (codes "tcp_src") (One (Number 0 65535)) ∷
     free (codes "tcp_dst") (One (Number 0 65535)) ∷
     free (codes "udp_src") (One (Number 0 65535)) ∷
@@ -149,8 +156,13 @@ rule_lines =
     free (codes "icmpv4_type") (One (Number 0 255)) ∷
     free (codes "icmpv4_code") (One (Number 0 255)) ∷
     free (codes "arp_op") (One (Number 0 65535)) ∷
-    free (codes "arp_spa") (One Prefix) ∷
-    free (codes "arp_tpa") (One Prefix) ∷
+    free (codes "arp_spa") (One (Prefix 32)) ∷
+    free (codes "arp_tpa") (One (Prefix 32)) ∷
+    free (codes "ipv6_src") (One (Prefix 128)) ∷
+    free (codes "ipv6_dst") (One (Prefix 128)) ∷
+    free (codes "icmpv6_type") (One (Number 0 255)) ∷
+    free (codes "icmpv6_code") (One (Number 0 255)) ∷
+    free (codes "ipv6_nd_target") (One (Address 128)) ∷
     []
 
 abbrev pub actions_lines : List Line
@@ -167,7 +179,22 @@ output_lines =
     []
 
 abbrev pub router_lines : List Line
-router_lines = needed (codes "vlans") (Several (Reference 1 4094)) ∷ []
+router_lines =
+    line (codes "vlans") (Several (Reference 1 4094)) UnlessBgp Nothing ∷
+    free (codes "bgp") (Map Bgp) ∷
+    []
+
+abbrev pub bgp_lines : List Line
+bgp_lines =
+    needed (codes "as") (One (Number 1 65535)) ∷
+    needed (codes "neighbor_as") (One (Number 1 65535)) ∷
+    needed (codes "neighbor_addresses") (Several Words) ∷
+    needed (codes "server_addresses") (Several Words) ∷
+    needed (codes "routerid") (One Identifier) ∷
+    needed (codes "vlan") (One (Reference 1 4094)) ∷
+    free (codes "port") (One (Number 1 65535)) ∷
+    free (codes "connect_mode") (One Passive) ∷
+    []
 
 -- ---- by the kind of map; the keys of the others are names and numbers of the user's
 
@@ -175,6 +202,7 @@ abbrev pub lines : MapKind → List Line
 lines Top = top_lines
 lines Datapath = datapath_lines
 lines DatapathStack = datapath_stack_lines
+lines LldpBeacon = lldp_beacon_lines
 lines (Interface number) = interface_lines
 lines PortStack = port_stack_lines
 lines (Vlan number) = vlan_lines
@@ -185,6 +213,7 @@ lines Rule = rule_lines
 lines Actions = actions_lines
 lines Output = output_lines
 lines Router = router_lines
+lines Bgp = bgp_lines
 lines _ = []
 
 -- ---- other spellings of keys
@@ -198,7 +227,7 @@ spellings _ = []
 abbrev pub left_out : MapKind → List (List ℕ)
 left_out Top = codes "include" ∷ codes "include-optional" ∷ codes "meters" ∷ []
 left_out Datapath =
-    codes "interface_ranges" ∷ codes "lldp_beacon" ∷ codes "dot1x" ∷ codes "egress_pipeline" ∷ codes "group_table" ∷
+    codes "interface_ranges" ∷ codes "dot1x" ∷ codes "egress_pipeline" ∷ codes "group_table" ∷
     codes "use_idle_timeout" ∷ codes "priority_offset" ∷ codes "low_priority" ∷ codes "high_priority" ∷
     codes "lowest_priority" ∷ codes "highest_priority" ∷ codes "proactive_learn_v4" ∷ codes "proactive_learn_v6" ∷
     codes "nd_neighbor_timeout" ∷ codes "idle_dst" ∷ codes "dp_acls" ∷ codes "global_vlan" ∷
@@ -212,11 +241,9 @@ left_out (Vlan number) =
     codes "acls_out" ∷ codes "targeted_gw_resolution" ∷ codes "minimum_ip_size_check" ∷ codes "proactive_arp_limit" ∷
     codes "proactive_nd_limit" ∷ []
 left_out Rule =
-    codes "cookie" ∷ codes "in_port" ∷ codes "ip_dscp" ∷ codes "ip_ecn" ∷ codes "ipv6_src" ∷ codes "ipv6_dst" ∷
-    codes "icmpv6_type" ∷ codes "icmpv6_code" ∷ codes "ipv6_nd_target" ∷ []
+    codes "cookie" ∷ codes "in_port" ∷ codes "ip_dscp" ∷ codes "ip_ecn" ∷ []
 left_out Actions = codes "meter" ∷ codes "ct" ∷ codes "force_port_vlan" ∷ []
 left_out Output =
     codes "set_fields" ∷ codes "vlan_vid" ∷ codes "vlan_vids" ∷ codes "pop_vlans" ∷ codes "swap_vid" ∷
     codes "failover" ∷ codes "tunnel" ∷ []
-left_out Router = codes "bgp" ∷ []
 left_out _ = []
