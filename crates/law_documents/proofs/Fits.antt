@@ -1,6 +1,6 @@
 -- A document has no fault of its shape exactly where one that is the same but for the order of entries has none.
 use Rattle.std.proofs.Common.{◌≡◌, ℕ, ◌+◌, Bool, false, List, [], ◌∷◌, ◌++◌, Option, Some, None, refl, sym, ap, ap₂, ◌∙◌, subst, append_assoc, append-nil}
-use Rattle.std.specs.Prelude.{◌&&◌, map, not, if◌then◌else◌}
+use Rattle.std.specs.Prelude.{◌&&◌, map, codes, not, if◌then◌else◌}
 use Rattle.std.specs.Fmt.{decimal}
 use Rattle.std.specs.List.{AllByRecursion, list_any}
 use Rattle.std.proofs.lemmas.Bool.{or_parts, or_from}
@@ -14,6 +14,8 @@ use Rattle.conf_shape.specs.declared.kinds.Kind.{Kind}
 use Rattle.conf_shape.specs.declared.kinds.MapKind.{MapKind}
 use Rattle.conf_shape.specs.Keys.{KeyRow, keys_of}
 use Rattle.conf_shape.specs.Scalars.{item_kind, map_kind}
+use Rattle.conf_shape.specs.declared.kinds.Need.{Need}
+use Rattle.conf_shape.specs.declared.kinds.Need.TheVariants.{Always, UnlessNumbered, UnlessBgp, Never}
 use Rattle.conf_shape.specs.Sections.{map_keys, key_text, is_key, number_of, under_key, is_needed}
 use Rattle.conf_shape.specs.Faults.{Entry, under, item_faults, list_faults, value_faults, missing_row, missing, missing_in, map_faults, in_map, faults_of, entry_of}
 use Rattle.conf_shape.proofs.FaultLaws.{faults_list, faults_map, entry_pair}
@@ -81,10 +83,17 @@ fits_faults m earlier (p ∷ ps) f =
 
 -- ---- in another order
 
+needed_same : (number : Option ℕ) (ks ls : List Key) → ((name : List ℕ) → list_any (is_key name) ks ≡ list_any (is_key name) ls) → (need : Need) → is_needed number ks need ≡ is_needed number ls need
+needed_same number ks ls same Always = refl
+needed_same None ks ls same UnlessNumbered = refl
+needed_same (Some n) ks ls same UnlessNumbered = refl
+needed_same number ks ls same UnlessBgp = ap not (same (codes "bgp"))
+needed_same number ks ls same Never = refl
+
 missing_same : (number : Option ℕ) (ks ls : List Key) → ((name : List ℕ) → list_any (is_key name) ks ≡ list_any (is_key name) ls) → (rows : List KeyRow) → missing number ks rows ≡ missing number ls rows
 missing_same number ks ls same [] = refl
 missing_same number ks ls same (r ∷ rs) =
-    ap₂ (λ (there : Bool) (more : List Found). if is_needed number r.need && not there then missing_row r.key ∷ more else more) (same r.key) (missing_same number ks ls same rs)
+    ap₂ (λ (lacking : Bool) (more : List Found). if lacking then missing_row r.key ∷ more else more) (ap₂ (λ (need there : Bool). need && not there) (needed_same number ks ls same r.need) (same r.key)) (missing_same number ks ls same rs)
 
 pub fits_reordered : (m : MapKind) (ps qs : List Pair) → Reordered IsSameEntry ps qs → AllByRecursion (λ q. HasKind q.value (under_key m [] q.key)) qs → Fits m [] ps → Fits m [] qs
 fits_reordered m ps qs same each f = record {

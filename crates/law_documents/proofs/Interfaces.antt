@@ -16,7 +16,7 @@ use Rattle.conf_shape.specs.declared.refused.ConfCause.TheVariants.{OutOfRange}
 use Rattle.conf_shape.specs.declared.raw.RawDp.{RawDp}
 use Rattle.conf_shape.specs.Faults.{faults_of}
 use Rattle.conf_shape.specs.Keys.{keys_of}
-use Rattle.conf_shape.specs.Raw.{acls_at, names_by, stack_end_of, port_flags_by, port_flags, port_with, port_of_entry, drop_flags_by, drop_flags, stack_priority, datapath_with, datapath_of_entry}
+use Rattle.conf_shape.specs.Raw.{acls_at, names_by, stack_end_of, port_flags_by, port_flags, port_with, port_of_entry, drop_flags_by, drop_flags, stack_priority, lldp_interval, lldp, datapath_with, datapath_of_entry}
 use Rattle.conf_shape.specs.Reads.{items_of, entries_of, entries_at, text_at, label_of, port_of, vlan_of, own_number}
 use Rattle.conf_shape.specs.Scalars.{is_name}
 use Rattle.conf_shape.specs.Sections.{key_text, under_key}
@@ -95,6 +95,11 @@ pub record IsSameDp (d e : RawDp) : Type 0 where
   pub rest : ◌≡◌ {A = RawDp} (record d { ports = [] }) (record e { ports = [] })
   pub ports : Reordered (λ p q. p ≡ q) d.ports e.ports
 
+interval_kept : Keeps (Map maps.LldpBeacon) lldp_interval
+interval_kept t u h same =
+    let looked = look maps.LldpBeacon (spelled_itself (keys_of maps.LldpBeacon)) (entries_of t) (entries_of u) (entries_kept (Map maps.LldpBeacon) maps.LldpBeacon refl t u h same) in
+    number_same maps.LldpBeacon (entries_of t) (entries_of u) looked maps.LldpBeacon (codes "send_interval")
+
 module _ (ps qs : List Pair) (e : Entries maps.Datapath ps qs) where
   looked_dp : Looked maps.Datapath ps qs
   looked_dp = look maps.Datapath (spelled_itself (keys_of maps.Datapath)) ps qs e
@@ -107,6 +112,9 @@ module _ (ps qs : List Pair) (e : Entries maps.Datapath ps qs) where
       let inner = look maps.DatapathStack (spelled_itself (keys_of maps.DatapathStack)) (entries_at (codes "stack") ps) (entries_at (codes "stack") qs)
       (below maps.Datapath ps qs looked_dp maps.DatapathStack (Map maps.DatapathStack) (codes "stack") refl refl) in
       number_under_same maps.DatapathStack (entries_at (codes "stack") ps) (entries_at (codes "stack") qs) inner 32 (codes "priority")
+
+  lldp_same : lldp ps ≡ lldp qs
+  lldp_same = option_same maps.Datapath ps qs looked_dp lldp_interval (codes "lldp_beacon") (λ t u a. interval_kept t u (a.1 (Map maps.LldpBeacon) refl) a.0)
 
   ports_same : Reordered (λ p q. p ≡ q) (map port_of_entry (entries_at (codes "interfaces") ps)) (map port_of_entry (entries_at (codes "interfaces") qs))
   ports_same =
@@ -121,9 +129,10 @@ module _ (ps qs : List Pair) (e : Entries maps.Datapath ps qs) where
       let timeout = number_same maps.Datapath ps qs looked_dp maps.Datapath (codes "timeout") in
       let arp_timeout = number_same maps.Datapath ps qs looked_dp maps.Datapath (codes "arp_neighbor_timeout") in
       let priority = priority_same in
+      let lldp = lldp_same in
       let drops = drops_same in
       record {
-        rest = λ i. record { names = names i; id = record { 0 = id i }; hardware = hardware i; timeout = timeout i; arp_timeout = arp_timeout i; stack_priority = priority i; drops = drops i; ports = [] };
+        rest = λ i. record { names = names i; id = record { 0 = id i }; hardware = hardware i; timeout = timeout i; arp_timeout = arp_timeout i; stack_priority = priority i; lldp = lldp i; drops = drops i; ports = [] };
         ports = ports_same;
       }
 

@@ -18,7 +18,7 @@ use Rattle.conf_resolve.specs.declared.ordered.OrderedConf.{OrderedConf}
 use Rattle.conf_resolve.specs.declared.ordered.PlacedVlan.{PlacedVlan}
 use Rattle.conf_resolve.specs.InOrder.{dp_site, port_site, ordered}
 use Rattle.conf_resolve.specs.Resolved.{to_list, vid_of, resolved}
-use Rattle.conf_rules.specs.Names.{vid_site, repeated_vlan, repeated_vlans, repeated_dp, repeated_dps, number_site, repeated_port, repeated_ports_of, repeated_ports, unknown_vlan, native_at, tagged_at, routed_at, unknown_of_port, unknown_of_dp, unknown_of_router, unknown_vlans, named_again, is_same_vlan, twice_of_port, vlans_twice, unknown_at, unknown_acls_of_vlan, unknown_acls_of_port, unknown_acls_of_dp, unknown_acls, are_both, both_of_vlan, both_of_dp, acls_twice}
+use Rattle.conf_rules.specs.Names.{vid_site, repeated_vlan, repeated_vlans, repeated_dp, repeated_dps, number_site, repeated_port, repeated_ports_of, repeated_ports, unknown_vlan, native_at, tagged_at, routed_at, peer_at, unknown_of_port, unknown_of_dp, unknown_of_router, unknown_vlans, named_again, is_same_vlan, twice_of_port, vlans_twice, unknown_at, unknown_acls_of_vlan, unknown_acls_of_port, unknown_acls_of_dp, unknown_acls, are_both, both_of_vlan, both_of_dp, acls_twice}
 use Rattle.conf_rules.specs.Places.{fault_if, under, name_site, each_at, with_earlier, is_repeat}
 use Rattle.law_checks.specs.Says.{Says, PortSays}
 use Rattle.law_checks.specs.Values.{IsNumber}
@@ -31,7 +31,7 @@ use Rattle.law_documents.proofs.Leads.{Reaches, onward, there, needed, behind_ea
 use Rattle.law_documents.proofs.Own.{section, number_scalar, no_vlan, HasOwn, own_leads, own_number, own_name, HasAcls, acls_lead}
 use Rattle.law_documents.proofs.Parts.{IsPart, IsDp, dp_leads, router_leads}
 use Rattle.law_documents.proofs.Told.{told_if, each, both}
-use Rattle.law_documents.proofs.Vlans.{VlanAt, native_leads, tagged_leads, routed_leads, IsVlan, vlan_leads}
+use Rattle.law_documents.proofs.Vlans.{VlanAt, native_leads, tagged_leads, routed_leads, peer_leads, IsVlan, vlan_leads}
 
 module _ (t : Tree) (raw : RawConf) (says : Says t raw) where
   abbrev o : OrderedConf
@@ -98,7 +98,9 @@ module _ (t : Tree) (raw : RawConf) (says : Says t raw) where
   rule4 =
       both t (NamesNoVlan o) (flat_map (unknown_of_dp o) o.dps) (flat_map (unknown_of_router o) o.routers)
       (each_port (NamesNoVlan o) (unknown_of_port o) (λ d p r. both t (NamesNoVlan o) (flat_map (unknown_vlan o) (native_at d p)) (flat_map (unknown_vlan o) (tagged_at d p)) (unknown_leads (native_at d p) (native_leads t d p r)) (unknown_leads (tagged_at d p) (tagged_leads t d p r))))
-      (each t (NamesNoVlan o) (unknown_of_router o) o.routers (λ r i. unknown_leads (routed_at r) (routed_leads t r (router_leads t raw says r i))))
+      (each t (NamesNoVlan o) (unknown_of_router o) o.routers (λ r i.
+      let at = router_leads t raw says r i in
+      both t (NamesNoVlan o) (flat_map (unknown_vlan o) (routed_at r)) (flat_map (unknown_vlan o) (peer_at r)) (unknown_leads (routed_at r) (routed_leads t r at)) (unknown_leads (peer_at r) (peer_leads t r at))))
 
   rule5 : PathsLead t NamesVlan (vlans_twice o)
   rule5 = each_port NamesVlan (twice_of_port o) (λ d p r. each t NamesVlan (named_again o) (each_at (under (port_site d p) (codes "tagged_vlans")) (with_earlier (to_list p.native) p.tagged)) (λ item i.

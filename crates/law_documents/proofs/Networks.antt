@@ -6,19 +6,20 @@ use Rattle.yaml_tree.specs.declared.tree.Pair.{Pair}
 use Rattle.conf_shape.specs.declared.kinds.TheConstants.{MOST_VID}
 use Rattle.conf_shape.specs.declared.kinds.Kind.TheVariants.{Map, Maps}
 use Rattle.conf_shape.specs.declared.kinds.MapKind.TheVariants as maps
+use Rattle.conf_shape.specs.declared.raw.VlanRef.TheVariants as vlan_refs
 use Rattle.conf_shape.specs.Faults.{faults_of}
 use Rattle.conf_shape.specs.Keys.{keys_of}
-use Rattle.conf_shape.specs.Raw.{vip_of, route_of, vlan_with, vlan_of_entry, router_of_entry}
+use Rattle.conf_shape.specs.Raw.{vip_of, route_of, vlan_with, vlan_of_entry, bgp_of, router_of_entry}
 use Rattle.conf_shape.specs.Reads.{entries_of, entries_at, vlan_of, own_number}
 use Rattle.conf_shape.specs.Sections.{key_text, under_key}
-use Rattle.conf_shape.specs.Values.{mac_of, net_of, ip_of}
+use Rattle.conf_shape.specs.Values.{mac_of, net_of, ip_of, identifier_of}
 use Rattle.law_checks.proofs.Right.{HasKind, takes_by}
 use Rattle.law_checks.proofs.Stands.{numbered_found}
 use Rattle.law_documents.proofs.Clash.{spelled_itself}
 use Rattle.law_documents.proofs.Interfaces.{own_same, names_same, acls_same}
 use Rattle.law_documents.proofs.Kept.{Entries, entries_kept, Keeps, IsRead, text_read, vlan_read, read_items, items_kept}
 use Rattle.law_documents.proofs.Layers.{IsSameEntry}
-use Rattle.law_documents.proofs.Looked.{Looked, look, read_at, given_same, flag_same, number_same, text_same, words_same, list_same, below}
+use Rattle.law_documents.proofs.Looked.{Looked, look, read_at, given_same, flag_same, number_under_same, number_same, text_same, words_same, option_same, list_same, below}
 
 -- ---- VLANs
 
@@ -61,6 +62,17 @@ vlan_entry p q has same =
 
 -- ---- routers
 
+bgp_kept : Keeps (Map maps.Bgp) bgp_of
+bgp_kept t u h same =
+    let ps : List Pair = entries_of t in
+    let qs : List Pair = entries_of u in
+    let looked = look maps.Bgp (spelled_itself (keys_of maps.Bgp)) ps qs (entries_kept (Map maps.Bgp) maps.Bgp refl t u h same) in
+    let ours = ap (λ o. unwrap_or o 0) (number_under_same maps.Bgp ps qs looked 16 (codes "as")) in
+    let theirs = ap (λ o. unwrap_or o 0) (number_under_same maps.Bgp ps qs looked 16 (codes "neighbor_as")) in
+    let id = ap identifier_of (words_same maps.Bgp ps qs looked (codes "routerid")) in
+    let vlan = ap (λ o. unwrap_or o (vlan_refs.Name [])) (option_same maps.Bgp ps qs looked vlan_of (codes "vlan") (λ t u a. vlan_read t u a.0)) in
+    λ i. record { our_as = ours i; neighbor_as = theirs i; routerid = id i; vlan = vlan i }
+
 pub router_entry : (p q : Pair) → HasKind p.value (under_key maps.Routers [] p.key) → IsSameEntry p q → router_of_entry p ≡ router_of_entry q
 router_entry p q has same =
     let kind : has.0 ≡ Map maps.Router = cc (has.1) in
@@ -68,4 +80,5 @@ router_entry p q has same =
     let looked = look maps.Router (spelled_itself (keys_of maps.Router)) (entries_of p.value) (entries_of q.value) (entries_kept (Map maps.Router) maps.Router refl p.value q.value h same.1) in
     let name = ap key_text same.0 in
     let vlans = list_same maps.Router (entries_of p.value) (entries_of q.value) looked vlan_of (codes "vlans") (λ t u a. read_items vlan_of vlan_read t u a.0) in
-    λ i. record { name = name i; vlans = vlans i }
+    let bgp = option_same maps.Router (entries_of p.value) (entries_of q.value) looked bgp_of (codes "bgp") (λ t u a. bgp_kept t u (a.1 (Map maps.Bgp) refl) a.0) in
+    λ i. record { name = name i; vlans = vlans i; bgp = bgp i }

@@ -2,12 +2,11 @@
 use Rattle.std.specs.Prelude.{◌≡◌, ℕ, not, List, [], ◌∷◌, ◌++◌, map, codes}
 use Rattle.std.specs.List.{list_any, zip}
 use Rattle.std.proofs.Common.{inl, inr, refl, sym, ap, ◌∙◌, subst}
-use Rattle.net_base.specs.declared.net4.Net4.{Net4}
 use Rattle.yaml_tree.specs.declared.tree.Tree.{Tree, out-Tree}
+use Rattle.conf_types.specs.declared.address.Net.{Net}
 use Rattle.conf_types.specs.declared.vlan.Route.{Route}
 use Rattle.conf_types.specs.declared.vlan.Vlan.{Vlan}
 use Rattle.conf_types.specs.Configuration.{Configuration}
-use Rattle.conf_types.specs.Networks.{is_neighbour_address}
 use Rattle.conf_shape.specs.declared.raw.RawConf.{RawConf}
 use Rattle.conf_shape.specs.declared.raw.RawVlan.{RawVlan}
 use Rattle.conf_shape.specs.declared.refused.ConfCause.TheVariants.{Duplicate, Conflict}
@@ -17,7 +16,7 @@ use Rattle.conf_resolve.specs.InOrder.{made_vlan, ordered}
 use Rattle.conf_resolve.specs.Resolved.{to_list, vid_of, vlan_of, router_of, resolved}
 use Rattle.conf_rules.specs.Names.{routed_at}
 use Rattle.conf_rules.specs.Places.{fault_if, under, each_at, vlans_of, with_earlier}
-use Rattle.conf_rules.specs.Routing.{vlans_behind, overlaps_earlier, overlapping_vip, overlapping_of_vlan, overlapping_vips, is_in_router, routed_twice, shared_of_router, shared_vlans, route_site, leads_inside, wrong_route, wrong_routes_of, wrong_routes, repeats_earlier, repeated_route, repeated_of_vlan, repeated_routes}
+use Rattle.conf_rules.specs.Routing.{vlans_behind, overlaps_earlier, overlapping_vip, overlapping_of_vlan, overlapping_vips, is_in_router, routed_twice, shared_of_router, shared_vlans, route_site, leads_inside, is_gateway, wrong_route, wrong_routes_of, wrong_routes, repeats_earlier, repeated_route, repeated_of_vlan, repeated_routes}
 use Rattle.law_checks.specs.Says.{Says, VlanSays, RouteSays, RouteItemSays}
 use Rattle.law_checks.specs.Values.{IsAddress, IsNetwork, IsList, IsMap}
 use Rattle.law_checks.proofs.Kept.{of_zipped}
@@ -55,11 +54,11 @@ module _ (t : Tree) (site : List (List ℕ)) (route : Route) (at : Reaches t sit
 
   dst_leads : At t SpellsNetwork (route_site site (codes "ip_dst"))
   dst_leads = onward t (under site (codes "route")) (λ u. IsMap RouteSays u route) (codes "ip_dst" ∷ []) (λ v. SpellsNetwork (out-Tree v)) route_leads (λ u m.
-      there u (codes "ip_dst" ∷ []) (λ v. IsNetwork v route.dst) (λ v. SpellsNetwork (out-Tree v)) (needed u (codes "ip_dst") (λ v. IsNetwork v route.dst) m.0 m.1 m.2.dst) (λ v n. (route.dst, n.0)))
+      there u (codes "ip_dst" ∷ []) (λ v. IsNetwork v route.dst) (λ v. SpellsNetwork (out-Tree v)) (needed u (codes "ip_dst") (λ v. IsNetwork v route.dst) m.0 m.1 m.2.dst) (λ v n. (n.text, route.dst, n.is, n.spelled)))
 
   gw_leads : At t SpellsAddress (route_site site (codes "ip_gw"))
   gw_leads = onward t (under site (codes "route")) (λ u. IsMap RouteSays u route) (codes "ip_gw" ∷ []) (λ v. SpellsAddress (out-Tree v)) route_leads (λ u m.
-      there u (codes "ip_gw" ∷ []) (λ v. IsAddress v route.gw) (λ v. SpellsAddress (out-Tree v)) (needed u (codes "ip_gw") (λ v. IsAddress v route.gw) m.0 m.1 m.2.gw) (λ v n. (route.gw, n.0)))
+      there u (codes "ip_gw" ∷ []) (λ v. IsAddress v route.gw) (λ v. SpellsAddress (out-Tree v)) (needed u (codes "ip_gw") (λ v. IsAddress v route.gw) m.0 m.1 m.2.gw) (λ v n. (n.text, route.gw, n.is, n.spelled)))
 
 -- ---- the rules
 
@@ -70,7 +69,7 @@ module _ (t : Tree) (raw : RawConf) (says : Says t raw) where
   abbrev conf : Configuration
   conf = resolved o
 
-  pub vip_at : (v : PlacedVlan) → IsIn o.vlans v → (item : List (List ℕ) × Net4) → IsIn (each_at (under v.site (codes "faucet_vips")) v.vlan.vips) item → Reaches t item.0 (λ w. IsNetwork w item.1)
+  pub vip_at : (v : PlacedVlan) → IsIn o.vlans v → (item : List (List ℕ) × Net) → IsIn (each_at (under v.site (codes "faucet_vips")) v.vlan.vips) item → Reaches t item.0 (λ w. IsNetwork w item.1)
   vip_at v i = vlan_list t (codes "faucet_vips") IsNetwork (λ v. v.vips) (λ vid. refl) v (λ u part. (part.1.0, part.1.1, part.1.2.vips)) (vlan_leads t raw says v i)
 
   pub route_at : (v : PlacedVlan) → IsIn o.vlans v → (item : List (List ℕ) × Route) → IsIn (each_at (under v.site (codes "routes")) v.vlan.routes) item → Reaches t item.0 (λ w. IsMap RouteItemSays w item.1)
@@ -83,7 +82,7 @@ module _ (t : Tree) (raw : RawConf) (says : Says t raw) where
       told_if t SpellsNetwork (overlaps_earlier conf v.1 vip.1) (Conflict 12) vip.0 (λ is.
       there t vip.0 (λ w. IsNetwork w vip.1.1) (λ w. SpellsNetwork (out-Tree w))
       (vip_at v.0 z.0 (vip.0, vip.1.1) (behind_earlier (under v.0.site (codes "faucet_vips")) [] v.0.vlan.vips vip (subst (λ (w : Vlan). IsIn (each_at (under v.0.site (codes "faucet_vips")) (with_earlier [] w.vips)) vip) (sym z.1) j)))
-      (λ w n. (vip.1.1, n.0)))))
+      (λ w n. (n.text, vip.1.1, n.is, n.spelled)))))
 
   routers_lead : PathsLead t NamesVlan (shared_vlans o conf)
   routers_lead = each t NamesVlan (shared_of_router o) (zip o.routers (with_earlier [] conf.routers)) (λ r i.
@@ -100,9 +99,9 @@ module _ (t : Tree) (raw : RawConf) (says : Says t raw) where
       let at = route_at v.0 z.0 r (subst (λ (w : Vlan). IsIn (each_at (under v.0.site (codes "routes")) w.routes) r) (sym z.1) j) in
       both t SpellsRoute
       (fault_if (leads_inside conf v.1.vid r.1.dst) (Conflict 14) (route_site r.0 (codes "ip_dst")))
-      (fault_if (not (is_neighbour_address v.1.vips r.1.gw.0)) (Conflict 14) (route_site r.0 (codes "ip_gw")))
+      (fault_if (not (is_gateway v.1 r.1)) (Conflict 14) (route_site r.0 (codes "ip_gw")))
       (told_if t SpellsRoute (leads_inside conf v.1.vid r.1.dst) (Conflict 14) (route_site r.0 (codes "ip_dst")) (λ is. there t (route_site r.0 (codes "ip_dst")) (λ v. SpellsNetwork (out-Tree v)) (λ v. SpellsRoute (out-Tree v)) (dst_leads t r.0 r.1 at) (λ v s. inl s)))
-      (told_if t SpellsRoute (not (is_neighbour_address v.1.vips r.1.gw.0)) (Conflict 14) (route_site r.0 (codes "ip_gw")) (λ is. there t (route_site r.0 (codes "ip_gw")) (λ v. SpellsAddress (out-Tree v)) (λ v. SpellsRoute (out-Tree v)) (gw_leads t r.0 r.1 at) (λ v s. inr s)))))
+      (told_if t SpellsRoute (not (is_gateway v.1 r.1)) (Conflict 14) (route_site r.0 (codes "ip_gw")) (λ is. there t (route_site r.0 (codes "ip_gw")) (λ v. SpellsAddress (out-Tree v)) (λ v. SpellsRoute (out-Tree v)) (gw_leads t r.0 r.1 at) (λ v s. inr s)))))
 
   repeats_lead : PathsLead t SpellsNetwork (repeated_routes o conf)
   repeats_lead = each t SpellsNetwork (repeated_of_vlan conf) (vlans_behind o conf) (λ v i.

@@ -97,7 +97,7 @@ rows_lead t number keys lack [] = tt
 rows_lead t number keys lack (r ∷ rs) = by (lacks number keys r) refl (rows_lead t number keys lack rs)
   where
     by : (b : Bool) → lacks number keys r ≡ b → AllLead t (missing number keys rs) → AllLead t (if b then missing_row r.key ∷ missing number keys rs else missing number keys rs)
-    by true is more = (inr (record { steps = []; key = r.key; is = refl; at = t; leads = refl; lacks = lack r.key (no_key (is_needed number r.need) (list_any (is_key r.key) keys) is) }), more)
+    by true is more = (inr (record { steps = []; key = r.key; is = refl; at = t; leads = refl; lacks = lack r.key (no_key (is_needed number keys r.need) (list_any (is_key r.key) keys) is) }), more)
     by false is more = more
 
 value_leads : (v : Tree) → Leads v → (found : Result Kind ConfCause) → AllLead v (value_faults (faults_of v) found)

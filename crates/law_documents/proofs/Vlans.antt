@@ -4,6 +4,7 @@ use Rattle.std.specs.Fmt.{decimal}
 use Rattle.std.specs.List.{flat_map, enumerate_from}
 use Rattle.std.specs.Option.{option_map_or}
 use Rattle.std.proofs.Common.{inl, inr, refl, sym, ap, subst}
+use Rattle.std.proofs.lemmas.Option.{none-some}
 use Rattle.yaml_tree.specs.declared.tree.Pair.{Pair}
 use Rattle.yaml_tree.specs.declared.tree.Tree.{Tree, out-Tree}
 use Rattle.yaml_tree.specs.declared.tree.Tree.TheOpen.{Tree-F}
@@ -13,20 +14,21 @@ use Rattle.conf_shape.specs.declared.raw.VlanRef.TheVariants.{Vid, Name}
 use Rattle.conf_shape.specs.declared.raw.RawPort.{RawPort}
 use Rattle.conf_shape.specs.declared.raw.RawDp.{RawDp}
 use Rattle.conf_shape.specs.declared.raw.RawVlan.{RawVlan}
+use Rattle.conf_shape.specs.declared.raw.RawBgp.{RawBgp}
 use Rattle.conf_shape.specs.declared.raw.RawRouter.{RawRouter}
 use Rattle.conf_shape.specs.declared.raw.RawConf.{RawConf}
 use Rattle.conf_resolve.specs.declared.ordered.PlacedVlan.{PlacedVlan}
-use Rattle.conf_resolve.specs.InOrder.{vlan_site, port_site, router_site, dps_in_order, routers_in_order, made_vlan, by_number, by_numbers, of_port, of_router, named_by_dps, named_by_routers, named, further, written, vlans_in_order}
+use Rattle.conf_resolve.specs.InOrder.{vlan_site, port_site, router_site, bgp_site, dps_in_order, routers_in_order, made_vlan, by_number, by_numbers, of_port, of_router, named_by_dps, named_by_routers, named, further, written, vlans_in_order}
 use Rattle.conf_resolve.specs.Resolved.{to_list}
-use Rattle.conf_rules.specs.Names.{native_at, tagged_at, routed_at}
+use Rattle.conf_rules.specs.Names.{native_at, tagged_at, routed_at, peer_at}
 use Rattle.conf_rules.specs.Places.{nth, each_at}
-use Rattle.law_checks.specs.Says.{Says, VlanSays, PortSays, RouterSays}
+use Rattle.law_checks.specs.Says.{Says, VlanSays, PortSays, BgpSays, RouterSays}
 use Rattle.law_checks.specs.Values.{IsVlanOf, IsList, IsMap}
 use Rattle.law_checks.proofs.Members.{IsIn, of_joined, of_mapped, of_flat, in_flat}
 use Rattle.law_checks.proofs.Orders.{of_order}
 use Rattle.law_checks.proofs.Vlans.{of_further}
 use Rattle.law_documents.specs.Forms.{IsScalar}
-use Rattle.law_documents.proofs.Leads.{Reaches, there, HasKey, as_given, in_key, in_option, in_map}
+use Rattle.law_documents.proofs.Leads.{Reaches, onward, there, HasKey, given, needed, in_key, in_option, in_map}
 use Rattle.law_documents.proofs.Parts.{IsPart, dp_leads, router_leads}
 
 -- ---- the names of VLANs that interfaces and routers give
@@ -58,8 +60,20 @@ module _ (t : Tree) where
 
   pub routed_leads : (r : RawRouter) → Reaches t (router_site r) (IsPart RouterSays r) → (item : List (List ℕ) × VlanRef) → IsIn (routed_at r) item → Reaches t item.0 (λ u. VlanAt u item.1)
   routed_leads r at = in_key t (router_site r) (codes "vlans") VlanAt r.vlans
-      (there t (router_site r) (IsPart RouterSays r) (HasKey (codes "vlans") (r.vlans ≡ []) (λ v. IsList VlanAt v r.vlans)) at (λ u h.
-      as_given u (codes "vlans") (λ v. IsList VlanAt v r.vlans) (r.vlans ≡ []) h.1.0 h.1.1 h.1.2.vlans))
+      (there t (router_site r) (IsPart RouterSays r) (HasKey (codes "vlans") (r.vlans ≡ []) (λ v. IsList VlanAt v r.vlans)) at (λ u h. (h.1.0, h.1.1, h.1.2.vlans)))
+
+  pub peer_leads : (r : RawRouter) → Reaches t (router_site r) (IsPart RouterSays r) → (item : List (List ℕ) × VlanRef) → IsIn (peer_at r) item → Reaches t item.0 (λ u. VlanAt u item.1)
+  peer_leads r at = by r.bgp (there t (router_site r) (IsPart RouterSays r) (HasKey (codes "bgp") (r.bgp ≡ None) (λ v. IsSomeAnd r.bgp (IsMap BgpSays v))) at (λ u h. (h.1.0, h.1.1, h.1.2.bgp)))
+    where
+      by : (o : Option RawBgp) → Reaches t (router_site r) (HasKey (codes "bgp") (o ≡ None) (λ v. IsSomeAnd o (IsMap BgpSays v))) → (item : List (List ℕ) × VlanRef) → IsIn (map (λ (bgp : RawBgp). (bgp_site r, bgp.vlan)) (to_list o)) item
+          → Reaches t item.0 (λ u. VlanAt u item.1)
+      by None reach item i = absurd i
+      by (Some bgp) reach item (inr i) = absurd i
+      by (Some bgp) reach item (inl e) =
+          subst (λ (item : List (List ℕ) × VlanRef). Reaches t item.0 (λ u. VlanAt u item.1)) e
+          (onward t (router_site r) (HasKey (codes "bgp") (Some bgp ≡ None) (λ v. IsMap BgpSays v bgp)) (codes "bgp" ∷ codes "vlan" ∷ []) (λ v. VlanAt v bgp.vlan) reach (λ u h.
+          onward u (codes "bgp" ∷ []) (λ v. IsMap BgpSays v bgp) (codes "vlan" ∷ []) (λ v. VlanAt v bgp.vlan) (given u (codes "bgp") (λ v. IsMap BgpSays v bgp) (Some bgp ≡ None) h (λ none. none-some bgp (sym none)))
+          (λ v m. needed v (codes "vlan") (λ w. VlanAt w bgp.vlan) m.0 m.1 m.2.vlan)))
 
   -- ---- VLANs that numbers name
 
@@ -105,6 +119,16 @@ module _ (t : Tree) (raw : RawConf) (says : Says t raw) where
       of_one d p at (inl j) = of_option t (port_site d p ++ codes "native_vlan" ∷ []) p.native v (native_leads t d p at) j
       of_one d p at (inr j) = of_list t (port_site d p ++ codes "tagged_vlans" ∷ []) p.tagged v (tagged_leads t d p at) j
 
+      of_peer : (r : RawRouter) → Reaches t (router_site r) (IsPart RouterSays r) → (o : Option RawBgp) → r.bgp ≡ o → IsIn (option_map_or (λ bgp. by_number (bgp_site r) bgp.vlan) o []) v → MadeLeads t v
+      of_peer r at None is i = absurd i
+      of_peer r at (Some bgp) is i =
+          let item : List (List ℕ) × VlanRef = (bgp_site r, bgp.vlan) in
+          made_leads t (bgp_site r) bgp.vlan v (peer_leads t r at item (subst (λ (o : Option RawBgp). IsIn (map (λ (bgp : RawBgp). (bgp_site r, bgp.vlan)) (to_list o)) item) (sym is) (inl refl))) i
+
+      of_routed : (r : RawRouter) → Reaches t (router_site r) (IsPart RouterSays r) → IsIn (by_numbers (router_site r ++ codes "vlans" ∷ []) r.vlans) v ⊎ IsIn (option_map_or (λ bgp. by_number (bgp_site r) bgp.vlan) r.bgp []) v → MadeLeads t v
+      of_routed r at (inl j) = of_list t (router_site r ++ codes "vlans" ∷ []) r.vlans v (routed_leads t r at) j
+      of_routed r at (inr j) = of_peer r at r.bgp refl j
+
       by : IsIn (named_by_dps (dps_in_order raw)) v ⊎ IsIn (named_by_routers (routers_in_order raw)) v → MadeLeads t v
       by (inl j) =
           let m = of_flat (λ (d : RawDp). flat_map (of_port d) d.ports) (dps_in_order raw) v j in
@@ -112,7 +136,7 @@ module _ (t : Tree) (raw : RawConf) (says : Says t raw) where
           of_one m.0 n.0 ((dp_leads t raw says m.0 m.1).port n.0 n.1) (of_joined (option_map_or (by_number (port_site m.0 n.0 ++ codes "native_vlan" ∷ [])) n.0.native []) (by_numbers (port_site m.0 n.0 ++ codes "tagged_vlans" ∷ []) n.0.tagged) v n.2)
       by (inr j) =
           let m = of_flat of_router (routers_in_order raw) v j in
-          of_list t (router_site m.0 ++ codes "vlans" ∷ []) m.0.vlans v (routed_leads t m.0 (router_leads t raw says m.0 m.1)) m.2
+          of_routed m.0 (router_leads t raw says m.0 m.1) (of_joined (by_numbers (router_site m.0 ++ codes "vlans" ∷ []) m.0.vlans) (option_map_or (λ bgp. by_number (bgp_site m.0) bgp.vlan) m.0.bgp []) v m.2)
 
   abbrev made_vlans : List PlacedVlan
   made_vlans = further (map (λ (v : RawVlan). v.vid) raw.vlans) (named (dps_in_order raw) (routers_in_order raw))

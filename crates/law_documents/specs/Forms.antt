@@ -1,20 +1,19 @@
 -- What stands where the paths of rules lead.
 use Rattle.std.specs.Prelude.{◌≡◌, ℕ, ◌⊎◌, List, None}
-use Rattle.net_base.specs.declared.address.Ip4.{Ip4}
-use Rattle.net_base.specs.declared.net4.Net4.{Net4}
-use Rattle.net_base.specs.Address.{ip4_text, net4_text}
 use Rattle.yaml_tree.specs.declared.tree.Pair.{Pair}
 use Rattle.yaml_tree.specs.declared.tree.Tree.{Tree}
 use Rattle.yaml_tree.specs.declared.tree.Tree.TheOpen.{Tree-F}
 use Rattle.yaml_tree.specs.declared.tree.Tree.TheOpen as tree
 use Rattle.conf_types.specs.declared.acl.PortRef.{PortRef}
+use Rattle.conf_types.specs.declared.address.Ip.{Ip}
+use Rattle.conf_types.specs.declared.address.Net.{Net}
 use Rattle.conf_types.specs.Attached.{acl_named}
 use Rattle.conf_types.specs.Configuration.{Configuration}
 use Rattle.conf_shape.specs.declared.raw.VlanRef.{VlanRef}
 use Rattle.conf_shape.specs.declared.raw.VlanRef.TheVariants.{Name}
 use Rattle.conf_resolve.specs.declared.ordered.OrderedConf.{OrderedConf}
 use Rattle.conf_resolve.specs.Resolved.{vid_of}
-use Rattle.law_checks.specs.Values.{IsLabelOf, IsVlanOf, IsPortOf}
+use Rattle.law_checks.specs.Values.{IsLabelOf, IsVlanOf, IsPortOf, SpellsIp, SpellsNet}
 
 abbrev pub IsWritten : Tree-F Tree Pair → Type 0
 IsWritten x = Unit {0}
@@ -59,13 +58,13 @@ NamesNoVlan o x = (name : List ℕ) × (x ≡ tree.Text name) × (vid_of o.vlans
 abbrev pub NamesNoAcl : Configuration → Tree-F Tree Pair → Type 0
 NamesNoAcl conf x = (name : List ℕ) × IsLabelOf x name × (acl_named conf.acls name ≡ None)
 
--- ---- networks
+-- ---- networks and addresses of either family
 
 abbrev pub SpellsNetwork : Tree-F Tree Pair → Type 0
-SpellsNetwork x = (net : Net4) × (x ≡ tree.Text (net4_text net.ip.0 net.len))
+SpellsNetwork x = (text : List ℕ) × (net : Net) × (x ≡ tree.Text text) × SpellsNet text net
 
 abbrev pub SpellsAddress : Tree-F Tree Pair → Type 0
-SpellsAddress x = (ip : Ip4) × (x ≡ tree.Text (ip4_text ip.0))
+SpellsAddress x = (text : List ℕ) × (ip : Ip) × (x ≡ tree.Text text) × SpellsIp text ip
 
 -- where a route leads, or its gateway
 abbrev pub SpellsRoute : Tree-F Tree Pair → Type 0
