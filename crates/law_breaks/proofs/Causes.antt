@@ -9,7 +9,7 @@ use Rattle.conf_shape.specs.declared.refused.ConfCause.TheVariants.{Unresolved, 
 use Rattle.conf_shape.specs.declared.refused.ConfFault.{ConfFault}
 use Rattle.conf_resolve.specs.declared.ordered.OrderedConf.{OrderedConf}
 use Rattle.conf_resolve.specs.InOrder.{port_site}
-use Rattle.conf_rules.specs.Names.{unknown_vlan, native_at, tagged_at, routed_at, unknown_of_port, unknown_of_dp, unknown_of_router, unknown_vlans, unknown_acl, unknown_at, unknown_acls_of_vlan, unknown_acls_of_port, unknown_acls_of_dp, unknown_acls, are_both, both_of_vlan, both_of_dp, acls_twice}
+use Rattle.conf_rules.specs.Names.{unknown_vlan, native_at, tagged_at, routed_at, peer_at, unknown_of_port, unknown_of_dp, unknown_of_router, unknown_vlans, unknown_acl, unknown_at, unknown_acls_of_vlan, unknown_acls_of_port, unknown_acls_of_dp, unknown_acls, are_both, both_of_vlan, both_of_dp, acls_twice}
 use Rattle.conf_rules.specs.Places.{fault_if, one_at, list_at}
 use Rattle.law_checks.proofs.Members.{IsIn, all_joined}
 use Rattle.law_documents.proofs.Told.{each_of}
@@ -33,7 +33,10 @@ rule4 o =
     both Unresolved (flat_map (unknown_vlan o) (native_at d p)) (flat_map (unknown_vlan o) (tagged_at d p))
     (each Unresolved (unknown_vlan o) (native_at d p) (λ item i. told Unresolved _ item.0))
     (each Unresolved (unknown_vlan o) (tagged_at d p) (λ item i. told Unresolved _ item.0)))))
-    (each Unresolved (unknown_of_router o) o.routers (λ r c. each Unresolved (unknown_vlan o) (routed_at r) (λ item i. told Unresolved _ item.0)))
+    (each Unresolved (unknown_of_router o) o.routers (λ r c.
+    both Unresolved (flat_map (unknown_vlan o) (routed_at r)) (flat_map (unknown_vlan o) (peer_at r))
+    (each Unresolved (unknown_vlan o) (routed_at r) (λ item i. told Unresolved _ item.0))
+    (each Unresolved (unknown_vlan o) (peer_at r) (λ item i. told Unresolved _ item.0))))
 
 at_site : (conf : Configuration) (site : List (List ℕ)) (acls : RawAclNames) → AreToldAs Unresolved (unknown_at conf site acls)
 at_site conf site acls =

@@ -7,7 +7,7 @@ use Rattle.conf_types.specs.declared.datapath.Port.{Port}
 use Rattle.conf_types.specs.declared.vlan.Vlan.{Vlan}
 use Rattle.conf_types.specs.Attached.{rules_of}
 use Rattle.conf_types.specs.Configuration.{Configuration}
-use Rattle.conf_types.specs.Lists.{different}
+use Rattle.conf_types.specs.Families.{different_ips}
 use Rattle.conf_types.specs.Membership.{has_edge_member, is_mirror_of}
 use Rattle.conf_types.specs.Valid.{is_special, members_at, ports_named, attached, route_items, group_count}
 use Rattle.conf_shape.specs.declared.raw.RawDp.{RawDp}
@@ -79,7 +79,7 @@ IsAbove o conf limit.Members steps = IsDatapathAbove o steps 8192 (λ d. sum_by 
 IsAbove o conf limit.Vips steps = IsVlanAbove o steps 8 (λ v. length v.vips)
 IsAbove o conf limit.RouterVlans steps = IsRouterAbove o steps 16
 IsAbove o conf limit.Routes steps = AreAbove whole_vlans steps 1024 (sum_by (λ v. length v.routes) conf.vlans)
-IsAbove o conf limit.Gateways steps = AreAbove whole_vlans steps 1024 (group_count conf * sum_by (λ v. different (map (λ r. r.gw.0) v.routes)) conf.vlans)
+IsAbove o conf limit.Gateways steps = AreAbove whole_vlans steps 1024 (group_count conf * sum_by (λ v. different_ips (map (λ r. r.gw) v.routes)) conf.vlans)
 IsAbove o conf limit.RouteItems steps = AreAbove whole_vlans steps 32768 (sum_by (route_items conf) conf.vlans)
 
 -- rule 16: the fault tells the limit that is passed where its path leads

@@ -1,12 +1,14 @@
 -- Rules 12 to 15: networks between which packets are routed, and the routers that say so.
-use Rattle.std.specs.Prelude.{◌≡◌, ℕ, ◌⊎◌, true, false, List, codes, Contains}
-use Rattle.net_base.specs.declared.net4.Net4.{Net4}
+use Rattle.std.specs.Prelude.{◌≡◌, ◌&&◌, ℕ, ◌⊎◌, true, false, List, codes, Contains}
 use Rattle.yaml_tree.specs.declared.tree.Tree.{Tree, out-Tree}
+use Rattle.conf_types.specs.declared.address.Ip.{Ip}
+use Rattle.conf_types.specs.declared.address.Net.{Net}
 use Rattle.conf_types.specs.declared.vlan.Route.{Route}
 use Rattle.conf_types.specs.declared.vlan.Router.{Router}
 use Rattle.conf_types.specs.Configuration.{Configuration}
+use Rattle.conf_types.specs.Families.{is_same_family, address_of}
 use Rattle.conf_types.specs.Lists.{is_among}
-use Rattle.conf_types.specs.Networks.{Holds, LiesIn, AreSame, is_neighbour_address}
+use Rattle.conf_types.specs.Networks.{Holds, LiesIn, AreSame, is_link_local, is_neighbour_address}
 use Rattle.conf_types.specs.Routing.{routing_set, vips_in}
 use Rattle.conf_shape.specs.declared.raw.RawRouter.{RawRouter}
 use Rattle.conf_shape.specs.declared.raw.RawVlan.{RawVlan}
@@ -38,24 +40,27 @@ pub record IsOfEarlier {A : Type 0} (o : OrderedConf) (conf : Configuration) (pl
   pub routed : AreRouted conf vlan.vlan.vid placed.vlan.vid
   pub has : Contains (list_of vlan.vlan) other
 
--- an item of a list of a VLAN has this in common with one before it, or with one of such a VLAN
-pub record Meets {A : Type 0} (o : OrderedConf) (conf : Configuration) (placed : PlacedVlan) (list_of : RawVlan → List A) (Agree : A → A → Type 0) (x : A) : Type 0 where
+-- an item of a list of a VLAN has the one in common with one of such a VLAN, or the other with one before it
+pub record Meets {A : Type 0} (o : OrderedConf) (conf : Configuration) (placed : PlacedVlan) (list_of : RawVlan → List A) (Across Within : A → A → Type 0) (x : A) : Type 0 where
   pub other : A
-  pub earlier : StandsBefore (list_of placed.vlan) other x ⊎ IsOfEarlier o conf placed list_of other
-  pub agree : Agree other x
+  pub agree : (StandsBefore (list_of placed.vlan) other x × Within other x) ⊎ (IsOfEarlier o conf placed list_of other × Across other x)
 
 -- some address is of both
-abbrev pub Overlap : Net4 → Net4 → Type 0
-Overlap a b = (ip : ℕ) × Holds a ip × Holds b ip
+abbrev pub Overlap : Net → Net → Type 0
+Overlap a b = (ip : Ip) × Holds a ip × Holds b ip
+
+-- and not both are link-local
+abbrev pub Clash : Net → Net → Type 0
+Clash a b = Overlap a b × ((is_link_local a && is_link_local b) ≡ false)
 
 -- rule 12: a VIP's network overlaps that of an earlier one
 pub record OverlapsVip (o : OrderedConf) (conf : Configuration) (steps : List (List ℕ)) (v : Tree) : Type 0 where
   pub placed : PlacedVlan
   pub is_vlan : Contains o.vlans placed
-  pub vip : Net4
+  pub vip : Net
   pub item : IsItemOf (under placed.site (codes "faucet_vips")) placed.vlan.vips steps vip
   pub spelled : IsNetwork v vip
-  pub meets : Meets o conf placed (λ w. w.vips) Overlap vip
+  pub meets : Meets o conf placed (λ w. w.vips) Clash Overlap vip
 
 -- rule 13: a router names a VLAN that an earlier one names
 pub record RoutesAgain (o : OrderedConf) (steps : List (List ℕ)) (v : Tree) : Type 0 where
@@ -82,15 +87,15 @@ pub record IsOfRoute (o : OrderedConf) (key : List ℕ) (steps : List (List ℕ)
 pub record LeadsInside (o : OrderedConf) (conf : Configuration) (steps : List (List ℕ)) (v : Tree) : Type 0 where
   pub at : IsOfRoute o (codes "ip_dst") steps
   pub spelled : IsNetwork v at.route.dst
-  pub vip : Net4
+  pub vip : Net
   pub is_vip : Contains (vips_in conf (routing_set conf at.placed.vlan.vid)) vip
   pub inside : LiesIn at.route.dst vip
 
--- or its gateway lies in no network of its VLAN's VIPs, or is one of them
+-- or its gateway lies in no network of its VLAN's VIPs, or is one of them, or is of another family
 pub record HasNoNeighbour (o : OrderedConf) (steps : List (List ℕ)) (v : Tree) : Type 0 where
   pub at : IsOfRoute o (codes "ip_gw") steps
   pub spelled : IsAddress v at.route.gw
-  pub no_neighbour : is_neighbour_address at.placed.vlan.vips at.route.gw.0 ≡ false
+  pub no_neighbour : (is_neighbour_address at.placed.vlan.vips at.route.gw ≡ false) ⊎ (is_same_family at.route.gw (address_of at.route.dst) ≡ false)
 
 abbrev pub IsWrongRoute : OrderedConf → Configuration → List (List ℕ) → Tree → Type 0
 IsWrongRoute o conf steps v = LeadsInside o conf steps v ⊎ HasNoNeighbour o steps v
@@ -99,4 +104,4 @@ IsWrongRoute o conf steps v = LeadsInside o conf steps v ⊎ HasNoNeighbour o st
 pub record RepeatsRoute (o : OrderedConf) (conf : Configuration) (steps : List (List ℕ)) (v : Tree) : Type 0 where
   pub at : IsOfRoute o (codes "ip_dst") steps
   pub spelled : IsNetwork v at.route.dst
-  pub meets : Meets o conf at.placed (λ w. w.routes) (λ a b. AreSame a.dst b.dst) at.route
+  pub meets : Meets o conf at.placed (λ w. w.routes) (λ a b. AreSame a.dst b.dst) (λ a b. AreSame a.dst b.dst) at.route
