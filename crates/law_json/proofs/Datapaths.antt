@@ -1,13 +1,13 @@
 -- The text of a datapath tells each of its fields, and those of its interfaces.
-use Rattle.std.proofs.Common.{◌≡◌, ◌≢◌, ◌<◌, ◌^◌, ℕ, List, map, Some, refl, sym, ap, ◌∙◌, subst, arith, decimal}
+use Rattle.std.proofs.Common.{◌≡◌, ◌≢◌, ◌<◌, ◌^◌, ℕ, List, [], ◌∷◌, ◌++◌, length, drop, map, Option, Some, None, refl, sym, ap, ◌∙◌, subst, arith, decimal, codes}
 use Rattle.std.specs.List.{AllByRecursion}
 use Rattle.conf_types.specs.declared.datapath.Dp.{Dp}
 use Rattle.conf_types.specs.declared.datapath.Port.{Port}
 use Rattle.conf_types.specs.Configuration.{Configuration}
 use Rattle.conf_types.specs.Lists.{IsTextBefore}
-use Rattle.conf_types.specs.Valid.{IsValid, IsDatapath}
+use Rattle.conf_types.specs.Valid.{IsValid, IsInterval, IsDatapath}
 use Rattle.conf_json.specs.Json.{Member, with_member, braces, object}
-use Rattle.conf_json.specs.Text.{port_member, port_text, dp_members, dp_text, dp_member}
+use Rattle.conf_json.specs.Text.{number_or_null, port_member, port_text, lldp_members, dp_members, dp_text, dp_member}
 use Rattle.law_json.specs.Agree.{OneByOne, PortsAgree, DpsAgree}
 use Rattle.law_json.proofs.Alike.{by_number, by_text, AreMembers, each_before, map_values, own_names, same_members, one_of_key}
 use Rattle.law_json.proofs.Members.{IsIn, all_in, in_all, in_map, of_map, object_value, shared}
@@ -40,15 +40,35 @@ same_ports a b valid_a valid_b told d e in_a in_b same =
 
 -- ---- a datapath
 
+dp_object : (conf : Configuration) (d : Dp) (lldp : Option ℕ) → object (dp_members conf (record d { lldp = lldp })) ≡ braces (dp_members conf (record d { lldp = lldp }))
+unfolding with_member
+dp_object conf d None = refl
+dp_object conf d (Some seconds) = refl
+
 dp_is : (conf : Configuration) (d : Dp) → dp_text conf d ≡ braces (dp_members conf d)
-unfolding dp_text with_member
-dp_is conf d = refl
+unfolding dp_text
+dp_is conf d = dp_object conf d d.lldp
+
+-- those behind the interfaces, of which the first may be missing
+last_values : (lldp : Option ℕ) (ms : List Member) → ((n : ℕ) → lldp ≡ Some n → IsSmall n) → AllByRecursion (λ m. IsValue m.1) ms → AllByRecursion (λ m. IsValue m.1) (lldp_members lldp ++ ms)
+last_values None ms small rest = rest
+last_values (Some seconds) ms small rest = (number_value seconds (small seconds refl), rest)
+
+abbrev last_members : Option ℕ → List ℕ → List ℕ → List Member
+last_members lldp priority timeout = lldp_members lldp ++ (codes "stack_priority", priority) ∷ (codes "timeout", timeout) ∷ []
+
+same_last : (o p : Option ℕ) (a b c d : List ℕ) → ((n : ℕ) → o ≡ Some n → IsSmall n) → ((n : ℕ) → p ≡ Some n → IsSmall n) → last_members o a b ≡ last_members p c d → (o ≡ p) × (a ≡ c) × (b ≡ d)
+same_last None None a b c d in_o in_p e = (refl, ap (text_at 0) e, ap (text_at 1) e)
+same_last None (Some n) a b c d in_o in_p e = absurd (let count : 2 ≡ 3 = ap length e in omega (arith, count))
+same_last (Some m) None a b c d in_o in_p e = absurd (let count : 3 ≡ 2 = ap length e in omega (arith, count))
+same_last (Some m) (Some n) a b c d in_o in_p e = (ap Some (same_number m n (in_o m refl) (in_p n refl) (ap (text_at 0) e)), ap (text_at 1) e, ap (text_at 2) e)
 
 record DpIsShown (d : Dp) : Type 0 where
   arp_timeout : IsSmall d.arp_timeout
   timeout : IsSmall d.timeout
   id : IsSmall d.id.0
   stack_priority : (n : ℕ) → d.stack_priority ≡ Some n → IsSmall n
+  lldp : (n : ℕ) → d.lldp ≡ Some n → IsSmall n
 
 dp_shown : (conf : Configuration) → IsValid conf → (d : Dp) → IsIn d conf.dps → DpIsShown d
 dp_shown conf valid d in_dps =
@@ -58,6 +78,7 @@ dp_shown conf valid d in_dps =
       timeout = omega (arith, is.timeout.most);
       id = is.id;
       stack_priority = λ n e. let small = if_some (λ priority. priority < 2 ^ 32) d.stack_priority n is.stack_priority e in omega (arith, small);
+      lldp = λ n e. let interval = if_some IsInterval d.lldp n is.lldp e in omega (arith, interval.most);
     }
 
 dp_values : (conf : Configuration) → IsValid conf → (d : Dp) → IsIn d conf.dps → AllByRecursion (λ m. IsValue m.1) (dp_members conf d)
@@ -77,7 +98,7 @@ dp_values conf valid d in_dps =
                 flag_value d.drop_lldp,
                 (
                   flag_value d.drop_spoofed,
-                  (quoted_value d.hardware, (ports, (optional_value d.stack_priority is.stack_priority, (number_value d.timeout is.timeout, tt)))),
+                  (quoted_value d.hardware, (ports, last_values d.lldp _ is.lldp (optional_value d.stack_priority is.stack_priority, (number_value d.timeout is.timeout, tt)))),
                 ),
               ),
             ),
@@ -103,14 +124,16 @@ same_dp a b valid_a valid_b told d e in_a in_b name text =
     let same = parts_of a b valid_a valid_b d e in_a in_b text in
     let first = dp_shown a valid_a d in_a in
     let second = dp_shown b valid_b e in_b in
+    let last = same_last d.lldp e.lldp (number_or_null d.stack_priority) (decimal d.timeout) (number_or_null e.stack_priority) (decimal e.timeout) first.lldp second.lldp (ap (drop 9) same) in
     record {
       id = same_id a b valid_a valid_b d e in_a in_b text;
       name = name;
       description = same_quoted d.description e.description (ap (text_at 1) same);
       hardware = same_quoted d.hardware e.hardware (ap (text_at 7) same);
-      timeout = same_number d.timeout e.timeout first.timeout second.timeout (ap (text_at 10) same);
+      timeout = same_number d.timeout e.timeout first.timeout second.timeout last.2;
       arp_timeout = same_number d.arp_timeout e.arp_timeout first.arp_timeout second.arp_timeout (ap (text_at 0) same);
-      stack_priority = same_optional d.stack_priority e.stack_priority first.stack_priority second.stack_priority (ap (text_at 9) same);
+      stack_priority = same_optional d.stack_priority e.stack_priority first.stack_priority second.stack_priority last.1;
+      lldp = last.0;
       drop_spoofed = same_flag d.drop_spoofed e.drop_spoofed (ap (text_at 6) same);
       drop_broadcast = same_flag d.drop_broadcast e.drop_broadcast (ap (text_at 4) same);
       drop_bpdu = same_flag d.drop_bpdu e.drop_bpdu (ap (text_at 3) same);

@@ -2,6 +2,7 @@ pub mod Values
 pub mod Members
 pub mod Alike
 pub mod Parts
+pub mod Spellings
 pub mod Shown
 pub mod Ports
 pub mod Datapaths

@@ -1,12 +1,11 @@
 -- What an object has under a name.
-use Rattle.std.proofs.Common.{◌≡◌, ◌≢◌, inl, inr, ℕ, zero, suc, Bool, true, false, not, ◌&&◌, List, [], ◌∷◌, length, fold, map, Option, Some, None, refl, sym, ap, ◌∙◌, subst, arith, decimal, codes}
+use Rattle.std.proofs.Common.{◌≡◌, ◌≢◌, inl, inr, ℕ, zero, suc, Bool, true, false, not, ◌&&◌, List, [], ◌∷◌, ◌++◌, length, fold, map, Option, Some, None, refl, sym, ap, ◌∙◌, subst, arith, decimal, codes}
 use Rattle.std.specs.List.{AllByRecursion, list_all}
 use Rattle.std.specs.Prelude.{Contains}
 use Rattle.std.specs.Option.{option_map_or}
 use Rattle.std.specs.Str.{bytes_eq}
 use Rattle.std.proofs.lemmas.Bool.{and_parts}
 use Rattle.std.proofs.lemmas.Slice.Eq.{bytes_eq-Decides}
-use Rattle.net_base.specs.Address.{ip4_text}
 use Rattle.conf_types.specs.declared.acl.Acl.{Acl}
 use Rattle.conf_types.specs.declared.datapath.Dp.{Dp}
 use Rattle.conf_types.specs.declared.datapath.Port.{Port}
@@ -18,7 +17,7 @@ use Rattle.conf_types.specs.Configuration.{Configuration}
 use Rattle.conf_types.specs.Lists.{EachBefore, IsTextBefore}
 use Rattle.conf_types.specs.Valid.{IsValid}
 use Rattle.conf_json.specs.Json.{Member, null, quoted, with_member, object}
-use Rattle.conf_json.specs.Text.{far_end_text, far_name, port_members, port_member, port_text, dp_members, dp_member, dp_text, vlan_members, vlan_member, vlan_text, acl_member, router_member, route_text, json_text, vip_text, numbers_text}
+use Rattle.conf_json.specs.Text.{far_end_text, far_name, number_or_null, ip_text, lldp_members, port_members, port_member, port_text, dp_members, dp_member, dp_text, vlan_members, vlan_member, vlan_text, acl_member, router_member, route_text, json_text, vip_text, numbers_text}
 use Rattle.law_json.specs.Named.{Has, Leads, ShowsFarEnd, ShowsPort, ShowsDp, ShowsRoute, ShowsVlan}
 use Rattle.law_json.proofs.Alike.{each_before, own_names}
 use Rattle.law_json.proofs.Datapaths.{ports_are, text_apart, dps_are}
@@ -119,9 +118,21 @@ port_shown conf p = record {
   unicast_flood = port_has conf p (codes "unicast_flood") _ (inr (inr (inr (inr (inr (inr (inr (inr (inr (inr (inr (inr (inr (inl refl))))))))))))));
 }
 
+dp_own : (conf : Configuration) (d : Dp) (lldp : Option ℕ) → HaveOwnNames (dp_members conf (record d { lldp = lldp }))
+dp_own conf d None = own (dp_members conf (record d { lldp = None })) refl
+dp_own conf d (Some seconds) = own (dp_members conf (record d { lldp = Some seconds })) refl
+
+-- behind the member that may be missing
+behind_lldp : (lldp : Option ℕ) (ms : List Member) (m : Member) → IsIn m ms → IsIn m (lldp_members lldp ++ ms)
+behind_lldp None ms m at = at
+behind_lldp (Some seconds) ms m at = inr at
+
 dp_has : (conf : Configuration) (d : Dp) (name value : List ℕ) → IsIn (name, value) (dp_members conf d) → Has (dp_text conf d) name value
 unfolding dp_text
-dp_has conf d name value at = has (dp_members conf d) (own (dp_members conf d) refl) name value at
+dp_has conf d name value at = has (dp_members conf d) (dp_own conf d d.lldp) name value at
+
+abbrev last_of : Dp → List Member
+last_of d = (codes "stack_priority", number_or_null d.stack_priority) ∷ (codes "timeout", decimal d.timeout) ∷ []
 
 dp_shown : (conf : Configuration) (d : Dp) → ShowsDp d (dp_text conf d)
 dp_shown conf d = record {
@@ -133,8 +144,9 @@ dp_shown conf d = record {
   drop_lldp = dp_has conf d (codes "drop_lldp") _ (inr (inr (inr (inr (inr (inl refl))))));
   drop_spoofed = dp_has conf d (codes "drop_spoofed_faucet_mac") _ (inr (inr (inr (inr (inr (inr (inl refl)))))));
   hardware = dp_has conf d (codes "hardware") _ (inr (inr (inr (inr (inr (inr (inr (inl refl))))))));
-  stack_priority = dp_has conf d (codes "stack_priority") _ (inr (inr (inr (inr (inr (inr (inr (inr (inr (inl refl))))))))));
-  timeout = dp_has conf d (codes "timeout") _ (inr (inr (inr (inr (inr (inr (inr (inr (inr (inr (inl refl)))))))))));
+  lldp = λ seconds e. dp_has conf d (codes "lldp_beacon") (decimal seconds) (inr (inr (inr (inr (inr (inr (inr (inr (inr (subst (λ lldp. IsIn (codes "lldp_beacon", decimal seconds) (lldp_members lldp ++ last_of d)) (sym e) (inl refl)))))))))));
+  stack_priority = dp_has conf d (codes "stack_priority") _ (inr (inr (inr (inr (inr (inr (inr (inr (inr (behind_lldp d.lldp (last_of d) _ (inl refl)))))))))));
+  timeout = dp_has conf d (codes "timeout") _ (inr (inr (inr (inr (inr (inr (inr (inr (inr (behind_lldp d.lldp (last_of d) _ (inr (inl refl))))))))))));
 }
 
 vlan_has : (v : Vlan) (name value : List ℕ) → IsIn (name, value) (vlan_members v) → Has (vlan_text v) name value
@@ -155,7 +167,7 @@ vlan_shown v = record {
 
 pub route_shown : (route : Route) → ShowsRoute route (route_text route)
 route_shown route =
-    let ms : List Member = (codes "ip_dst", vip_text route.dst) ∷ (codes "ip_gw", quoted (ip4_text route.gw.0)) ∷ [] in
+    let ms : List Member = (codes "ip_dst", vip_text route.dst) ∷ (codes "ip_gw", ip_text route.gw) ∷ [] in
     record { dst = has ms (own ms refl) (codes "ip_dst") _ (inl refl); gw = has ms (own ms refl) (codes "ip_gw") _ (inr (inl refl)) }
 
 -- ---- the whole

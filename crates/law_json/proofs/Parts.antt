@@ -1,6 +1,5 @@
 -- The texts of lists, numbers, flags and addresses: each is a value, and tells what it is of.
-use denote.Struct.Props.{props}
-use Rattle.std.proofs.Common.{◌≡◌, ◌≢◌, ◌<◌, ◌≤◌, ◌^◌, ℕ, suc, Bool, true, false, cond, nat_lt, List, [], ◌∷◌, ◌++◌, length, get_or, drop, fold, map, Option, Some, None, refl, sym, ap, ◌∙◌, subst, arith, decimal, IsPermutation}
+use Rattle.std.proofs.Common.{◌≡◌, ◌≢◌, ◌<◌, ◌^◌, ℕ, suc, Bool, true, false, cond, nat_lt, List, [], ◌∷◌, ◌++◌, length, get_or, drop, fold, map, Option, Some, None, refl, sym, ap, ◌∙◌, subst, arith, decimal, IsPermutation}
 use Rattle.std.specs.Char.{is_ascii_digit}
 use Rattle.std.specs.List.{AllByRecursion, list_all, prefix_len}
 use Rattle.std.specs.Option.{option_map_or}
@@ -8,10 +7,8 @@ use Rattle.std.proofs.lemmas.Bool.{true≢false}
 use Rattle.std.proofs.lemmas.Fmt.{decimal_injective}
 use Rattle.std.proofs.lemmas.List.{append-nil}
 use Rattle.std.proofs.lemmas.List.Sorted.{IsPermutation-refl, IsPermutation-sym, IsPermutation-trans, IsPermutation-insert, IsPermutation-middle, IsPermutation-append_left}
-use Rattle.net_base.specs.declared.net4.Net4.{Net4}
-use Rattle.net_base.proofs.Addresses.{same_net4}
 use Rattle.conf_json.specs.Json.{null, flag, quoted, list}
-use Rattle.conf_json.specs.Text.{with_number, numbers_text, names_text, number_or_null, vip_text}
+use Rattle.conf_json.specs.Text.{with_number, numbers_text, names_text, number_or_null}
 use Rattle.conf_json.proofs.Ascending.{put_at_place}
 use Rattle.law_json.proofs.Values.{IsValue, null_value, number_value, quoted_value, list_value, same_list, same_quoted, all_digits_of}
 
@@ -119,16 +116,3 @@ optional_value o small = or_null_value decimal o (λ n e. number_value n (small 
 pub same_optional : (o p : Option ℕ) → ((n : ℕ) → o ≡ Some n → IsSmall n) → ((n : ℕ) → p ≡ Some n → IsSmall n) → number_or_null o ≡ number_or_null p → o ≡ p
 same_optional o p first second e =
     same_or_null decimal decimal o p (λ n s. number_no_null n (first n s)) (λ n s. number_no_null n (second n s)) (λ m n s t e. same_number m n (first m s) (second n t) e) e
-
--- ---- addresses
-
-same_net : (a b : Net4) → a.ip.0 ≡ b.ip.0 → a.len ≡ b.len → a ≡ b
-same_net a b ip len =
-    ap (λ (n : ℕ). record { ip = record { 0 = n }; len = a.len; short = a.short }) ip
-    ∙ subst (λ (n : ℕ). (short : n ≤ 32) → ◌≡◌ {A = Net4} (record { ip = b.ip; len = a.len; short = a.short }) (record { ip = b.ip; len = n; short = short })) len
-    (λ short. let once : IsProp (a.len ≤ 32) = hlevel props in ap (λ (h : a.len ≤ 32). record { ip = b.ip; len = a.len; short = h }) (once a.short short)) b.short
-
-pub same_vip : (a b : Net4) → a.ip.0 < 2 ^ 32 → b.ip.0 < 2 ^ 32 → vip_text a ≡ vip_text b → a ≡ b
-same_vip a b in_a in_b e =
-    let both = same_net4 a.ip.0 a.len b.ip.0 b.len in_a a.short in_b b.short (same_quoted _ _ e) in
-    same_net a b both.0 both.1

@@ -1,39 +1,41 @@
 -- The text of a VLAN tells the VLAN.
 use Rattle.std.proofs.Common.{◌≡◌, ◌≢◌, ◌<◌, ℕ, Bool, List, [], ◌∷◌, map, refl, sym, ap, ◌∙◌, subst, arith, decimal, codes}
 use Rattle.std.specs.List.{AllByRecursion}
-use Rattle.net_base.specs.Address.{SpellsMac, ip4_text, mac_text}
+use Rattle.net_base.specs.Address.{SpellsMac, mac_text}
 use Rattle.net_base.specs.declared.address.Mac.{Mac}
-use Rattle.net_base.specs.declared.net4.Net4.{Net4}
-use Rattle.net_base.proofs.Addresses.{mac_spelled, same_mac, same_ip4}
+use Rattle.net_base.proofs.Addresses.{mac_spelled, same_mac}
+use Rattle.conf_types.specs.declared.address.Ip.{Ip}
+use Rattle.conf_types.specs.declared.address.Net.{Net}
 use Rattle.conf_types.specs.declared.vlan.Route.{Route}
 use Rattle.conf_types.specs.declared.vlan.Vlan.{Vlan}
 use Rattle.conf_types.specs.Configuration.{Configuration}
 use Rattle.conf_types.specs.Valid.{IsValid, IsVlan, IsVip, IsRoute}
-use Rattle.conf_json.specs.Json.{Member, quoted, with_member, braces, list, object}
-use Rattle.conf_json.specs.Text.{vip_text, route_text, vlan_members, vlan_text, vlan_member}
+use Rattle.conf_json.specs.Json.{Member, with_member, braces, list, object}
+use Rattle.conf_json.specs.Text.{ip_text, vip_text, route_text, vlan_members, vlan_text, vlan_member}
 use Rattle.law_json.proofs.Alike.{by_number, AreMembers, each_before, same_members, same_lists}
 use Rattle.law_json.proofs.Members.{all_in, in_all}
-use Rattle.law_json.proofs.Parts.{IsSmall, items_value, same_items, names_value, same_names, same_flag, same_number, same_vip}
+use Rattle.law_json.proofs.Parts.{IsSmall, items_value, same_items, names_value, same_names, same_flag, same_number}
 use Rattle.law_json.proofs.Ports.{text_at}
+use Rattle.law_json.proofs.Spellings.{address_value, same_address_text, vip_value, same_vip}
 use Rattle.law_json.proofs.Values.{IsValue, flag_value, number_value, quoted_value, braces_value, same_braces, same_quoted}
 
 -- ---- VIPs and routes
 
-vips_value : (vips : List Net4) → AllByRecursion IsVip vips → IsValue (list (map vip_text vips))
-vips_value vips all = items_value vip_text IsVip (λ vip is. quoted_value _) vips all
+vips_value : (vips : List Net) → AllByRecursion IsVip vips → IsValue (list (map vip_text vips))
+vips_value vips all = items_value vip_text IsVip (λ vip is. vip_value vip) vips all
 
-same_vips : (a b : List Net4) → AllByRecursion IsVip a → AllByRecursion IsVip b → list (map vip_text a) ≡ list (map vip_text b) → a ≡ b
-same_vips a b in_a in_b e = same_items vip_text IsVip (λ vip is. quoted_value _) (λ x y p q e. same_vip x y p.address q.address e) a b in_a in_b e
+same_vips : (a b : List Net) → AllByRecursion IsVip a → AllByRecursion IsVip b → list (map vip_text a) ≡ list (map vip_text b) → a ≡ b
+same_vips a b in_a in_b e = same_items vip_text IsVip (λ vip is. vip_value vip) (λ x y p q e. same_vip x y p.address q.address e) a b in_a in_b e
 
 abbrev route_members : Route → List Member
-route_members route = (codes "ip_dst", vip_text route.dst) ∷ (codes "ip_gw", quoted (ip4_text route.gw.0)) ∷ []
+route_members route = (codes "ip_dst", vip_text route.dst) ∷ (codes "ip_gw", ip_text route.gw) ∷ []
 
 route_is : (route : Route) → route_text route ≡ braces (route_members route)
 unfolding with_member
 route_is route = refl
 
 route_values : (route : Route) → AllByRecursion (λ m. IsValue m.1) (route_members route)
-route_values route = (quoted_value _, (quoted_value _, tt))
+route_values route = (vip_value route.dst, (address_value route.gw, tt))
 
 route_value : (route : Route) → IsRoute route → IsValue (route_text route)
 route_value route is = subst IsValue (sym (route_is route)) (braces_value (route_members route) (route_values route))
@@ -42,8 +44,8 @@ same_route : (r s : Route) → IsRoute r → IsRoute s → route_text r ≡ rout
 same_route r s in_r in_s e =
     let same = same_braces (route_members r) (route_members s) (route_values r) (route_values s) (sym (route_is r) ∙ e ∙ route_is s) in
     let dst : r.dst ≡ s.dst = same_vip r.dst s.dst in_r.address in_s.address (ap (text_at 0) same) in
-    let gw : r.gw.0 ≡ s.gw.0 = same_ip4 r.gw.0 s.gw.0 in_r.gateway in_s.gateway (same_quoted _ _ (ap (text_at 1) same)) in
-    ap (λ net. record { dst = net; gw = r.gw }) dst ∙ ap (λ (n : ℕ). record { dst = s.dst; gw = record { 0 = n } }) gw
+    let gw : r.gw ≡ s.gw = same_address_text r.gw s.gw in_r.gateway in_s.gateway (ap (text_at 1) same) in
+    ap (λ (n : Net). record { dst = n; gw = r.gw }) dst ∙ ap (λ (a : Ip). record { dst = s.dst; gw = a }) gw
 
 -- ---- a VLAN
 
@@ -84,7 +86,7 @@ vlan_value v is = subst IsValue (sym (vlan_is v)) (braces_value (vlan_members v)
 same_address : (a b : Mac) → SpellsMac (mac_text a.0) a.0 → SpellsMac (mac_text b.0) b.0 → mac_text a.0 ≡ mac_text b.0 → a ≡ b
 same_address a b in_a in_b e = ap (λ (bytes : List ℕ). record { 0 = bytes }) (same_mac (mac_text a.0) a.0 b.0 in_a (subst (λ (t : List ℕ). SpellsMac t b.0) (sym e) in_b))
 
-abbrev vlan_of : ℕ → List ℕ → List ℕ → Mac → List Net4 → List Route → List (List ℕ) → ℕ → Bool → Vlan
+abbrev vlan_of : ℕ → List ℕ → List ℕ → Mac → List Net → List Route → List (List ℕ) → ℕ → Bool → Vlan
 vlan_of vid name description mac vips routes acls max_hosts unicast_flood =
     record { vid = vid; name = name; description = description; mac = mac; vips = vips; routes = routes; acls = acls; max_hosts = max_hosts; unicast_flood = unicast_flood }
 

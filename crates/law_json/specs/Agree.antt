@@ -41,6 +41,7 @@ pub record DpsAgree (d e : Dp) : Type 0 where
   pub timeout : d.timeout ≡ e.timeout
   pub arp_timeout : d.arp_timeout ≡ e.arp_timeout
   pub stack_priority : d.stack_priority ≡ e.stack_priority
+  pub lldp : d.lldp ≡ e.lldp
   pub drop_spoofed : d.drop_spoofed ≡ e.drop_spoofed
   pub drop_broadcast : d.drop_broadcast ≡ e.drop_broadcast
   pub drop_bpdu : d.drop_bpdu ≡ e.drop_bpdu
@@ -57,7 +58,8 @@ pub record RoutersAgree (r s : Router) : Type 0 where
   pub name : r.name ≡ s.name
   pub vlans : IsPermutation r.vlans s.vlans
 
--- All that is shown: of a VLAN everything, of an ACL how many rules it has and not which.
+-- All that is shown: of a VLAN everything, of an ACL how many rules it has and not which, of a router its VLANs and
+-- not its BGP peer.
 pub record Agree (a b : Configuration) : Type 0 where
   pub dps : OneByOne DpsAgree a.dps b.dps
   pub vlans : a.vlans ≡ b.vlans

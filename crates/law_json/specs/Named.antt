@@ -1,6 +1,6 @@
 -- Under which names the JSON text of a configuration shows what: one line a name.
 use Rattle.std.specs.Prelude.{◌≡◌, ℕ, List, [], ◌∷◌, None, Some, decimal, codes, map, Contains}
-use Rattle.net_base.specs.Address.{ip4_text, mac_text}
+use Rattle.net_base.specs.Address.{mac_text}
 use Rattle.conf_types.specs.declared.datapath.Dp.{Dp}
 use Rattle.conf_types.specs.declared.datapath.Port.{Port}
 use Rattle.conf_types.specs.declared.datapath.StackEnd.{StackEnd}
@@ -8,7 +8,7 @@ use Rattle.conf_types.specs.declared.vlan.Route.{Route}
 use Rattle.conf_types.specs.declared.vlan.Vlan.{Vlan}
 use Rattle.conf_types.specs.Configuration.{Configuration}
 use Rattle.conf_json.specs.Json.{Member, null, flag, quoted, list, braces}
-use Rattle.conf_json.specs.Text.{numbers_text, names_text, number_or_null, far_name, vip_text, route_text}
+use Rattle.conf_json.specs.Text.{numbers_text, names_text, number_or_null, far_name, ip_text, vip_text, route_text}
 
 -- the text is an object with this value under the name, and with no other (RFC 8259, 4)
 pub record Has (text name value : List ℕ) : Type 0 where
@@ -53,12 +53,13 @@ pub record ShowsDp (d : Dp) (text : List ℕ) : Type 0 where
   pub drop_lldp : Has text (codes "drop_lldp") (flag d.drop_lldp)
   pub drop_spoofed : Has text (codes "drop_spoofed_faucet_mac") (flag d.drop_spoofed)
   pub hardware : Has text (codes "hardware") (quoted d.hardware)
+  pub lldp : (seconds : ℕ) → d.lldp ≡ Some seconds → Has text (codes "lldp_beacon") (decimal seconds)
   pub stack_priority : Has text (codes "stack_priority") (number_or_null d.stack_priority)
   pub timeout : Has text (codes "timeout") (decimal d.timeout)
 
 pub record ShowsRoute (route : Route) (text : List ℕ) : Type 0 where
   pub dst : Has text (codes "ip_dst") (vip_text route.dst)
-  pub gw : Has text (codes "ip_gw") (quoted (ip4_text route.gw.0))
+  pub gw : Has text (codes "ip_gw") (ip_text route.gw)
 
 pub record ShowsVlan (v : Vlan) (text : List ℕ) : Type 0 where
   pub acls : Has text (codes "acls_in") (names_text v.acls)
