@@ -15,7 +15,7 @@ use Rattle.acl_compile.specs.Slices.{port_acl, vlan_acl}
 use Rattle.law_runs.specs.Decided.{IsDecided, decided}
 use Rattle.law_runs.specs.Runs.{stopped, went}
 use Rattle.plan_units.specs.Laws.{Sends}
-use Rattle.plan_units.specs.Tables.{AtTable, ByFamily, by_family, elsewhere_in, here_in, drops_in, port_acl_in, admissions_in, misses_in, vlan_acl_in, vips_in, floods_in, sources_in, destinations_in, fib_in}
+use Rattle.plan_units.specs.Tables.{AtTable, ByFamily, by_family, elsewhere_in, here_in, drops_in, port_acl_in, admissions_in, misses_in, vlan_acl_in, vips_in, floods_in, sources_in, destinations_in, routes_elsewhere}
 use Rattle.plan_units.specs.Units.{plan}
 
 module _ (conf : Configuration) (now : State) (d : Dp) where
@@ -31,7 +31,7 @@ module _ (conf : Configuration) (now : State) (d : Dp) where
     floods = λ v c. elsewhere_in t 8 Q _ (λ e. omega (arith, e, even)) (floods_in d v _);
     sources = λ h c. elsewhere_in t 3 Q _ (λ e. omega (arith, e, even)) (sources_in conf d h now.moment);
     destinations = λ h c. elsewhere_in t 7 Q _ (λ e. omega (arith, e, even)) (destinations_in d h _);
-    routes = λ v c. elsewhere_in t 4 Q _ (λ e. omega (arith, e, even)) (fib_in conf now d v);
+    routes = λ v c. routes_elsewhere conf now d v t Q (λ e. omega (arith, e, even)) (λ e. omega (arith, e, even));
   }
 
   pub at_0 : (Q : Entry → Type 0) → ((i : Port) → Contains d.ports i → AllByRecursion Q (port_acl conf d i)) → AtTable 0 Q (plan conf now d)

@@ -52,7 +52,7 @@ use Rattle.plan_units.specs.Fixed.{drops, from_group, passes, fixed}
 use Rattle.plan_units.specs.Laws.{IsSetting, IsOf, IsPort, Sends, AdmissionLaw}
 use Rattle.plan_units.specs.PortVlans.{some_of}
 use Rattle.plan_units.specs.Steps.{followed, sends_led, goes_led, next_led}
-use Rattle.plan_units.specs.Tables.{AtTable, by_family, elsewhere_in, here_in, port_acl_in, misses_in, vlan_acl_in, vips_in, floods_in, sources_in, destinations_in, fib_in}
+use Rattle.plan_units.specs.Tables.{AtTable, by_family, elsewhere_in, here_in, port_acl_in, misses_in, vlan_acl_in, vips_in, floods_in, sources_in, destinations_in, routes_elsewhere}
 use Rattle.plan_units.specs.Units.{plan, of_port}
 use Rattle.law_tables.proofs.Dropped.{all_drops, drops_take}
 use Rattle.law_tables.proofs.Ingress.{Entered, entered, stack_apart}
@@ -74,7 +74,7 @@ module _ (conf : Configuration) (now : State) (d : Dp) (setting : IsSetting conf
     floods = λ v c. elsewhere_in 1 8 Q _ (λ e. omega (arith, e)) (floods_in d v _);
     sources = λ h c. elsewhere_in 1 3 Q _ (λ e. omega (arith, e)) (sources_in conf d h now.moment);
     destinations = λ h c. elsewhere_in 1 7 Q _ (λ e. omega (arith, e)) (destinations_in d h _);
-    routes = λ v c. elsewhere_in 1 4 Q _ (λ e. omega (arith, e)) (fib_in conf now d v);
+    routes = λ v c. routes_elsewhere conf now d v 1 Q (λ e. omega (arith, e)) (λ e. omega (arith, e));
   })
 
   module _ (port : ℕ) (p : Packet) (shaped : IsShaped p) (i : Port) (is_port : IsPort d port i) where

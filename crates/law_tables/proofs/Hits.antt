@@ -6,7 +6,7 @@ use Rattle.std.proofs.lemmas.Bool.{and_parts}
 use Rattle.net_base.proofs.Prefixes.{agree_above}
 use Rattle.net_base.specs.declared.field.Field.{Field}
 use Rattle.net_base.specs.declared.field.FieldId.{FieldId}
-use Rattle.net_base.specs.Field.{prefix}
+use Rattle.net_base.specs.Field.{prefix_in}
 use Rattle.of_match.specs.declared.packet.Packet.{Packet}
 use Rattle.of_match.specs.Hit.{agrees, hits, value_of}
 use Rattle.law_runs.specs.Members.{of_all}
@@ -36,18 +36,18 @@ two a b is = let x = and_parts a (b && true) is in (x.0, (and_parts b true x.1).
 pub three : (a b c : Bool) → (a && (b && (c && true))) ≡ true → (a ≡ true) × (b ≡ true) × (c ≡ true)
 three a b c is = let x = and_parts a (b && (c && true)) is in let y = two b c x.1 in (x.0, y.0, y.1)
 
--- a prefix takes the addresses that have its bits
-pub in_prefix : (id : FieldId) (ip net len : ℕ) → ip < 2 ^ 32 → net < 2 ^ 32 → agrees (prefix id net len) (Some ip) ≡ (ip / 2 ^ (32 - len) == net / 2 ^ (32 - len))
-in_prefix id ip net len ip_fits net_fits = by (bit_and ip f.mask == bit_and f.value f.mask) (ip / 2 ^ (32 - len) == net / 2 ^ (32 - len)) refl refl
+-- a prefix of so many bits takes the addresses that have its bits
+pub in_prefix : (width : ℕ) (id : FieldId) (ip net len : ℕ) → ip < 2 ^ width → net < 2 ^ width → agrees (prefix_in width id net len) (Some ip) ≡ (ip / 2 ^ (width - len) == net / 2 ^ (width - len))
+in_prefix width id ip net len ip_fits net_fits = by (bit_and ip f.mask == bit_and f.value f.mask) (ip / 2 ^ (width - len) == net / 2 ^ (width - len)) refl refl
   where
     f : Field
-    f = prefix id net len
+    f = prefix_in width id net len
 
-    both : (ip / 2 ^ (32 - len) ≡ net / 2 ^ (32 - len)) ↔ (bit_and ip f.mask ≡ bit_and f.value f.mask)
-    both = agree_above 32 (32 - len) ip net (omega arith) ip_fits net_fits
+    both : (ip / 2 ^ (width - len) ≡ net / 2 ^ (width - len)) ↔ (bit_and ip f.mask ≡ bit_and f.value f.mask)
+    both = agree_above width (width - len) ip net (omega arith) ip_fits net_fits
 
-    by : (x y : Bool) → (bit_and ip f.mask == bit_and f.value f.mask) ≡ x → (ip / 2 ^ (32 - len) == net / 2 ^ (32 - len)) ≡ y → x ≡ y
+    by : (x y : Bool) → (bit_and ip f.mask == bit_and f.value f.mask) ≡ x → (ip / 2 ^ (width - len) == net / 2 ^ (width - len)) ≡ y → x ≡ y
     by true true ex ey = refl
     by false false ex ey = refl
-    by true false ex ey = sym (eq-eqb (ip / 2 ^ (32 - len)) (net / 2 ^ (32 - len)) (both.1 (eqb-true (bit_and ip f.mask) (bit_and f.value f.mask) ex))) ∙ ey
-    by false true ex ey = sym (sym (eq-eqb (bit_and ip f.mask) (bit_and f.value f.mask) (both.0 (eqb-true (ip / 2 ^ (32 - len)) (net / 2 ^ (32 - len)) ey))) ∙ ex)
+    by true false ex ey = sym (eq-eqb (ip / 2 ^ (width - len)) (net / 2 ^ (width - len)) (both.1 (eqb-true (bit_and ip f.mask) (bit_and f.value f.mask) ex))) ∙ ey
+    by false true ex ey = sym (sym (eq-eqb (bit_and ip f.mask) (bit_and f.value f.mask) (both.0 (eqb-true (ip / 2 ^ (width - len)) (net / 2 ^ (width - len)) ey))) ∙ ex)

@@ -14,8 +14,8 @@ pub mod Admissions
 pub mod TableOfSources
 pub mod Longest
 pub mod Items
-pub mod Headers
 pub mod RouteFamilies
+pub mod Headers
 pub mod TablesOfRoutes
 pub mod TableOfDestinations
 pub mod FloodLists

@@ -1,8 +1,9 @@
 -- The longest prefix: none of the items that hold an address is longer.
-use Rattle.std.proofs.Common.{◌≡◌, ◌⊎◌, ℕ, zero, suc, inl, inr, ◌≤◌, Bool, true, false, List, [], ◌∷◌, filter, Option, Some, None, refl, sym, ap, ◌∙◌, subst, arith, if◌then◌else◌}
+use Rattle.std.proofs.Common.{◌≡◌, ◌⊎◌, zero, suc, inl, inr, ◌≤◌, Bool, true, false, List, [], ◌∷◌, filter, Option, Some, None, refl, sym, ap, ◌∙◌, subst, arith, if◌then◌else◌}
 use Rattle.std.specs.Prelude.{Contains, nat_lt}
 use Rattle.std.specs.List.{AllByRecursion, fold, reduce}
 use Rattle.std.proofs.lemmas.Bool.{ltb-true, ltb-false}
+use Rattle.conf_types.specs.declared.address.Ip.{Ip}
 use Rattle.packet_way.specs.declared.routes.RouteItem.{RouteItem}
 use Rattle.packet_way.specs.Routes.{item_holds, longer, longest}
 use Rattle.law_runs.specs.Members.{head_of, tail_of, of_all, all_by, all_filtered, in_filtered}
@@ -41,11 +42,11 @@ longest_of a (b ∷ items) =
     in_two l e c (suc k, lt, is) = tail_of a (b ∷ items) c (tail_of b items c (k, omega (arith, lt), is))
 
 -- what is chosen of the items that hold an address
-abbrev pub Chosen : List RouteItem → ℕ → Option RouteItem → Type 0
+abbrev pub Chosen : List RouteItem → Ip → Option RouteItem → Type 0
 Chosen items ip None = AllByRecursion (λ x. item_holds ip x ≡ false) items
 Chosen items ip (Some b) = Contains items b × (item_holds ip b ≡ true) × AllByRecursion (λ x. item_holds ip x ≡ true → x.len ≤ b.len) items
 
-pub chosen : (items : List RouteItem) (ip : ℕ) → Chosen items ip (longest items ip)
+pub chosen : (items : List RouteItem) (ip : Ip) → Chosen items ip (longest items ip)
 unfolding longest
 chosen items ip = by (filter (item_holds ip) items) refl
   where

@@ -53,7 +53,7 @@ use Rattle.plan_units.specs.Facts.{found, none_found, port_in, port_number}
 use Rattle.plan_units.specs.Fixed.{from_group, passes, pass, fixed, drops}
 use Rattle.plan_units.specs.Laws.{IsSetting, Leaves, Sends, DestinationLaw}
 use Rattle.plan_units.specs.Steps.{followed, sends_led, goes_led, ends_led}
-use Rattle.plan_units.specs.Tables.{ByFamily, by_family, elsewhere_in, here_in, drops_in, port_acl_in, admissions_in, misses_in, vlan_acl_in, vips_in, floods_in, sources_in, fib_in}
+use Rattle.plan_units.specs.Tables.{ByFamily, by_family, elsewhere_in, here_in, drops_in, port_acl_in, admissions_in, misses_in, vlan_acl_in, vips_in, floods_in, sources_in, routes_elsewhere}
 use Rattle.plan_units.specs.Units.{plan, of_port, of_vlan, of_host, hosts_of, is_of_group}
 
 -- an entry's part in the decision: if it hits, and none of this priority comes before it, it does so
@@ -92,7 +92,7 @@ module _ (conf : Configuration) (now : State) (d : Dp) (setting : IsSetting conf
         floods = λ v c. elsewhere_in 7 8 _ _ (λ e. omega (arith, e)) (floods_in d v _);
         sources = λ h c. elsewhere_in 7 3 _ _ (λ e. omega (arith, e)) (sources_in conf d h _);
         destinations = λ h c. here_in 7 _ _ (hosts h c);
-        routes = λ v c. elsewhere_in 7 4 _ _ (λ e. omega (arith, e)) (fib_in conf now d v);
+        routes = λ v c. routes_elsewhere conf now d v 7 _ (λ e. omega (arith, e)) (λ e. omega (arith, e));
       }
 
   -- the parts of the entries of a host

@@ -53,7 +53,7 @@ use Rattle.plan_units.specs.Facts.{found, some_passes, none_passes, one_port, po
 use Rattle.plan_units.specs.Fixed.{fixed}
 use Rattle.plan_units.specs.Laws.{IsSetting, Leaves, Sends, FloodLaw}
 use Rattle.plan_units.specs.Steps.{followed, sends_led, goes_led, ends_led, in_its_table, hit_by}
-use Rattle.plan_units.specs.Tables.{AtTable, by_family, elsewhere_in, here_in, drops_in, port_acl_in, admissions_in, misses_in, vlan_acl_in, vips_in, sources_in, destinations_in, fib_in}
+use Rattle.plan_units.specs.Tables.{AtTable, by_family, elsewhere_in, here_in, drops_in, port_acl_in, admissions_in, misses_in, vlan_acl_in, vips_in, sources_in, destinations_in, routes_elsewhere}
 use Rattle.plan_units.specs.Units.{plan, of_port, of_vlan}
 use Rattle.acl_compile.specs.Slices.{vlan_acl}
 use Rattle.route_compile.specs.Vips.{vip_slice}
@@ -149,7 +149,7 @@ module _ (conf : Configuration) (now : State) (d : Dp) (setting : IsSetting conf
     floods = λ v c. here_in 8 _ _ (each v c);
     sources = λ h c. elsewhere_in 8 3 _ _ (λ e. omega (arith, e)) (sources_in conf d h _);
     destinations = λ h c. elsewhere_in 8 7 _ _ (λ e. omega (arith, e)) (destinations_in d h _);
-    routes = λ v c. elsewhere_in 8 4 _ _ (λ e. omega (arith, e)) (fib_in conf now d v);
+    routes = λ v c. routes_elsewhere conf now d v 8 _ (λ e. omega (arith, e)) (λ e. omega (arith, e));
   })
 
   -- the entries of a VLAN: from any port, and from each that is apart

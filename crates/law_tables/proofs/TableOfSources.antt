@@ -47,7 +47,7 @@ use Rattle.plan_units.specs.Fixed.{from_group, passes, fixed}
 use Rattle.plan_units.specs.Laws.{IsSetting, IsOf, SourceLaw}
 use Rattle.plan_units.specs.PortVlans.{vlans_in, vlan_of_member}
 use Rattle.plan_units.specs.Steps.{followed}
-use Rattle.plan_units.specs.Tables.{ByFamily, by_family, elsewhere_in, here_in, drops_in, port_acl_in, admissions_in, vlan_acl_in, vips_in, floods_in, destinations_in, fib_in}
+use Rattle.plan_units.specs.Tables.{ByFamily, by_family, elsewhere_in, here_in, drops_in, port_acl_in, admissions_in, vlan_acl_in, vips_in, floods_in, destinations_in, routes_elsewhere}
 use Rattle.plan_units.specs.Units.{plan, of_port, of_vlan, of_host, hosts_of, is_of_group}
 use Rattle.law_tables.proofs.Hits.{two, three}
 use Rattle.law_tables.proofs.Ingress.{Entered, entered, in_group, place, six_of, one_host}
@@ -84,7 +84,7 @@ module _ (conf : Configuration) (now : State) (d : Dp) (setting : IsSetting conf
         floods = λ v c. elsewhere_in 3 8 _ _ (λ e. omega (arith, e)) (floods_in d v _);
         sources = λ h c. here_in 3 _ _ (hosts h c);
         destinations = λ h c. elsewhere_in 3 7 _ _ (λ e. omega (arith, e)) (destinations_in d h _);
-        routes = λ v c. elsewhere_in 3 4 _ _ (λ e. omega (arith, e)) (fib_in conf now d v);
+        routes = λ v c. routes_elsewhere conf now d v 3 _ (λ e. omega (arith, e)) (λ e. omega (arith, e));
       }
 
   -- the parts of the entries of a host, and of those of a port

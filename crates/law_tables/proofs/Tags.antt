@@ -34,7 +34,8 @@ same_l4 n (Udp s t) = refl
 same_l4 n (Icmp kind code) = refl
 same_l4 n (Icmp6 kind code target) = refl
 
-same_upper : (n : ℕ) (upper : Upper) → set_upper VlanVid n upper ≡ upper
+-- a tag's field is in no other header
+pub same_upper : (n : ℕ) (upper : Upper) → set_upper VlanVid n upper ≡ upper
 same_upper n NoUpper = refl
 same_upper n (Arp op spa tpa) = refl
 same_upper n (V4 src dst proto ttl l4) = ap (V4 src dst proto ttl) (same_l4 n l4)
