@@ -10,8 +10,11 @@ use Rattle.net_base.specs.declared.field.Field.{Field}
 use Rattle.net_base.specs.Address.{IsSixBytes, mac_value, mac_of}
 use Rattle.of_match.specs.declared.entry.Entry.{Entry}
 use Rattle.conf_types.specs.declared.acl.Rule.{Rule}
+use Rattle.conf_types.specs.declared.address.Net.{Net}
+use Rattle.conf_types.specs.declared.address.Net.TheVariants.{V4, V6}
 use Rattle.conf_types.specs.declared.datapath.Dp.{Dp}
 use Rattle.conf_types.specs.declared.datapath.Port.{Port}
+use Rattle.conf_types.specs.declared.family.Family.{Family}
 use Rattle.conf_types.specs.declared.state.HostRec.{HostRec}
 use Rattle.conf_types.specs.declared.vlan.Vlan.{Vlan}
 use Rattle.conf_types.specs.Configuration.{Configuration, port_with, vlan_with}
@@ -19,7 +22,9 @@ use Rattle.conf_types.specs.Lists.{is_same}
 use Rattle.conf_types.specs.State.{State}
 use Rattle.packet_way.specs.Known.{stack_of}
 use Rattle.packet_way.specs.declared.routes.RouteItem.{RouteItem}
+use Rattle.plan_base.specs.Families.{IsFamily}
 use Rattle.plan_base.specs.Fields.{in_port}
+use Rattle.plan_base.proofs.Families.{of_families}
 use Rattle.acl_compile.specs.declared.place.Place.TheVariants.{AtPort, AtVlan}
 use Rattle.acl_compile.specs.Rows.{rule_entry_for, rule_fields, asks_for_another, with_vid}
 use Rattle.acl_compile.specs.Slices.{port_acl, vlan_acl}
@@ -30,8 +35,8 @@ use Rattle.vlan_compile.specs.declared.flood.Ingress.TheVariants.{Any, At}
 use Rattle.vlan_compile.specs.Admissions.{admissions}
 use Rattle.vlan_compile.specs.Sources.{sources}
 use Rattle.vlan_compile.specs.Floods.{flood_entry}
-use Rattle.route_compile.specs.Routes.{item_entry}
-use Rattle.route_compile.specs.Vips.{vip_slice}
+use Rattle.route_compile.specs.Routes.{item_entry, no_route}
+use Rattle.route_compile.specs.Vips.{vip_slice, asked_entry}
 use Rattle.law_runs.specs.Members.{of_all, all_by, all_joined, all_filtered}
 use Rattle.plan_units.specs.declared.unit.Unit.{Unit as PlanUnit}
 use Rattle.plan_units.specs.declared.unit.Unit.TheVariants as unit
@@ -88,11 +93,15 @@ module _ (conf : Configuration) (now : State) (d : Dp) (v : Vlan) where
   flood_owned Unicast Any = refl
   flood_owned Unicast (At ingress) = refl
 
+  asked_owned : (vip : Net) → IsOfVlan (asked_entry v vip)
+  asked_owned (V4 net) = refl
+  asked_owned (V6 net) = refl
+
   vlan_owned : Owned (unit.Vlan v.vid) (of_vlan conf now d v)
   vlan_owned =
       subst (λ vid. Owned (unit.Vlan vid) (of_vlan conf now d v)) (vid_back v.vid)
       (all_joined IsOfVlan (vlan_acl conf d v) _ (vlan_acl_by IsOfVlan conf d v (λ priority rule fields c is. at_vlan_rule d v.vid priority rule fields is) refl)
-      (all_joined IsOfVlan (vip_slice d v) _ (vips_by IsOfVlan d v (λ vip. refl) refl refl refl) (floods_by IsOfVlan d v (stack_of conf now.ups) flood_owned)))
+      (all_joined IsOfVlan (vip_slice d v) _ (vips_by IsOfVlan d v asked_owned refl refl refl refl refl) (floods_by IsOfVlan d v (stack_of conf now.ups) flood_owned)))
 
   abbrev its_routes : PlanUnit
   its_routes = unit.Route (tagged v.vid)
@@ -100,13 +109,13 @@ module _ (conf : Configuration) (now : State) (d : Dp) (v : Vlan) where
   not_zero : (n : ℕ) → (10 + n == 0) ≡ false
   not_zero n = grind (arith, nat_tests)
 
-  item_owned : (item : RouteItem) → owner (item_entry v item).key ≡ Some its_routes
-  item_owned item = rw (not_zero item.len) refl
+  item_owned : (f : Family) → IsFamily f → (item : RouteItem) → owner (item_entry f v item).key ≡ Some its_routes
+  item_owned f is item = of_families (λ f. owner (item_entry f v item).key ≡ Some its_routes) (rw (not_zero item.len) refl) (rw (not_zero item.len) refl) f is
 
   routes_owned : Owned (unit.Route v.vid) (of_routes conf now d v)
   routes_owned =
       subst (λ vid. Owned (unit.Route vid) (of_routes conf now d v)) (vid_back v.vid)
-      (fib_by (λ e. owner e.key ≡ Some its_routes) conf now.neighbours d v (λ item c. item_owned item) refl)
+      (fib_by (λ e. owner e.key ≡ Some its_routes) conf now.neighbours d v (λ f is item c own. item_owned f is item) (of_families (λ f. owner (no_route f v).key ≡ Some its_routes) refl refl))
 
 module _ (address_law : (mac : Mac) → IsSixBytes mac.0 → mac_of (mac_value mac) ≡ mac) (conf : Configuration) (now : State) (d : Dp) (h : HostRec) where
   abbrev its_host : PlanUnit

@@ -50,7 +50,7 @@ owner_in VlanAcl priority fields = vlan_of fields
 owner_in Source priority fields =
     if priority == 40 then Some unit.Dp else if priority == 10 then port_of fields else host_of EthSrc fields
 owner_in Ipv4Route priority fields = if priority == 0 then Some unit.Dp else routes_of fields
-owner_in Ipv6Route priority fields = Some unit.Dp
+owner_in Ipv6Route priority fields = if priority == 0 then Some unit.Dp else routes_of fields
 owner_in Vip priority fields = if priority == 0 then Some unit.Dp else vlan_of fields
 owner_in Destination priority fields = if priority == 0 then Some unit.Dp else host_of EthDst fields
 owner_in Flood priority fields = vlan_of fields
