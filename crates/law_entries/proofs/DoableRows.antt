@@ -1,10 +1,9 @@
 -- Each row of the tables can be done.
-use Rattle.std.specs.Prelude.{◌≡◌, ℕ, ◌+◌, ◌<◌, ◌==◌, ◌&&◌, not, Bool, true, false, List, [], ◌∷◌, ◌++◌, map, filter, length, Option, Some, None, if◌then◌else◌}
+use Rattle.std.specs.Prelude.{IsTrue, ◌≡◌, ℕ, ◌+◌, ◌<◌, ◌==◌, ◌&&◌, not, Bool, true, false, List, [], ◌∷◌, ◌++◌, map, filter, length, Option, Some, None, if◌then◌else◌}
 use Rattle.std.specs.List.{AllByRecursion, cons_option, list_any}
 use Rattle.std.specs.Option.{option_map, option_map_or}
 use Rattle.std.proofs.Common.{refl, arith, subst}
 use Rattle.std.proofs.lemmas.Option.{none-some, same_Some}
-use Rattle.net_base.specs.declared.address.Ip4.{Ip4}
 use Rattle.net_base.specs.declared.address.Mac.{Mac}
 use Rattle.net_base.specs.declared.field.Field.{Field}
 use Rattle.net_base.specs.declared.numbers.DpId.{DpId}
@@ -12,30 +11,36 @@ use Rattle.net_base.specs.Numbers.{IsVid}
 use Rattle.of_match.specs.declared.action.Action.{Action}
 use Rattle.stack_paths.specs.Stack.{Stack}
 use Rattle.conf_types.specs.declared.acl.Rule.{Rule}
+use Rattle.conf_types.specs.declared.address.Ip.{Ip}
+use Rattle.conf_types.specs.declared.address.Net.{Net}
 use Rattle.conf_types.specs.declared.datapath.Dp.{Dp}
 use Rattle.conf_types.specs.declared.datapath.Port.{Port}
+use Rattle.conf_types.specs.declared.family.Family.{Family}
 use Rattle.conf_types.specs.declared.state.HostRec.{HostRec}
 use Rattle.conf_types.specs.declared.state.NeighRec.{NeighRec}
 use Rattle.conf_types.specs.declared.vlan.Vlan.{Vlan}
 use Rattle.conf_types.specs.Changes.{mac_of_neighbour}
 use Rattle.conf_types.specs.Configuration.{Configuration, vlan_with}
+use Rattle.conf_types.specs.Families.{ipv4, ipv6, ip_value, width_of, address_of, len_of}
 use Rattle.conf_types.specs.Groups.{group_of}
 use Rattle.conf_types.specs.Membership.{is_native_in, mirrors_of}
-use Rattle.conf_types.specs.Routing.{routing_set}
+use Rattle.conf_types.specs.Routing.{routing_set, vips_from}
 use Rattle.conf_types.specs.State.{is_stale}
 use Rattle.conf_types.specs.Valid.{IsValid}
 use Rattle.packet_way.specs.declared.routes.RouteItem.{RouteItem}
 use Rattle.packet_way.specs.declared.routes.Target.{Target}
 use Rattle.packet_way.specs.declared.routes.Target.TheVariants.{Gateway, Hop, Network}
-use Rattle.packet_way.specs.Routes.{vip_item, resolved, hop_item, neighbour_item, network_item, route_item, items_of, route_list}
+use Rattle.packet_way.specs.Routes.{vip_item, resolved, hop_item, neighbour_item, network_item, route_item, items_of, items_for, route_list}
 use Rattle.plan_base.specs.declared.table.Table.{Table}
 use Rattle.plan_base.specs.declared.table.Table.TheVariants as table
 use Rattle.plan_base.specs.Actions.{out, to_controller, to_ingress, push_tag, set_vid, set_eth_src, set_eth_dst, dec_ttl}
 use Rattle.plan_base.specs.Entries.{table_number, leads_to, entry}
 use Rattle.of_match.specs.declared.ether_type.TheConstants.{LLDP}
-use Rattle.plan_base.specs.Fields.{in_port, eth_type, eth_src, eth_dst, vid_field, untagged, group_src, ipv4_dst}
+use Rattle.plan_base.specs.Fields.{in_port, eth_type, eth_src, eth_dst, vid_field, untagged, group_src, ip_dst}
 use Rattle.plan_base.specs.Sending.{mirrored, copied, sent}
+use Rattle.plan_base.specs.Families.{IsFamily}
 use Rattle.plan_base.proofs.Each.{all_filter_map}
+use Rattle.plan_base.proofs.Families.{of_families}
 use Rattle.acl_compile.specs.declared.place.Place.{Place}
 use Rattle.acl_compile.specs.declared.place.Place.TheVariants.{AtPort, AtVlan}
 use Rattle.acl_compile.specs.Places.{table_at, next_at, field_at}
@@ -52,12 +57,12 @@ use Rattle.vlan_compile.specs.Floods.{floods, flood_entry, flood_actions, flood_
 use Rattle.vlan_compile.specs.Misses.{misses, miss, has_host, is_full}
 use Rattle.vlan_compile.specs.Sources.{sources, heard_copies}
 use Rattle.vlan_compile.proofs.Valid.{native_numbered, vlan_numbered}
-use Rattle.route_compile.specs.Routes.{ipv4_for, item_fields, fib, item_entry, led_to}
-use Rattle.route_compile.specs.Vips.{vip_slice, arp_entry, echo_entry, heard_entry, end_entry}
+use Rattle.route_compile.specs.Routes.{packets_for, item_fields, fib, item_entry, led_to, route_table}
+use Rattle.route_compile.specs.Vips.{vip_slice, asked_entry, echo_entry, echo6_entry, advert_entry, heard_entry, end_entry}
 use Rattle.law_runs.specs.Members.{of_all, all_joined, all_mapped, all_flat, all_by}
 use Rattle.plan_units.specs.Fixed.{drops, drop, from_group, passes}
 use Rattle.plan_units.specs.Parts.{port_acl_by, vlan_acl_by, admissions_by, drops_by, misses_by, sources_by, fib_by, vips_by, destinations_by, floods_by}
-use Rattle.law_entries.specs.Doable.{tags_asked, asks_for_tag, AreDoable, CanBeDone}
+use Rattle.law_entries.specs.Doable.{tags_asked, asks_for_tag, asks_for_ip, AreDoable, CanBeDone}
 use Rattle.law_entries.proofs.WholeParts.{all_when}
 use Rattle.law_entries.proofs.DoableParts.{IsLater, IsOutput, made, tagged, before_vid, asks_among, outputs_first, outputs, popped_first, sent_done, outs_are, numbers_are, copied_are}
 
@@ -216,7 +221,7 @@ module _ (conf : Configuration) (d : Dp) where
     pub floods_done : AllByRecursion CanBeDone (floods d v stack)
     floods_done = floods_by CanBeDone d v stack flood_done
 
--- ---- table 4
+-- ---- tables 4 and 5
 
 abbrev InVlan : Target → Type 0
 InVlan Gateway = Unit {0}
@@ -228,60 +233,73 @@ abbrev GoesInVlan : RouteItem → Type 0
 GoesInVlan item = InVlan item.to
 
 module _ (neighbours : List NeighRec) (group : DpId) where
-  hop : (w : Vlan) → IsVid w.vid → (ip : Ip4) (len : ℕ) (o : Option Mac) (item : RouteItem) → option_map (hop_item w ip len) o ≡ Some item → GoesInVlan item
+  hop : (w : Vlan) → IsVid w.vid → (ip : Ip) (len : ℕ) (o : Option Mac) (item : RouteItem) → option_map (hop_item w ip len) o ≡ Some item → GoesInVlan item
   hop w is ip len None item e = absurd (none-some item e)
   hop w is ip len (Some mac) item e = subst GoesInVlan (same_Some (hop_item w ip len mac) item e) is
 
-  in_vlans : (w : Vlan) → IsVid w.vid → AllByRecursion GoesInVlan (items_of neighbours group w)
-  in_vlans w is =
+  in_vlans : (w : Vlan) → IsVid w.vid → (vips : List Net) → AllByRecursion GoesInVlan (items_of neighbours group w vips)
+  in_vlans w is vips =
       all_joined GoesInVlan _ _ (all_joined GoesInVlan _ _ (all_joined GoesInVlan _ _
-      (all_mapped GoesInVlan vip_item w.vips (all_by (λ vip. GoesInVlan (vip_item vip)) w.vips (λ vip c. tt)))
-      (all_filter_map (neighbour_item group w) GoesInVlan neighbours
-      (all_by (λ n. (item : RouteItem) → neighbour_item group w n ≡ Some item → GoesInVlan item) neighbours (λ n c item e. hop w is n.ip 32 (resolved group w n) item e))))
-      (all_mapped GoesInVlan network_item w.vips (all_by (λ vip. GoesInVlan (network_item vip)) w.vips (λ vip c. tt))))
+      (all_mapped GoesInVlan vip_item vips (all_by (λ vip. GoesInVlan (vip_item vip)) vips (λ vip c. tt)))
+      (all_filter_map (neighbour_item group w vips) GoesInVlan neighbours
+      (all_by (λ n. (item : RouteItem) → neighbour_item group w vips n ≡ Some item → GoesInVlan item) neighbours (λ n c item e. hop w is n.ip (width_of n.ip) (resolved group w vips n) item e))))
+      (all_mapped GoesInVlan network_item vips (all_by (λ vip. GoesInVlan (network_item vip)) vips (λ vip c. tt))))
       (all_filter_map (route_item neighbours group w) GoesInVlan w.routes
-      (all_by (λ r. (item : RouteItem) → route_item neighbours group w r ≡ Some item → GoesInVlan item) w.routes (λ r c item e. hop w is r.dst.ip r.dst.len (mac_of_neighbour neighbours group w.vid r.gw.0) item e)))
+      (all_by (λ r. (item : RouteItem) → route_item neighbours group w r ≡ Some item → GoesInVlan item) w.routes (λ r c item e. hop w is (address_of r.dst) (len_of r.dst) (mac_of_neighbour neighbours group w.vid r.gw) item e)))
 
   items_in_vlans : (conf : Configuration) → IsValid conf → (vid : ℕ) → AllByRecursion GoesInVlan (route_list conf neighbours group vid)
   unfolding route_list
   items_in_vlans conf valid vid =
-      all_flat GoesInVlan (λ u. option_map_or (items_of neighbours group) (vlan_with conf.vlans u) []) (routing_set conf vid)
-      (all_by (λ u. AllByRecursion GoesInVlan (option_map_or (items_of neighbours group) (vlan_with conf.vlans u) [])) (routing_set conf vid) (λ u c. one u (vlan_with conf.vlans u) refl))
+      all_flat GoesInVlan (λ u. option_map_or (items_for neighbours group vid) (vlan_with conf.vlans u) []) (routing_set conf vid)
+      (all_by (λ u. AllByRecursion GoesInVlan (option_map_or (items_for neighbours group vid) (vlan_with conf.vlans u) [])) (routing_set conf vid) (λ u c. one u (vlan_with conf.vlans u) refl))
     where
-      one : (u : ℕ) (o : Option Vlan) → vlan_with conf.vlans u ≡ o → AllByRecursion GoesInVlan (option_map_or (items_of neighbours group) o [])
+      one : (u : ℕ) (o : Option Vlan) → vlan_with conf.vlans u ≡ o → AllByRecursion GoesInVlan (option_map_or (items_for neighbours group vid) o [])
       one u None e = tt
-      one u (Some w) e = in_vlans w (vlan_numbered conf valid u w e)
+      one u (Some w) e = in_vlans w (vlan_numbered conf valid u w e) (vips_from vid w)
 
 module _ (v : Vlan) (is : IsVid v.vid) where
-  item_done : (item : RouteItem) → GoesInVlan item → CanBeDone (item_entry v item)
-  item_done item = by item.to
-    where
-      fields : List Field
-      fields = item_fields v item
+  -- where an item leads, with the fields and the table of its family
+  abbrev LeadsThere : Target → RouteItem → Family → Type 0
+  LeadsThere to item f = CanBeDone (entry (route_table f) (10 + item.len) (item_fields f v item) (led_to to))
 
-      by : (to : Target) → InVlan to → CanBeDone (entry table.Ipv4Route (10 + item.len) fields (led_to to))
-      by Gateway there = passes_on table.Ipv4Route (10 + item.len) fields table.Vip (omega arith)
+  -- the hop limit is that of the family's packets
+  sets_all : (f : Family) (item : RouteItem) → IsTrue (list_any asks_for_ip (item_fields f v item)) → (vid : ℕ) (gateway mac : Mac) → IsVid vid
+      → AreDoable (item_fields f v item) 1 (set_eth_src gateway ∷ set_eth_dst mac ∷ set_vid vid ∷ dec_ttl ∷ [])
+  sets_all f item asks vid gateway mac there = (
+    record { pushes = tt; sets = tt; values = tt; lowers = tt; pops = tt },
+    (
+      record { pushes = tt; sets = tt; values = tt; lowers = tt; pops = tt },
+      (record { pushes = tt; sets = omega arith; values = before_vid vid there; lowers = tt; pops = tt }, (record { pushes = tt; sets = tt; values = tt; lowers = asks; pops = tt }, tt)),
+    ),
+  )
+
+  item_done : (f : Family) → IsFamily f → (item : RouteItem) → GoesInVlan item → CanBeDone (item_entry f v item)
+  item_done f fam item there = by item.to there
+    where
+      by : (to : Target) → InVlan to → LeadsThere to item f
+      by Gateway there =
+          of_families (LeadsThere Gateway item) (passes_on table.Ipv4Route (10 + item.len) (item_fields ipv4 v item) table.Vip (omega arith))
+          (passes_on table.Ipv6Route (10 + item.len) (item_fields ipv6 v item) table.Vip (omega arith)) f fam
       by (Hop vid gateway mac) there =
-          tagged table.Ipv4Route (10 + item.len) fields (set_eth_src gateway ∷ set_eth_dst mac ∷ set_vid vid ∷ dec_ttl ∷ []) (Some table.Destination) (omega arith) (asks_among v.vid is (cons_option (ipv4_dst item.ip.0 item.len) [])) (
-            record { pushes = tt; sets = tt; values = tt; lowers = tt; pops = tt },
-            (
-              record { pushes = tt; sets = tt; values = tt; lowers = tt; pops = tt },
-              (record { pushes = tt; sets = omega arith; values = before_vid vid there; lowers = tt; pops = tt }, (record { pushes = tt; sets = tt; values = tt; lowers = refl; pops = tt }, tt)),
-            ),
-          )
-      by Network there = handed table.Ipv4Route (10 + item.len) fields
+          of_families (LeadsThere (Hop vid gateway mac) item)
+          (tagged table.Ipv4Route (10 + item.len) (item_fields ipv4 v item) (set_eth_src gateway ∷ set_eth_dst mac ∷ set_vid vid ∷ dec_ttl ∷ []) (Some table.Destination) (omega arith)
+          (asks_among v.vid is (cons_option (ip_dst ipv4 (ip_value item.ip) item.len) [])) (sets_all ipv4 item refl vid gateway mac there))
+          (tagged table.Ipv6Route (10 + item.len) (item_fields ipv6 v item) (set_eth_src gateway ∷ set_eth_dst mac ∷ set_vid vid ∷ dec_ttl ∷ []) (Some table.Destination) (omega arith)
+          (asks_among v.vid is (cons_option (ip_dst ipv6 (ip_value item.ip) item.len) [])) (sets_all ipv6 item refl vid gateway mac there)) f fam
+      by Network there = handed (route_table f) (10 + item.len) (item_fields f v item)
 
   pub fib_done : (conf : Configuration) → IsValid conf → (neighbours : List NeighRec) (d : Dp) → AllByRecursion CanBeDone (fib conf neighbours d v)
   fib_done conf valid neighbours d =
       let group = group_of conf d.id in
-      fib_by CanBeDone conf neighbours d v (λ item c. item_done item (of_all GoesInVlan (route_list conf neighbours group v.vid) (items_in_vlans neighbours group conf valid v.vid) item c)) (ends table.Ipv4Route 9 (ipv4_for v))
+      fib_by CanBeDone conf neighbours d v (λ f fam item c own. item_done f fam item (of_all GoesInVlan (route_list conf neighbours group v.vid) (items_in_vlans neighbours group conf valid v.vid) item c))
+      (λ f fam. ends (route_table f) 9 (packets_for f v))
 
 -- ---- table 6
 
 pub vips_done : (d : Dp) (v : Vlan) → AllByRecursion CanBeDone (vip_slice d v)
 vips_done d v =
-    vips_by CanBeDone d v (λ vip. handed table.Vip 30 (arp_entry v vip).key.fields) (handed table.Vip 30 (echo_entry v).key.fields)
-    (handed table.Vip 20 (heard_entry v).key.fields) (ends table.Vip 10 (end_entry v).key.fields)
+    vips_by CanBeDone d v (λ vip. handed table.Vip 30 (asked_entry v vip).key.fields) (handed table.Vip 30 (echo_entry v).key.fields)
+    (handed table.Vip 30 (echo6_entry v).key.fields) (handed table.Vip 20 (advert_entry v).key.fields) (handed table.Vip 20 (heard_entry v).key.fields) (ends table.Vip 10 (end_entry v).key.fields)
 
 -- ---- what stands once
 

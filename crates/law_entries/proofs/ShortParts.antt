@@ -9,7 +9,7 @@ use Rattle.plan_base.specs.declared.table.Table.TheVariants.{PortAcl, Admission,
 use Rattle.plan_base.specs.Entries.{table_number, leads_to, entry}
 use Rattle.law_entries.specs.Short.{count_actions, IsShort}
 
-low : (table : Table) → table_number table < 9
+pub low : (table : Table) → table_number table < 9
 low PortAcl = omega arith
 low Admission = omega arith
 low VlanAcl = omega arith

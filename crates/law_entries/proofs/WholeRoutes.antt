@@ -16,7 +16,7 @@ use Rattle.plan_units.specs.Parts.{drops_by, fib_by, vips_by}
 use Rattle.law_entries.specs.Whole.{DoesWhole, SendsWhole}
 use Rattle.law_entries.proofs.WholeParts.{to_controller_whole, led}
 
--- ---- table 4
+-- ---- tables 4 and 5
 
 led_to_whole : (to : Target) → AllByRecursion DoesWhole (led_to to)
 led_to_whole Gateway = led [] (Some table.Vip) tt
@@ -24,7 +24,7 @@ led_to_whole (Hop vid gateway mac) = led (set_eth_src gateway ∷ set_eth_dst ma
 led_to_whole Network = led (to_controller ∷ []) None (to_controller_whole, tt)
 
 pub fib_whole : (conf : Configuration) (neighbours : List NeighRec) (d : Dp) (v : Vlan) → AllByRecursion SendsWhole (fib conf neighbours d v)
-fib_whole conf neighbours d v = fib_by SendsWhole conf neighbours d v (λ item c. led_to_whole item.to) tt
+fib_whole conf neighbours d v = fib_by SendsWhole conf neighbours d v (λ f is item c own. led_to_whole item.to) (λ f is. tt)
 
 -- ---- table 6
 
@@ -32,7 +32,7 @@ only_whole : AllByRecursion DoesWhole only_to_controller
 only_whole = led (to_controller ∷ []) None (to_controller_whole, tt)
 
 pub vips_whole : (d : Dp) (v : Vlan) → AllByRecursion SendsWhole (vip_slice d v)
-vips_whole d v = vips_by SendsWhole d v (λ vip. only_whole) only_whole only_whole tt
+vips_whole d v = vips_by SendsWhole d v (λ vip. only_whole) only_whole only_whole only_whole only_whole tt
 
 -- ---- what stands once
 

@@ -1,6 +1,6 @@
 -- What a switch asks of what a flow entry does, beside that each number fits (OpenFlow 1.3, 5.1, 7.2.4
 -- and 7.2.5): where it leads on, and in which order it pushes, pops and sets.
-use Rattle.std.specs.Prelude.{◌≡◌, ℕ, ◌+◌, ◌-◌, ◌/◌, ◌%◌, ◌<◌, ◌≤◌, Bool, ◌==◌, ◌&&◌, List, [], ◌∷◌, IsTrue, if◌then◌else◌}
+use Rattle.std.specs.Prelude.{◌≡◌, ℕ, ◌+◌, ◌-◌, ◌/◌, ◌%◌, ◌<◌, ◌≤◌, Bool, ◌==◌, ◌&&◌, ◌||◌, List, [], ◌∷◌, IsTrue, if◌then◌else◌}
 use Rattle.std.specs.List.{AllByRecursion, list_any}
 use Rattle.net_base.specs.declared.field.Field.{Field}
 use Rattle.net_base.specs.declared.field.FieldId.{FieldId}
@@ -12,7 +12,7 @@ use Rattle.of_match.specs.declared.action.Action.TheVariants.{PushVlan, PopVlan,
 use Rattle.of_match.specs.declared.action.Instr.{Instr}
 use Rattle.of_match.specs.declared.action.Instr.TheVariants.{Goto, Apply}
 use Rattle.of_match.specs.declared.entry.Entry.{Entry}
-use Rattle.of_match.specs.declared.ether_type.TheConstants.{IPV4, VLAN_TAG}
+use Rattle.of_match.specs.declared.ether_type.TheConstants.{IPV4, IPV6, VLAN_TAG}
 
 -- ---- where an entry leads
 
@@ -35,8 +35,8 @@ asks_for_tag f = number_of f.id == number_of VlanVid && (has_present f.mask && h
 abbrev pub tags_asked : List Field → ℕ
 tags_asked fields = if list_any asks_for_tag fields then 1 else 0
 
-abbrev pub asks_for_ipv4 : Field → Bool
-asks_for_ipv4 f = is_whole EthType f && f.value == IPV4
+abbrev pub asks_for_ip : Field → Bool
+asks_for_ip f = is_whole EthType f && (f.value == IPV4 || f.value == IPV6)
 
 -- ---- what an action needs
 
@@ -65,10 +65,10 @@ abbrev pub SetsToValue : Action → Type 0
 SetsToValue (Set f) = IsValue f.id f.value
 SetsToValue a = Unit {0}
 
--- the TTL of a packet of which the match asks that it is of IPv4
-abbrev pub LowersOfIpv4 : List Field → Action → Type 0
-LowersOfIpv4 fields DecTtl = IsTrue (list_any asks_for_ipv4 fields)
-LowersOfIpv4 fields a = Unit {0}
+-- the TTL or the hop limit of a packet of which the match asks that it is of IPv4 or of IPv6
+abbrev pub LowersOfIp : List Field → Action → Type 0
+LowersOfIp fields DecTtl = IsTrue (list_any asks_for_ip fields)
+LowersOfIp fields a = Unit {0}
 
 abbrev pub PopsWhatIsThere : ℕ → Action → Type 0
 PopsWhatIsThere tags PopVlan = 0 < tags
@@ -86,7 +86,7 @@ pub record IsDoable (fields : List Field) (tags : ℕ) (a : Action) : Type 0 whe
   pub pushes : PushesTag a
   pub sets : SetsWhatIsThere tags a
   pub values : SetsToValue a
-  pub lowers : LowersOfIpv4 fields a
+  pub lowers : LowersOfIp fields a
   pub pops : PopsWhatIsThere tags a
 
 -- actions in order
