@@ -1,9 +1,12 @@
 -- The longest of the items that hold an address.
-use Rattle.std.specs.Prelude.{◌≡◌, ◌⊎◌, ℕ, zero, suc, ◌-◌, ◌/◌, ◌^◌, ◌≤◌, Bool, true, false, cond, List, [], ◌∷◌, filter, nat_lt, Some, None, Contains, if◌then◌else◌}
+use Rattle.std.specs.Prelude.{◌≡◌, ◌⊎◌, zero, suc, ◌-◌, ◌/◌, ◌^◌, ◌≤◌, ◌==◌, Bool, true, false, cond, List, [], ◌∷◌, filter, nat_lt, Some, None, Contains, if◌then◌else◌}
 use Rattle.std.specs.List.{fold, reduce}
 use Rattle.std.proofs.Common.{refl, sym, ◌∙◌, subst, arith, inl, inr, true≢false, eqb-true, eq-eqb}
-use Rattle.std.proofs.lemmas.Bool.{ltb-true, ltb-false}
+use Rattle.std.proofs.lemmas.Bool.{and_parts, and_from, ltb-true, ltb-false}
 use Rattle.std.proofs.lemmas.Option.{same_Some, none-some}
+use Rattle.conf_types.specs.declared.address.Ip.{Ip}
+use Rattle.conf_types.specs.Families.{ip_value, width_of, is_same_family}
+use Rattle.conf_types.proofs.Families.{same_family, is_of_family}
 use Rattle.packet_way.specs.declared.routes.RouteItem.{RouteItem}
 use Rattle.packet_way.specs.Routes.{item_holds, longer, longest}
 use Rattle.law_rows.specs.Longest.{HasPrefix, IsLongestFor}
@@ -82,13 +85,18 @@ best a (b ∷ items) = more (best (longer a b) items)
 
 -- ---- the one that is taken
 
-has_prefix : (ip : ℕ) (item : RouteItem) → item_holds ip item ≡ true → HasPrefix ip item
-has_prefix ip item is = eqb-true (ip / 2 ^ (32 - item.len)) (item.ip.0 / 2 ^ (32 - item.len)) is
+has_prefix : (ip : Ip) (item : RouteItem) → item_holds ip item ≡ true → HasPrefix ip item
+has_prefix ip item is =
+    let behind = width_of item.ip - item.len in
+    let parts = and_parts (is_same_family ip item.ip) (ip_value ip / 2 ^ behind == ip_value item.ip / 2 ^ behind) is in
+    record { family = same_family ip item.ip parts.0; bits = eqb-true (ip_value ip / 2 ^ behind) (ip_value item.ip / 2 ^ behind) parts.1 }
 
-holds : (ip : ℕ) (item : RouteItem) → HasPrefix ip item → item_holds ip item ≡ true
-holds ip item is = eq-eqb (ip / 2 ^ (32 - item.len)) (item.ip.0 / 2 ^ (32 - item.len)) is
+holds : (ip : Ip) (item : RouteItem) → HasPrefix ip item → item_holds ip item ≡ true
+holds ip item is =
+    let behind = width_of item.ip - item.len in
+    and_from (is_same_family ip item.ip) (ip_value ip / 2 ^ behind == ip_value item.ip / 2 ^ behind) (is_of_family ip item.ip is.family) (eq-eqb (ip_value ip / 2 ^ behind) (ip_value item.ip / 2 ^ behind) is.bits)
 
-pub taken : (items : List RouteItem) (ip : ℕ) (item : RouteItem) → longest items ip ≡ Some item → IsLongestFor items ip item
+pub taken : (items : List RouteItem) (ip : Ip) (item : RouteItem) → longest items ip ≡ Some item → IsLongestFor items ip item
 unfolding longest
 taken items ip item is = by (filter (item_holds ip) items) refl is
   where
@@ -104,7 +112,7 @@ taken items ip item is = by (filter (item_holds ip) items) refl is
           longest = λ other c has. b.most other (subst (λ l. Contains l other) held (in_filtered (item_holds ip) items other c (holds ip other has)));
         }
 
-pub none_taken : (items : List RouteItem) (ip : ℕ) → longest items ip ≡ None → (item : RouteItem) → Contains items item → HasPrefix ip item → ⊥
+pub none_taken : (items : List RouteItem) (ip : Ip) → longest items ip ≡ None → (item : RouteItem) → Contains items item → HasPrefix ip item → ⊥
 unfolding longest
 none_taken items ip is item c has = by (filter (item_holds ip) items) refl is
   where
