@@ -1,11 +1,12 @@
 -- The addresses of the hosts and neighbours that were learned are Ethernet addresses, where what was heard is bytes.
 use Rattle.std.proofs.Common.{nat_lt, ◌<◌, filter, not, ◌≡◌, ℕ, ◌==◌, ◌&&◌, Bool, true, false, Option, Some, None, List, [], ◌∷◌, Result, map, refl, sym, subst, if◌then◌else◌}
 use Rattle.std.specs.List.{list_any}
-use Rattle.std.specs.Option.{option_map, option_map_or}
-use Rattle.net_base.specs.declared.address.Ip4.{Ip4}
+use Rattle.std.specs.Option.{option_and_then, option_map, option_map_or}
 use Rattle.net_base.specs.declared.address.Mac.{Mac}
 use Rattle.net_base.specs.declared.numbers.DpId.{DpId}
 use Rattle.of_match.specs.InPort.{in_port}
+use Rattle.conf_types.specs.declared.address.Ip.{Ip}
+use Rattle.conf_types.specs.declared.address.Ip.TheVariants as ips
 use Rattle.conf_types.specs.declared.state.HostRec.{HostRec}
 use Rattle.conf_types.specs.declared.vlan.Vlan.{Vlan}
 use Rattle.conf_types.specs.Configuration.{Configuration, vlan_with}
@@ -31,7 +32,7 @@ use Rattle.ctl_world.specs.Ends.{close, ended, forget_lost}
 use Rattle.ctl_world.specs.Frames.{with_read}
 use Rattle.ctl_world.specs.Saying.{ask, packet_out, say, say_by}
 use Rattle.ctl_world.specs.World.{World, running, ups}
-use Rattle.ctl_packets.specs.Packets.{destination, gateways, glean, glean_at, glean_in, glean_to, hear_neighbour, hear_sender, is_for_gateway, is_resolved, learn, network_vlan, outgoing, packet_at, packet_by, packet_in, packet_of_table, reply, routes, sources, want}
+use Rattle.ctl_packets.specs.Packets.{destination, gateways, glean, glean_at, glean_in, glean_to, hear_neighbour, hear_sender, is_for_gateway, is_resolved, is_route_table, learn, network_vlan, outgoing, packet_at, packet_by, packet_in, packet_of_table, reply, sources, want}
 use Rattle.ctl_life.specs.Life.{read, take_dp, feed, open_conn}
 use Rattle.ctl_core.specs.Hearing.{hear_frame, packet, want_gateways}
 use Rattle.ctl_core.specs.Reloading.{reload, renew}
@@ -52,12 +53,13 @@ use Rattle.host_learn.specs.Learning.{hosts_after, is_heard, is_in_place}
 use Rattle.host_learn.specs.Learning as learning
 use Rattle.host_learn.proofs.KeptParts.{kept_part}
 use Rattle.host_learn.proofs.Lists.{all_part, all_push}
-use Rattle.law_checks.proofs.Orders.{same_texts}
+use Rattle.neighbour_resolve.specs.declared.discovery.NdMessage.{NdMessage}
 use Rattle.neighbour_resolve.specs.declared.hearing.Sender.{Sender}
 use Rattle.neighbour_resolve.specs.declared.neighbour.Want.{Want}
 use Rattle.neighbour_resolve.specs.declared.neighbour.Want.TheVariants as wants
 use Rattle.neighbour_resolve.specs.Due.{next}
-use Rattle.neighbour_resolve.specs.Hearing.{upper_sender}
+use Rattle.neighbour_resolve.specs.Discovery.{nd_message, who}
+use Rattle.neighbour_resolve.specs.Hearing.{nd_sender, sender_at, upper_sender}
 use Rattle.neighbour_resolve.specs.Kept.{last_of_each, may_stay, regrouped}
 use Rattle.neighbour_resolve.specs.Table.{Table as Neighbours, after_told, gives_way, neighbours_after, stays, unresolved}
 use Rattle.neighbour_resolve.specs.Table as table
@@ -149,15 +151,15 @@ table_told keep n six t all = neighbours_told keep n six t.neighbours all (table
 
 -- ---- packets
 
-glean_in_addressed : (group : DpId) (ip : Ip4) (w : World) (vid : ℕ) → IsAddressed w → IsAddressed (glean_in group ip w vid)
-glean_in_addressed group ip w vid known = either IsAddressed (is_resolved w.neighbours.neighbours group vid ip.0) w (want group vid ip w) known (known.0, table_told (stays true) (unresolved group vid ip w.moment) tt w.neighbours known.1, known.2)
+glean_in_addressed : (group : DpId) (ip : Ip) (w : World) (vid : ℕ) → IsAddressed w → IsAddressed (glean_in group ip w vid)
+glean_in_addressed group ip w vid known = either IsAddressed (is_resolved w.neighbours.neighbours group vid ip) w (want group vid ip w) known (known.0, table_told (stays true) (unresolved group vid ip w.moment) tt w.neighbours known.1, known.2)
 
-glean_to_addressed : (group : DpId) (vid : ℕ) (ip : Ip4) (w : World) → IsAddressed w → IsAddressed (glean_to group vid ip w)
-glean_to_addressed group vid ip w known = with_any IsAddressed (glean_in group ip w) (network_vlan w.conf vid ip.0) w (λ v. glean_in_addressed group ip w v known) known
+glean_to_addressed : (group : DpId) (vid : ℕ) (ip : Ip) (w : World) → IsAddressed w → IsAddressed (glean_to group vid ip w)
+glean_to_addressed group vid ip w known = with_any IsAddressed (glean_in group ip w) (network_vlan w.conf vid ip) w (λ v. glean_in_addressed group ip w v known) known
 
 glean_at_addressed : (dp : DpId) (frame : FrameParts) (w : World) (v : Vlan) → IsAddressed w → IsAddressed (glean_at dp frame w v)
 glean_at_addressed dp frame w v known =
-    let to : Ip4 → World = λ ip. glean_to (group_of w.conf dp) v.vid ip w in
+    let to : Ip → World = λ ip. glean_to (group_of w.conf dp) v.vid ip w in
     either IsAddressed (is_for_gateway v frame) (option_map_or to (destination frame.upper) w) w
     (with_any IsAddressed to (destination frame.upper) w (λ ip. glean_to_addressed (group_of w.conf dp) v.vid ip w known) known) known
 
@@ -170,16 +172,27 @@ learn_addressed dp port vid mac six w known =
     either IsAddressed (is_up (ups w) dp port) (record w { hosts = learned w.conf w.hosts heard }) w
     (hosts_learned w.conf heard six w.hosts.hosts known.0 (learning.outcome w.conf w.hosts heard), known.1, known.2) known
 
-sender_six : (conf : Configuration) (vid : ℕ) (src : Mac) → IsSixBytes src.0 → (upper : UpperParts) → IfSome (upper_sender conf vid src upper) (λ s. IsSixBytes s.mac.0)
-sender_six conf vid src six Unknown = tt
-sender_six conf vid src six (V4 header payload) = tt
-sender_six conf vid src six (V6 header payload) = tt
-sender_six conf vid src six (Arp op sha spa tha tpa) = by (is_neighbour_address (vips_of conf vid) spa.0 && not (is_group sha)) (is_same sha.0 src.0) refl
-  where
-    by : (b same : Bool) → is_same sha.0 src.0 ≡ same → IfSome {T = Sender} (if b && same then Some (record { ip = spa; mac = sha }) else None) (λ s. IsSixBytes s.mac.0)
-    by false same is = tt
-    by true false is = tt
-    by true true is = subst IsSixBytes (sym (same_texts sha.0 src.0 is)) six
+module _ (conf : Configuration) (vid : ℕ) (src : Mac) (six : IsSixBytes src.0) where
+  at_six : (ip : Ip) → IfSome (sender_at conf vid src ip) (λ s. IsSixBytes s.mac.0)
+  at_six ip =
+      elim (is_neighbour_address (vips_of conf vid) ip && not (is_group src)) as (λ b. IfSome {T = Sender} (if b then Some (record { ip = ip; mac = src }) else None) (λ s. IsSixBytes s.mac.0)) [
+        | true ↦ six
+        | false ↦ tt
+      ]
+
+  where_six : (b : Bool) (ip : Ip) → IfSome {T = Sender} (if b then sender_at conf vid src ip else None) (λ s. IsSixBytes s.mac.0)
+  where_six true ip = at_six ip
+  where_six false ip = tt
+
+  sender_six : (upper : UpperParts) → IfSome (upper_sender conf vid src upper) (λ s. IsSixBytes s.mac.0)
+  sender_six Unknown = tt
+  sender_six (V4 header payload) = tt
+  sender_six (Arp op sha spa tha tpa) = where_six (is_same sha.0 src.0) (ips.V4 spa)
+  sender_six (V6 header payload) = told (nd_message src header payload)
+    where
+      told : (o : Option NdMessage) → IfSome (option_and_then (nd_sender conf vid src) o) (λ s. IsSixBytes s.mac.0)
+      told None = tt
+      told (Some m) = where_six m.is_own (who m)
 
 hear_addressed : (dp : DpId) (vid : ℕ) (frame : FrameParts) → IsSixBytes frame.src.0 → (w : World) → IsAddressed w → IsAddressed (hear_neighbour dp vid frame w)
 hear_addressed dp vid frame six w known = by (heard_sender w.conf vid frame) (sender_six w.conf vid frame.src six frame.upper)
@@ -197,8 +210,8 @@ table_addressed table number dp port vid frame six w known =
     let learned : World = learn dp port vid frame.src w in
     let gleaned : World = glean dp vid frame w in
     let answered : World = reply number dp port vid frame (hear_neighbour dp vid frame w) in
-    either IsAddressed (table == sources) learned (if table == routes then gleaned else if table == gateways then answered else w) (learn_addressed dp port vid frame.src six w known)
-    (either IsAddressed (table == routes) gleaned (if table == gateways then answered else w) (glean_addressed dp vid frame w known)
+    either IsAddressed (table == sources) learned (if is_route_table table frame.upper then gleaned else if table == gateways then answered else w) (learn_addressed dp port vid frame.src six w known)
+    (either IsAddressed (is_route_table table frame.upper) gleaned (if table == gateways then answered else w) (glean_addressed dp vid frame w known)
     (either IsAddressed (table == gateways) answered w (reply_addressed number dp port vid frame (hear_neighbour dp vid frame w) (hear_addressed dp vid frame six w known)) known))
 
 at_addressed : (m : PacketIn) (number : ℕ) (dp : DpId) (w : World) (port : ℕ) (frame : FrameParts) → IsSixBytes frame.src.0 → IsAddressed w → IsAddressed (packet_at m number dp w port frame)
