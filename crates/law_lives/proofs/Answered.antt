@@ -1,7 +1,7 @@
 -- When a frame is heard its answer is sent where one is due, and no other frame.
 use Rattle.std.proofs.Common.{◌≡◌, ℕ, ◌==◌, ◌&&◌, Bool, true, false, Option, Some, None, List, [], ◌∷◌, ◌++◌, inl, inr, refl, sym, ap, ◌∙◌, subst, append-nil, if◌then◌else◌}
 use Rattle.std.specs.Option.{option_map_or}
-use Rattle.std.proofs.lemmas.Bool.{cases_Bool, eqb-true}
+use Rattle.std.proofs.lemmas.Bool.{cases_Bool, eqb-true, false≢true}
 use Rattle.net_base.specs.declared.numbers.DpId.{DpId}
 use Rattle.of_match.specs.InPort.{in_port}
 use Rattle.conf_types.specs.declared.state.HostRec.{HostRec}
@@ -14,7 +14,7 @@ use Rattle.of13_codec.specs.declared.message.Message.TheVariants as messages
 use Rattle.of13_codec.specs.declared.packet_in.PacketIn.{PacketIn}
 use Rattle.flow_messages.specs.declared.messages.TheConstants.{COOKIE}
 use Rattle.flow_messages.specs.Messages.{delete_all}
-use Rattle.pkt_view.specs.Frame.{FrameParts, parts}
+use Rattle.pkt_view.specs.Frame.{FrameParts, UpperParts, Unknown, Arp, V4, V6, parts}
 use Rattle.neighbour_resolve.specs.Answers.{answer}
 use Rattle.neighbour_resolve.specs.Counted.{counted_vid}
 use Rattle.neighbour_resolve.specs.Hearing.{heard_sender}
@@ -33,7 +33,7 @@ use Rattle.ctl_world.specs.World.{IsSound, World, running, runs, ups}
 use Rattle.ctl_world.proofs.SoundEnds.{nothing_lost}
 use Rattle.ctl_life.specs.Life.{echo, replace, take_dp, turn_away}
 use Rattle.ctl_world.proofs.Numbered.{has_it}
-use Rattle.ctl_packets.specs.Packets.{gateways, glean, hear_neighbour, hear_sender, learn, outgoing, packet_at, packet_by, packet_in, packet_of_table, reply, routes, sources}
+use Rattle.ctl_packets.specs.Packets.{gateways, glean, hear_neighbour, hear_sender, is_route_table, learn, outgoing, packet_at, packet_by, packet_in, packet_of_table, reply, sources}
 use Rattle.ctl_core.specs.Hearing.{begin, follow, hear_frame, hear_on, introduce, packet, unfit, wipe}
 use Rattle.ctl_core.proofs.Stays as stays
 use Rattle.ctl_core.proofs.Walk.{either, wants_by, with_any}
@@ -41,6 +41,13 @@ use Rattle.law_lives.proofs.Behind.{Behind, packet_led, step_led}
 use Rattle.ctl_packets.proofs.Keeping.{glean_kept}
 use Rattle.law_lives.specs.Outs.{Out, answers, answers_at, answers_by, answers_in, answers_on, outs, sends}
 use Rattle.law_lives.proofs.Outs.{asked_outs, no_outs, one_outs, said_outs, sent_outs}
+
+-- a table of routes isn't that of gateways
+routes_apart : (table : ℕ) (upper : UpperParts) → is_route_table table upper ≡ true → (table == gateways) ≡ false
+routes_apart table Unknown is = absurd (false≢true is)
+routes_apart table (Arp op sha spa tha tpa) is = absurd (false≢true is)
+routes_apart table (V4 header body) is = ap (λ (t : ℕ). t == gateways) (eqb-true table _ is)
+routes_apart table (V6 header body) is = ap (λ (t : ℕ). t == gateways) (eqb-true table _ is)
 
 -- ---- where no packet counts
 
@@ -133,10 +140,10 @@ module _ (m : PacketIn) (number : ℕ) (dp : DpId) (w : World) (c : Conn) (at : 
         | inl is ↦
             ap (λ (b : Bool). outs (if b then learn dp port vid frame.src w else rest).said) is
             ∙ elsewhere (learn dp port vid frame.src w) (learn_outs port vid frame) sources (eqb-true m.table sources is) refl (replies port vid frame)
-        | inr other ↦ ap (λ (b : Bool). outs (if b then learn dp port vid frame.src w else rest).said) other ∙ elim (cases_Bool (m.table == routes)) [
+        | inr other ↦ ap (λ (b : Bool). outs (if b then learn dp port vid frame.src w else rest).said) other ∙ elim (cases_Bool (is_route_table m.table frame.upper)) [
           | inl is ↦
               ap (λ (b : Bool). outs (if b then glean dp vid frame w else last).said) is
-              ∙ elsewhere (glean dp vid frame w) (glean_outs vid frame) routes (eqb-true m.table routes is) refl (replies port vid frame)
+              ∙ elsewhere (glean dp vid frame w) (glean_outs vid frame) m.table refl (routes_apart m.table frame.upper is) (replies port vid frame)
           | inr off ↦ ap (λ (b : Bool). outs (if b then glean dp vid frame w else last).said) off
               ∙ elim (m.table == gateways) as (λ (b : Bool). outs (if b then reply number dp port vid frame (hear_neighbour dp vid frame w) else w).said ≡ outs w.said ++ (if b then replies port vid frame else [])) [
                 | true ↦ reply_outs port vid frame
@@ -149,7 +156,7 @@ module _ (m : PacketIn) (number : ℕ) (dp : DpId) (w : World) (c : Conn) (at : 
       last = if m.table == gateways then reply number dp port vid frame (hear_neighbour dp vid frame w) else w
 
       rest : World
-      rest = if m.table == routes then glean dp vid frame w else last
+      rest = if is_route_table m.table frame.upper then glean dp vid frame w else last
 
   vid_outs : (port : ℕ) (frame : FrameParts) (o : Option ℕ)
       → outs (option_map_or (λ vid. packet_of_table m.table number dp port vid frame w) o w).said ≡ outs w.said ++ if_gateways (option_map_or (λ vid. replies port vid frame) o [])

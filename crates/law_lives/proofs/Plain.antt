@@ -2,7 +2,7 @@
 -- ECHO_REQUEST is said.
 use Rattle.std.proofs.Common.{◌≡◌, ℕ, zero, suc, ◌==◌, ◌&&◌, Bool, true, false, Option, Some, None, List, [], ◌∷◌, ◌++◌, Result, Ok, Err, codes, length, map, is_some, refl, if◌then◌else◌}
 use Rattle.std.specs.Option.{option_map_or}
-use Rattle.net_base.specs.declared.address.Ip4.{Ip4}
+use Rattle.conf_types.specs.declared.address.Ip.{Ip}
 use Rattle.net_base.specs.declared.address.Mac.{Mac}
 use Rattle.net_base.specs.declared.numbers.DpId.{DpId}
 use Rattle.of_match.specs.InPort.{in_port}
@@ -44,7 +44,7 @@ use Rattle.ctl_world.specs.Ends.{close, forget_lost}
 use Rattle.ctl_world.specs.Frames.{front}
 use Rattle.ctl_world.specs.Saying.{add_said, ask, packet_out, repeat, say}
 use Rattle.ctl_world.specs.World.{World, running, ups}
-use Rattle.ctl_packets.specs.Packets.{destination, gateways, glean, glean_at, glean_in, glean_to, hear_neighbour, hear_sender, is_for_gateway, is_resolved, learn, network_vlan, outgoing, packet_at, packet_by, packet_of_table, reply, routes, sources, want}
+use Rattle.ctl_packets.specs.Packets.{destination, gateways, glean, glean_at, glean_in, glean_to, hear_neighbour, hear_sender, is_for_gateway, is_resolved, is_route_table, learn, network_vlan, outgoing, packet_at, packet_by, packet_of_table, reply, sources, want}
 use Rattle.ctl_core.specs.Settlings.{ask_all, ask_due, ask_each, ask_on, batch, batch_on, batches, note_sent, say_batch, say_due, say_each, settle, take_due, wanted}
 use Rattle.ctl_life.specs.Life.{echo, has_frame, read, replace, says, take_dp, turn_away, unread}
 use Rattle.ctl_core.specs.Hearing.{begin, follow, hear_frame, hear_frames, hear_front, hear_next, hear_on, introduce, packet, unfit, want_gateways, want_in}
@@ -83,14 +83,14 @@ module _ (Shows : World → Type 0) (plain : Plainly Shows) where
       either Shows (is_up (ups w) dp port) (record w { hosts = learned w.conf w.hosts (record { dp = dp; port = port; vid = vid; mac = mac; learned = w.moment }) }) w
       (plain.hosts (learned w.conf w.hosts (record { dp = dp; port = port; vid = vid; mac = mac; learned = w.moment })) w is) is
 
-  glean_to_shows : (group : DpId) (vid : ℕ) (ip : Ip4) (w : World) → Shows w → Shows (glean_to group vid ip w)
+  glean_to_shows : (group : DpId) (vid : ℕ) (ip : Ip) (w : World) → Shows w → Shows (glean_to group vid ip w)
   glean_to_shows group vid ip w is =
-      with_any Shows (glean_in group ip w) (network_vlan w.conf vid ip.0) w (λ v. either Shows (is_resolved w.neighbours.neighbours group v ip.0) w (want group v ip w) is (plain.neighbours (after_told (stays true) (unresolved group v ip w.moment) w.neighbours) w is)) is
+      with_any Shows (glean_in group ip w) (network_vlan w.conf vid ip) w (λ v. either Shows (is_resolved w.neighbours.neighbours group v ip) w (want group v ip w) is (plain.neighbours (after_told (stays true) (unresolved group v ip w.moment) w.neighbours) w is)) is
 
   glean_shows : (dp : DpId) (vid : ℕ) (frame : FrameParts) (w : World) → Shows w → Shows (glean dp vid frame w)
   glean_shows dp vid frame w is =
       with_any Shows (glean_at dp frame w) (vlan_with w.conf.vlans vid) w
-      (λ v. let to : Ip4 → World = λ ip. glean_to (group_of w.conf dp) v.vid ip w in
+      (λ v. let to : Ip → World = λ ip. glean_to (group_of w.conf dp) v.vid ip w in
       either Shows (is_for_gateway v frame) (option_map_or to (destination frame.upper) w) w
       (with_any Shows to (destination frame.upper) w (λ ip. glean_to_shows (group_of w.conf dp) v.vid ip w is) is) is)
       is
@@ -107,8 +107,8 @@ module _ (Shows : World → Type 0) (plain : Plainly Shows) where
       let learned : World = learn dp port vid frame.src w in
       let gleaned : World = glean dp vid frame w in
       let answered : World = reply number dp port vid frame (hear_neighbour dp vid frame w) in
-      either Shows (table == sources) learned (if table == routes then gleaned else if table == gateways then answered else w) (learn_shows dp port vid frame.src w is)
-      (either Shows (table == routes) gleaned (if table == gateways then answered else w) (glean_shows dp vid frame w is)
+      either Shows (table == sources) learned (if is_route_table table frame.upper then gleaned else if table == gateways then answered else w) (learn_shows dp port vid frame.src w is)
+      (either Shows (is_route_table table frame.upper) gleaned (if table == gateways then answered else w) (glean_shows dp vid frame w is)
       (either Shows (table == gateways) answered w (reply_shows number dp port vid frame (hear_neighbour dp vid frame w) (hear_shows dp vid frame w is)) is))
 
   by_shows : (m : PacketIn) (number : ℕ) (dp : DpId) (w : World) (port : ℕ) → Shows w → Shows (packet_by m number dp w port)
