@@ -1,35 +1,37 @@
 -- An address that a route list leads into a network is that of no VIP and of no neighbour that is known; and one that is such, in a
 -- network of the routing set, is led into it.
-use Rattle.std.proofs.Common.{◌≡◌, ◌⊎◌, ℕ, zero, suc, ◌+◌, ◌-◌, ◌/◌, ◌^◌, ◌<◌, ◌≤◌, ◌==◌, ◌&&◌, not, Bool, true, false, is_some, Option, Some, None, List, [], ◌∷◌, ◌++◌, map, find, inl, inr, refl, sym, ap, ◌∙◌, subst, arith, eq-eqb, eqb-true, true≢false, if◌then◌else◌}
+use Rattle.std.proofs.Common.{◌≡◌, ℕ, zero, suc, ◌+◌, ◌-◌, ◌/◌, ◌^◌, ◌<◌, ◌≤◌, ◌==◌, ◌&&◌, ◌||◌, not, Bool, true, false, cond, is_some, Option, Some, None, List, [], ◌∷◌, ◌++◌, filter, map, find, inl, inr, refl, sym, ap, ◌∙◌, subst, arith, eq-eqb, eqb-true, true≢false, if◌then◌else◌}
 use Rattle.std.specs.Prelude.{Contains}
-use Rattle.std.specs.List.{AllByRecursion, cons_option, filter_map, flat_map, list_any}
+use Rattle.std.specs.List.{AllByRecursion, cons_option, filter_map, list_any}
 use Rattle.std.specs.Option.{option_map, option_map_or}
-use Rattle.std.proofs.lemmas.Bool.{and_from, and_parts, cases_Bool}
-use Rattle.std.proofs.lemmas.Nat.{shr-shr}
+use Rattle.std.proofs.lemmas.Bool.{and_from, and_parts, cases_Bool, eqb-false}
 use Rattle.net_base.specs.declared.address.Mac.{Mac}
-use Rattle.net_base.specs.declared.net4.Net4.{Net4}
 use Rattle.net_base.specs.declared.numbers.DpId.{DpId}
+use Rattle.conf_types.specs.declared.address.Ip.{Ip}
+use Rattle.conf_types.specs.declared.address.Net.{Net}
 use Rattle.conf_types.specs.declared.datapath.Dp.{Dp}
+use Rattle.conf_types.specs.declared.family.Family.{Family}
 use Rattle.conf_types.specs.declared.state.NeighRec.{NeighRec}
-use Rattle.conf_types.specs.declared.vlan.Route.{Route}
-use Rattle.conf_types.specs.declared.vlan.Router.{Router}
 use Rattle.conf_types.specs.declared.vlan.Vlan.{Vlan}
 use Rattle.conf_types.specs.Configuration.{Configuration, vlan_with}
+use Rattle.conf_types.specs.Families.{address_of, family_of, ip_value, is_same_family, is_same_ip, len_of, width_of}
 use Rattle.conf_types.specs.Groups.{group_of}
-use Rattle.conf_types.specs.Lists.{EachBefore, is_among}
-use Rattle.conf_types.specs.Networks.{AreApart, Holds, LiesIn, is_held, is_neighbour_address, is_vip}
-use Rattle.conf_types.specs.Routing.{router_with, routing_set, vips_in, vips_of}
+use Rattle.conf_types.specs.Lists.{EachBefore}
+use Rattle.conf_types.specs.Networks.{AreApart, Holds, is_held, is_link_local, is_neighbour_address, is_vip}
+use Rattle.conf_types.specs.Routing.{routing_set, vips_from, vips_of}
 use Rattle.conf_types.specs.State.{State}
-use Rattle.conf_types.specs.Valid.{IsRoute, IsVip, IsVlan, RoutesAreValid}
+use Rattle.conf_types.proofs.Families.{held, holds_own, is_held_there, is_of_family, is_that_ip, same_ip, shared}
 use Rattle.packet_way.specs.declared.routes.RouteItem.{RouteItem}
 use Rattle.packet_way.specs.declared.routes.Target.TheVariants.{Gateway, Hop, Network}
-use Rattle.packet_way.specs.Routes.{hop_item, item_holds, items_of, longest, neighbour_item, network_item, route_item, route_list, vip_item}
-use Rattle.ctl_packets.specs.Packets.{is_resolved, network_vlan}
-use Rattle.law_runs.specs.Members.{behind, head_of, in_flat, in_front, in_mapped, of_all, tail_of}
-use Rattle.plan_units.specs.Facts.{Found, apart_or_one, found, none_found, some_passes}
+use Rattle.packet_way.specs.Routes.{hop_item, item_holds, items_for, longest, neighbour_item, network_item, route_item, route_list, vip_item}
+use Rattle.route_compile.proofs.RoutingSet.{IsWide, wide_used}
+use Rattle.ctl_packets.specs.Packets.{is_reached, is_resolved, is_sought, network_vlan}
+use Rattle.law_runs.specs.Members.{behind, in_filtered, in_flat, in_front, in_mapped, head_of, of_all, tail_of}
+use Rattle.plan_units.specs.Facts.{apart_or_one, found, none_found, some_passes}
 use Rattle.plan_units.specs.Laws.{IsSetting}
-use Rattle.law_tables.proofs.Items.{From, InSet, Origin, any_true, of_neighbour, of_network, of_route, of_vip, one_of, origins, with_number}
+use Rattle.law_tables.proofs.Items.{From, InSet, Origin, any_true, in_item, not_inside, of_neighbour, of_network, of_route, of_vip, one_vip, origins, own, short, used, vips_are, whole_in}
 use Rattle.law_tables.proofs.Longest.{Chosen, chosen}
+use Rattle.law_gleaning.specs.Led.{routed_vips}
 
 -- ---- lists and prefixes
 
@@ -42,16 +44,18 @@ in_some {A = A} {B = B} f (z ∷ zs) x y (suc k, lt, is) some = by (f z) (in_som
     by None there = there
     by (Some it) there = tail_of it (filter_map f zs) y there
 
--- what has the same first bits has the same fewer first bits
-fewer_bits : (a b long short : ℕ) → short ≤ long → long ≤ 32 → a / 2 ^ (32 - long) ≡ b / 2 ^ (32 - long) → a / 2 ^ (32 - short) ≡ b / 2 ^ (32 - short)
-fewer_bits a b long short less most same =
-    let sum : (32 - long) + (long - short) ≡ 32 - short = omega (arith, less, most) in
-    ap (λ k. a / 2 ^ k) (sym sum) ∙ sym (shr-shr a (32 - long) (long - short)) ∙ ap (λ k. k / 2 ^ (long - short)) same ∙ shr-shr b (32 - long) (long - short) ∙ ap (λ k. b / 2 ^ k) sum
+-- an item holds its own address
+own_item : (to : Ip) (item : RouteItem) → to ≡ item.ip → item_holds to item ≡ true
+own_item to item same =
+    let behind_it = width_of item.ip - item.len in
+    and_from (is_same_family to item.ip) (ip_value to / 2 ^ behind_it == ip_value item.ip / 2 ^ behind_it) (is_of_family to item.ip (ap family_of same))
+    (eq-eqb (ip_value to / 2 ^ behind_it) (ip_value item.ip / 2 ^ behind_it) (ap (λ (a : Ip). ip_value a / 2 ^ behind_it) same))
 
-whole_of : (ip own : ℕ) → ip / 2 ^ (32 - 32) ≡ own / 2 ^ (32 - 32) → ip ≡ own
-whole_of ip own same = omega (arith, same)
+off : (b : Bool) → not b ≡ true → b ≡ false
+off true is = absurd (true≢false (sym is))
+off false is = refl
 
-module _ (conf : Configuration) (now : State) (d : Dp) (setting : IsSetting conf now d) (v : Vlan) (v_in : Contains conf.vlans v) (ip : ℕ) where
+module _ (conf : Configuration) (now : State) (d : Dp) (setting : IsSetting conf now d) (v : Vlan) (v_in : Contains conf.vlans v) (to : Ip) where
   abbrev group : DpId
   group = group_of conf d.id
 
@@ -64,158 +68,209 @@ module _ (conf : Configuration) (now : State) (d : Dp) (setting : IsSetting conf
   abbrev In : Vlan → Type 0
   In w = InSet conf now d setting v v_in w
 
-  -- ---- the VLANs of the routing set
+  abbrev vips : Vlan → List Net
+  vips w = used conf now d setting v v_in w
 
-  vips_are : (w : Vlan) → In w → vips_of conf w.vid ≡ w.vips
-  vips_are w s = ap (λ (o : Option Vlan). option_map_or (λ (x : Vlan). x.vips) o []) s.is_vlan
+  -- ---- the items of the VLANs of the routing set
 
-  vip_is : (w : Vlan) → In w → (vip : Net4) → Contains w.vips vip → IsVip vip
-  vip_is w s vip c = of_all IsVip w.vips (of_all IsVlan conf.vlans setting.valid.vlans.each w (found (λ (y : Vlan). y.vid == w.vid) conf.vlans w s.is_vlan).within).vips vip c
-
-  apart : EachBefore AreApart (vips_in conf set)
-  apart = of_all (λ (u : Vlan). EachBefore AreApart (vips_in conf (routing_set conf u.vid))) conf.vlans setting.valid.routing.vips v v_in
-
-  -- networks that have one address are of one VLAN
-  one_number : (n m : ℕ) (a b : Net4) → Contains set n → Contains (vips_of conf n) a → Contains set m → Contains (vips_of conf m) b → Holds a ip → Holds b ip → n ≡ m
-  one_number n m a b cn ca cm cb in_a in_b =
-      let pair : with_number (vips_of conf) n a ≡ with_number (vips_of conf) m b = one_of (vips_of conf) AreApart set apart n m a b cn ca cm cb (λ off. off ip in_a in_b) (λ off. off ip in_b in_a) in
-      ap (λ (t : ℕ × Net4). t.0) pair
-
-  one_vid : (w x : Vlan) → In w → In x → (a b : Net4) → Contains w.vips a → Contains x.vips b → Holds a ip → Holds b ip → w.vid ≡ x.vid
-  one_vid w x s r a b ca cb in_a in_b =
-      one_number w.vid x.vid a b s.among (subst (λ (l : List Net4). Contains l a) (sym (vips_are w s)) ca) r.among (subst (λ (l : List Net4). Contains l b) (sym (vips_are x r)) cb) in_a in_b
-
-  in_items : (w : Vlan) → In w → (item : RouteItem) → Contains (items_of now.neighbours group w) item → Contains items item
+  in_items : (w : Vlan) → In w → (item : RouteItem) → Contains (items_for now.neighbours group v.vid w) item → Contains items item
   unfolding route_list
   in_items w s item c =
-      in_flat (λ n. option_map_or (items_of now.neighbours group) (vlan_with conf.vlans n) []) set w.vid item s.among
-      (subst (λ (o : Option Vlan). Contains (option_map_or (items_of now.neighbours group) o []) item) (sym s.is_vlan) c)
+      in_flat (λ n. option_map_or (items_for now.neighbours group v.vid) (vlan_with conf.vlans n) []) set w.vid item s.among
+      (subst (λ (o : Option Vlan). Contains (option_map_or (items_for now.neighbours group v.vid) o []) item) (sym s.is_vlan) c)
 
   module _ (w : Vlan) (s : In w) where
     abbrev vip_items : List RouteItem
-    vip_items = map vip_item w.vips
+    vip_items = map vip_item (vips w)
 
     abbrev near_items : List RouteItem
-    near_items = filter_map (neighbour_item group w) now.neighbours
+    near_items = filter_map (neighbour_item group w (vips w)) now.neighbours
 
     abbrev network_items : List RouteItem
-    network_items = map network_item w.vips
+    network_items = map network_item (vips w)
 
     abbrev far_items : List RouteItem
     far_items = filter_map (route_item now.neighbours group w) w.routes
 
-    has_vip : (vip : Net4) → Contains w.vips vip → Contains items (vip_item vip)
+    has_vip : (vip : Net) → Contains (vips w) vip → Contains items (vip_item vip)
     has_vip vip c =
         in_items w s (vip_item vip)
-        (in_front (vip_items ++ near_items ++ network_items) far_items (vip_item vip) (in_front (vip_items ++ near_items) network_items (vip_item vip) (in_front vip_items near_items (vip_item vip) (in_mapped vip_item w.vips vip c))))
+        (in_front (vip_items ++ near_items ++ network_items) far_items (vip_item vip) (in_front (vip_items ++ near_items) network_items (vip_item vip) (in_front vip_items near_items (vip_item vip) (in_mapped vip_item (vips w) vip c))))
 
-    has_near : (n : NeighRec) (item : RouteItem) → Contains now.neighbours n → neighbour_item group w n ≡ Some item → Contains items item
+    has_near : (n : NeighRec) (item : RouteItem) → Contains now.neighbours n → neighbour_item group w (vips w) n ≡ Some item → Contains items item
     has_near n item c is =
         in_items w s item
-        (in_front (vip_items ++ near_items ++ network_items) far_items item (in_front (vip_items ++ near_items) network_items item (behind vip_items near_items item (in_some (neighbour_item group w) now.neighbours n item c is))))
+        (in_front (vip_items ++ near_items ++ network_items) far_items item (in_front (vip_items ++ near_items) network_items item (behind vip_items near_items item (in_some (neighbour_item group w (vips w)) now.neighbours n item c is))))
 
-    has_network : (vip : Net4) → Contains w.vips vip → Contains items (network_item vip)
+    has_network : (vip : Net) → Contains (vips w) vip → Contains items (network_item vip)
     has_network vip c =
         in_items w s (network_item vip)
-        (in_front (vip_items ++ near_items ++ network_items) far_items (network_item vip) (behind (vip_items ++ near_items) network_items (network_item vip) (in_mapped network_item w.vips vip c)))
+        (in_front (vip_items ++ near_items ++ network_items) far_items (network_item vip) (behind (vip_items ++ near_items) network_items (network_item vip) (in_mapped network_item (vips w) vip c)))
+
+  -- ---- networks that packets of the VLAN are routed by
+
+  its_own : (w : Vlan) (vip : Net) → Contains (vips w) vip → Contains w.vips vip
+  its_own w vip c = own conf now d setting v v_in w vip c
+
+  in_conf : (w : Vlan) → In w → (vip : Net) → Contains (vips w) vip → Contains (vips_of conf w.vid) vip
+  in_conf w s vip c = subst (λ (l : List Net). Contains l vip) (sym (vips_are conf now d setting v v_in w s)) (its_own w vip c)
+
+  used_test : (w : Vlan) (vip : Net) → Contains (vips w) vip → (w.vid == v.vid || not (is_link_local vip)) ≡ true
+  used_test w vip c = by (w.vid == v.vid) refl
+    where
+      by : (t : Bool) → (w.vid == v.vid) ≡ t → (w.vid == v.vid || not (is_link_local vip)) ≡ true
+      by true same = ap (λ b. b || not (is_link_local vip)) same
+      by false apart = ap (λ b. b || not (is_link_local vip)) apart ∙ ap not (of_all IsWide (vips w) (wide_used v.vid w (eqb-false w.vid v.vid apart)) vip c)
+
+  into_used : (w : Vlan) (vip : Net) → Contains w.vips vip → (w.vid == v.vid || not (is_link_local vip)) ≡ true → Contains (vips w) vip
+  into_used w vip c test = by (w.vid == v.vid) test
+    where
+      by : (t : Bool) → (t || not (is_link_local vip)) ≡ true → Contains (cond t w.vips (filter (λ (y : Net). not (is_link_local y)) w.vips)) vip
+      by true is = c
+      by false is = in_filtered (λ (y : Net). not (is_link_local y)) w.vips vip c is
+
+  reached : (w : Vlan) (vip : Net) → Contains (vips w) vip → Holds vip to → is_reached v.vid w to ≡ true
+  reached w vip c holds =
+      any_true (λ (x : Net). is_held x to && (w.vid == v.vid || not (is_link_local x))) w.vips vip (its_own w vip c)
+      (and_from (is_held vip to) (w.vid == v.vid || not (is_link_local vip)) (is_held_there vip to holds) (used_test w vip c))
+
+  -- where the address is sought, and what is so of it there
+  record Sought (n : ℕ) : Type 0 where
+    vlan : Vlan
+    in_set : In vlan
+    vid : vlan.vid ≡ n
+    net : Net
+    net_in : Contains (vips vlan) net
+    holds : Holds net to
+    free : is_vip (vips_of conf n) to ≡ false
+
+  sought : (n : ℕ) → Contains set n → is_sought conf v.vid to n ≡ true → Sought n
+  sought n among is =
+      let parts = and_parts (is_neighbour_address (vips_of conf n) to) (option_map_or (λ (x : Vlan). is_reached v.vid x to) (vlan_with conf.vlans n) false) is in
+      let free = off (is_vip (vips_of conf n) to) (and_parts (list_any (λ (x : Net). is_held x to) (vips_of conf n)) (not (is_vip (vips_of conf n) to)) parts.0).1 in
+      by (vlan_with conf.vlans n) refl parts.1 free
+    where
+      by : (o : Option Vlan) → vlan_with conf.vlans n ≡ o → option_map_or (λ (x : Vlan). is_reached v.vid x to) o false ≡ true → is_vip (vips_of conf n) to ≡ false → Sought n
+      by None none none_reached free = absurd (true≢false (sym none_reached))
+      by (Some w) some reached_there free =
+          let number : w.vid ≡ n = eqb-true w.vid n (found (λ (y : Vlan). y.vid == n) conf.vlans w some).passes in
+          let it = some_passes (λ (x : Net). is_held x to && (w.vid == v.vid || not (is_link_local x))) w.vips reached_there in
+          let tests = and_parts (is_held it.0 to) (w.vid == v.vid || not (is_link_local it.0)) (it.1).passes in
+          record {
+            vlan = w;
+            in_set = record { among = subst (Contains set) (sym number) among; is_vlan = ap (vlan_with conf.vlans) number ∙ some };
+            vid = number;
+            net = it.0;
+            net_in = into_used w it.0 (it.1).within tests.1;
+            holds = held it.0 to tests.0;
+            free = free;
+          }
 
   -- ---- an address that is led into a network
 
-  module _ (w : Vlan) (s : In w) (vip : Net4) (c : Contains w.vips vip) (holds : Holds vip ip) (most : AllByRecursion (λ (x : RouteItem). item_holds ip x ≡ true → x.len ≤ vip.len) items) where
-    too_long : {P : Type 0} (item : RouteItem) → Contains items item → item_holds ip item ≡ true → item.len ≡ 32 → P
+  module _ (w : Vlan) (s : In w) (vip : Net) (c : Contains (vips w) vip) (holds : Holds vip to) (most : AllByRecursion (λ (x : RouteItem). item_holds to x ≡ true → x.len ≤ len_of vip) items) where
+    too_long : {P : Type 0} (item : RouteItem) → Contains items item → item_holds to item ≡ true → item.len ≡ width_of item.ip → P
     too_long item there holds_it whole =
-        let longer : item.len ≤ vip.len = of_all (λ (x : RouteItem). item_holds ip x ≡ true → x.len ≤ vip.len) items most item there holds_it in
-        let short : vip.len ≤ 31 = (vip_is w s vip c).most in
-        absurd (omega (arith, longer, short, whole))
+        let longer : item.len ≤ len_of vip = of_all (λ (x : RouteItem). item_holds to x ≡ true → x.len ≤ len_of vip) items most item there holds_it in
+        let less : len_of vip < width_of (address_of vip) = short conf now d setting v v_in w s vip c in
+        let wide : width_of item.ip ≡ width_of (address_of vip) = ap (λ (f : Family). f.width) (sym (in_item to item holds_it).family ∙ holds.family) in
+        absurd (omega (arith, longer, less, whole, wide))
 
-    no_vip : is_vip (vips_of conf w.vid) ip ≡ false
+    no_vip : is_vip (vips_of conf w.vid) to ≡ false
     no_vip =
-        elim (cases_Bool (is_vip (vips_of conf w.vid) ip)) [
+        elim (cases_Bool (is_vip (vips_of conf w.vid) to)) [
           | inl is ↦
-              let it = some_passes (λ (x : Net4). x.ip.0 == ip) (vips_of conf w.vid) is in
-              let there : Contains w.vips it.0 = subst (λ (l : List Net4). Contains l it.0) (vips_are w s) (it.1).within in
-              let same : ip ≡ (it.0).ip.0 = sym (eqb-true (it.0).ip.0 ip (it.1).passes) in
-              too_long (vip_item it.0) (has_vip w s it.0 there) (eq-eqb (ip / 2 ^ (32 - 32)) ((it.0).ip.0 / 2 ^ (32 - 32)) (ap (λ k. k / 2 ^ (32 - 32)) same)) refl
+              let it = some_passes (λ (x : Net). is_same_ip (address_of x) to) (vips_of conf w.vid) is in
+              let there : Contains w.vips it.0 = subst (λ (l : List Net). Contains l it.0) (vips_are conf now d setting v v_in w s) (it.1).within in
+              let same : address_of it.0 ≡ to = same_ip (address_of it.0) to (it.1).passes in
+              let in_it : Holds it.0 to = subst (Holds it.0) same (holds_own it.0) in
+              let w_in = (found (λ (y : Vlan). y.vid == w.vid) conf.vlans w s.is_vlan).within in
+              let one : it.0 ≡ vip = apart_or_one AreApart w.vips (of_all (λ (u : Vlan). EachBefore AreApart u.vips) conf.vlans setting.valid.routing.own_vips w w_in) it.0 vip there (its_own w vip c)
+              (λ apart. apart to in_it holds) (λ apart. apart to holds in_it) in
+              too_long (vip_item vip) (has_vip w s vip c) (own_item to (vip_item vip) (sym same ∙ ap address_of one)) refl
           | inr other ↦ other
         ]
 
-    no_neighbour : is_resolved now.neighbours group w.vid ip ≡ false
+    no_neighbour : is_resolved now.neighbours group w.vid to ≡ false
     no_neighbour =
-        elim (cases_Bool (is_resolved now.neighbours group w.vid ip)) [
-          | inl is ↦ let it = some_passes (λ (n : NeighRec). n.group.0 == group.0 && n.vid == w.vid && n.ip.0 == ip && is_some n.mac) now.neighbours is in known it.0 (it.1).within (it.1).passes
+        elim (cases_Bool (is_resolved now.neighbours group w.vid to)) [
+          | inl is ↦ let it = some_passes (λ (n : NeighRec). n.group.0 == group.0 && n.vid == w.vid && is_same_ip n.ip to && is_some n.mac) now.neighbours is in known it.0 (it.1).within (it.1).passes
           | inr other ↦ other
         ]
       where
-        known : {P : Type 0} (n : NeighRec) → Contains now.neighbours n → (n.group.0 == group.0 && n.vid == w.vid && n.ip.0 == ip && is_some n.mac) ≡ true → P
+        known : {P : Type 0} (n : NeighRec) → Contains now.neighbours n → (n.group.0 == group.0 && n.vid == w.vid && is_same_ip n.ip to && is_some n.mac) ≡ true → P
         known n there is = by n.mac refl whole.1
           where
-            whole : ((n.group.0 == group.0 && n.vid == w.vid && n.ip.0 == ip) ≡ true) × (is_some n.mac ≡ true)
-            whole = and_parts (n.group.0 == group.0 && n.vid == w.vid && n.ip.0 == ip) (is_some n.mac) is
+            whole : ((n.group.0 == group.0 && n.vid == w.vid && is_same_ip n.ip to) ≡ true) × (is_some n.mac ≡ true)
+            whole = and_parts (n.group.0 == group.0 && n.vid == w.vid && is_same_ip n.ip to) (is_some n.mac) is
 
-            place : ((n.group.0 == group.0 && n.vid == w.vid) ≡ true) × ((n.ip.0 == ip) ≡ true)
-            place = and_parts (n.group.0 == group.0 && n.vid == w.vid) (n.ip.0 == ip) whole.0
+            place : ((n.group.0 == group.0 && n.vid == w.vid) ≡ true) × (is_same_ip n.ip to ≡ true)
+            place = and_parts (n.group.0 == group.0 && n.vid == w.vid) (is_same_ip n.ip to) whole.0
 
-            same : ip ≡ n.ip.0
-            same = sym (eqb-true n.ip.0 ip place.1)
+            same : n.ip ≡ to
+            same = same_ip n.ip to place.1
 
-            held : list_any (λ (x : Net4). is_held x n.ip.0) w.vips ≡ true
-            held = any_true (λ (x : Net4). is_held x n.ip.0) w.vips vip c (eq-eqb (n.ip.0 / 2 ^ (32 - vip.len)) (vip.ip.0 / 2 ^ (32 - vip.len)) (ap (λ k. k / 2 ^ (32 - vip.len)) (sym same) ∙ holds))
+            in_vip : list_any (λ (x : Net). is_held x n.ip) (vips w) ≡ true
+            in_vip = any_true (λ (x : Net). is_held x n.ip) (vips w) vip c (is_held_there vip n.ip (subst (Holds vip) (sym same) holds))
 
-            tested : (n.group.0 == group.0 && n.vid == w.vid && list_any (λ (x : Net4). is_held x n.ip.0) w.vips) ≡ true
-            tested = and_from (n.group.0 == group.0 && n.vid == w.vid) (list_any (λ (x : Net4). is_held x n.ip.0) w.vips) place.0 held
+            tested : (n.group.0 == group.0 && n.vid == w.vid && list_any (λ (x : Net). is_held x n.ip) (vips w)) ≡ true
+            tested = and_from (n.group.0 == group.0 && n.vid == w.vid) (list_any (λ (x : Net). is_held x n.ip) (vips w)) place.0 in_vip
 
             by : {P : Type 0} (o : Option Mac) → n.mac ≡ o → is_some n.mac ≡ true → P
             by None none some = absurd (true≢false (sym some ∙ ap (λ (o : Option Mac). is_some o) none))
             by (Some mac) is_mac some =
-                let item : neighbour_item group w n ≡ Some (hop_item w n.ip 32 mac) =
-                ap (λ (b : Bool). option_map (hop_item w n.ip 32) (if b then n.mac else None)) tested ∙ ap (λ (o : Option Mac). option_map (hop_item w n.ip 32) o) is_mac in
-                too_long (hop_item w n.ip 32 mac) (has_near w s n (hop_item w n.ip 32 mac) there item) (eq-eqb (ip / 2 ^ (32 - 32)) (n.ip.0 / 2 ^ (32 - 32)) (ap (λ k. k / 2 ^ (32 - 32)) same)) refl
+                let near : RouteItem = hop_item w n.ip (width_of n.ip) mac in
+                let item : neighbour_item group w (vips w) n ≡ Some near =
+                ap (λ (b : Bool). option_map (hop_item w n.ip (width_of n.ip)) (if b then n.mac else None)) tested ∙ ap (λ (o : Option Mac). option_map (hop_item w n.ip (width_of n.ip)) o) is_mac in
+                too_long near (has_near w s n near there item) (own_item to near (sym same)) refl
 
-    there : Contains (vips_of conf w.vid) vip
-    there = subst (λ (l : List Net4). Contains l vip) (sym (vips_are w s)) c
-
-    address : is_neighbour_address (vips_of conf w.vid) ip ≡ true
+    address : is_neighbour_address (vips_of conf w.vid) to ≡ true
     address =
-        and_from (list_any (λ (x : Net4). is_held x ip) (vips_of conf w.vid)) (not (is_vip (vips_of conf w.vid) ip))
-        (any_true (λ (x : Net4). is_held x ip) (vips_of conf w.vid) vip there (eq-eqb (ip / 2 ^ (32 - vip.len)) (vip.ip.0 / 2 ^ (32 - vip.len)) holds)) (ap not no_vip)
+        and_from (list_any (λ (x : Net). is_held x to) (vips_of conf w.vid)) (not (is_vip (vips_of conf w.vid) to))
+        (any_true (λ (x : Net). is_held x to) (vips_of conf w.vid) vip (in_conf w s vip c) (is_held_there vip to holds)) (ap not no_vip)
 
-    in_network : network_vlan conf v.vid ip ≡ Some w.vid
-    in_network = by (find (λ n. is_neighbour_address (vips_of conf n) ip) set) refl
+    is_there : is_sought conf v.vid to w.vid ≡ true
+    is_there =
+        and_from (is_neighbour_address (vips_of conf w.vid) to) (option_map_or (λ (x : Vlan). is_reached v.vid x to) (vlan_with conf.vlans w.vid) false) address
+        (ap (λ (o : Option Vlan). option_map_or (λ (x : Vlan). is_reached v.vid x to) o false) s.is_vlan ∙ reached w vip c holds)
+
+    in_network : network_vlan conf v.vid to ≡ Some w.vid
+    in_network = by (find (is_sought conf v.vid to) set) refl
       where
-        by : (o : Option ℕ) → find (λ n. is_neighbour_address (vips_of conf n) ip) set ≡ o → o ≡ Some w.vid
-        by None none = absurd (true≢false (sym address ∙ of_all (λ n. is_neighbour_address (vips_of conf n) ip ≡ false) set (none_found (λ n. is_neighbour_address (vips_of conf n) ip) set none) w.vid s.among))
+        by : (o : Option ℕ) → find (is_sought conf v.vid to) set ≡ o → o ≡ Some w.vid
+        by None none = absurd (true≢false (sym is_there ∙ of_all (λ n. is_sought conf v.vid to n ≡ false) set (none_found (is_sought conf v.vid to) set none) w.vid s.among))
         by (Some n) is =
-            let at = found (λ k. is_neighbour_address (vips_of conf k) ip) set n is in
-            let it = some_passes (λ (x : Net4). is_held x ip) (vips_of conf n) (and_parts (list_any (λ (x : Net4). is_held x ip) (vips_of conf n)) (not (is_vip (vips_of conf n) ip)) at.passes).0 in
-            let in_it : Holds it.0 ip = eqb-true (ip / 2 ^ (32 - (it.0).len)) ((it.0).ip.0 / 2 ^ (32 - (it.0).len)) (it.1).passes in
-            ap (λ (k : ℕ). Some k) (one_number n w.vid it.0 vip at.within (it.1).within s.among there in_it holds)
+            let at = found (is_sought conf v.vid to) set n is in
+            let it = sought n at.within at.passes in
+            let pair = one_vip conf now d setting v v_in it.vlan w it.in_set s it.net vip it.net_in c to it.holds holds in
+            ap (λ (k : ℕ). Some k) (sym it.vid ∙ ap (λ (t : ℕ × Net). t.0) pair)
 
   pub record Asked : Type 0 where
     pub other : ℕ
     pub routed : Contains set other
-    pub vip : Net4
-    pub here : Contains (vips_of conf other) vip
-    pub holds : Holds vip ip
-    pub network : network_vlan conf v.vid ip ≡ Some other
-    pub unknown : is_resolved now.neighbours group other ip ≡ false
+    pub vip : Net
+    pub here : Contains (routed_vips conf v.vid other) vip
+    pub holds : Holds vip to
+    pub network : network_vlan conf v.vid to ≡ Some other
+    pub unknown : is_resolved now.neighbours group other to ≡ false
 
-  pub asked : (item : RouteItem) → longest items ip ≡ Some item → item.to ≡ Network → Asked
-  asked item is to =
-      let picked : Chosen items ip (Some item) = subst (Chosen items ip) is (chosen items ip) in
+  pub asked : (item : RouteItem) → longest items to ≡ Some item → item.to ≡ Network → Asked
+  asked item is leads =
+      let picked : Chosen items to (Some item) = subst (Chosen items to) is (chosen items to) in
       let origin = of_all (Origin conf now d setting v v_in) items (origins conf now d setting v v_in) item picked.0 in
-      by origin.vlan origin.in_set item origin.way to picked.1 picked.2
+      by origin.vlan origin.in_set item origin.way leads picked.1 picked.2
     where
-      by : (w : Vlan) → In w → (it : RouteItem) → From conf now d setting v v_in w it → it.to ≡ Network → item_holds ip it ≡ true → AllByRecursion (λ (x : RouteItem). item_holds ip x ≡ true → x.len ≤ it.len) items → Asked
-      by w s _ (of_vip vip c) to holds most = absurd (let e : Gateway ≡ Network = to in cc)
-      by w s _ (of_neighbour n mac near six) to holds most = absurd (let e : Hop w.vid w.mac mac ≡ Network = to in cc)
-      by w s _ (of_route route mac c is six) to holds most = absurd (let e : Hop w.vid w.mac mac ≡ Network = to in cc)
-      by w s _ (of_network vip c) to holds most =
-          let in_vip : Holds vip ip = eqb-true (ip / 2 ^ (32 - vip.len)) (vip.ip.0 / 2 ^ (32 - vip.len)) holds in
+      by : (w : Vlan) → In w → (it : RouteItem) → From conf now d setting v v_in w it → it.to ≡ Network → item_holds to it ≡ true → AllByRecursion (λ (x : RouteItem). item_holds to x ≡ true → x.len ≤ it.len) items → Asked
+      by w s _ (of_vip vip c) leads holds most = absurd (let e : Gateway ≡ Network = leads in cc)
+      by w s _ (of_neighbour n mac near six) leads holds most = absurd (let e : Hop w.vid w.mac mac ≡ Network = leads in cc)
+      by w s _ (of_route route mac c is six) leads holds most = absurd (let e : Hop w.vid w.mac mac ≡ Network = leads in cc)
+      by w s _ (of_network vip c) leads holds most =
+          let in_vip : Holds vip to = held vip to holds in
           record {
             other = w.vid;
             routed = s.among;
             vip = vip;
-            here = there w s vip c in_vip most;
+            here = subst (λ (o : Option Vlan). Contains (option_map_or (vips_from v.vid) o []) vip) (sym s.is_vlan) c;
             holds = in_vip;
             network = in_network w s vip c in_vip most;
             unknown = no_neighbour w s vip c in_vip most;
@@ -223,85 +278,47 @@ module _ (conf : Configuration) (now : State) (d : Dp) (setting : IsSetting conf
 
   -- ---- an address in a network, of no VIP, and of no neighbour that is known
 
-  same_set : (w : Vlan) → In w → routing_set conf w.vid ≡ set
-  same_set w s = by (router_with conf.routers v.vid) refl s.among
-    where
-      one : (r : Router) → Contains conf.routers r → Contains r.vlans w.vid → (o : Option Router) → router_with conf.routers w.vid ≡ o → option_map_or (λ (x : Router). x.vlans) o (w.vid ∷ []) ≡ r.vlans
-      one r c among None none =
-          absurd (true≢false (sym (any_true (λ n. n == w.vid) r.vlans w.vid among (eq-eqb w.vid w.vid refl)) ∙ of_all (λ (q : Router). is_among q.vlans w.vid ≡ false) conf.routers (none_found (λ (q : Router). is_among q.vlans w.vid) conf.routers none) r c))
-      one r c among (Some q) is =
-          let at = found (λ (x : Router). is_among x.vlans w.vid) conf.routers q is in
-          let it = some_passes (λ n. n == w.vid) q.vlans at.passes in
-          let in_q : Contains q.vlans w.vid = subst (Contains q.vlans) (eqb-true it.0 w.vid (it.1).passes) (it.1).within in
-          let same : q ≡ r = apart_or_one (λ (a b : Router). AllByRecursion (λ vid. is_among b.vlans vid ≡ false) a.vlans) conf.routers setting.valid.routing.apart q r at.within c
-          (λ off. true≢false (sym (any_true (λ n. n == w.vid) r.vlans w.vid among (eq-eqb w.vid w.vid refl)) ∙ of_all (λ vid. is_among r.vlans vid ≡ false) q.vlans off w.vid in_q))
-          (λ off. true≢false (sym at.passes ∙ of_all (λ vid. is_among q.vlans vid ≡ false) r.vlans off w.vid among)) in
-          ap (λ (x : Router). x.vlans) same
-
-      by : (o : Option Router) → router_with conf.routers v.vid ≡ o → Contains (option_map_or (λ (r : Router). r.vlans) o (v.vid ∷ [])) w.vid
-          → routing_set conf w.vid ≡ option_map_or (λ (r : Router). r.vlans) o (v.vid ∷ [])
-      by None is (zero, lt, same) = ap (routing_set conf) (sym same) ∙ ap (λ (o : Option Router). option_map_or (λ (r : Router). r.vlans) o (v.vid ∷ [])) is
-      by None is (suc k, lt, same) = absurd (omega (arith, lt))
-      by (Some r) is among = one r (found (λ (x : Router). is_among x.vlans v.vid) conf.routers r is).within among (router_with conf.routers w.vid) refl
-
-  module _ (w : Vlan) (s : In w) (vip : Net4) (c : Contains w.vips vip) (holds : Holds vip ip) (free : is_vip (vips_of conf w.vid) ip ≡ false) (unknown : is_resolved now.neighbours group w.vid ip ≡ false) where
+  module _ (w : Vlan) (s : In w) (vip : Net) (c : Contains (vips w) vip) (holds : Holds vip to) (free : is_vip (vips_of conf w.vid) to ≡ false) (unknown : is_resolved now.neighbours group w.vid to ≡ false) where
     -- no other item that has the address is as long
-    led_by : (x : Vlan) → In x → (item : RouteItem) → From conf now d setting v v_in x item → item_holds ip item ≡ true → vip.len ≤ item.len → item.to ≡ Network
+    led_by : (x : Vlan) → In x → (item : RouteItem) → From conf now d setting v v_in x item → item_holds to item ≡ true → len_of vip ≤ item.len → item.to ≡ Network
     led_by x r _ (of_network other e) in_it longer = refl
     led_by x r _ (of_vip other e) in_it longer =
-        let same : ip ≡ other.ip.0 = whole_of ip other.ip.0 (eqb-true (ip / 2 ^ (32 - 32)) (other.ip.0 / 2 ^ (32 - 32)) in_it) in
-        let vid : x.vid ≡ w.vid = one_vid x w r s other vip e c (ap (λ k. k / 2 ^ (32 - other.len)) same) holds in
-        let named : Contains (vips_of conf w.vid) other = subst (λ (n : ℕ). Contains (vips_of conf n) other) vid (subst (λ (l : List Net4). Contains l other) (sym (vips_are x r)) e) in
-        absurd (true≢false (sym (any_true (λ (y : Net4). y.ip.0 == ip) (vips_of conf w.vid) other named (eq-eqb other.ip.0 ip (sym same))) ∙ free))
+        let same : to ≡ address_of other = whole_in to (address_of other) (width_of (address_of other)) (in_item to (vip_item other) in_it) refl in
+        let pair = one_vip conf now d setting v v_in x w r s other vip e c to (subst (Holds other) (sym same) (holds_own other)) holds in
+        let one : to ≡ address_of vip = same ∙ ap (λ (t : ℕ × Net). address_of t.1) pair in
+        absurd (true≢false (sym (any_true (λ (y : Net). is_same_ip (address_of y) to) (vips_of conf w.vid) vip (in_conf w s vip c) (is_that_ip (address_of vip) to (sym one))) ∙ free))
     led_by x r _ (of_neighbour n mac near six) in_it longer =
-        let same : ip ≡ n.ip.0 = whole_of ip n.ip.0 (eqb-true (ip / 2 ^ (32 - 32)) (n.ip.0 / 2 ^ (32 - 32)) in_it) in
-        let vid : x.vid ≡ w.vid = one_vid x w r s near.vip vip near.vip_in c (ap (λ k. k / 2 ^ (32 - near.vip.len)) same ∙ near.held) holds in
-        let tested : (n.group.0 == group.0 && n.vid == w.vid && n.ip.0 == ip && is_some n.mac) ≡ true =
-        and_from (n.group.0 == group.0 && n.vid == w.vid && n.ip.0 == ip) (is_some n.mac)
-        (and_from (n.group.0 == group.0 && n.vid == w.vid) (n.ip.0 == ip)
+        let same : to ≡ n.ip = whole_in to n.ip (width_of n.ip) (in_item to (hop_item x n.ip (width_of n.ip) mac) in_it) refl in
+        let pair = one_vip conf now d setting v v_in x w r s near.vip vip near.vip_in c to (subst (Holds near.vip) (sym same) near.held) holds in
+        let vid : x.vid ≡ w.vid = ap (λ (t : ℕ × Net). t.0) pair in
+        let tested : (n.group.0 == group.0 && n.vid == w.vid && is_same_ip n.ip to && is_some n.mac) ≡ true =
+        and_from (n.group.0 == group.0 && n.vid == w.vid && is_same_ip n.ip to) (is_some n.mac)
+        (and_from (n.group.0 == group.0 && n.vid == w.vid) (is_same_ip n.ip to)
         (and_from (n.group.0 == group.0) (n.vid == w.vid) (eq-eqb n.group.0 group.0 near.of_group) (eq-eqb n.vid w.vid (near.vid ∙ vid)))
-        (eq-eqb n.ip.0 ip (sym same)))
+        (is_that_ip n.ip to (sym same)))
         (ap (λ (o : Option Mac). is_some o) near.is_mac) in
-        absurd (true≢false (sym (any_true (λ (m : NeighRec). m.group.0 == group.0 && m.vid == w.vid && m.ip.0 == ip && is_some m.mac) now.neighbours n near.within tested) ∙ unknown))
+        absurd (true≢false (sym (any_true (λ (m : NeighRec). m.group.0 == group.0 && m.vid == w.vid && is_same_ip m.ip to && is_some m.mac) now.neighbours n near.within tested) ∙ unknown))
     led_by x r _ (of_route route mac e is six) in_it longer =
-        let x_in = (found (λ (y : Vlan). y.vid == x.vid) conf.vlans x r.is_vlan).within in
-        let valid = of_all IsVlan conf.vlans setting.valid.vlans.each x x_in in
-        let short : route.dst.len ≤ 32 = (of_all IsRoute x.routes valid.routes route e).length in
-        let outside = of_all (λ (q : Route). AllByRecursion (λ vip. LiesIn q.dst vip → ⊥) (vips_in conf (routing_set conf x.vid))) x.routes (of_all (RoutesAreValid conf) conf.vlans setting.valid.routing.each x x_in).outside route e in
-        let named : Contains (vips_in conf (routing_set conf x.vid)) vip =
-        subst (λ (ns : List ℕ). Contains (vips_in conf ns) vip) (sym (same_set x r)) (in_flat (vips_of conf) set w.vid vip s.among (subst (λ (l : List Net4). Contains l vip) (sym (vips_are w s)) c)) in
-        let bits = fewer_bits ip route.dst.ip.0 route.dst.len vip.len longer short (eqb-true (ip / 2 ^ (32 - route.dst.len)) (route.dst.ip.0 / 2 ^ (32 - route.dst.len)) in_it) in
-        absurd (of_all (λ vip. LiesIn route.dst vip → ⊥) (vips_in conf (routing_set conf x.vid)) outside vip named (record { longer = longer; inside = sym bits ∙ holds }))
+        let prefix = in_item to (hop_item x (address_of route.dst) (len_of route.dst) mac) in_it in
+        let in_route : Holds route.dst to = record { family = prefix.family; prefix = prefix.bits } in
+        not_inside conf now d setting v v_in x w r s route vip e c longer (shared vip route.dst to longer holds in_route)
 
-    led_into : (item : RouteItem) × (longest items ip ≡ Some item) × (item.to ≡ Network)
-    led_into = by (longest items ip) refl (chosen items ip)
+    led_into : (item : RouteItem) × (longest items to ≡ Some item) × (item.to ≡ Network)
+    led_into = by (longest items to) refl (chosen items to)
       where
-        in_network_item : item_holds ip (network_item vip) ≡ true
-        in_network_item = eq-eqb (ip / 2 ^ (32 - vip.len)) (vip.ip.0 / 2 ^ (32 - vip.len)) holds
+        in_network_item : item_holds to (network_item vip) ≡ true
+        in_network_item = is_held_there vip to holds
 
-        by : (o : Option RouteItem) → longest items ip ≡ o → Chosen items ip o → (item : RouteItem) × (longest items ip ≡ Some item) × (item.to ≡ Network)
-        by None is none = absurd (true≢false (sym in_network_item ∙ of_all (λ (x : RouteItem). item_holds ip x ≡ false) items none (network_item vip) (has_network w s vip c)))
+        by : (o : Option RouteItem) → longest items to ≡ o → Chosen items to o → (item : RouteItem) × (longest items to ≡ Some item) × (item.to ≡ Network)
+        by None is none = absurd (true≢false (sym in_network_item ∙ of_all (λ (x : RouteItem). item_holds to x ≡ false) items none (network_item vip) (has_network w s vip c)))
         by (Some item) is picked =
             let origin = of_all (Origin conf now d setting v v_in) items (origins conf now d setting v v_in) item picked.0 in
-            let longer : vip.len ≤ item.len = of_all (λ (x : RouteItem). item_holds ip x ≡ true → x.len ≤ item.len) items picked.2 (network_item vip) (has_network w s vip c) in_network_item in
+            let longer : len_of vip ≤ item.len = of_all (λ (x : RouteItem). item_holds to x ≡ true → x.len ≤ item.len) items picked.2 (network_item vip) (has_network w s vip c) in_network_item in
             (item, is, led_by origin.vlan origin.in_set item origin.way picked.1 longer)
 
   -- whatever VLAN it is of whose networks an address is in
-  pub led_there : (n : ℕ) → network_vlan conf v.vid ip ≡ Some n → is_resolved now.neighbours group n ip ≡ false → (item : RouteItem) × (longest items ip ≡ Some item) × (item.to ≡ Network)
+  pub led_there : (n : ℕ) → network_vlan conf v.vid to ≡ Some n → is_resolved now.neighbours group n to ≡ false → (item : RouteItem) × (longest items to ≡ Some item) × (item.to ≡ Network)
   led_there n is unknown =
-      let at = found (λ k. is_neighbour_address (vips_of conf k) ip) set n is in
-      let parts = and_parts (list_any (λ (x : Net4). is_held x ip) (vips_of conf n)) (not (is_vip (vips_of conf n) ip)) at.passes in
-      let it = some_passes (λ (x : Net4). is_held x ip) (vips_of conf n) parts.0 in
-      by (vlan_with conf.vlans n) refl it.0 (it.1).within (eqb-true (ip / 2 ^ (32 - (it.0).len)) ((it.0).ip.0 / 2 ^ (32 - (it.0).len)) (it.1).passes) at.within (off (is_vip (vips_of conf n) ip) parts.1)
-    where
-      off : (b : Bool) → not b ≡ true → b ≡ false
-      off true is = absurd (true≢false (sym is))
-      off false is = refl
-
-      by : (o : Option Vlan) → vlan_with conf.vlans n ≡ o → (vip : Net4) → Contains (option_map_or (λ (x : Vlan). x.vips) o []) vip → Holds vip ip → Contains set n → is_vip (vips_of conf n) ip ≡ false
-          → (item : RouteItem) × (longest items ip ≡ Some item) × (item.to ≡ Network)
-      by None none vip (k, lt, same) holds among free = absurd (omega (arith, lt))
-      by (Some w) some vip c holds among free =
-          let vid : w.vid ≡ n = eqb-true w.vid n (found (λ (y : Vlan). y.vid == n) conf.vlans w some).passes in
-          let s : In w = record { among = subst (Contains set) (sym vid) among; is_vlan = ap (vlan_with conf.vlans) vid ∙ some } in
-          led_into w s vip c holds (ap (λ (k : ℕ). is_vip (vips_of conf k) ip) vid ∙ free) (ap (λ (k : ℕ). is_resolved now.neighbours group k ip) vid ∙ unknown)
+      let at = found (is_sought conf v.vid to) set n is in
+      let it = sought n at.within at.passes in
+      led_into it.vlan it.in_set it.net it.net_in it.holds (ap (λ (k : ℕ). is_vip (vips_of conf k) to) it.vid ∙ it.free) (ap (λ (k : ℕ). is_resolved now.neighbours group k to) it.vid ∙ unknown)
