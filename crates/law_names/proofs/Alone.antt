@@ -20,8 +20,8 @@ module _ (conf : Configuration) (a b d : State) where
   before_same (change.Port dp port) stays = ap (λ (x : Bool). is_other x (is_up d.ups dp port)) (same_bool (is_up a.ups dp port) (is_up b.ups dp port) stays)
   before_same (change.Dp dp) stays = ap (λ (x : Bool). is_other x (is_running d.running dp)) (same_bool (is_running a.running dp) (is_running b.running dp) stays)
   before_same (change.Neighbour group vid ip) stays =
-      ap (λ (o : Option Mac). not (option_eq is_one_address o (mac_of_neighbour d.neighbours group vid ip.0)))
-      (one_by is_one_address one_address (mac_of_neighbour a.neighbours group vid ip.0) (mac_of_neighbour b.neighbours group vid ip.0) (not_true _ stays))
+      ap (λ (o : Option Mac). not (option_eq is_one_address o (mac_of_neighbour d.neighbours group vid ip)))
+      (one_by is_one_address one_address (mac_of_neighbour a.neighbours group vid ip) (mac_of_neighbour b.neighbours group vid ip) (not_true _ stays))
 
   -- and the other way round
   behind_same : (c : Change) → differs conf b d c ≡ false → differs conf a b c ≡ differs conf a d c
@@ -30,8 +30,8 @@ module _ (conf : Configuration) (a b d : State) where
   behind_same (change.Port dp port) stays = ap (λ (x : Bool). is_other (is_up a.ups dp port) x) (same_bool (is_up b.ups dp port) (is_up d.ups dp port) stays)
   behind_same (change.Dp dp) stays = ap (λ (x : Bool). is_other (is_running a.running dp) x) (same_bool (is_running b.running dp) (is_running d.running dp) stays)
   behind_same (change.Neighbour group vid ip) stays =
-      ap (λ (o : Option Mac). not (option_eq is_one_address (mac_of_neighbour a.neighbours group vid ip.0) o))
-      (one_by is_one_address one_address (mac_of_neighbour b.neighbours group vid ip.0) (mac_of_neighbour d.neighbours group vid ip.0) (not_true _ stays))
+      ap (λ (o : Option Mac). not (option_eq is_one_address (mac_of_neighbour a.neighbours group vid ip) o))
+      (one_by is_one_address one_address (mac_of_neighbour b.neighbours group vid ip) (mac_of_neighbour d.neighbours group vid ip) (not_true _ stays))
 
   pub first_alone : (c : Change) → differs conf a b c ≡ true → differs conf b d c ≡ false → differs conf a d c ≡ true
   first_alone c is stays = sym (behind_same c stays) ∙ is

@@ -126,6 +126,6 @@ module _ (conf : Configuration) (a b d : State) (xs ys : List Change) (first : A
         (one_standing _ _) (first.hosts group vid mac) (second.hosts group vid mac) other;
     ports = λ dp port other. over (is_up a.ups dp port) (is_up b.ups dp port) (is_up d.ups dp port) (change.Port dp port) (one_bool _ _) (first.ports dp port) (second.ports dp port) other;
     dps = λ dp other. over (is_running a.running dp) (is_running b.running dp) (is_running d.running dp) (change.Dp dp) (one_bool _ _) (first.dps dp) (second.dps dp) other;
-    neighbours = λ group vid ip other. over (mac_of_neighbour a.neighbours group vid ip.0) (mac_of_neighbour b.neighbours group vid ip.0) (mac_of_neighbour d.neighbours group vid ip.0) (change.Neighbour group vid ip)
+    neighbours = λ group vid ip other. over (mac_of_neighbour a.neighbours group vid ip) (mac_of_neighbour b.neighbours group vid ip) (mac_of_neighbour d.neighbours group vid ip) (change.Neighbour group vid ip)
         (one_mac _ _) (first.neighbours group vid ip) (second.neighbours group vid ip) other;
   }

@@ -5,11 +5,12 @@ use Rattle.std.specs.List.{find}
 use Rattle.std.specs.Option.{option_and_then, option_map, option_map_or}
 use Rattle.std.proofs.lemmas.Bool.{and_parts, cases_Bool}
 use Rattle.std.proofs.lemmas.Option.{none-some, same_Some}
-use Rattle.net_base.specs.declared.address.Ip4.{Ip4}
+use Rattle.conf_types.specs.declared.address.Ip.{Ip}
 use Rattle.net_base.specs.declared.address.Mac.{Mac}
 use Rattle.net_base.specs.declared.numbers.DpId.{DpId}
 use Rattle.conf_types.specs.declared.state.NeighRec.{NeighRec}
 use Rattle.conf_types.specs.Configuration.{Configuration}
+use Rattle.conf_types.specs.Families.{is_same_ip}
 use Rattle.conf_types.specs.Changes.{mac_of_neighbour}
 use Rattle.neighbour_resolve.specs.declared.neighbour.Due.{Due}
 use Rattle.neighbour_resolve.specs.declared.neighbour.Due.TheVariants as dues
@@ -19,27 +20,28 @@ use Rattle.neighbour_resolve.specs.Due.{after_due, asked, asked_on, due_said, fi
 use Rattle.neighbour_resolve.specs.Table.{gives_way, is_same, neighbours_after, stays}
 use Rattle.law_runs.specs.Members.{head_of}
 use Rattle.conf_types.specs.declared.change.Change.TheVariants as change
+use Rattle.conf_types.proofs.Families.{same_ip}
 use Rattle.law_names.specs.Differing.{neighbour}
 use Rattle.law_names.specs.Dues.{due}
 use Rattle.law_names.proofs.Left.{appended, left_named, mapped}
 
-module _ (group : DpId) (vid : ℕ) (ip : Ip4) where
+module _ (group : DpId) (vid : ℕ) (ip : Ip) where
   abbrev pub key : NeighRec → Bool
-  key n = n.group.0 == group.0 && n.vid == vid && n.ip.0 == ip.0
+  key n = n.group.0 == group.0 && n.vid == vid && is_same_ip n.ip ip
 
   abbrev mac_in : Option NeighRec → Option Mac
   mac_in o = option_and_then (λ n. n.mac) o
 
   pub key_named : (n : NeighRec) → key n ≡ true → neighbour n ≡ change.Neighbour group vid ip
   key_named n is =
-      let outer = and_parts (n.group.0 == group.0 && n.vid == vid) (n.ip.0 == ip.0) is in
+      let outer = and_parts (n.group.0 == group.0 && n.vid == vid) (is_same_ip n.ip ip) is in
       let inner = and_parts (n.group.0 == group.0) (n.vid == vid) outer.0 in
       let groups : n.group.0 ≡ group.0 = eqb-true n.group.0 group.0 inner.0 in
       let vids : n.vid ≡ vid = eqb-true n.vid vid inner.1 in
-      let ips : n.ip.0 ≡ ip.0 = eqb-true n.ip.0 ip.0 outer.1 in
-      λ i. change.Neighbour (record { 0 = groups i }) (vids i) (record { 0 = ips i })
+      let ips : n.ip ≡ ip = same_ip n.ip ip outer.1 in
+      λ i. change.Neighbour (record { 0 = groups i }) (vids i) (ips i)
 
-  pub gone_named : (keep : NeighRec → Bool) (ns : List NeighRec) → (mac_of_neighbour ns group vid ip.0 ≡ mac_of_neighbour (filter keep ns) group vid ip.0 → ⊥)
+  pub gone_named : (keep : NeighRec → Bool) (ns : List NeighRec) → (mac_of_neighbour ns group vid ip ≡ mac_of_neighbour (filter keep ns) group vid ip → ⊥)
       → Contains (map neighbour (filter (λ n. not (keep n)) ns)) (change.Neighbour group vid ip)
   gone_named keep ns other = left_named (option_and_then (λ (n : NeighRec). n.mac)) key keep neighbour (change.Neighbour group vid ip) key_named ns other
 
@@ -47,12 +49,12 @@ module _ (group : DpId) (vid : ℕ) (ip : Ip4) where
 
   like : (a b : NeighRec) → is_same a b ≡ true → key b ≡ key a
   like a b is =
-      let outer = and_parts (a.group.0 == b.group.0 && a.vid == b.vid) (a.ip.0 == b.ip.0) is in
+      let outer = and_parts (a.group.0 == b.group.0 && a.vid == b.vid) (is_same_ip a.ip b.ip) is in
       let inner = and_parts (a.group.0 == b.group.0) (a.vid == b.vid) outer.0 in
       let groups : b.group.0 ≡ a.group.0 = sym (eqb-true a.group.0 b.group.0 inner.0) in
       let vids : b.vid ≡ a.vid = sym (eqb-true a.vid b.vid inner.1) in
-      let ips : b.ip.0 ≡ a.ip.0 = sym (eqb-true a.ip.0 b.ip.0 outer.1) in
-      λ i. (groups i == group.0 && vids i == vid) && ips i == ip.0
+      let ips : b.ip ≡ a.ip = sym (same_ip a.ip b.ip outer.1) in
+      λ i. (groups i == group.0 && vids i == vid) && is_same_ip (ips i) ip
 
   way_like : (keeps : NeighRec → Bool) (told n : NeighRec) → gives_way keeps told n ≡ true → key n ≡ key told
   way_like keeps told n is = like told n (and_parts (is_same told n) (not (keeps n)) is).0
@@ -62,7 +64,7 @@ module _ (group : DpId) (vid : ℕ) (ip : Ip4) where
   others_stay keeps told out ns wants.Full = refl
   others_stay keeps told out ns wants.Added = appended key told out ns
 
-  pub told_named : (keeps : NeighRec → Bool) (told : NeighRec) (ns : List NeighRec) (o : Want) → (mac_of_neighbour ns group vid ip.0 ≡ mac_of_neighbour (neighbours_after keeps told ns o) group vid ip.0 → ⊥)
+  pub told_named : (keeps : NeighRec → Bool) (told : NeighRec) (ns : List NeighRec) (o : Want) → (mac_of_neighbour ns group vid ip ≡ mac_of_neighbour (neighbours_after keeps told ns o) group vid ip → ⊥)
       → Contains (neighbour told ∷ []) (change.Neighbour group vid ip)
   told_named keeps told ns o other = elim (cases_Bool (key told)) [
     | inl is ↦ subst (λ c. Contains (neighbour told ∷ []) c) (key_named told is) (head_of (neighbour told) [])
@@ -102,7 +104,7 @@ module _ (group : DpId) (vid : ℕ) (ip : Ip4) where
         by true more = refl
         by false more = more
 
-    pub wanted_same : (ns : List NeighRec) (o : Want) → mac_of_neighbour (neighbours_after (stays true) told ns o) group vid ip.0 ≡ mac_of_neighbour ns group vid ip.0
+    pub wanted_same : (ns : List NeighRec) (o : Want) → mac_of_neighbour (neighbours_after (stays true) told ns o) group vid ip ≡ mac_of_neighbour ns group vid ip
     wanted_same ns wants.Known = replaced_same ns
     wanted_same ns wants.Full = refl
     wanted_same ns wants.Added = added_same ns
@@ -132,7 +134,7 @@ module _ (group : DpId) (vid : ℕ) (ip : Ip4) where
     due_is : (n : NeighRec) → due (said_of conf moment n) ≡ neighbour n
     due_is n = elim (is_some (next conf moment n)) as (λ b. due (if b then dues.Ask n.group n.vid n.ip else dues.Gone n.group n.vid n.ip) ≡ neighbour n) [ true ↦ refl | false ↦ refl ]
 
-    pub due_named : (ns : List NeighRec) (d : Due) → due_said conf moment ns ≡ Some d → (mac_of_neighbour ns group vid ip.0 ≡ mac_of_neighbour (after_due conf moment ns) group vid ip.0 → ⊥)
+    pub due_named : (ns : List NeighRec) (d : Due) → due_said conf moment ns ≡ Some d → (mac_of_neighbour ns group vid ip ≡ mac_of_neighbour (after_due conf moment ns) group vid ip → ⊥)
         → Contains (due d ∷ []) (change.Neighbour group vid ip)
     due_named ns d said other = by (first_due moment ns) refl said
       where

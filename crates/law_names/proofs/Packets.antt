@@ -1,7 +1,7 @@
 -- What a packet names that a switch sent to the controller.
 use Rattle.std.proofs.Common.{ℕ, false, ◌==◌, ◌&&◌, ◌*◌, List, [], ◌∷◌}
 use Rattle.std.specs.Option.{option_map_or}
-use Rattle.net_base.specs.declared.address.Ip4.{Ip4}
+use Rattle.conf_types.specs.declared.address.Ip.{Ip}
 use Rattle.net_base.specs.declared.numbers.DpId.{DpId}
 use Rattle.conf_types.specs.Configuration.{vlan_with}
 use Rattle.conf_types.specs.declared.vlan.Vlan.{Vlan}
@@ -19,21 +19,21 @@ use Rattle.neighbour_resolve.specs.Hearing.{heard_sender}
 use Rattle.neighbour_resolve.specs.Table.{resolved, stays}
 use Rattle.ctl_world.specs.Saying.{packet_out, say}
 use Rattle.ctl_world.specs.World.{World, running}
-use Rattle.ctl_packets.specs.Packets.{destination, gateways, glean, glean_at, glean_in, glean_to, hear_neighbour, hear_sender, is_for_gateway, is_resolved, learn, least_time, network_vlan, outgoing, packet_at, packet_by, packet_in, packet_of_table, reply, routes, sources, want}
+use Rattle.ctl_packets.specs.Packets.{destination, gateways, glean, glean_at, glean_in, glean_to, hear_neighbour, hear_sender, is_for_gateway, is_resolved, is_route_table, learn, least_time, network_vlan, outgoing, packet_at, packet_by, packet_in, packet_of_table, reply, sources, want}
 use Rattle.conf_types.specs.declared.change.Change.{Change}
 use Rattle.conf_types.specs.declared.change.Change.TheVariants as change
 use Rattle.law_names.specs.Names.{Names}
 use Rattle.law_names.specs.Packets.{by_packet_in, by_parts, by_port, by_table}
 use Rattle.law_names.proofs.Stepped.{learn_named, nothing, of_either, of_option, of_two, quiet_option, say_quiet, some, then_quiet, told_named, want_quiet}
 
-glean_in_quiet : (group : DpId) (ip : Ip4) (w : World) (vid : ℕ) → Names w (glean_in group ip w vid) []
-glean_in_quiet group ip w vid = of_either w w (want group vid ip w) [] (is_resolved w.neighbours.neighbours group vid ip.0) (nothing w) (want_quiet group vid ip w)
+glean_in_quiet : (group : DpId) (ip : Ip) (w : World) (vid : ℕ) → Names w (glean_in group ip w vid) []
+glean_in_quiet group ip w vid = of_either w w (want group vid ip w) [] (is_resolved w.neighbours.neighbours group vid ip) (nothing w) (want_quiet group vid ip w)
 
 glean_at_quiet : (dp : DpId) (frame : FrameParts) (w : World) (v : Vlan) → Names w (glean_at dp frame w v) []
 glean_at_quiet dp frame w v =
     let group : DpId = group_of w.conf dp in
     of_either w (option_map_or (λ ip. glean_to group v.vid ip w) (destination frame.upper) w) w [] (is_for_gateway v frame)
-    (quiet_option w (λ ip. glean_to group v.vid ip w) (destination frame.upper) (λ ip. quiet_option w (glean_in group ip w) (network_vlan w.conf v.vid ip.0) (λ vid. glean_in_quiet group ip w vid))) (nothing w)
+    (quiet_option w (λ ip. glean_to group v.vid ip w) (destination frame.upper) (λ ip. quiet_option w (glean_in group ip w) (network_vlan w.conf v.vid ip) (λ vid. glean_in_quiet group ip w vid))) (nothing w)
 
 glean_quiet : (dp : DpId) (vid : ℕ) (frame : FrameParts) (w : World) → Names w (glean dp vid frame w) []
 glean_quiet dp vid frame w = quiet_option w (glean_at dp frame w) (vlan_with w.conf.vlans vid) (λ v. glean_at_quiet dp frame w v)
@@ -53,7 +53,7 @@ table_named table number dp port vid frame w =
     let heard : World = hear_neighbour dp vid frame w in
     let names : List Change = option_map_or (λ s. change.Neighbour (group_of w.conf dp) vid s.ip ∷ []) (heard_sender w.conf vid frame) [] in
     of_two w (learn dp port vid frame.src w) _ (change.Host (group_of w.conf dp) vid frame.src ∷ []) _ (table == sources) (learn_named dp port vid frame.src w)
-    (of_two w (glean dp vid frame w) _ [] _ (table == routes) (glean_quiet dp vid frame w)
+    (of_two w (glean dp vid frame w) _ [] _ (is_route_table table frame.upper) (glean_quiet dp vid frame w)
     (of_two w (reply number dp port vid frame heard) w names [] (table == gateways) (then_quiet w heard (reply number dp port vid frame heard) names (heard_named dp vid frame w) (reply_quiet number dp port vid frame heard)) (nothing w)))
 
 at_named : (m : PacketIn) (number : ℕ) (dp : DpId) (w : World) (port : ℕ) (frame : FrameParts) → Names w (packet_at m number dp w port frame) (by_parts m dp w port frame)

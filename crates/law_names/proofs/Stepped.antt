@@ -2,7 +2,7 @@
 use Rattle.std.proofs.Common.{◌≡◌, ℕ, Bool, true, false, ◌==◌, if◌then◌else◌, List, [], ◌∷◌, ◌++◌, Option, Some, None, refl, sym, ap, ◌∙◌, subst, append-nil, arith}
 use Rattle.std.specs.Prelude.{Contains}
 use Rattle.std.specs.Option.{option_map, option_map_or}
-use Rattle.net_base.specs.declared.address.Ip4.{Ip4}
+use Rattle.conf_types.specs.declared.address.Ip.{Ip}
 use Rattle.net_base.specs.declared.address.Mac.{Mac}
 use Rattle.net_base.specs.declared.numbers.DpId.{DpId}
 use Rattle.net_base.specs.declared.numbers.Moment.{Moment}
@@ -192,7 +192,7 @@ learn_named dp port vid mac w =
 -- another list of neighbours, of which each that differs is named
 module _ (w : World) (table : neighbours.Table) (names : List Change) where
   abbrev AreTold : Type 0
-  AreTold = (group : DpId) (vid : ℕ) (ip : Ip4) → (mac_of_neighbour w.neighbours.neighbours group vid ip.0 ≡ mac_of_neighbour table.neighbours group vid ip.0 → ⊥) → Contains names (change.Neighbour group vid ip)
+  AreTold = (group : DpId) (vid : ℕ) (ip : Ip) → (mac_of_neighbour w.neighbours.neighbours group vid ip ≡ mac_of_neighbour table.neighbours group vid ip → ⊥) → Contains names (change.Neighbour group vid ip)
 
   pub neighbours_named : AreTold → Names w (record w { neighbours = table }) names
   neighbours_named each = record {
@@ -211,7 +211,7 @@ told_named keeps told w =
     (λ group vid ip other. neighbour_proofs.told_named group vid ip keeps told w.neighbours.neighbours (neighbours.outcome w.neighbours told) other)
 
 -- one that is wanted
-pub want_quiet : (group : DpId) (vid : ℕ) (ip : Ip4) (w : World) → Names w (want group vid ip w) []
+pub want_quiet : (group : DpId) (vid : ℕ) (ip : Ip) (w : World) → Names w (want group vid ip w) []
 want_quiet group vid ip w =
     let told : NeighRec = neighbours.unresolved group vid ip w.moment in
     neighbours_named w (neighbours.after_told (neighbours.stays true) told w.neighbours) []

@@ -37,7 +37,7 @@ differs conf old new (change.Host group vid mac) =
 differs conf old new (change.Port dp port) = is_other (is_up old.ups dp port) (is_up new.ups dp port)
 differs conf old new (change.Dp dp) = is_other (is_running old.running dp) (is_running new.running dp)
 differs conf old new (change.Neighbour group vid ip) =
-    not (option_eq is_one_address (mac_of_neighbour old.neighbours group vid ip.0) (mac_of_neighbour new.neighbours group vid ip.0))
+    not (option_eq is_one_address (mac_of_neighbour old.neighbours group vid ip) (mac_of_neighbour new.neighbours group vid ip))
 
 -- of what was touched, what differs
 abbrev pub differing : Configuration → (old new : State) → List Change → List Change

@@ -9,7 +9,7 @@ use Rattle.pkt_view.specs.Frame.{FrameParts, parts}
 use Rattle.neighbour_resolve.specs.Counted.{counted_vid}
 use Rattle.neighbour_resolve.specs.Hearing.{heard_sender}
 use Rattle.ctl_world.specs.World.{World}
-use Rattle.ctl_packets.specs.Packets.{gateways, routes, sources}
+use Rattle.ctl_packets.specs.Packets.{gateways, is_route_table, sources}
 use Rattle.conf_types.specs.declared.change.Change.{Change}
 use Rattle.conf_types.specs.declared.change.Change.TheVariants as change
 
@@ -17,7 +17,7 @@ use Rattle.conf_types.specs.declared.change.Change.TheVariants as change
 abbrev pub by_table : (table : ℕ) → DpId → (vid : ℕ) → FrameParts → World → List Change
 by_table table dp vid frame w =
     if table == sources then change.Host (group_of w.conf dp) vid frame.src ∷ []
-    else if table == routes then []
+    else if is_route_table table frame.upper then []
     else if table == gateways then option_map_or (λ s. change.Neighbour (group_of w.conf dp) vid s.ip ∷ []) (heard_sender w.conf vid frame) []
     else []
 

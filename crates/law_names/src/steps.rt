@@ -1,7 +1,7 @@
 //! The laws of single steps. A function's contract is the law, and its body does nothing.
 
 ghost use Rattle.std.specs.Prelude.{◌≡◌, ℕ, [], ◌∷◌, List};
-ghost use Rattle.net_base.specs.declared.address.Ip4.{Ip4};
+ghost use Rattle.conf_types.specs.declared.address.Ip.{Ip};
 ghost use Rattle.net_base.specs.declared.address.Mac.{Mac};
 ghost use Rattle.net_base.specs.declared.numbers.DpId.{DpId};
 ghost use Rattle.conf_types.specs.Groups.{group_of};
@@ -26,7 +26,7 @@ pub fn what_is_said_changes_nothing()
     ensures ask { (number : ℕ) (m : Message) (w : World) → Names w (ask number m w) [] }
     ensures feed { (number : ℕ) (piece : List ℕ) (w : World) → Names w (feed number piece w) [] }
     ensures opened { (number : ℕ) (w : World) → Names w (open_conn number w) [] }
-    ensures want { (group : DpId) (vid : ℕ) (ip : Ip4) (w : World) → Names w (want group vid ip w) [] }
+    ensures want { (group : DpId) (vid : ℕ) (ip : Ip) (w : World) → Names w (want group vid ip w) [] }
 {}
 
 /// A connection that ends, gives way or is a datapath's names the datapath with its ports, and what is forgotten.
