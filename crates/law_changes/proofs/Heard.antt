@@ -1,7 +1,7 @@
 -- What the bytes that came on a connection name.
 use Rattle.std.proofs.Common.{◌≡◌, ℕ, zero, suc, Bool, true, false, ◌==◌, if◌then◌else◌, List, [], ◌∷◌, ◌++◌, length, Option, Some, None, refl, sym, ◌∙◌}
 use Rattle.std.specs.List.{list_any}
-use Rattle.net_base.specs.declared.address.Ip4.{Ip4}
+use Rattle.conf_types.specs.declared.address.Ip.{Ip}
 use Rattle.net_base.specs.declared.address.Mac.{Mac}
 use Rattle.net_base.specs.declared.numbers.DpId.{DpId}
 use Rattle.net_base.specs.declared.numbers.Moment.{Moment}
@@ -42,9 +42,9 @@ use Rattle.law_names.proofs.Stepped.{added_quiet, ask_quiet, change_named, close
 
 -- ---- gateways that are wanted
 
-module _ (group : DpId) (vid : ℕ) (ip : Ip4) where
+module _ (group : DpId) (vid : ℕ) (ip : Ip) where
   abbrev known : neighbours.Table → Option Mac
-  known table = mac_of_neighbour table.neighbours group vid ip.0
+  known table = mac_of_neighbour table.neighbours group vid ip
 
   routes_same : (g : DpId) (v : ℕ) (rs : List Route) (moment : Moment) (table : neighbours.Table) → known (want_routes g v rs moment table) ≡ known table
   routes_same g v [] moment table = refl
