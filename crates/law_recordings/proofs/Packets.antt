@@ -1,7 +1,7 @@
 -- A packet that comes behind such a change.
 use Rattle.std.proofs.Common.{ℕ, ◌==◌, ◌&&◌, List, refl, ap, if◌then◌else◌}
 use Rattle.std.specs.Option.{option_map_or}
-use Rattle.net_base.specs.declared.address.Ip4.{Ip4}
+use Rattle.conf_types.specs.declared.address.Ip.{Ip}
 use Rattle.net_base.specs.declared.address.Mac.{Mac}
 use Rattle.net_base.specs.declared.numbers.DpId.{DpId}
 use Rattle.of_match.specs.InPort.{in_port}
@@ -21,7 +21,7 @@ use Rattle.neighbour_resolve.specs.Counted.{counted_vid}
 use Rattle.neighbour_resolve.specs.Hearing.{heard_sender}
 use Rattle.ctl_world.specs.Saying.{packet_out, say}
 use Rattle.ctl_world.specs.World.{World, running, ups}
-use Rattle.ctl_packets.specs.Packets.{destination, gateways, glean, glean_at, glean_in, glean_to, hear_neighbour, hear_sender, is_for_gateway, is_resolved, learn, network_vlan, outgoing, packet_at, packet_by, packet_in, packet_of_table, reply, routes, sources, want}
+use Rattle.ctl_packets.specs.Packets.{destination, gateways, glean, glean_at, glean_in, glean_to, hear_neighbour, hear_sender, is_for_gateway, is_resolved, is_route_table, learn, network_vlan, outgoing, packet_at, packet_by, packet_in, packet_of_table, reply, sources, want}
 use Rattle.law_recordings.proofs.Touches.{Keeps, Touch, any, both, either, itself, over, running_kept, say_keeps, touched, ups_kept}
 
 module _ (t : Touch) where
@@ -33,21 +33,21 @@ module _ (t : Touch) where
       (ap (λ (up : List UpRec). if is_up up dp port then known (touched t w) else touched t w) (ups_kept t w))
       (either t w.moment (is_up (ups w) dp port) (known (touched t w)) (touched t w) (known w) w (record { is = refl; moment = refl }) (itself t w))
 
-  want_keeps : (group : DpId) (vid : ℕ) (ip : Ip4) → Keeps t (want group vid ip)
+  want_keeps : (group : DpId) (vid : ℕ) (ip : Ip) → Keeps t (want group vid ip)
   want_keeps group vid ip w = record { is = refl; moment = refl }
 
-  glean_in_keeps : (group : DpId) (ip : Ip4) (vid : ℕ) → Keeps t (λ w. glean_in group ip w vid)
+  glean_in_keeps : (group : DpId) (ip : Ip) (vid : ℕ) → Keeps t (λ w. glean_in group ip w vid)
   glean_in_keeps group ip vid w =
-      either t w.moment (is_resolved w.neighbours.neighbours group vid ip.0) (touched t w) (want group vid ip (touched t w)) w (want group vid ip w) (itself t w)
+      either t w.moment (is_resolved w.neighbours.neighbours group vid ip) (touched t w) (want group vid ip (touched t w)) w (want group vid ip w) (itself t w)
       (want_keeps group vid ip w)
 
-  glean_to_keeps : (group : DpId) (vid : ℕ) (ip : Ip4) → Keeps t (glean_to group vid ip)
+  glean_to_keeps : (group : DpId) (vid : ℕ) (ip : Ip) → Keeps t (glean_to group vid ip)
   glean_to_keeps group vid ip w =
-      any t w (network_vlan w.conf vid ip.0) (glean_in group ip (touched t w)) (glean_in group ip w) (λ v. glean_in_keeps group ip v w)
+      any t w (network_vlan w.conf vid ip) (glean_in group ip (touched t w)) (glean_in group ip w) (λ v. glean_in_keeps group ip v w)
 
   glean_at_keeps : (dp : DpId) (frame : FrameParts) (v : Vlan) → Keeps t (λ w. glean_at dp frame w v)
   glean_at_keeps dp frame v w =
-      let to : World → Ip4 → World = λ u ip. glean_to (group_of w.conf dp) v.vid ip u in
+      let to : World → Ip → World = λ u ip. glean_to (group_of w.conf dp) v.vid ip u in
       either t w.moment (is_for_gateway v frame) (option_map_or (to (touched t w)) (destination frame.upper) (touched t w)) (touched t w)
       (option_map_or (to w) (destination frame.upper) w) w
       (any t w (destination frame.upper) (to (touched t w)) (to w) (λ ip. glean_to_keeps (group_of w.conf dp) v.vid ip w)) (itself t w)
@@ -69,9 +69,9 @@ module _ (t : Touch) where
       let learns : World → World = learn dp port vid frame.src in
       let gleans : World → World = glean dp vid frame in
       let answers : World → World = λ u. reply number dp port vid frame (hear_neighbour dp vid frame u) in
-      either t w.moment (table == sources) (learns v) (if table == routes then gleans v else if table == gateways then answers v else v)
-      (learns w) (if table == routes then gleans w else if table == gateways then answers w else w) (learn_keeps dp port vid frame.src w)
-      (either t w.moment (table == routes) (gleans v) (if table == gateways then answers v else v) (gleans w) (if table == gateways then answers w else w) (glean_keeps dp vid frame w)
+      either t w.moment (table == sources) (learns v) (if is_route_table table frame.upper then gleans v else if table == gateways then answers v else v)
+      (learns w) (if is_route_table table frame.upper then gleans w else if table == gateways then answers w else w) (learn_keeps dp port vid frame.src w)
+      (either t w.moment (is_route_table table frame.upper) (gleans v) (if table == gateways then answers v else v) (gleans w) (if table == gateways then answers w else w) (glean_keeps dp vid frame w)
       (either t w.moment (table == gateways) (answers v) v (answers w) w
       (both t (hear_neighbour dp vid frame) (reply number dp port vid frame) (hear_keeps dp vid frame) (reply_keeps number dp port vid frame) w) (itself t w)))
 
