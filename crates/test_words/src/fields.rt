@@ -48,7 +48,7 @@ pub fn put_ip4(alloc: Global, out: &mut String, ip: Ip4) -> Result<(), NoMemory>
 }
 
 /// An IPv6 address, as it is written.
-fn put_ip6(alloc: Global, out: &mut String, ip: Ip6) -> Result<(), NoMemory> {
+pub fn put_ip6(alloc: Global, out: &mut String, ip: Ip6) -> Result<(), NoMemory> {
     let mut text = Text::new(alloc);
     ip.print(&mut text)?;
     out.push_str(text.as_str())
