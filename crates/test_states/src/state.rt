@@ -1,12 +1,12 @@
 //! A state, line by line.
 
 use crate::learned::Learned;
-use conf_types::{Conf, Dp, DpIds, HostRec, NeighRec, NeighRecs, UpRec, UpRecs};
+use conf_types::{Conf, Dp, DpIds, HostRec, Ip, NeighRec, NeighRecs, UpRec, UpRecs};
 use host_list::Hosts;
-use net_base::{DpId, Moment, NoMemory, PortNo};
+use net_base::{DpId, Ip4, Ip6, Moment, NoMemory, PortNo};
 use std::alloc::Global;
 use std::str::SplitWhitespace;
-use test_words::{dp_id, ip4, mac, moment, port_no, vid};
+use test_words::{dp_id, mac, moment, port_no, vid};
 
 fn all_dps(alloc: Global, conf: &Conf) -> Result<DpIds, NoMemory> {
     let mut ids = DpIds::new(alloc);
@@ -76,11 +76,20 @@ fn host(words: &mut SplitWhitespace<'_>) -> Option<HostRec> {
     })
 }
 
+/// An address of either family.
+fn ip(words: &mut SplitWhitespace<'_>) -> Option<Ip> {
+    let text = words.next()?;
+    match Ip4::parse(text) {
+        Some(ip) => Some(Ip::V4(ip)),
+        None => Ip6::parse(text).map(Ip::V6),
+    }
+}
+
 /// A neighbour: resolved where an Ethernet address stands last.
 fn neighbour(words: &mut SplitWhitespace<'_>) -> Option<NeighRec> {
     let group = dp_id(words)?;
     let vid = vid(words)?;
-    let ip = ip4(words)?;
+    let ip = ip(words)?;
     Some(NeighRec {
         group,
         vid,
