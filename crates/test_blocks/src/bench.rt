@@ -29,6 +29,7 @@ fn dp_of(alloc: Global, id: u64, name: &str) -> Result<Dp, NoMemory> {
         timeout: 300,
         arp_timeout: 30,
         stack_priority: None,
+        lldp: None,
         drop_spoofed: true,
         drop_broadcast: true,
         drop_bpdu: true,
