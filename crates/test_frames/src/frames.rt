@@ -1,5 +1,6 @@
 //! What is answered to a frame, whom it lets hear, and what is asked.
 
+use crate::addresses::{ip, put_ip};
 use conf_types::Conf;
 use neighbour_resolve::{Reply, answer, ask, counted_vid, heard_sender, send_back};
 use net_base::{DpId, NoMemory, PortNo, Vid};
@@ -7,7 +8,7 @@ use of_match::Action;
 use pkt_view::{FrameView, view};
 use std::alloc::Global;
 use std::str::SplitWhitespace;
-use test_words::{dp_id, ip4, port_no, put_actions, put_ip4, put_mac, vid};
+use test_words::{dp_id, port_no, put_actions, put_mac, vid};
 
 /// A frame in hexadecimal digits, and what is done to it.
 fn sent(alloc: Global, frame: &[u8], actions: &[Action]) -> Result<String, NoMemory> {
@@ -26,7 +27,7 @@ fn answered(
     frame: &FrameView<'_>,
 ) -> Result<String, NoMemory> {
     let reply = match answer(alloc, conf, dp, port, frame)? {
-        Reply::ArpReply(reply) | Reply::EchoReply(reply) => reply,
+        Reply::ArpReply(reply) | Reply::EchoReply(reply) | Reply::Advert(reply) => reply,
         Reply::Nothing => return format!(in alloc; "nothing"),
     };
     let Some(vid) = counted_vid(conf, dp, port, frame) else {
@@ -41,7 +42,7 @@ fn sender(alloc: Global, conf: &Conf, vid: Vid, frame: &FrameView<'_>) -> Result
     let mut out = format!(in alloc; "vlan {}", vid.get())?;
     if let Some(sender) = heard_sender(conf, vid, frame) {
         out.push_str(" ")?;
-        put_ip4(alloc, &mut out, sender.ip)?;
+        put_ip(alloc, &mut out, sender.ip)?;
         out.push_str(" ")?;
         put_mac(alloc, &mut out, sender.mac)?;
     }
@@ -77,7 +78,7 @@ pub fn asked(
     conf: &Conf,
     words: &mut SplitWhitespace<'_>,
 ) -> Result<Option<String>, NoMemory> {
-    let (Some(dp), Some(vid), Some(ip)) = (dp_id(words), vid(words), ip4(words)) else {
+    let (Some(dp), Some(vid), Some(ip)) = (dp_id(words), vid(words), ip(words)) else {
         return Ok(None);
     };
     let text = match ask(alloc, conf, dp, vid, ip)? {

@@ -11,6 +11,7 @@ use std::io;
 use std::str::SplitWhitespace;
 use test_lines::{Answers, print_answered, shown};
 
+mod addresses;
 mod frames;
 mod table;
 

@@ -1,17 +1,18 @@
 //! What is told to the table of neighbours, and what it answers.
 
-use conf_types::{Conf, NeighRec};
+use crate::addresses::{further, ip, put_ip};
+use conf_types::{Conf, Ip, NeighRec};
 use neighbour_resolve::{Due, Neighbours, Want};
-use net_base::{DpId, Ip4, Items, Moment, NoMemory, Vid};
+use net_base::{DpId, Items, Moment, NoMemory, Vid};
 use std::alloc::Global;
 use std::fmt::Write;
 use std::str::SplitWhitespace;
-use test_words::{dp_id, ip4, mac, moment, number, put_ip4, put_mac, vid};
+use test_words::{dp_id, mac, moment, number, put_mac, vid};
 
 fn want(table: &mut Neighbours, words: &mut SplitWhitespace<'_>) -> Option<Want> {
     let group = dp_id(words)?;
     let vid = vid(words)?;
-    let ip = ip4(words)?;
+    let ip = ip(words)?;
     let moment = moment(words)?;
     Some(table.want(group, vid, ip, moment))
 }
@@ -19,7 +20,7 @@ fn want(table: &mut Neighbours, words: &mut SplitWhitespace<'_>) -> Option<Want>
 fn heard(table: &mut Neighbours, words: &mut SplitWhitespace<'_>) -> Option<Want> {
     let group = dp_id(words)?;
     let vid = vid(words)?;
-    let ip = ip4(words)?;
+    let ip = ip(words)?;
     let mac = mac(words)?;
     let timeout = u32::try_from(number(words)?).ok()?;
     let moment = moment(words)?;
@@ -30,11 +31,11 @@ fn heard(table: &mut Neighbours, words: &mut SplitWhitespace<'_>) -> Option<Want
 fn fill(table: &mut Neighbours, words: &mut SplitWhitespace<'_>) -> Option<Want> {
     let group = dp_id(words)?;
     let vid = vid(words)?;
-    let ip = ip4(words)?;
+    let ip = ip(words)?;
     let count = u32::try_from(number(words)?).ok()?;
     let mut last = None;
-    for further in 0..count {
-        last = Some(table.want(group, vid, Ip4(ip.0.saturating_add(further)), Moment(0)));
+    for at in 0..count {
+        last = Some(table.want(group, vid, further(ip, at), Moment(0)));
     }
     last
 }
@@ -61,10 +62,10 @@ fn put_key(
     out: &mut String,
     group: &DpId,
     vid: &Vid,
-    ip: &Ip4,
+    ip: &Ip,
 ) -> Result<(), NoMemory> {
     write!(out, "{} {} ", group.0, vid.get())?;
-    put_ip4(alloc, out, *ip)
+    put_ip(alloc, out, *ip)
 }
 
 fn put_neighbour(alloc: Global, out: &mut String, neighbour: &NeighRec) -> Result<(), NoMemory> {
