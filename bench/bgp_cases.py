@@ -358,6 +358,13 @@ class Driven(Speaker):
         self.out += "at %d: %s; " % (self.now, self.records.hex())
         self.records = b""
 
+    def turn(self, word):
+        """What is said and closed, with the lines, in order; the records."""
+        self.out = ""
+        self.takes(word)
+        *said, told = self.out.split("; ")[:-1]
+        return said, bytes.fromhex(told.split(": ")[1])
+
 
 def driven(words, text_of):
     speaker = Driven(text_of)
@@ -768,4 +775,5 @@ def main():
             print(repeated(line) + (" => " + answer if answers else ""))
 
 
-main()
+if __name__ == "__main__":
+    main()

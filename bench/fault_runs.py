@@ -2,19 +2,21 @@
 """Writes the runs among those of crates/test_runs in which each call of what is outside fails in turn: of files, of both streams, of
 a hub, of a poller and of a link, in each command: python3 bench/fault_runs.py stdin, or stdout.
 
-The answers are worked out here and by the models of one_vlan.py and gauge_cases.py, with none of the program's code.
+The answers are worked out here and by the models of one_vlan.py, gauge_cases.py and bgp_cases.py, with none of the program's code.
 """
 import json
 import struct
 import sys
 
+import bgp_cases
+import bgp_runs
 from gauge_cases import HELLO as GAUGE_HELLO
 from gauge_cases import Gauge, stats, status, upto
 from gauge_cases import features as gauge_features
 from gauge_runs import DPS, FAUCET, GAUGE, WATCHERS, escaped
 from one_vlan import HELLO, Controller, barrier_reply, cold, descriptions, features, flow_mod, message, wipe
 
-USAGE = "usage: faucet check, plan, replay, serve, gauge, gauge-serve, bench, trace or walk"
+USAGE = "usage: faucet check, plan, replay, serve, gauge, gauge-serve, bench, trace, walk, bgp or bgp-serve"
 OFF = "drop_spoofed_faucet_mac: false, drop_broadcast_source_address: false, drop_lldp: false, drop_bpdu: false"
 BARE = f"{{dps: {{a: {{dp_id: 1, {OFF}, interfaces: {{}}}}}}}}"
 READ_LEN = 4096  # of files, at once
@@ -295,6 +297,20 @@ class Program:
             self.err.write(lines_of(said))
         return 0
 
+    def load_peer(self, name, router):
+        self.load(name)
+        if router != "edge":
+            raise Refused(2, name, ": routers.", router, ": Unresolved")
+        return bgp_cases.Driven(bgp_runs.with_routes)
+
+    def bgp(self, name, router, recording):
+        speaker = self.load_peer(name, router)
+        for words in self.story(recording):
+            said, records = spoken(speaker, words)
+            self.out.write(records)
+            self.err.write(lines_of(said))
+        return 0
+
     def drive(self, turns, take, events):
         """Takes the turns of a hub, so many at most."""
         for _ in range(events):
@@ -314,7 +330,7 @@ class Program:
                 hub.say(conn, rest[0])
             elif what == "close":
                 hub.close(conn)
-        self.out.write("".join(lines).encode())
+        self.out.write(b"".join(line if isinstance(line, bytes) else line.encode() for line in lines))
         self.err.write(lines_of(said))
 
     def serve(self, name, events, hub):
@@ -360,6 +376,25 @@ class Program:
         self.load_gauge(name)
         gauge = Gauge(DPS, WATCHERS)
         return self.drive(hub.turn, lambda words: self.tell(hub, *gauge.turn(words)), events)
+
+    def bgp_serve(self, names, events, hub):
+        speaker = self.load_peer(*names.split(" "))
+
+        def take(words):
+            said, records = spoken(speaker, words)
+            self.tell(hub, said, [records])
+        return self.drive(hub.turn, take, events)
+
+
+def spoken(speaker, words):
+    """What a BGP speaker says and closes, with its lines; its records."""
+    names = {"open": "open:", "bytes": "", "end": "end:", "fault": "fault:", "moment": "at:"}
+    said, records = speaker.turn(names[words[0]] + ":".join(words[1:]))
+
+    def word_of(piece):
+        what, rest = piece.split(" ", 1)
+        return {"close": piece, "conn": "line " + piece}.get(what) or f"send {what[:-1]} {rest}"
+    return [word_of(piece) for piece in said], records
 
 
 def lines_of(said):
@@ -539,6 +574,15 @@ def commands_with_a_hub(r):
     r.each(Program.gauge, "gauge g.yaml r.rec", "g.yaml", "r.rec")
     turns = [["open", "1"], *(["bytes", "1", piece.hex()] for piece in switch), ["moment", "10000"], ["end", "1"]]
     over_hubs(r, Program.gauge_serve, "gauge-serve", "g.yaml", turns, switch)
+    r.put("# the speaker of a BGP peer, on a recording and on hubs")
+    r.no_files()
+    r.file("f.yaml", File(bgp_runs.document()))
+    peer = [bgp_cases.message(bgp_cases.OPEN, bgp_cases.opening()), bgp_cases.message(bgp_cases.KEEPALIVE), bgp_runs.announced("172.16.0.0/16")]
+    r.file("r.rec", File(record(0, 1, 1) + record(0, 2, 1, b"".join(peer)) + record(30_000, 5, 0) + record(30_000, 3, 1)))
+    r.each(Program.bgp, "bgp f.yaml edge r.rec", "f.yaml", "edge", "r.rec")
+    r.each(Program.bgp, "bgp f.yaml core r.rec", "f.yaml", "core", "r.rec")
+    turns = [["open", "1"], *(["bytes", "1", piece.hex()] for piece in peer), ["moment", "30000"], ["moment", "90000"], ["open", "2"], ["end", "2"]]
+    over_hubs(r, Program.bgp_serve, "bgp-serve", "f.yaml edge", turns, peer)
 
 
 def runs():

@@ -135,7 +135,7 @@ def runs():
     for words in ("gauge", "gauge g.yaml", "gauge g.yaml r.rec x", "gauge g.yaml r.rec --events 1", "gauge-serve", "gauge-serve g.yaml",
                   "gauge-serve g.yaml --events 0", "gauge-serve g.yaml r.rec --events 1", "gauge-serve g.yaml --events 1 --reload-ms 100",
                   "gauge-serve g.yaml --events 1 --listen 127.0.0.1"):
-        r.refused(words, 1, "usage: faucet check, plan, replay, serve, gauge, gauge-serve, bench, trace or walk\n")
+        r.refused(words, 1, "usage: faucet check, plan, replay, serve, gauge, gauge-serve, bench, trace, walk, bgp or bgp-serve\n")
     r.put("# Gauge on hubs in memory: it polls on the connections, and its lines stand before the last one")
     live = [["open", "1"], ["bytes", "1", (HELLO + features(1)).hex()], ["bytes", "1", stats(3, [(1, upto(1)), (2, upto(101))]).hex()],
             ["moment", "9999"], ["moment", "10000"], ["bytes", "1", stats(3, [(1, upto(9))]).hex()],

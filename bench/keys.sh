@@ -13,7 +13,7 @@ of_code() {
         /spellings: &\[/ { part = "spelling" }
         /^};/ { map = "" }
         map == "" { next }
-        part == "key" && match($0, /(Always|Never|UnlessNumbered),? ?/) {
+        part == "key" && match($0, /(Always|Never|UnlessNumbered|UnlessBgp),? ?/) {
             given = substr($0, RSTART + RLENGTH)
         }
         part == "key" && given ~ /\)/ {
@@ -25,7 +25,7 @@ of_code() {
         }
         { given = "" }
         part == "key" && !/row!\("|^ +"/ { next }
-        part == "key" { sub(/(Always|Never|UnlessNumbered).*/, "") }
+        part == "key" { sub(/(Always|Never|UnlessNumbered|UnlessBgp).*/, "") }
         {
             rest = $0
             while (match(rest, /"[^"]*"/)) {

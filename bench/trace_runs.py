@@ -6,7 +6,7 @@ Where packets go is worked out by a model of switches in one VLAN, with none of 
 import struct
 import sys
 
-USAGE = "usage: faucet check, plan, replay, serve, gauge, gauge-serve, bench, trace or walk"
+USAGE = "usage: faucet check, plan, replay, serve, gauge, gauge-serve, bench, trace, walk, bgp or bgp-serve"
 FRAME = "ffffffffffff0200000000010800"
 BROADCAST = "ff:ff:ff:ff:ff:ff"
 VID = 100

@@ -330,6 +330,36 @@ END
   [ -f old.prom ] && [ ! -s old.prom ]
 }
 
+bgp2file_keeps_the_newest_text() {
+  python3 - <<'END'
+import openflow
+own, first, second = b"vlans: {}\n", b"first\n", b"second\n" * 30000
+said = [openflow.record(5, openflow.SAID, 1, b"said"), openflow.record(6, openflow.RELOAD, 0, first), openflow.record(6, openflow.CLOSED, 1, bytes([12, 6, 0]))]
+for name, data in (("own", own), ("first", first), ("second", second), ("stream", b"".join(said)), ("more", openflow.record(7, openflow.RELOAD, 0, second)), ("cut", said[1][:-1])):
+    with open(name, "wb") as out:
+        out.write(data)
+END
+  mkfifo pipe
+  "$tools/bgp2file" own kept <pipe 2>report &
+  exec 3>pipe
+  sleep 1
+  same own kept
+  cat stream >&3
+  sleep 1
+  same first kept
+  cat stream more >&3
+  sleep 1
+  same second kept
+  cat cut >&3
+  sleep 1
+  same second kept
+  exec 3>&-
+  wait
+  same own kept
+  grep -q 'left out' report
+  [ ! -e kept.new ]
+}
+
 try said_reads_a_recording
 try said_reads_what_replay_wrote program
 try said_speaks_as_ovs_ofctl program ovs-ofctl
@@ -344,6 +374,7 @@ try why_goes_as_open_vswitch program python3-yaml ovs-vswitchd root
 try preflight_holds_on_open_vswitch ovs-vswitchd root
 try preflight_sees_what_does_not_hold
 try textfile_keeps_the_newest_blocks
+try bgp2file_keeps_the_newest_text
 try topology_draws_each_example program dot
 try from_faucet_writes_what_is_accepted program python3-yaml
 try from_faucet_keeps_what_is_accepted program python3-yaml

@@ -26,12 +26,12 @@ _faucet() {
   if [[ ${COMP_WORDS[0]##*/} == faucet_recorded ]]; then
     command=recorded
   elif [[ $COMP_CWORD -eq 1 ]]; then
-    mapfile -t COMPREPLY < <(compgen -W "check plan replay serve gauge gauge-serve bench trace walk" -- "$word")
+    mapfile -t COMPREPLY < <(compgen -W "check plan replay serve gauge gauge-serve bench trace walk bgp bgp-serve" -- "$word")
     return
   fi
   case $command in
     serve) options="--events --reload-ms --listen" ;;
-    gauge-serve) options="--events --listen" ;;
+    gauge-serve | bgp-serve) options="--events --listen" ;;
     recorded) options="--events --record --reload-ms --listen" ;;
   esac
   case $before in
