@@ -68,22 +68,25 @@ def checksum(data):
 
 
 def ping(to, count, every):
-    """Sends so many echo requests, and says how many were answered within a second."""
-    with socket.socket(socket.AF_INET, socket.SOCK_RAW, socket.IPPROTO_ICMP) as raw:
+    """Sends so many echo requests over the address's family, and says how many were answered within a second."""
+    six = ":" in to
+    family, protocol, asks, answers = (socket.AF_INET6, socket.IPPROTO_ICMPV6, 128, 129) if six else (socket.AF_INET, socket.IPPROTO_ICMP, 8, 0)
+    with socket.socket(family, socket.SOCK_RAW, protocol) as raw:
         ident, answered, sent, start = os.getpid() & 0xFFFF, set(), 0, time.time()
         while time.time() < start + count * every + 1 and len(answered) < count:
             if sent < count and time.time() >= start + sent * every:
-                packet = struct.pack("!BBHHH", 8, 0, 0, ident, sent) + bytes(32)
-                packet = packet[:2] + struct.pack("!H", checksum(packet)) + packet[4:]
+                # The system puts the checksum of ICMPv6 in.
+                packet = struct.pack("!BBHHH", asks, 0, 0, ident, sent) + bytes(32)
+                packet = packet if six else packet[:2] + struct.pack("!H", checksum(packet)) + packet[4:]
                 try:
                     raw.sendto(packet, (to, 0))
                 except OSError:
                     pass
                 sent += 1
             if select.select([raw], [], [], min(every, 0.02))[0]:
-                data, (sender, _) = raw.recvfrom(2048)
-                kind, _, _, its, number = struct.unpack("!BBHHH", data[20:28])
-                if kind == 0 and its == ident and sender == to:
+                data, sender = raw.recvfrom(2048)
+                kind, _, _, its, number = struct.unpack("!BBHHH", data[:8] if six else data[20:28])
+                if kind == answers and its == ident and sender[0] == to:
                     answered.add(number)
         return len(answered)
 
