@@ -135,7 +135,7 @@ STATIONS = ["02:00:00:00:00:01", "02:00:00:00:00:02", "02:00:00:00:00:03", "02:0
 GROUPS = ["ff:ff:ff:ff:ff:ff", "01:00:5e:00:00:01", "01:80:c2:00:00:00", "01:00:0c:cc:cc:cd", "33:33:ff:00:00:fe", "01:80:c2:00:00:0e"]
 NO_SOURCES = ["ff:ff:ff:ff:ff:ff", "01:00:5e:00:00:02", "0e:00:00:00:00:01"]
 ADDRESSES = ["10.0.1.9", "10.0.2.2", "10.0.2.3", "10.0.2.254", "10.0.1.254", "10.9.9.9", "8.8.8.8", "10.0.1.7", "10.0.0.1"]
-ADDRESSES6 = ["fd00::1", "fd00::fe", "fe80::1", "2001:db8::9", "ff02::1:ff00:fe"]
+ADDRESSES6 = ["fd00::1", "fd00::fe", "fe80::1", "fe80::fe", "fd00:2::2", "fd00:2::3", "fd00:2::fe", "2001:db8::9", "ff02::1:ff00:fe"]
 FRONT, BACK = b"\xfa\xce", b"\xca\xfe"
 
 
@@ -233,6 +233,8 @@ STATES = [
      [f"host 1 1 100 {ONE} 0", f"host 1 5 200 {TWO} 0"], [1, 2, 3, 4, 5]),
     ("routes", "{dps: {a: {dp_id: 1, interfaces: {1: {tagged_vlans: [100, 200], hairpin: true}, 2: {native_vlan: 100}, 3: {native_vlan: 200}}}}, vlans: {100: {faucet_vips: [10.0.1.254/24]}, 200: {faucet_vips: [10.0.2.254/24], routes: [{route: {ip_dst: 0.0.0.0/0, ip_gw: 10.0.2.3}}, {route: {ip_dst: 10.0.0.0/8, ip_gw: 10.0.2.2}}]}}, %s}" % ROUTED,
      [f"host 1 1 100 {ONE} 0", f"host 1 3 200 {TWO} 0", f"host 1 1 200 {THREE} 0", f"neighbour 1 200 10.0.2.2 {TWO}", f"neighbour 1 200 10.0.2.3 {THREE}", f"neighbour 1 100 10.0.1.9 {ONE}"], [1, 2, 3]),
+    ("routes of both families", "{dps: {a: {dp_id: 1, interfaces: {1: {tagged_vlans: [100, 200], hairpin: true}, 2: {native_vlan: 100}, 3: {native_vlan: 200}}}}, vlans: {100: {faucet_vips: [10.0.1.254/24, 'fd00::fe/64', 'fe80::fe/64']}, 200: {faucet_vips: ['fd00:2::fe/64', 'fe80::fe/64', 10.0.2.254/24], faucet_mac: 0e:00:00:00:00:02, routes: [{route: {ip_dst: '::/0', ip_gw: 'fe80::1'}}, {route: {ip_dst: '2001:db8::/32', ip_gw: 'fd00:2::2'}}, {route: {ip_dst: 8.0.0.0/8, ip_gw: 10.0.2.2}}]}}, %s}" % ROUTED,
+     [f"host 1 1 100 {ONE} 0", f"host 1 3 200 {TWO} 0", f"host 1 1 200 {THREE} 0", f"neighbour 1 200 fd00:2::2 {TWO}", "neighbour 1 200 fd00:2::3", f"neighbour 1 200 fe80::1 {THREE}", f"neighbour 1 100 fd00::1 {ONE}", f"neighbour 1 200 10.0.2.2 {TWO}"], [1, 2, 3]),
     ("VLANs with gateways of their own", "{dps: {a: {dp_id: 1, interfaces: {1: {native_vlan: 100}, 2: {native_vlan: 100, acl_in: f}, 3: {tagged_vlans: [200]}}}}, vlans: {100: {faucet_vips: [10.0.1.254/24, 10.0.2.254/24], routes: [{route: {ip_dst: 10.9.0.0/16, ip_gw: 10.0.1.9}}]}, 200: {faucet_vips: [10.0.2.254/24], faucet_mac: 0e:00:00:00:00:02}}, acls: {f: [{rule: {dl_type: 0x0800, ip_proto: 17, udp_dst: 53, actions: {output: {port: 3}}}}, {rule: {dl_type: 0x86dd, ip_proto: 17, udp_dst: 53, actions: {output: {port: 3}}}}, {rule: {dl_type: 0x86dd, ip_proto: 6, tcp_src: 7, actions: {}}}, {rule: {actions: {allow: 1}}}]}}",
      [f"host 1 1 100 {ONE} 0", f"neighbour 1 100 10.0.1.9 {ONE}"], [1, 2, 3]),
     ("the root of a stack", "{dps: {a: {dp_id: 1, stack: {priority: 1}, interfaces: {1: {native_vlan: 100}, 2: {tagged_vlans: [200]}, 4: {mirror: 1}, 12: {stack: {dp: b, port: 21}}, 13: {stack: {dp: c, port: 31}}}}, b: {dp_id: 2, interfaces: {1: {native_vlan: 100}, 21: {stack: {dp: a, port: 12}}, 23: {stack: {dp: c, port: 32}}}}, c: {dp_id: 3, interfaces: {1: {native_vlan: 200}, 31: {stack: {dp: a, port: 13}}, 32: {stack: {dp: b, port: 23}}}}}}",

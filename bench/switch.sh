@@ -1,6 +1,6 @@
 #!/usr/bin/env bash
 # Holds the tables against a real switch: Open vSwitch, in user space and with no other network. It opens each datapath
-# of each example, which has to go without an error and leave just the entries that were sent. Then, for eight states of
+# of each example, which has to go without an error and leave just the entries that were sent. Then, for nine states of
 # datapaths, it sends frames made by chance, of ARP, IPv4, IPv6 and others, and compares what leaves by each port, and
 # what the controller gets, with the description and with the tables, as the program test_plans answers. At last it gives
 # the switch each match and each action on IPv6 of the cases of test_packets, and compares what becomes of their frames
