@@ -171,6 +171,18 @@ def spoken(recording):
     return said
 
 
+def spoken_each(recordings):
+    """The bytes of each connection of recordings, in order."""
+    said = collections.defaultdict(bytes)
+    for number, rest in enumerate(recordings):
+        while rest:
+            kind, conn, length = rest[8], rest[9:13], struct.unpack("!I", rest[13:17])[0]
+            if kind == 2:
+                said[number, conn] += rest[17:17 + length]
+            rest = rest[17 + length:]
+    return list(said.values())
+
+
 # ---- what Gauge hears
 
 WATCHED = """vlans: {office: {vid: 100}}
@@ -238,6 +250,69 @@ def stacked():
     told += [one_vlan.packet_in(10 + number % 2, LLDP, 1) for number in range(4)]
     told += [one_vlan.packet_in(1, frame) for frame in frames6()] + [one_vlan.port_status(10, 1), one_vlan.packet_in(11, LLDP, 1)]
     return record(0, 1, 1) + b"".join(record(100 * number, 2, 1, piece) for number, piece in enumerate(told))
+
+
+# ---- what a datapath with gateways of both families hears: those who ask for them, answer them and want others (RFC 4861)
+
+ROUTED = f"{EXAMPLES}/dual-stack/faucet.yaml"
+NEIGHBOUR, GATEWAY, WANTED, GROUP = (socket.inet_pton(socket.AF_INET6, text) for text in ("2001:db8:0:200::9", "2001:db8:0:200::fe", "2001:db8:0:100::7", "ff02::1:ff00:fe"))
+
+
+def checksum(data):
+    total = sum(struct.unpack(f"!{len(data) // 2}H", data))
+    while total >> 16:
+        total = (total & 0xFFFF) + (total >> 16)
+    return struct.pack("!H", total ^ 0xFFFF)
+
+
+def message6(to, group, hops, body):
+    """A tagged frame of ICMPv6 with a right checksum."""
+    body = body[:2] + checksum(NEIGHBOUR + group + struct.pack("!II", len(body), 58) + body) + body[4:]
+    header = struct.pack("!IHBB", 6 << 28, len(body), 58, hops) + NEIGHBOUR + group
+    return bytes.fromhex(to) + bytes.fromhex("020000000009" "810000c8" "86dd") + header + body
+
+
+def routed():
+    """A recording of the core's switch, which hands on what counts of neighbours and what is to be routed, again and again."""
+    link = bytes.fromhex("020000000009")
+    ask = message6("3333ff0000fe", GROUP, 255, b"\x87\0" + bytes(6) + GATEWAY + b"\1\1" + link)
+    answer = message6("0e0000002001", GATEWAY, 255, b"\x88\0\0\0\x60\0\0\0" + NEIGHBOUR + b"\2\1" + link)
+    echo = message6("0e0000002001", GATEWAY, 64, b"\x80\0\0\0\0\1\0\1abcdefgh")
+    want = message6("0e0000002001", WANTED, 64, b"\x80\0\0\0\0\1\0\1abcdefgh")
+    told = [one_vlan.HELLO, one_vlan.features(1), one_vlan.descriptions([1, 2, 24]), one_vlan.barrier_reply(5)]
+    for _ in range(3):
+        told += [one_vlan.packet_in(2, frame, table) for frame, table in ((ask, 6), (answer, 6), (echo, 6), (want, 5))]
+    return record(0, 1, 1) + b"".join(record(1000 * number, 2, 1, piece) for number, piece in enumerate(told))
+
+
+# ---- peers of BGP
+
+PEERED = f"{EXAMPLES}/bgp/faucet.yaml"
+OPEN = bytes([255] * 16) + struct.pack("!HBBHHI", 29, 1, 4, 65002, 90, 0x0A006402) + b"\0"
+
+
+def peers(streams, chance):
+    """Says streams to `bgp-serve`, one behind the other; then a peer has to be greeted."""
+    words = [PROGRAM, "bgp-serve", PEERED, "between", "--events", "1000000000", "--listen", f"127.0.0.1:{PORT}"]
+    server = subprocess.Popen(words, stdout=subprocess.DEVNULL, stderr=open(f"{FOLDER}/said", "w"))
+
+    def end():
+        if server.poll() is None:
+            server.kill()
+        server.wait()
+
+    atexit.register(end)
+    time.sleep(1)
+    ended = sum(send(mutated(chance, streams[number % len(streams)]), chance) for number in range(COUNT))
+    time.sleep(1)
+    with connect() as peer:
+        peer.sendall(OPEN)
+        greeted = peer.recv(19)[:16] == bytes([255] * 16)
+    memory = int(open(f"/proc/{server.pid}/status").read().split("VmHWM:")[1].split()[0])
+    holds = server.poll() is None and greeted and memory <= MOST_MEMORY
+    end()
+    print(f"peers: {COUNT} streams, of which bgp-serve ended {ended}; the next peer is {'greeted' if greeted else 'NOT greeted'}, at most {memory} KB")
+    return holds
 
 
 def long():
@@ -343,6 +418,10 @@ def main():
         "long-serve": lambda: streams("serve", CONFIGURATION, long(), chance),
         "stack-recording": lambda: runs("stack recording", [stacked()], lambda name: ["replay", RING, name], (0, 5), chance),
         "stack-serve": lambda: streams("serve", RING, spoken(stacked()), chance),
+        "routed-recording": lambda: runs("routed recording", [routed()], lambda name: ["replay", ROUTED, name], (0, 5), chance),
+        "routed-serve": lambda: streams("serve", ROUTED, spoken(routed()), chance),
+        "bgp-recording": lambda: runs("bgp recording", files(f"{EXAMPLES}/bgp/*.rec"), lambda name: ["bgp", PEERED, "between", name], (0, 5), chance),
+        "bgp-serve": lambda: peers(spoken_each(files(f"{EXAMPLES}/bgp/*.rec")), chance),
         "gauge-file": lambda: runs("gauge file", [GAUGE.encode(), *map(read, GAUGES)], lambda name: ["gauge", name, told], (0, 2, 3), chance),
         "gauge-recording": lambda: runs("gauge recording", [read(told), *files(f"{EXAMPLES}/gauge/*.rec")], lambda name: ["gauge", gauge, name], (0, 5), chance),
         "gauge-serve": lambda: streams("gauge-serve", gauge, b"".join(replies(3)), chance),

@@ -1,13 +1,16 @@
 #!/usr/bin/env bash
 # Runs `faucet` on what is made of real files, recordings and streams by chance: bits turned, bytes cut, repeated, moved and
-# lengthened. `check` reads COUNT files, `replay` COUNT recordings, and `serve`, at 127.0.0.1:7655 (or PORT), hears COUNT streams beside a
-# switch that stays, which this script plays; `replay` and `serve` get as many of a datapath of a ring that hands on LLDP and frames of
-# IPv6, whole and cut; `gauge` reads COUNT files of its own and COUNT recordings of replies with counters of
-# ports and of flow entries, and `gauge-serve` hears COUNT streams of them. Prints how many runs ended in which way, their times and their memory. Status 1
-# where a run ended otherwise than docs/reference/commands.md says, took more than ten times the median of its kind and a second, or
-# more than 64 MB; where `serve` ended, or left its switch unanswered. It ends what it started, by its process id. Needs python3.
+# lengthened. `check` reads COUNT files, `replay` COUNT recordings, and `serve`, at 127.0.0.1:7655 (or PORT), hears COUNT streams
+# beside a switch that stays, which this script plays; `replay` and `serve` get as many of a datapath of a ring that hands on LLDP
+# and frames of IPv6, whole and cut, and of one with gateways of both families; `bgp` reads COUNT recordings of peers, and
+# `bgp-serve` hears COUNT streams of theirs; `gauge` reads COUNT files of its own and COUNT recordings of replies with counters of
+# ports and of flow entries, and `gauge-serve` hears COUNT streams of them. Prints how many runs ended in which way, their times and
+# their memory. Status 1 where a run ended otherwise than docs/reference/commands.md says, took more than ten times the median of
+# its kind and a second, or more than 64 MB; where `serve` ended, or left its switch unanswered; where `bgp-serve` ended, or doesn't
+# greet the next peer. It ends what it started, by its process id. Needs python3.
 # Usage: [ONLY="KIND.."] [PORT=N] bench/hostile.sh [COUNT [SEED [PROGRAM]]]    COUNT is 2000 and SEED 1 else; PROGRAM is another one
-# than bin/faucet; a KIND is file, recording, serve, long-serve, stack-recording, stack-serve, gauge-file, gauge-recording or gauge-serve
+# than bin/faucet; a KIND is file, recording, serve, long-serve, stack-recording, stack-serve, routed-recording, routed-serve,
+# bgp-recording, bgp-serve, gauge-file, gauge-recording or gauge-serve
 set -eu
 top=$(cd "$(dirname "$0")/.." && pwd)
 work=$(mktemp -d)
