@@ -1,5 +1,5 @@
 -- Texts that spell addresses and networks, with no fault.
-use Rattle.std.proofs.Common.{◌≡◌, ℕ, ◌+◌, ◌-◌, ◌*◌, ◌%◌, ◌^◌, ◌<◌, ◌≤◌, ◌&&◌, ◌||◌, not, Bool, true, false, List, [], ◌∷◌, length, Option, Some, None, refl, sym, ap, ap₂, ◌∙◌, subst, arith, leb-true, eqb-true}
+use Rattle.std.proofs.Common.{◌≡◌, ℕ, ◌+◌, ◌*◌, ◌%◌, ◌^◌, ◌<◌, ◌≤◌, ◌&&◌, ◌||◌, not, Bool, true, false, List, [], ◌∷◌, length, Option, Some, None, refl, sym, ap, ap₂, ◌∙◌, subst, arith, leb-true, eqb-true}
 use Rattle.std.specs.Prelude.{nat_le, ◌==◌, IsTrue, if◌then◌else◌, bit_and, min, unwrap_or}
 use Rattle.std.specs.Char.{digit_value, is_ascii_hexdigit}
 use Rattle.std.specs.List.{AllByRecursion, list_any}
@@ -21,7 +21,6 @@ use Rattle.conf_types.specs.Families as families
 use Rattle.conf_types.specs.Families.{family_of, ip_value, width_of, address_of, len_of, host_bits}
 use Rattle.conf_types.specs.Networks.{HasNoHostBits}
 use Rattle.conf_types.specs.Valid.{IsStation, IsVip}
-use Rattle.conf_shape.specs.declared.refused.ConfCause.{ConfCause}
 use Rattle.conf_shape.specs.declared.refused.ConfCause.TheVariants.{OutOfRange, BadText}
 use Rattle.conf_shape.specs.Addresses.{is_group, is_zero, station_fault, station_cause, is_masked, has_colon, width_written, ip4_with, ip6_with, net4_with, net6_with, ip_in, net_in, other_cause, leaves_room, has_no_host_bits, vip_fault, network_fault, vip_cause, destination_cause, identifier_fault, identifier_cause}
 use Rattle.conf_shape.specs.Values.{mac_or_zero, mac_of, ip_or_zero, ip_of, net_or_zero, net_of, identifier_of}
@@ -180,7 +179,7 @@ net_ok width text net e = let r = by (width == 128) e in record { spelled = r.0;
 pub written_family : (text : List ℕ) → (if width_written text == 128 then 128 else 32) ≡ width_written text
 written_family text = by (has_colon text)
   where
-    by : (has : Bool) → (if (if has then 128 else 32) == 128 then 128 else 32) ≡ (if has then 128 else 32)
+    by : (has : Bool) → ◌≡◌ {A = ℕ} (if (if has then 128 else 32) == 128 then 128 else 32) (if has then 128 else 32)
     by true = refl
     by false = refl
 

@@ -17,6 +17,7 @@ use Rattle.conf_shape.specs.declared.kinds.Kind.TheVariants.{One}
 use Rattle.conf_shape.specs.declared.kinds.Scalar.TheVariants.{Number, MaskedMac, Prefix, Address}
 use Rattle.conf_shape.specs.declared.kinds.MapKind.TheVariants as maps
 use Rattle.conf_shape.specs.declared.raw.RawField.{RawField}
+use Rattle.conf_shape.specs.declared.refused.ConfCause.TheVariants.{BadText}
 use Rattle.conf_shape.specs.Addresses.{mac_fault, masked_fault, masked_parts, ip_in, net_in, other_cause, network_fault, address_or}
 use Rattle.conf_shape.specs.Keys.{keys_of, match_keys}
 use Rattle.conf_shape.specs.Faults.{faults_of}

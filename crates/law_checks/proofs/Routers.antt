@@ -1,5 +1,5 @@
 -- Routing is valid where no rule on it is broken.
-use Rattle.std.specs.Prelude.{◌≡◌, ℕ, ◌==◌, ◌&&◌, ◌||◌, Bool, true, false, not, List, [], map, codes, Option, Some, None, option_and_then, IsTrue, IfSome, is_some}
+use Rattle.std.specs.Prelude.{◌≡◌, ℕ, ◌&&◌, ◌||◌, Bool, true, false, not, List, [], map, codes, Option, Some, None, option_and_then, IsTrue, IfSome, is_some}
 use Rattle.std.specs.List.{AllByRecursion, flat_map, filter_map, list_any, zip}
 use Rattle.std.specs.Option.{option_map, option_map_or}
 use Rattle.std.proofs.Common.{inl, refl, sym, ◌∙◌, subst, true≢false}

@@ -1,11 +1,12 @@
 -- What texts that spell addresses of IPv6 are like, and how large these are.
-use Rattle.std.proofs.Common.{◌≡◌, ℕ, suc, ◌+◌, ◌-◌, ◌*◌, ◌^◌, ◌<◌, ◌≤◌, ◌==◌, Bool, true, false, List, [], ◌∷◌, ◌++◌, length, length-append, refl, sym, ap, ◌∙◌, inl, inr, subst, arith}
+use Rattle.std.proofs.Common.{◌≡◌, ℕ, zero, suc, ◌+◌, ◌-◌, ◌*◌, ◌^◌, ◌<◌, ◌≤◌, ◌==◌, Bool, true, false, List, [], ◌∷◌, ◌++◌, length, length-append, refl, sym, ap, ◌∙◌, inl, inr, subst, arith}
 use Rattle.std.specs.Prelude.{IsTrue, replicate}
 use Rattle.std.specs.Char.{digit_value, is_ascii_hexdigit}
 use Rattle.std.specs.List.{AllByRecursion, list_any}
 use Rattle.std.proofs.Math.Nat.{mul-le-mul_right, pow-le-pow_right}
 use Rattle.std.proofs.lemmas.Bool.{or_from, or_right}
 use Rattle.std.proofs.lemmas.Bool.Decides.{nat_tests}
+use Rattle.std.proofs.lemmas.List.{length-replicate}
 use Rattle.std.proofs.lemmas.List.Folds.{list_any-append}
 use Rattle.std.proofs.lemmas.Nat.{pow-add}
 use Rattle.net_base.specs.Address.{decimal}
@@ -78,12 +79,8 @@ joined [] ys a b = b
 joined (x ∷ xs) ys a b = (a.0, joined xs ys a.1 b)
 
 zeros : (k : ℕ) → AreGroups (replicate k 0)
-zeros 0 = tt
+zeros zero = tt
 zeros (suc k) = (omega arith, zeros k)
-
-zeros_length : (k : ℕ) → length (replicate k 0) ≡ k
-zeros_length 0 = refl
-zeros_length (suc k) = ap suc (zeros_length k)
 
 whole_below : (groups : List ℕ) → AreGroups groups → whole groups < 2 ^ (16 * length groups)
 whole_below [] all = omega arith
@@ -101,10 +98,11 @@ pub ip6_below : (text : List ℕ) (ip : ℕ) → SpellsIp6 text ip → ip < 2 ^ 
 ip6_below text ip (inl s) = subst (λ (n : ℕ). n < 2 ^ 128) (sym s.value) (eight_below s.groups (groups_below text s.groups s.spelled) s.count)
 ip6_below text ip (inr s) =
     let k = 8 - (length s.front + length s.back) in
-    let all = joined s.front (replicate k 0 ++ s.back) (groups_below s.before s.front s.spelled_front) (joined (replicate k 0) s.back (zeros k) (groups_below s.behind s.back s.spelled_back)) in
-    let parts = length-append s.front (replicate k 0 ++ s.back) in
-    let later = length-append (replicate k 0) s.back in
-    let middle = zeros_length k in
+    let front = joined s.front (replicate k 0) (groups_below s.before s.front s.spelled_front) (zeros k) in
+    let all = joined (s.front ++ replicate k 0) s.back front (groups_below s.behind s.back s.spelled_back) in
+    let parts = length-append (s.front ++ replicate k 0) s.back in
+    let earlier = length-append s.front (replicate k 0) in
+    let middle = length-replicate {A = ℕ} k 0 in
     let few = s.count in
-    let count : length (s.front ++ replicate k 0 ++ s.back) ≡ 8 = omega (arith, parts, later, middle, few) in
+    let count : length (s.front ++ replicate k 0 ++ s.back) ≡ 8 = omega (arith, parts, earlier, middle, few) in
     subst (λ (n : ℕ). n < 2 ^ 128) (sym s.value) (eight_below (s.front ++ replicate k 0 ++ s.back) all count)
