@@ -101,7 +101,7 @@ one_width : (a b : Ip) → family_of a ≡ family_of b → width_of a ≡ width_
 one_width a b same = ap (λ f. f.width) same
 
 -- in a prefix of all bits is one address
-whole_in : (to at : Ip) (len : ℕ) → InPrefix to at len → len ≡ width_of at → to ≡ at
+pub whole_in : (to at : Ip) (len : ℕ) → InPrefix to at len → len ≡ width_of at → to ≡ at
 whole_in to at len h whole =
     let none : width_of at - len ≡ 0 = omega (arith, whole) in
     one_ip to at h.family
@@ -167,19 +167,19 @@ module _ (conf : Configuration) (now : State) (d : Dp) (setting : IsSetting conf
   vlan_is : (w : Vlan) → InSet w → IsVlan w
   vlan_is w s = of_all IsVlan conf.vlans setting.valid.vlans.each w (found (λ y. y.vid == w.vid) conf.vlans w s.is_vlan).within
 
-  own : (w : Vlan) (vip : Net) → Contains (used w) vip → Contains w.vips vip
+  pub own : (w : Vlan) (vip : Net) → Contains (used w) vip → Contains w.vips vip
   own w vip c = used_is_own v.vid w vip c
 
   vip_is : (w : Vlan) → InSet w → (vip : Net) → Contains (used w) vip → IsVip vip
   vip_is w s vip c = of_all IsVip w.vips (vlan_is w s).vips vip (own w vip c)
 
-  short : (w : Vlan) → InSet w → (vip : Net) → Contains (used w) vip → len_of vip < width_of (address_of vip)
+  pub short : (w : Vlan) → InSet w → (vip : Net) → Contains (used w) vip → len_of vip < width_of (address_of vip)
   short w s vip c = vip_short vip (vip_is w s vip c)
 
   route_is : (w : Vlan) → InSet w → (route : Route) → Contains w.routes route → IsRoute route
   route_is w s route c = of_all IsRoute w.routes (vlan_is w s).routes route c
 
-  vips_are : (w : Vlan) → InSet w → vips_of conf w.vid ≡ w.vips
+  pub vips_are : (w : Vlan) → InSet w → vips_of conf w.vid ≡ w.vips
   vips_are w s = ap (λ (o : Option Vlan). option_map_or (λ (x : Vlan). x.vips) o []) s.is_vlan
 
   routes_are : (w : Vlan) → InSet w → routes_of conf w.vid ≡ w.routes
@@ -221,7 +221,7 @@ module _ (conf : Configuration) (now : State) (d : Dp) (setting : IsSetting conf
       by false apart = and_left (is_link_local a) (is_link_local b) (of_all IsWide (used w) (wide_used v.vid w (eqb-false w.vid v.vid apart)) a ca)
 
   -- VIPs whose networks hold one address are one
-  one_vip : (w x : Vlan) → InSet w → InSet x → (a b : Net) → Contains (used w) a → Contains (used x) b → (to : Ip) → Holds a to → Holds b to → ◌≡◌ {A = ℕ × Net} (w.vid, a) (x.vid, b)
+  pub one_vip : (w x : Vlan) → InSet w → InSet x → (a b : Net) → Contains (used w) a → Contains (used x) b → (to : Ip) → Holds a to → Holds b to → ◌≡◌ {A = ℕ × Net} (w.vid, a) (x.vid, b)
   one_vip w x s r a b ca cb to in_a in_b = by (w.vid == x.vid) refl
     where
       by : (t : Bool) → (w.vid == x.vid) ≡ t → ◌≡◌ {A = ℕ × Net} (w.vid, a) (x.vid, b)
@@ -239,7 +239,7 @@ module _ (conf : Configuration) (now : State) (d : Dp) (setting : IsSetting conf
           (λ here. here (not_both w x other a b ca cb) to in_a in_b) (λ here. here (not_both x w (λ e. other (sym e)) b a cb ca) to in_b in_a)
 
   -- no route leads into a VIP's network
-  not_inside : {P : Type 0} (w x : Vlan) → InSet w → InSet x → (route : Route) (vip : Net) → Contains w.routes route → Contains (used x) vip → len_of vip ≤ len_of route.dst → Holds vip (address_of route.dst) → P
+  pub not_inside : {P : Type 0} (w x : Vlan) → InSet w → InSet x → (route : Route) (vip : Net) → Contains w.routes route → Contains (used x) vip → len_of vip ≤ len_of route.dst → Holds vip (address_of route.dst) → P
   not_inside w x s r route vip cr cv longer inside =
       let w_in = (found (λ y. y.vid == w.vid) conf.vlans w s.is_vlan).within in
       let outside = of_all (λ (q : Route). AllByRecursion (λ vip. LiesIn q.dst vip → ⊥) (vips_in conf (routing_set conf w.vid))) w.routes (of_all (RoutesAreValid conf) conf.vlans setting.valid.routing.each w w_in).outside route cr in
