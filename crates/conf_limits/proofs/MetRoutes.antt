@@ -5,6 +5,7 @@ use Rattle.std.specs.List.{list_any}
 use Rattle.conf_types.specs.declared.vlan.Route.{Route}
 use Rattle.conf_types.specs.declared.vlan.Vlan.{Vlan}
 use Rattle.conf_types.specs.Configuration.{Configuration}
+use Rattle.conf_types.specs.Families.{ip_value, is_same_family, address_of, len_of}
 use Rattle.conf_types.specs.Lists.{is_among}
 use Rattle.conf_limits.specs.declared.met_routes.Destination.{Destination}
 use Rattle.conf_limits.specs.MetRoutes.{is_same_destination, destination_of, has_route, has_same_route, has_same_route_so_far, HasRoutes}
@@ -12,6 +13,10 @@ use Rattle.conf_rules.specs.Routing.{are_routed, is_same_route}
 use Rattle.conf_rules.proofs.Earlier.{any_more}
 use Rattle.conf_limits.proofs.Exchanged.{any-same, exchanged_or}
 use Rattle.conf_rules.proofs.SeenNames.{cond_or}
+
+regrouped : (a b c : Bool) → (a && (b && c)) ≡ ((a && b) && c)
+regrouped true b c = refl
+regrouped false b c = refl
 
 module _ {S : Type 0} (met more : HashSet Destination S) where
   -- a route more
@@ -21,6 +26,8 @@ module _ {S : Type 0} (met more : HashSet Destination S) where
       u.0 (destination_of n r)
       ∙ cond_or (is_same_destination k (destination_of n r)) (has_route met n r)
       ∙ ap (λ (d : Destination). has_route met n r || is_same_destination d (destination_of n r)) e
+      ∙ ap (λ b. has_route met n r || (vid == n && b))
+      (regrouped (is_same_family (address_of route.dst) (address_of r.dst)) (ip_value (address_of route.dst) == ip_value (address_of r.dst)) (len_of route.dst == len_of r.dst))
 
   -- of the VLAN that stands behind those VLANs
   pub routes_more : (vlans : List Vlan) (vid : ℕ) (xs ys : List Route) (i : ℕ) (route : Route) → ys ≡ xs → i < length ys → route ≡ get_or ys i route
