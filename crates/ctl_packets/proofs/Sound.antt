@@ -26,7 +26,6 @@ use Rattle.of_match.specs.InPort.{in_port}
 use Rattle.of13_codec.specs.declared.packet_in.PacketIn.{PacketIn}
 use Rattle.flow_messages.specs.declared.messages.TheConstants.{COOKIE}
 use Rattle.pkt_view.specs.Frame.{FrameParts, UpperParts, Unknown, Arp, V4, V6, parts}
-use Rattle.neighbour_resolve.specs.declared.discovery.NdMessage.{NdMessage}
 use Rattle.neighbour_resolve.specs.declared.hearing.Sender.{Sender}
 use Rattle.neighbour_resolve.specs.Answers.{answer}
 use Rattle.neighbour_resolve.specs.Counted.{counted_vid}
@@ -127,11 +126,11 @@ module _ (dp : DpId) (w : World) (runs : is_running (running w) dp ≡ true) (so
   sender_address vid from Unknown s is = absurd (cc)
   sender_address vid from (V4 header body) s is = absurd (cc)
   sender_address vid from (Arp op sha spa tha tpa) s is = where_true (is_same sha.0 from.0) vid from (ips.V4 spa) s is
-  sender_address vid from (V6 header body) s is = told (nd_message from header body) is
-    where
-      told : (o : Option NdMessage) → option_and_then (nd_sender w.conf vid from) o ≡ Some s → is_neighbour_address (vips_of w.conf vid) s.ip ≡ true
-      told None none = absurd (cc)
-      told (Some m) some = where_true m.is_own vid from (who m) s some
+  sender_address vid from (V6 header body) s is =
+      elim (nd_message from header body) as (λ o. option_and_then (nd_sender w.conf vid from) o ≡ Some s → is_neighbour_address (vips_of w.conf vid) s.ip ≡ true) [
+        | None ↦ λ none. absurd (cc)
+        | Some m ↦ λ some. where_true m.is_own vid from (who m) s some
+      ] is
 
   hear_sound : (vid : ℕ) (frame : FrameParts) → IsSound (hear_neighbour dp vid frame w)
   hear_sound vid frame =
