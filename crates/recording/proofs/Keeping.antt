@@ -18,7 +18,8 @@ use Rattle.recording.specs.Turns.{Closing, closings}
 use Rattle.recording.specs.Script as script
 use Rattle.recording.specs.Script.{is_live, is_spent, is_open_in, opened_by, own_kind, own_where, StandsFor, Keeps, Waits, Stays}
 use Rattle.recording.proofs.Turning.{happenings-append, closings-append}
-use Rattle.recording.proofs.Standing.{Core, core_of, stands_by, told_list, is_among-push, is_among-without, own_told, read_waits, read_stays, closed_core, spent_core}
+use Rattle.recording.proofs.Ascending.{is_among-with_one}
+use Rattle.recording.proofs.Standing.{Core, core_of, stands_by, told_list, is_among-without, own_told, read_waits, read_stays, closed_core, spent_core}
 
 -- the events of what was told
 abbrev pub events_of : Option Happening → List Event
@@ -71,7 +72,7 @@ closed_live false live c conn h =
 
 own_live : (kind : RecordKind) (c : ℕ) (body live : List ℕ) (conn : ℕ) → is_among (open_after kind c live) conn ≡ open_told conn (is_among live conn) (own_kind (is_among live c) kind c body)
 unfolding open_told
-own_live kinds.Open c body live conn = is_among-push live c conn ∙ or_else (is_among live conn) (c == conn)
+own_live kinds.Open c body live conn = is_among-with_one live c conn ∙ or_else (is_among live conn) (c == conn)
 own_live kinds.Bytes c body live conn = heard_live (is_among live c) (happens.Heard c body) conn (is_among live conn) refl
 own_live kinds.Close c body live conn = closed_live (is_among live c) live c conn refl
 own_live kinds.Reload c body live conn = refl

@@ -1,3 +1,4 @@
+pub mod Ascending
 pub mod Grammar
 pub mod Keeping
 pub mod Parts

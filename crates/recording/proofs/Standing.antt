@@ -1,12 +1,11 @@
 -- What a hub that reads a recording stands for, a record or an event at a time.
 use Rattle.std.proofs.Common.{◌≡◌, ◌==◌, ◌&&◌, ◌||◌, ℕ, ◌+◌, Bool, true, false, not, if◌then◌else◌, List, [], ◌∷◌, ◌++◌, length, Option, Some, None, refl, sym, ◌∙◌, ap, subst, arith, nat_lt, append_assoc, length-append}
 use Rattle.std.proofs.lemmas.List.{append-nil}
-use Rattle.std.proofs.lemmas.List.Folds.{list_any-append}
 use Rattle.std.proofs.lemmas.List.Sums.{fold_push}
 use Rattle.std.proofs.lemmas.Map.Views.{any-filter_same}
 use Rattle.std.proofs.lemmas.Bool.{eqb-true}
 use Rattle.std.proofs.lemmas.Bool.Decides.{nat_tests}
-use Rattle.std.proofs.Math.Bool.{or-false, and-true}
+use Rattle.std.proofs.Math.Bool.{and-true}
 use Rattle.std.specs.List.{fold}
 use Rattle.fg_outside.specs.declared.hub.Happening.{Happening}
 use Rattle.fg_outside.specs.declared.hub.Happening.TheVariants as happens
@@ -29,6 +28,7 @@ use Rattle.recording.specs.Script as script
 use Rattle.recording.specs.Turns.{Closing, closings, opens, is_shut, own_of, with_own, clock, tell, told_by}
 use Rattle.recording.specs.Script.{is_live, is_spent, listed, clock_of, is_open_in, opened_by, own_kind, own_where, Runs, StandsFor, Keeps, Waits, Stays}
 use Rattle.recording.proofs.Parts.{prepended-append}
+use Rattle.recording.proofs.Ascending.{is_among-with_one}
 use Rattle.recording.proofs.Turning.{AreWithin, within_more, within_push, closings-within, is_shut-happening, is_shut-closing, told_by-later, told_by-push}
 
 -- ---- records behind records
@@ -59,9 +59,6 @@ same_moment closes place told [] h = h
 same_moment closes place told (r ∷ records) h = same_moment closes (after place r) (tell closes told r) records refl
 
 -- ---- connections
-
-pub is_among-push : (conns : List ℕ) (c conn : ℕ) → is_among (conns ++ c ∷ []) conn ≡ (is_among conns conn || (c == conn))
-is_among-push conns c conn = list_any-append (λ k. k == conn) conns (c ∷ []) ∙ ap (λ b. is_among conns conn || b) (or-false (c == conn))
 
 same_test : (k conn c : ℕ) → k ≡ conn → not (k == c) ≡ not (c == conn)
 same_test k conn c h = grind (arith, nat_tests)
@@ -117,8 +114,8 @@ still_open opened true there = cc
 
 own_shut : (kind : RecordKind) (c : ℕ) (body : List ℕ) (live opened : List ℕ) (closes : List Closing) (given : List Happening) (conn : ℕ) → AreWithin (length given) closes → (is_among opened conn ≡ true → SaysShut live closes given conn) → is_among (open_after kind c opened) conn ≡ true → SaysShut (open_after kind c live) closes (given ++ told_list (own_kind (is_among live c) kind c body)) conn
 own_shut kinds.Open c body live opened closes given conn within h there =
-    is_among-push live c conn
-    ∙ opened_now (is_among opened conn) (is_among live conn) (is_shut closes given conn) (c == conn) h (sym (is_among-push opened c conn) ∙ there)
+    is_among-with_one live c conn
+    ∙ opened_now (is_among opened conn) (is_among live conn) (is_shut closes given conn) (c == conn) h (sym (is_among-with_one opened c conn) ∙ there)
     ∙ ap (λ b. not b) (sym (is_shut-happening closes given (happens.Opened c) conn within))
 own_shut kinds.Bytes c body live opened closes given conn within h there = quietly (is_among live c) (happens.Heard c body) live closes given conn within refl (h there)
 own_shut kinds.Close c body live opened closes given conn within h there =

@@ -1,15 +1,16 @@
-ghost use Rattle.std.specs.Prelude.{◌≡◌, [], ◌∷◌, ◌++◌, OnOk, OnErr};
-ghost use Rattle.recording.specs.Conns.{is_among, without};
+ghost use Rattle.std.specs.Prelude.{◌≡◌, [], OnOk, OnErr};
+ghost use Rattle.recording.specs.Conns.{is_among, without, with_one};
 
 use crate::kind::RecordKind;
 use net_base::NoMemory;
 use std::alloc::Global;
+use std::collections::BTreeSet;
 use std::marker::Model;
 
-/// Connections, by their numbers.
+/// Connections, by their numbers, which ascend. Each is found without a walk over the others.
 #[derive(Debug, Drop)]
 pub struct Conns {
-    conns: Vec<u32>,
+    conns: BTreeSet<u32>,
 }
 
 impl Model for Conns {
@@ -17,14 +18,7 @@ impl Model for Conns {
 
     ghost Value = { List ℕ };
 
-    ghost view = { λ it. it.conns.items };
-}
-
-// Takes each of these out.
-fn remove_from(conns: &mut Vec<u32>, conn: u32)
-    ensures { conns.new.items ≡ without conns.old.items conn }
-{
-    conns.retain(|c| *c != conn);
+    ghost view = { λ it. it.conns.keys };
 }
 
 impl Conns {
@@ -35,7 +29,7 @@ impl Conns {
         ensures { result ≡ [] }
     {
         Conns {
-            conns: Vec::new(alloc),
+            conns: BTreeSet::new(alloc),
         }
     }
 
@@ -43,15 +37,15 @@ impl Conns {
     pub fn has(&self, conn: u32) -> bool
         ensures { result ≡ is_among self.now conn }
     {
-        self.conns.as_slice().contains(&conn)
+        self.conns.contains(&conn)
     }
 
-    /// One more. After `NoMemory` they are as they were.
+    /// One more, at its place, unless it is one of them. After `NoMemory` they are as they were.
     pub fn add(&mut self, conn: u32) -> Result<(), NoMemory>
-        ensures ok { OnOk result (self.new ≡ self.old ++ conn ∷ []) }
+        ensures ok { OnOk result (self.new ≡ with_one self.old conn) }
         ensures err { OnErr result (self.new ≡ self.old) }
     {
-        self.conns.push(conn)?;
+        self.conns.insert(conn)?;
         Ok(())
     }
 
@@ -59,7 +53,9 @@ impl Conns {
     pub fn remove(&mut self, conn: u32)
         ensures { self.new ≡ without self.old conn }
     {
-        remove_from(&mut self.conns, conn);
+        // This call alone tells that they ascend.
+        let _len = self.conns.len();
+        self.conns.remove(&conn);
     }
 
     /// Whether a record of this kind may name this connection, where these are open.
