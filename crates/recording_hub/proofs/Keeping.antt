@@ -9,11 +9,12 @@ use Rattle.recording.specs.declared.kind.RecordKind.{RecordKind}
 use Rattle.recording.specs.declared.kind.RecordKind.TheVariants as kinds
 use Rattle.recording.specs.declared.record.Record.{Record}
 use Rattle.recording.specs.Kinds.{is_length, is_moment}
-use Rattle.recording.specs.Conns.{is_among, is_conn, open_after}
+use Rattle.recording.specs.Conns.{is_among, is_conn, open_after, with_one}
 use Rattle.recording.specs.Recording.{Place, first_place, after, after_all, Follows, AllSpell, AllFollow}
 use Rattle.recording.specs.Turns.{Closing, Told, opens, is_shut, clock, own, tell, told_by, is_passed_over, with_own}
 use Rattle.recording.proofs.Turning.{AreWithin, within_more, within_push, is_shut-happening, is_shut-closing, told_by-later, told_by-push}
-use Rattle.recording.proofs.Standing.{AllSpell-push, AllFollow-push, after_all-push, is_among-push, is_among-without}
+use Rattle.recording.proofs.Ascending.{is_among-with_one}
+use Rattle.recording.proofs.Standing.{AllSpell-push, AllFollow-push, after_all-push, is_among-without}
 use Rattle.recording_hub.specs.declared.recorder.Recorder.{Recorder}
 use Rattle.recording_hub.specs.Recorded.{bytes_of, held, held_text, record_of, record_of_closing}
 use Rattle.recording_hub.specs.Recorder.{place_of, is_broken, may_follow, Notes, Breaks, NotesClosing, Rests}
@@ -158,10 +159,10 @@ module _ {S : Type 0} (wrote : S → Option (List ℕ)) (start : Option (List �
   stays_shut : (closes : List Closing) (given : List Happening) (it : Happening) (conn : ℕ) → AreWithin (length given) closes → is_shut closes given conn ≡ false → is_shut closes (given ++ it ∷ []) conn ≡ false
   stays_shut closes given it conn within not_shut = is_shut-happening closes given it conn within ∙ ap (λ b. b && not (opens conn it)) not_shut
 
-  opened_shut : (closes : List Closing) (given : List Happening) (c conn : ℕ) (opened : List ℕ) → AreWithin (length given) closes → (is_among opened conn ≡ true → is_shut closes given conn ≡ false) → is_among (opened ++ c ∷ []) conn ≡ true → is_shut closes (given ++ happens.Opened c ∷ []) conn ≡ false
+  opened_shut : (closes : List Closing) (given : List Happening) (c conn : ℕ) (opened : List ℕ) → AreWithin (length given) closes → (is_among opened conn ≡ true → is_shut closes given conn ≡ false) → is_among (with_one opened c) conn ≡ true → is_shut closes (given ++ happens.Opened c ∷ []) conn ≡ false
   opened_shut closes given c conn opened within before there =
       is_shut-happening closes given (happens.Opened c) conn within
-      ∙ opened_now (is_among opened conn) (c == conn) (is_shut closes given conn) before (sym (is_among-push opened c conn) ∙ there)
+      ∙ opened_now (is_among opened conn) (c == conn) (is_shut closes given conn) before (sym (is_among-with_one opened c conn) ∙ there)
     where
       opened_now : (was same shut : Bool) → (was ≡ true → shut ≡ false) → (was || same) ≡ true → (shut && not same) ≡ false
       opened_now was true true h there = refl
