@@ -27,7 +27,7 @@ use Rattle.conf_shape.specs.Scalars.{unless, text_fault}
 use Rattle.law_checks.specs.Values.{SpellsIp}
 use Rattle.law_checks.proofs.Addresses.{ip_ok, net_ok}
 use Rattle.law_keys.specs.Causes.{AreDigits, HasLengthOutside, HasLengthOutsideOf, most_vip_len}
-use Rattle.law_keys.specs.Grammar.{IsOneOf, SpellsVip, SpellsNetworkOf, family_bits}
+use Rattle.law_keys.specs.Grammar.{IsOneOf, SpellsNetworkOf, family_bits}
 use Rattle.law_keys.proofs.Texts.{cut_there, no_cut, same_cut}
 use Rattle.law_keys.proofs.Scalars.{Holds, Told, name_told, station_told, masked_told}
 use Rattle.law_keys.proofs.Spelled.{ip_family, joined_family, no_slash_ip, digits_are_one, parts_of, net_family, ip_none, net_none, net_same, no_network, same_bits, room_short}

@@ -1,13 +1,12 @@
 -- Texts that spell addresses and networks of either family: their colons and slashes, and what is read of them.
-use Rattle.std.specs.Prelude.{◌≡◌, ℕ, ◌+◌, ◌-◌, ◌%◌, ◌^◌, ◌<◌, ◌≤◌, ◌⊎◌, Bool, true, false, List, [], ◌∷◌, ◌++◌, length, Option, Some, None, ◌==◌, if◌then◌else◌}
-use Rattle.std.specs.List.{list_any}
+use Rattle.std.specs.Prelude.{◌≡◌, ℕ, ◌-◌, ◌%◌, ◌^◌, ◌≤◌, ◌⊎◌, Bool, true, false, List, [], ◌∷◌, ◌++◌, length, Option, Some, None, ◌==◌, if◌then◌else◌}
 use Rattle.std.specs.Option.{option_map}
 use Rattle.std.proofs.Common.{inl, inr, refl, sym, ap, ap₂, ◌∙◌, subst, arith, true≢false, eqb-true, eq-eqb}
 use Rattle.std.proofs.Math.Nat.{min-eq_left}
 use Rattle.std.proofs.lemmas.Option.{same_Some, none-some}
 use Rattle.net_base.specs.Address.{decimal, ip4_text, net4_text}
 use Rattle.net_base.specs.Address6.{SpellsGroups, SpellsIp6}
-use Rattle.net_base.specs.AddressReading.{ip4_of, net4_of, cut_at}
+use Rattle.net_base.specs.AddressReading.{ip4_of, net4_of}
 use Rattle.net_base.specs.Address6Reading.{ip6_of, net6_of}
 use Rattle.net_base.proofs.Addresses.{ip4_again, net4_again}
 use Rattle.net_base.proofs.Groups.{ip6_again, net6_again}
@@ -15,7 +14,7 @@ use Rattle.conf_types.specs.declared.address.Ip.{Ip}
 use Rattle.conf_types.specs.declared.address.Ip.TheVariants as ip
 use Rattle.conf_types.specs.declared.address.Net.{Net}
 use Rattle.conf_types.specs.declared.address.Net.TheVariants as net
-use Rattle.conf_types.specs.Families.{family_of, ip_value, width_of, address_of, len_of, host_bits}
+use Rattle.conf_types.specs.Families.{ip_value, width_of, address_of, len_of}
 use Rattle.conf_types.specs.Networks.{HasNoHostBits}
 use Rattle.conf_types.proofs.Families.{one_family}
 use Rattle.conf_shape.specs.Addresses.{has_colon, width_written, ip4_with, ip6_with, net4_with, net6_with, ip_in, net_in}
@@ -23,7 +22,7 @@ use Rattle.law_checks.specs.Values.{SpellsIp, SpellsNet}
 use Rattle.law_checks.proofs.Addresses.{written_family}
 use Rattle.law_checks.proofs.Texts6.{ip6_no_slash}
 use Rattle.law_keys.specs.Causes.{most_vip_len}
-use Rattle.law_keys.specs.Grammar.{IsOneOf, SpellsNetwork, SpellsNetworkOf, family_bits}
+use Rattle.law_keys.specs.Grammar.{IsOneOf, SpellsNetworkOf, family_bits}
 use Rattle.law_keys.proofs.Lists.{any_in, in_any, of_joined, in_front, behind}
 use Rattle.law_keys.proofs.Texts.{cut_is, digits_alone, no_slash_address, no_colon_address}
 

@@ -26,7 +26,7 @@ use Rattle.conf_shape.specs.Faults.{Faults, Entry, here, under, item_faults, lis
 use Rattle.conf_shape.specs.Scalars.{as_scalar, flag_fault, number_fault, text_fault, flag_cause, number_cause, text_cause, scalar_kind, item_kind, map_kind}
 use Rattle.conf_shape.specs.Sections.{key_text, under_key}
 use Rattle.conf_shape.proofs.FaultLaws.{entry_pair}
-use Rattle.law_keys.specs.Causes.{HasForm, HasFormOf, IsWrong, another_form, outside, ipv6, no_spelling, IsNew, FirstFault, at_value, in_items, in_entries, in_nothing, ItemFault, this_item, later_item, EntryFault, this_key, this_value, later_entry, missing, IsFaultOf}
+use Rattle.law_keys.specs.Causes.{HasForm, HasFormOf, IsWrong, another_form, outside, unsupported, no_spelling, IsNew, FirstFault, at_value, in_items, in_entries, in_nothing, ItemFault, this_item, later_item, EntryFault, this_key, this_value, later_entry, missing, IsFaultOf}
 use Rattle.law_keys.specs.Grammar.{FitsScalar, scalar_of, item_of, map_of, MayBeNothing, own_number, Under, AreSame, IsWhole, Fits, alone, items, entries, nothing, AllFit, no_items, item, EntriesFit, no_entries, entry, IsDocument}
 use Rattle.law_keys.specs.Tables.{lines}
 use Rattle.law_keys.proofs.Lists.{of_all, all_by, in_front, behind}
@@ -90,7 +90,7 @@ module _ (kind : Kind) (x : Tree-F Tree Pair) (form : HasFormOf kind x → (s : 
   wrong_by : (s : Scalar) → scalar_of kind ≡ Some s → (cause : ConfCause) → Holds s x cause → IsWrong kind x cause
   wrong_by s e WrongType h = another_form kind x (λ f. let g = form f in h (subst (λ s. HasForm s x) (same_Some g.0 s (sym g.1 ∙ e)) g.2))
   wrong_by s e OutOfRange h = outside kind s x e h
-  wrong_by s e LeftOut h = ipv6 kind s x e h
+  wrong_by s e LeftOut h = unsupported kind s x e h
   wrong_by s e BadText h = no_spelling kind s x e h.0 h.1 h.2 h.3
   wrong_by s e _ h = absurd h
 
