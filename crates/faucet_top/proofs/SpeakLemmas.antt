@@ -55,15 +55,15 @@ module _ {H : Type 0} (may : H → HubStep → H → Type 0) (events : ℕ) (pee
 
     does_that : (end : Drove) → end ≢ drove.WriteFault → Drives speaks may Hub events (speaking_with peer) h0 h1 o0 o1 e0 e1 end → DoesThat end
     does_that drove.Done unfailed (hs, mid, few, all, last) =
-        (out_of speaks Hub (speaking_with peer) hs, lines_of speaks (speaking_with peer) hs, (hs, mid, few, record { told = all.told; out = refl; err = refl }, last), all.out, all.err)
+        (out_of speaks Hub (speaking_with peer) hs, lines_of speaks (speaking_with peer) hs, (hs, mid, few, record { told = all.told; out = refl; err = refl; bytes = all.bytes }, last), all.out, all.err)
     does_that drove.HubFault unfailed (hs, mid, few, all, last) =
-        (out_of speaks Hub (speaking_with peer) hs, lines_of speaks (speaking_with peer) hs, (hs, mid, few, record { told = all.told; out = refl; err = refl }, last), all.out, all.err)
+        (out_of speaks Hub (speaking_with peer) hs, lines_of speaks (speaking_with peer) hs, (hs, mid, few, record { told = all.told; out = refl; err = refl; bytes = all.bytes }, last), all.out, all.err)
     does_that drove.Spent unfailed (hs, is, all) =
-        (out_of speaks Hub (speaking_with peer) hs, lines_of speaks (speaking_with peer) hs, (hs, is, record { told = all.told; out = refl; err = refl }), all.out, all.err)
+        (out_of speaks Hub (speaking_with peer) hs, lines_of speaks (speaking_with peer) hs, (hs, is, record { told = all.told; out = refl; err = refl; bytes = all.bytes }), all.out, all.err)
     does_that drove.WriteFault unfailed drives = absurd (unfailed refl)
     does_that drove.Memory unfailed (hs, few, front) =
         let some = on_empty speaks Hub (speaking_with peer) hs o0 o1 e0 e1 front.but_last in
-        (some.out, some.lines, (hs, few, record { told = front.told; happened = front.happened; out = some.out_front; err = some.lines_front; but_last = some.but_last }), some.wrote, some.said)
+        (some.out, some.lines, (hs, few, record { told = front.told; happened = front.happened; out = some.out_front; err = some.lines_front; but_last = some.but_last; bytes = front.bytes }), some.wrote, some.said)
 
     abbrev DoesFrontOfThat : Type 0
     DoesFrontOfThat = (out : List ℕ) × (lines : List ℕ) × Does out lines drove.Memory × AppendsFront o0 o1 out × AppendsFront e0 e1 lines
@@ -75,7 +75,7 @@ module _ {H : Type 0} (may : H → HubStep → H → Type 0) (events : ℕ) (pee
         let lines = lines_of speaks (speaking_with peer) hs in (
           out,
           lines,
-          (hs, few, record { told = front.told; happened = front.happened; out = AppendsFront-all (Some []) out; err = AppendsFront-all (Some []) lines; but_last = whole_on_empty speaks Hub (speaking_with peer) hs }),
+          (hs, few, record { told = front.told; happened = front.happened; out = AppendsFront-all (Some []) out; err = AppendsFront-all (Some []) lines; but_last = whole_on_empty speaks Hub (speaking_with peer) hs; bytes = front.bytes }),
           front.out,
           front.err,
         )
