@@ -10,4 +10,4 @@ mod words;
 pub use draws::draw;
 pub use entries::{put_actions, put_command, put_entry};
 pub use fields::{put_ip4, put_ip6, put_mac};
-pub use words::{dp_id, ip4, mac, moment, number, port_no, vid};
+pub use words::{dp_id, mac, moment, number, port_no, vid};

@@ -1,6 +1,6 @@
 //! The words of a case, one after the other: `None` where there is none or it stands for no value.
 
-use net_base::{DpId, Ip4, Mac, Moment, PortNo, Vid};
+use net_base::{DpId, Mac, Moment, PortNo, Vid};
 use std::str::SplitWhitespace;
 
 pub fn number(words: &mut SplitWhitespace<'_>) -> Option<u64> {
@@ -21,10 +21,6 @@ pub fn port_no(words: &mut SplitWhitespace<'_>) -> Option<PortNo> {
 
 pub fn vid(words: &mut SplitWhitespace<'_>) -> Option<Vid> {
     Vid::new(u16::try_from(number(words)?).ok()?)
-}
-
-pub fn ip4(words: &mut SplitWhitespace<'_>) -> Option<Ip4> {
-    Ip4::parse(words.next()?)
 }
 
 pub fn mac(words: &mut SplitWhitespace<'_>) -> Option<Mac> {
