@@ -53,7 +53,6 @@ use Rattle.host_learn.specs.Learning.{hosts_after, is_heard, is_in_place}
 use Rattle.host_learn.specs.Learning as learning
 use Rattle.host_learn.proofs.KeptParts.{kept_part}
 use Rattle.host_learn.proofs.Lists.{all_part, all_push}
-use Rattle.neighbour_resolve.specs.declared.discovery.NdMessage.{NdMessage}
 use Rattle.neighbour_resolve.specs.declared.hearing.Sender.{Sender}
 use Rattle.neighbour_resolve.specs.declared.neighbour.Want.{Want}
 use Rattle.neighbour_resolve.specs.declared.neighbour.Want.TheVariants as wants
@@ -188,11 +187,11 @@ module _ (conf : Configuration) (vid : ℕ) (src : Mac) (six : IsSixBytes src.0)
   sender_six Unknown = tt
   sender_six (V4 header payload) = tt
   sender_six (Arp op sha spa tha tpa) = where_six (is_same sha.0 src.0) (ips.V4 spa)
-  sender_six (V6 header payload) = told (nd_message src header payload)
-    where
-      told : (o : Option NdMessage) → IfSome (option_and_then (nd_sender conf vid src) o) (λ s. IsSixBytes s.mac.0)
-      told None = tt
-      told (Some m) = where_six m.is_own (who m)
+  sender_six (V6 header payload) =
+      elim (nd_message src header payload) as (λ o. IfSome (option_and_then (nd_sender conf vid src) o) (λ s. IsSixBytes s.mac.0)) [
+        | None ↦ tt
+        | Some m ↦ where_six m.is_own (who m)
+      ]
 
 hear_addressed : (dp : DpId) (vid : ℕ) (frame : FrameParts) → IsSixBytes frame.src.0 → (w : World) → IsAddressed w → IsAddressed (hear_neighbour dp vid frame w)
 hear_addressed dp vid frame six w known = by (heard_sender w.conf vid frame) (sender_six w.conf vid frame.src six frame.upper)
