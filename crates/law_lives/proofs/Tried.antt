@@ -1,12 +1,12 @@
 -- A neighbour that is left alone is asked at the first settling at or behind each moment at which it is due.
-use Rattle.std.proofs.Common.{◌≡◌, ℕ, zero, suc, ◌+◌, ◌<◌, ◌≤◌, ◌==◌, ◌++◌, Bool, true, false, cond, inl, inr, Option, Some, None, List, [], ◌∷◌, find, map, nat_lt, nat_le, is_some, refl, sym, ap, ◌∙◌, arith, subst, if◌then◌else◌}
+use Rattle.std.proofs.Common.{◌≡◌, ℕ, zero, suc, ◌+◌, ◌<◌, ◌≤◌, ◌++◌, Bool, true, false, cond, inl, inr, Option, Some, None, List, [], ◌∷◌, find, map, nat_lt, nat_le, is_some, refl, sym, ap, ◌∙◌, arith, subst, if◌then◌else◌}
 use Rattle.std.specs.List.{AllByRecursion, list_any}
 use Rattle.std.proofs.lemmas.Bool.{cases_Bool}
 use Rattle.std.proofs.lemmas.Bool.Decides.{nat_tests}
-use Rattle.conf_types.specs.declared.address.Ip.{Ip}
 use Rattle.net_base.specs.declared.numbers.DpId.{DpId}
 use Rattle.conf_types.specs.declared.state.NeighRec.{NeighRec}
 use Rattle.conf_types.specs.Configuration.{Configuration}
+use Rattle.conf_types.specs.Families.{is_same_ip}
 use Rattle.conf_types.specs.Lists.{EachBefore}
 use Rattle.conf_types.specs.Routing.{routes_of}
 use Rattle.neighbour_resolve.specs.declared.neighbour.Due.TheVariants.{Ask, Gone}
@@ -97,7 +97,7 @@ module _ (conf : Configuration) (n : NeighRec) (off : is_gateway conf n ≡ fals
     ip : m.ip ≡ n.ip
 
   same_gateway : (m : NeighRec) → IsLater m → is_gateway conf m ≡ false
-  same_gateway m same = (λ i. list_any (λ route. route.gw.0 == (same.ip i).0) (routes_of conf (same.vid i))) ∙ off
+  same_gateway m same = (λ i. list_any (λ route. is_same_ip route.gw (same.ip i)) (routes_of conf (same.vid i))) ∙ off
 
   -- ---- one try more, and the end
 
