@@ -12,7 +12,7 @@ use Rattle.conf_gather.specs.declared.refused.LoadRefused.{LoadRefused}
 use Rattle.conf_gather.specs.Gathered.{Held}
 use Rattle.conf_load.specs.Loaded.{loaded}
 use Rattle.command_line.specs.declared.meaning.Job.{Job}
-use Rattle.command_line.specs.Asked.{AskFor, Check, Plan, Replay, Serve, Gauge, GaugeServe, Bench, Trace, Walk}
+use Rattle.command_line.specs.Asked.{AskFor, Check, Plan, Replay, Serve, Gauge, GaugeServe, Bench, Trace, Walk, Bgp, BgpServe}
 use Rattle.of_match.specs.declared.packet.Packet.{Packet}
 use Rattle.pkt_view.specs.Frame.{has_type}
 use Rattle.pkt_view.specs.Packets.{packet}
@@ -394,3 +394,5 @@ has_frame w j (GaugeServe words config options events listen is says_events says
 has_frame w j (Bench words text hosts is spells) = tt
 has_frame w j (Trace words config recording dp port digits number frame is is_port is_frame) = is_frame.typed
 has_frame w j (Walk words config recording dp port digits number frame is is_port is_frame) = is_frame.typed
+has_frame w j (Bgp words config router recording is) = tt
+has_frame w j (BgpServe words config router options events listen is says_events says_listen) = tt

@@ -144,7 +144,8 @@ fn do_job<F: Files, O: Sink, E: Sink>(
             router,
             recording,
         } => {
-            let (config, router) = (config.as_str(), router.as_str());
+            let config = config.as_str();
+            let router = router.as_str();
             speak_on_recording(alloc, config, router, recording, files, out, err)
         }
         Job::Serve { .. } => unreachable!(),
@@ -277,7 +278,8 @@ fn do_any<F: Files, H: Hub, O: Sink, E: Sink>(
             ..
         } => {
             let (mut files, mut hub) = (files, hub);
-            let (config, router) = (config.as_str(), router.as_str());
+            let config = config.as_str();
+            let router = router.as_str();
             let (held, on) = (&mut files, &mut hub);
             let status = speak_on_hub(alloc, config, router, *events, held, on, out, err);
             (status.number(), files, hub)

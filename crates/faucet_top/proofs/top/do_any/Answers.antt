@@ -77,7 +77,7 @@ returns-in-BgpServe-clause-named g c = λ reads. absurd (rw c.in-BgpServe.is at 
 
 pub returns-in-BgpServe-clause-gives : goal.returns-in-BgpServe-clause-gives
 returns-in-BgpServe-clause-gives g c =
-    rw (c.in-BgpServe.is, c.number-in-BgpServe.ensures) (rw (c.as_str-in-BgpServe.ensures, c.as_str-in-BgpServe-2.ensures) at c.speak_on_hub-status.ensures.replies)
+    rw (c.in-BgpServe.is, c.number-in-BgpServe.ensures) (rw (c.as_str-config-in-BgpServe.ensures, c.as_str-router.ensures) at c.speak_on_hub-status.ensures.replies)
 
 pub returns-in-BgpServe-clause-hub : goal.returns-in-BgpServe-clause-hub
 returns-in-BgpServe-clause-hub g c = λ local.

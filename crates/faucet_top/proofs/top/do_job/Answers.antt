@@ -136,4 +136,4 @@ pub unreachable-requires-in-BgpServe : goal.unreachable-requires-in-BgpServe
 unreachable-requires-in-BgpServe g c = c.requires.local.2 c.in-BgpServe.config c.in-BgpServe.router c.in-BgpServe.events c.in-BgpServe.listen (ap (λ (j : Job). Some j) c.in-BgpServe.is)
 
 pub returns-in-Bgp-clause-gives : goal.returns-in-Bgp-clause-gives
-returns-in-Bgp-clause-gives g c = rw c.in-Bgp.is (rw (c.as_str-in-Bgp.ensures, c.as_str-in-Bgp-2.ensures) at c.speak_on_recording.ensures.gives)
+returns-in-Bgp-clause-gives g c = rw c.in-Bgp.is (rw (c.as_str-config.ensures, c.as_str-router.ensures) at c.speak_on_recording.ensures.gives)
