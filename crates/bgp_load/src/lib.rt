@@ -2,6 +2,7 @@
 #![tactic(auto)]
 
 mod found;
+pub mod laws;
 mod loading;
 
 pub use found::{FoundPeer, LoadedPeer, PeerLacks};

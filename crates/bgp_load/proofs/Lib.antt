@@ -1,0 +1,4 @@
+pub mod Lengths
+pub mod GrownEntries
+pub mod RouteTexts
+pub mod Room
