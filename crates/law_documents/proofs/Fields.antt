@@ -8,7 +8,7 @@ use Rattle.yaml_tree.specs.declared.tree.Pair.{Pair}
 use Rattle.yaml_tree.specs.declared.tree.Tree.{Tree, out-Tree}
 use Rattle.conf_shape.specs.declared.kinds.MapKind.TheVariants.{Rule}
 use Rattle.conf_shape.specs.declared.kinds.Scalar.{Scalar}
-use Rattle.conf_shape.specs.declared.kinds.Scalar.TheVariants.{MaskedMac, Prefix}
+use Rattle.conf_shape.specs.declared.kinds.Scalar.TheVariants.{MaskedMac, Prefix, Address}
 use Rattle.conf_shape.specs.declared.raw.RawField.{RawField}
 use Rattle.conf_shape.specs.Keys.{keys_of}
 use Rattle.conf_shape.specs.Sections.{key_text, spells}
@@ -27,13 +27,14 @@ mac_scalar : (id : FieldId) (t : Tree) (asked : Option Field) → AsksMac id t a
 mac_scalar id t asked (inl a) = text_scalar t a.text a.is
 mac_scalar id t asked (inr a) = text_scalar t _ a.is
 
-ip_scalar : (id : FieldId) (t : Tree) (asked : Option Field) → AsksAddress id t asked ⊎ AsksPrefix id t asked → IsScalar (out-Tree t)
-ip_scalar id t asked (inl a) = text_scalar t _ a.is
-ip_scalar id t asked (inr a) = text_scalar t _ a.is
+ip_scalar : (width : ℕ) (id : FieldId) (t : Tree) (asked : Option Field) → AsksAddress width id t asked ⊎ AsksPrefix width id t asked → IsScalar (out-Tree t)
+ip_scalar width id t asked (inl a) = text_scalar t _ a.is
+ip_scalar width id t asked (inr a) = text_scalar t _ a.is
 
 asks_by_scalar : (s : Scalar) (id : FieldId) (t : Tree) (asked : Option Field) → AsksBy s id t asked → IsScalar (out-Tree t)
 asks_by_scalar MaskedMac id t asked a = mac_scalar id t asked a
-asks_by_scalar Prefix id t asked a = ip_scalar id t asked a
+asks_by_scalar (Prefix width) id t asked a = ip_scalar width id t asked a
+asks_by_scalar (Address width) id t asked a = text_scalar t _ a.is
 asks_by_scalar s id t asked a = number_scalar t a.0 a.1
 
 asks_scalar : (id : FieldId) (t : Tree) (asked : Option Field) → Asks id t asked → IsScalar (out-Tree t)

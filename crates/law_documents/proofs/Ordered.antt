@@ -72,6 +72,7 @@ module _ (a b : RawConf) (same : IsSameRaw a b) (rises : Rises a) where
         timeout = (rest i).timeout;
         arp_timeout = (rest i).arp_timeout;
         stack_priority = (rest i).stack_priority;
+        lldp = (rest i).lldp;
         drops = (rest i).drops;
         ports = ports i;
       }
