@@ -27,7 +27,7 @@ returns-in-Ok-Err-clause-replies g c = (
   inl (
     inr (inr (
       c.in-Ok-Err.lacks,
-      accepted_loads (by_router c.args.router.now) _ _ _ _ c.args.config.now _ c.in-Ok-Err.ensures.told,
+      accepted_loads (by_router c.args.router.now) _ _ _ _ c.args.config.now _ (rw c.in-Ok-Err.field-0-is at c.in-Ok-Err.ensures.told),
       refl,
     )),
     refl,
@@ -41,7 +41,7 @@ returns-clause-replies g c =
     let peer = c.in-Ok-Ok.peer in
     hub_given g.H.Hub.may (g.F.Files.contents c.args.files.now) _ _ _ c.args.config.now c.args.router.now c.args.events c.args.hub.now c.drive-drove.new.hub _ _ _ _ _ _ _ _ _ _ peer c.drive-drove.result c.deliver_served.result
     c.deliver_served.ensures.faults
-    (accepted_loads (by_router c.args.router.now) _ _ _ _ _ _ c.in-Ok-Ok.ensures.told)
+    (accepted_loads (by_router c.args.router.now) _ _ _ _ _ _ (rw c.in-Ok-Ok.field-0-is at c.in-Ok-Ok.ensures.told))
     c.deliver_served.ensures.ends (did.drove (speaking_with peer) c.speaker_for-machine.ensures) did.write_fault did.no_write_fault
 
 pub returns-in-Err-clause-no_read_fault : goal.returns-in-Err-clause-no_read_fault

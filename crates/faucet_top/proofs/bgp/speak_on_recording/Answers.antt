@@ -13,7 +13,7 @@ returns-in-Ok-Ok-clause-gives g c =
     let peer = c.in-Ok-Ok.peer in
     let did = c.run_recording.ensures in
     bgp_given (g.F.Files.contents c.args.files) _ _ _ _ _ _ c.in-Ok-Ok.ensures.files.counted_absences c.in-Ok-Ok.ensures.files.counted_faults _ _ _ _ _ _ _ _ _ _ c.args.config.now c.args.recording.now c.args.router.now peer
-    c.in-Ok-Ok.ensures.told (rw c.in-Ok-Ok.ensures.files.same_contents at (did.gives (speaking_with peer) c.speaker_for-machine.ensures))
+    (rw c.in-Ok-Ok.field-0-is at c.in-Ok-Ok.ensures.told) (rw c.in-Ok-Ok.ensures.files.same_contents at (did.gives (speaking_with peer) c.speaker_for-machine.ensures))
 
 pub returns-in-Ok-Ok-clause-no_read_fault : goal.returns-in-Ok-Ok-clause-no_read_fault
 returns-in-Ok-Ok-clause-no_read_fault g c = λ unread written below.
@@ -29,7 +29,7 @@ pub returns-in-Ok-Err-clause-gives : goal.returns-in-Ok-Err-clause-gives
 returns-in-Ok-Err-clause-gives g c =
     bgp_lacks_given (g.F.Files.contents c.args.files) _ _ _ (g.O.Sink.wrote c.args.out.now) (g.O.Sink.wrote c.args.out.now) _ _ (g.O.Sink.faults c.args.out.now) (g.O.Sink.faults c.args.out.now) _ _ c.args.config.now c.args.router.now c.args.recording.now _ c.in-Ok-Err.lacks
     (lacks_delivered c.args.config.now c.args.router.now (g.O.Sink.wrote c.args.out.now) _ _ (g.O.Sink.faults c.args.out.now) _ _ c.in-Ok-Err.lacks c.deliver_lacks.result c.deliver_lacks.ensures.ends)
-    (accepted_loads (by_router c.args.router.now) _ _ _ _ c.args.config.now _ c.in-Ok-Err.ensures.told)
+    (accepted_loads (by_router c.args.router.now) _ _ _ _ c.args.config.now _ (rw c.in-Ok-Err.field-0-is at c.in-Ok-Err.ensures.told))
 
 pub returns-in-Ok-Err-clause-no_read_fault : goal.returns-in-Ok-Err-clause-no_read_fault
 returns-in-Ok-Err-clause-no_read_fault g c = λ unread written below. c.in-Ok-Err.ensures.files.no_fault (λ file is. absurd cc)
