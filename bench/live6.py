@@ -74,7 +74,7 @@ def whole(program, folder):
     stage.filled()
     time.sleep(2)
     hosts["h4"].reaches("fd00:200::fe")
-    hosts["h2"].reaches("fd00:100::fe")
+    hosts["h1"].reaches("fd00:100::fe")
     live.done("hosts reach the gateways of their VLANs over IPv6")
 
     target, start = hosts["h2"], time.time()
