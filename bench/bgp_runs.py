@@ -92,7 +92,7 @@ class Runs:
             shut |= {it for it in (open_before, conn) if it and f"conn {it}: Bgp" in run.err}
         spelled = [record(*told).hex() for told in records]
         parts = [one[:34] + (" " + one[34:] if one[34:] else "") for one in spelled]
-        self.put(f"hex {name} " + " ".join(parts + ([tail.hex()] if tail else [])))
+        self.put(f"hex {name} " + "".join(parts + ([tail.hex()] if tail else [])))
         return run
 
     def bgp(self, records):
