@@ -4,9 +4,9 @@ use Rattle.std.specs.Prelude.{Contains}
 use Rattle.std.specs.List.{find, list_any}
 use Rattle.std.specs.Option.{option_map, option_and_then}
 use Rattle.std.proofs.lemmas.Bool.{and_parts}
-use Rattle.net_base.specs.declared.address.Ip4.{Ip4}
 use Rattle.net_base.specs.declared.address.Mac.{Mac}
 use Rattle.net_base.specs.declared.numbers.DpId.{DpId}
+use Rattle.conf_types.specs.declared.address.Ip.{Ip}
 use Rattle.conf_types.specs.declared.change.Change.{Change}
 use Rattle.conf_types.specs.declared.change.Change.TheVariants as change
 use Rattle.conf_types.specs.Changes.{host_by, standing, standing_of, mac_of_neighbour, AreNamed}
@@ -14,10 +14,12 @@ use Rattle.conf_types.specs.declared.state.HostRec.{HostRec}
 use Rattle.conf_types.specs.declared.state.NeighRec.{NeighRec}
 use Rattle.conf_types.specs.declared.state.UpRec.{UpRec}
 use Rattle.conf_types.specs.Configuration.{Configuration}
+use Rattle.conf_types.specs.Families.{is_same_ip}
 use Rattle.conf_types.specs.Groups.{group_of}
 use Rattle.conf_types.specs.Links.{is_up}
 use Rattle.conf_types.specs.Lists.{is_same}
 use Rattle.conf_types.specs.State.{State, is_running, is_host_in}
+use Rattle.conf_types.proofs.Families.{same_ip}
 use Rattle.plan_units.specs.Agrees.{same_bytes}
 use Rattle.plan_units.specs.Facts.{found, some_passes}
 use Rattle.law_runs.specs.Members.{in_front, behind, in_mapped}
@@ -64,15 +66,15 @@ module _ (conf : Configuration) (now : State) where
       subst (λ (c : Change). Contains (names conf now) c) (λ i. change.Dp (record { 0 = ids i }))
       (behind hosts (ports ++ (dps ++ neighbours)) (change.Dp f.0) (behind ports (dps ++ neighbours) (change.Dp f.0) (in_front dps neighbours (change.Dp f.0) (in_mapped change.Dp now.running f.0 (f.1).within))))
 
-  has_neighbour : (group : DpId) (vid : ℕ) (ip : Ip4) (n : NeighRec) → find (λ m. m.group.0 == group.0 && m.vid == vid && m.ip.0 == ip.0) now.neighbours ≡ Some n → Contains (names conf now) (change.Neighbour group vid ip)
+  has_neighbour : (group : DpId) (vid : ℕ) (ip : Ip) (n : NeighRec) → find (λ m. m.group.0 == group.0 && m.vid == vid && is_same_ip m.ip ip) now.neighbours ≡ Some n → Contains (names conf now) (change.Neighbour group vid ip)
   has_neighbour group vid ip n is =
-      let f = found (λ (m : NeighRec). m.group.0 == group.0 && m.vid == vid && m.ip.0 == ip.0) now.neighbours n is in
-      let last = and_parts (n.group.0 == group.0 && n.vid == vid) (n.ip.0 == ip.0) f.passes in
+      let f = found (λ (m : NeighRec). m.group.0 == group.0 && m.vid == vid && is_same_ip m.ip ip) now.neighbours n is in
+      let last = and_parts (n.group.0 == group.0 && n.vid == vid) (is_same_ip n.ip ip) f.passes in
       let first = and_parts (n.group.0 == group.0) (n.vid == vid) last.0 in
       let groups : n.group.0 ≡ group.0 = eqb-true n.group.0 group.0 first.0 in
       let vids : n.vid ≡ vid = eqb-true n.vid vid first.1 in
-      let ips : n.ip.0 ≡ ip.0 = eqb-true n.ip.0 ip.0 last.1 in
-      subst (λ (c : Change). Contains (names conf now) c) (λ i. change.Neighbour (record { 0 = groups i }) (vids i) (record { 0 = ips i }))
+      let ips : n.ip ≡ ip = same_ip n.ip ip last.1 in
+      subst (λ (c : Change). Contains (names conf now) c) (λ i. change.Neighbour (record { 0 = groups i }) (vids i) (ips i))
       (behind hosts (ports ++ (dps ++ neighbours)) (change.Neighbour n.group n.vid n.ip) (behind ports (dps ++ neighbours) (change.Neighbour n.group n.vid n.ip) (behind dps neighbours (change.Neighbour n.group n.vid n.ip)
       (in_mapped (λ (m : NeighRec). change.Neighbour m.group m.vid m.ip) now.neighbours n f.within))))
 
@@ -110,11 +112,11 @@ module _ (conf : Configuration) (old new : State) where
       by false true was is = of_new (change.Dp dp) (has_dp conf new dp is)
       by false false was is = absurd (differ (was ∙ sym is))
 
-  neighbour_named : (group : DpId) (vid : ℕ) (ip : Ip4) → (mac_of_neighbour old.neighbours group vid ip.0 ≡ mac_of_neighbour new.neighbours group vid ip.0 → ⊥) → Contains both_names (change.Neighbour group vid ip)
+  neighbour_named : (group : DpId) (vid : ℕ) (ip : Ip) → (mac_of_neighbour old.neighbours group vid ip ≡ mac_of_neighbour new.neighbours group vid ip → ⊥) → Contains both_names (change.Neighbour group vid ip)
   neighbour_named group vid ip differ = by (find asked old.neighbours) (find asked new.neighbours) refl refl
     where
       asked : NeighRec → Bool
-      asked = λ n. n.group.0 == group.0 && n.vid == vid && n.ip.0 == ip.0
+      asked = λ n. n.group.0 == group.0 && n.vid == vid && is_same_ip n.ip ip
 
       by : (o p : Option NeighRec) → find asked old.neighbours ≡ o → find asked new.neighbours ≡ p → Contains both_names (change.Neighbour group vid ip)
       by (Some n) p was is = of_old (change.Neighbour group vid ip) (has_neighbour conf old group vid ip n was)
