@@ -44,15 +44,19 @@ class Run:
     """The speaker over a story: its records, its lines, and what the hub is told."""
 
     def __init__(self):
-        self.speaker, self.records, self.err, self.hub = Driven(with_routes), b"", "", []
+        self.speaker, self.records, self.err, self.hub, self.closed = Driven(with_routes), b"", "", [], set()
 
     def takes(self, word):
+        # A hub in memory gives nothing more of a connection that was closed on it.
+        if word.split(":")[0] in self.closed:
+            return
         self.hub.append(" hub gave a turn")
         said, records = self.speaker.turn(word)
         self.records += records
         for piece in said:
             what, rest = piece.split(" ", 1)
             if what == "close":
+                self.closed.add(rest.split(" ")[0])
                 self.hub.append("  closed " + rest.split(" ")[0])
             elif what == "conn":
                 self.err += piece + "\n"
@@ -67,17 +71,18 @@ class Run:
 
 class Runs:
     def __init__(self):
-        self.input, self.output = [], []
+        self.input, self.output, self.name, self.count = [], [], "r.rec", -1
 
     def put(self, line, *answer):
+        line = line.replace("r.rec", self.name)
         self.input.append(line)
         self.output += [line + (answer[0] if answer else ""), *answer[1:]]
 
     def refused(self, words, code, line):
         self.put(f"run {words}", f" => {code}", f" err: {escaped(line)}")
 
-    def recorded(self, records, name="r.rec", tail=b""):
-        """A recording, and the run of the speaker over it. A connection that the speaker closed stays open in the recording."""
+    def recorded(self, records, tail=b""):
+        """A recording with a name of its own, since the first file of a name counts, and the run of the speaker over it. A connection that the speaker closed stays open in the recording."""
         run, moment, shut = Run(), 0, set()
         for at, kind, conn, data in records:
             if at > moment or kind == 5:
@@ -91,8 +96,9 @@ class Runs:
                 run.takes(f"{conn}:{data.hex()}" if kind == 2 else f"end:{conn}")
             shut |= {it for it in (open_before, conn) if it and f"conn {it}: Bgp" in run.err}
         spelled = [record(*told).hex() for told in records]
-        parts = [one[:34] + (" " + one[34:] if one[34:] else "") for one in spelled]
-        self.put(f"hex {name} " + "".join(parts + ([tail.hex()] if tail else [])))
+        self.count += 1
+        self.name = f"r{self.count or ''}.rec"
+        self.put("hex r.rec " + "".join(spelled + ([tail.hex()] if tail else [])))
         return run
 
     def bgp(self, records):
